@@ -1,0 +1,3 @@
+mod Countdown
+mod Handle
+mod Steps

@@ -1,0 +1,16 @@
+mod Again
+mod Depths
+mod Fitting
+mod Going
+mod Goods
+mod Growing
+mod Heads
+pub mod Laying
+mod Letters
+mod Listings
+pub mod Merges
+mod Parts
+pub mod Places
+mod Sizes
+mod Ways
+mod Whole

@@ -1,0 +1,17 @@
+pub mod Building
+pub mod Code
+pub mod Data
+pub mod Dictionary
+pub mod Failing
+pub mod Falls
+pub mod Head
+pub mod Held
+pub mod Listed
+pub mod Next
+pub mod Reading
+pub mod Spelling
+pub mod Tag
+pub mod Valid
+pub mod View
+pub mod Vr
+pub mod Written

@@ -1,0 +1,121 @@
+//! Building a set from bytes that spell one.
+
+ghost use Rattle.std.specs.Prelude.{◌≡◌, ◌<◌, ◌≤◌, false, length, map, OnOk, IfErr};
+ghost use Rattle.ups_dataset.specs.declared.fault.SetFault.TheVariants.{Memory};
+ghost use Rattle.ups_dataset.specs.Head.{IsLength, is_sequence};
+ghost use Rattle.ups_dataset.specs.View.{element_view, value_view};
+ghost use Rattle.ups_dataset.specs.Building.{keeps, BuildsValue, BuildsElements, BuildsItems, Gives};
+ghost use Rattle.ups_dataset.specs.Failing.{ElementsFail, ValueFails, ItemsFail};
+
+use crate::fault::SetFault;
+use crate::head::{Reach, end_at, is_sequence, item_at, known_at};
+use crate::limits::{MAX_DEPTH, UNDEFINED_LENGTH};
+use crate::passing::{inside, opened, rest_behind};
+use crate::set::{DataSet, Element, Value};
+use crate::syntax::TransferSyntax;
+use crate::tag::{ITEM_DELIMITATION, SEQUENCE_DELIMITATION, Tag};
+use crate::vr::Vr;
+use std::alloc::Allocator;
+use ups_pdu::Bytes;
+
+/// The value behind a header, the representation that it is kept under, and what follows.
+#[cycle(building)]
+fn value_of<A: Allocator + Copy>(
+    alloc: A,
+    syntax: TransferSyntax,
+    level: u8,
+    vr: Vr,
+    len: u32,
+    after: &[u8],
+) -> Result<(Value<A>, Vr, &[u8]), SetFault>
+    requires nested { level ≤ MAX_DEPTH }
+    requires fits { IsLength len (length after.now) }
+    requires bytes { is_sequence vr len ≡ false → len < UNDEFINED_LENGTH }
+    ensures { Gives result (λ x. BuildsValue syntax level vr len after.now (value_view x.0) x.1 x.2.now) (ValueFails syntax level vr len after.now) }
+{
+    if !is_sequence(vr, len) {
+        let (body, rest) = after.split_at(len as usize);
+        return Ok((
+            Value::Bytes(Bytes::from_vec(Vec::from_slice(alloc, body)?)),
+            vr,
+            rest,
+        ));
+    }
+    let (reach, inner, behind) = opened(len, after);
+    let built = items_of(alloc, inside(syntax, vr), level, reach, inner)?;
+    Ok((
+        Value::of_items(built.0),
+        Vr::Sq,
+        rest_behind(reach, built.1, behind),
+    ))
+}
+
+/// Adds an element, unless it is a group length.
+fn keep<A: Allocator + Copy>(
+    elements: &mut Vec<Element<A>, A>,
+    tag: Tag,
+    vr: Vr,
+    value: Value<A>,
+) -> Result<(), SetFault>
+    ensures kept { OnOk result (map element_view elements.new.items ≡ keeps tag vr (value_view value) (map element_view elements.old.items)) }
+    ensures memory { IfErr result (λ e. e ≡ Memory) }
+{
+    if tag.is_group_length() {
+        return Ok(());
+    }
+    elements.push(Element { tag, vr, value })?;
+    Ok(())
+}
+
+/// The set of the elements at the front, without group lengths, and what follows.
+#[cycle(building)]
+pub(crate) fn set_of<A: Allocator + Copy>(
+    alloc: A,
+    syntax: TransferSyntax,
+    level: u8,
+    reach: Reach,
+    text: &[u8],
+) -> Result<(DataSet<A>, &[u8]), SetFault>
+    requires { level ≤ MAX_DEPTH }
+    ensures { Gives result (λ x. BuildsElements syntax level reach 0 text.now x.0 x.1.now) (ElementsFail syntax level reach 0 text.now) }
+{
+    let mut elements = Vec::new(alloc);
+    let mut from = 0;
+    let mut rest = text;
+    loop {
+        if let Some(end) = end_at(ITEM_DELIMITATION, reach, rest) {
+            return Ok((DataSet::from_vec(elements), end));
+        }
+        let (tag, vr, len, after) = known_at(syntax, from, rest)?;
+        let (value, vr, next) = value_of(alloc, syntax, level, vr, len, after)?;
+        keep(&mut elements, tag, vr, value)?;
+        from = u64::from(tag.number()) + 1;
+        rest = next;
+    }
+}
+
+/// The items at the front, and what follows.
+#[cycle(building)]
+fn items_of<A: Allocator + Copy>(
+    alloc: A,
+    syntax: TransferSyntax,
+    level: u8,
+    reach: Reach,
+    text: &[u8],
+) -> Result<(Vec<DataSet<A>, A>, &[u8]), SetFault>
+    requires { level ≤ MAX_DEPTH }
+    ensures { Gives result (λ x. BuildsItems syntax level reach text.now x.0.items x.1.now) (ItemsFail syntax level reach text.now) }
+{
+    let mut sets = Vec::new(alloc);
+    let mut rest = text;
+    loop {
+        if let Some(end) = end_at(SEQUENCE_DELIMITATION, reach, rest) {
+            return Ok((sets, end));
+        }
+        let (len, after) = item_at(level, rest)?;
+        let (within, inner, behind) = opened(len, after);
+        let built = set_of(alloc, syntax, level + 1, within, inner)?;
+        rest = rest_behind(within, built.1, behind);
+        sets.push(built.0)?;
+    }
+}

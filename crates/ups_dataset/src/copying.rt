@@ -1,0 +1,59 @@
+//! Copies of data sets.
+
+ghost use Rattle.std.specs.Prelude.{◌≡◌, IfOk};
+ghost use Rattle.ups_dataset.specs.View.{element_view, value_view};
+
+use crate::set::{DataSet, Element, Value};
+use std::alloc::{AllocError, Allocator};
+use ups_pdu::Bytes;
+
+/// A copy of a set.
+#[cycle(copying)]
+pub(crate) fn copy_set<A: Allocator + Copy>(
+    alloc: A,
+    set: &DataSet<A>,
+) -> Result<DataSet<A>, AllocError>
+    ensures { IfOk result (λ s. s ≡ set.now) }
+{
+    let mut elements = Vec::new(alloc);
+    for element in &set.elements {
+        elements.push(copy_element(alloc, element)?)?;
+    }
+    Ok(DataSet::from_vec(elements))
+}
+
+/// A copy of an element.
+#[cycle(copying)]
+pub(crate) fn copy_element<A: Allocator + Copy>(
+    alloc: A,
+    element: &Element<A>,
+) -> Result<Element<A>, AllocError>
+    ensures { IfOk result (λ e. element_view e ≡ element_view element.now) }
+{
+    let value = copy_value(alloc, &element.value)?;
+    Ok(Element {
+        tag: element.tag,
+        vr: element.vr,
+        value,
+    })
+}
+
+/// A copy of a value.
+#[cycle(copying)]
+pub(crate) fn copy_value<A: Allocator + Copy>(
+    alloc: A,
+    value: &Value<A>,
+) -> Result<Value<A>, AllocError>
+    ensures { IfOk result (λ v. value_view v ≡ value_view value.now) }
+{
+    match value {
+        Value::Bytes(bytes) => Ok(Value::Bytes(Bytes::copy_of(alloc, bytes.as_slice())?)),
+        Value::Items(sets) => {
+            let mut copies = Vec::new(alloc);
+            for set in sets {
+                copies.push(copy_set(alloc, set)?)?;
+            }
+            Ok(Value::of_items(copies))
+        }
+    }
+}

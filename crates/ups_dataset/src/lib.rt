@@ -1,0 +1,34 @@
+//! DICOM data sets (PS3.5): their elements, their bytes, read and written exactly.
+#![tactic(auto)]
+
+mod building;
+mod copying;
+pub mod dictionary;
+mod fault;
+mod head;
+pub mod laws;
+mod limits;
+mod listing;
+mod measuring;
+mod merging;
+mod passing;
+mod putting;
+mod reading;
+mod set;
+mod syntax;
+mod tag;
+mod vr;
+mod writing;
+
+pub use dictionary::vr_of;
+pub use fault::SetFault;
+pub use limits::{MAX_DEPTH, MAX_SHORT_LENGTH};
+pub use reading::read_set;
+pub use set::{DataSet, Element, Value};
+pub use syntax::TransferSyntax;
+pub use tag::Tag;
+pub use vr::Vr;
+pub use writing::write_set;
+
+#[cfg(test)]
+mod tests;

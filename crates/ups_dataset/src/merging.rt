@@ -1,0 +1,60 @@
+//! One data set laid over another.
+
+ghost use Rattle.std.specs.Prelude.{◌≡◌, [], map, MatchOption, IfOk};
+ghost use Rattle.ups_dataset.specs.Data.{laid_over};
+ghost use Rattle.ups_dataset.specs.Next.{IsNext};
+ghost use Rattle.ups_dataset.specs.Valid.{IsDataSet};
+ghost use Rattle.ups_dataset.specs.View.{element_view};
+
+use crate::copying::copy_element;
+use crate::set::Element;
+use std::alloc::{AllocError, Allocator};
+
+/// The element with the lowest tag, the upper one where both have it, and what is left of the two.
+fn next<'a, A: Allocator + Copy>(
+    above: &'a [Element<A>],
+    below: &'a [Element<A>],
+) -> Option<(&'a Element<A>, &'a [Element<A>], &'a [Element<A>])>
+    requires above_rises { IsDataSet (map element_view above.now) }
+    requires below_rises { IsDataSet (map element_view below.now) }
+    ensures { MatchOption result (laid_over (map element_view above.now) (map element_view below.now) ≡ [])
+        (λ x. IsNext (map element_view above.now) (map element_view below.now) (element_view x.0.now) (map element_view x.1.now) (map element_view x.2.now)) }
+{
+    let [upper, above_left @ ..] = above else {
+        let [lower, below_left @ ..] = below else {
+            return None;
+        };
+        return Some((lower, above, below_left));
+    };
+    let [lower, below_left @ ..] = below else {
+        return Some((upper, above_left, below));
+    };
+    if lower.tag.number() < upper.tag.number() {
+        return Some((lower, above, below_left));
+    }
+    if lower.tag == upper.tag {
+        return Some((upper, above_left, below_left));
+    }
+    Some((upper, above_left, below))
+}
+
+/// Copies of the elements of the first, and of those of the second whose tags the first has not.
+pub(crate) fn merged<A: Allocator + Copy>(
+    alloc: A,
+    above: &[Element<A>],
+    below: &[Element<A>],
+) -> Result<Vec<Element<A>, A>, AllocError>
+    requires above_rises { IsDataSet (map element_view above.now) }
+    requires below_rises { IsDataSet (map element_view below.now) }
+    ensures { IfOk result (λ v. map element_view v.items ≡ laid_over (map element_view above.now) (map element_view below.now)) }
+{
+    let mut elements = Vec::new(alloc);
+    let mut upper = above;
+    let mut lower = below;
+    while let Some((element, upper_left, lower_left)) = next(upper, lower) {
+        elements.push(copy_element(alloc, element)?)?;
+        upper = upper_left;
+        lower = lower_left;
+    }
+    Ok(elements)
+}

@@ -1,0 +1,115 @@
+//! The first fault of bytes, found without taking memory.
+
+ghost use Rattle.std.specs.Prelude.{◌≡◌, ◌<◌, ◌≤◌, false, length, MatchResult};
+ghost use Rattle.ups_dataset.specs.Data.{Data, Items, Elements};
+ghost use Rattle.ups_dataset.specs.Head.{IsLength, IsBody, is_sequence, rest_behind};
+ghost use Rattle.ups_dataset.specs.Spelling.{inside, SpellsElements, SpellsData, SpellsItems};
+ghost use Rattle.ups_dataset.specs.Failing.{ElementsFail, ValueFails, ItemsFail};
+
+use crate::fault::SetFault;
+use crate::head::{Reach, end_at, is_sequence, item_at, known_at};
+use crate::limits::{MAX_DEPTH, UNDEFINED_LENGTH};
+use crate::syntax::TransferSyntax;
+use crate::tag::{ITEM_DELIMITATION, SEQUENCE_DELIMITATION};
+use crate::vr::Vr;
+
+/// The syntax of the items behind a header.
+pub(crate) fn inside(syntax: TransferSyntax, vr: Vr) -> TransferSyntax
+    ensures { result ≡ inside syntax vr }
+{
+    match vr {
+        Vr::Un => TransferSyntax::Implicit,
+        _ => syntax,
+    }
+}
+
+/// How far the inside of a length goes, its bytes, and what follows them.
+pub(crate) fn opened(len: u32, after: &[u8]) -> (Reach, &[u8], &[u8])
+    requires { IsLength len (length after.now) }
+    ensures { IsBody len after.now result.0 result.1.now result.2.now }
+{
+    if len == UNDEFINED_LENGTH {
+        return (Reach::Ended, after, after);
+    }
+    let (inner, behind) = after.split_at(len as usize);
+    (Reach::Filled, inner, behind)
+}
+
+/// What follows the inside of a length, of which `left` is left.
+pub(crate) fn rest_behind<'a>(reach: Reach, left: &'a [u8], behind: &'a [u8]) -> &'a [u8]
+    ensures { result.now ≡ rest_behind reach left.now behind.now }
+{
+    match reach {
+        Reach::Filled => behind,
+        Reach::Ended => left,
+    }
+}
+
+/// What follows the value behind a header.
+#[cycle(passing)]
+fn value_end(
+    syntax: TransferSyntax,
+    level: u8,
+    vr: Vr,
+    len: u32,
+    after: &[u8],
+) -> Result<&[u8], SetFault>
+    requires nested { level ≤ MAX_DEPTH }
+    requires fits { IsLength len (length after.now) }
+    requires bytes { is_sequence vr len ≡ false → len < UNDEFINED_LENGTH }
+    ensures { MatchResult result (λ rest. (kept : Vr) × (d : Data) × SpellsData syntax level vr len after.now kept d rest.now) (ValueFails syntax level vr len after.now) }
+{
+    if !is_sequence(vr, len) {
+        let (_, rest) = after.split_at(len as usize);
+        return Ok(rest);
+    }
+    let (reach, inner, behind) = opened(len, after);
+    let left = items_end(inside(syntax, vr), level, reach, inner)?;
+    Ok(rest_behind(reach, left, behind))
+}
+
+/// What follows the elements at the front, which stand inside so many items.
+#[cycle(passing)]
+pub(crate) fn elements_end(
+    syntax: TransferSyntax,
+    level: u8,
+    reach: Reach,
+    text: &[u8],
+) -> Result<&[u8], SetFault>
+    requires { level ≤ MAX_DEPTH }
+    ensures { MatchResult result (λ rest. (es : Elements) × SpellsElements syntax level reach 0 text.now es rest.now) (ElementsFail syntax level reach 0 text.now) }
+{
+    let mut from = 0;
+    let mut rest = text;
+    loop {
+        if let Some(end) = end_at(ITEM_DELIMITATION, reach, rest) {
+            return Ok(end);
+        }
+        let (tag, vr, len, after) = known_at(syntax, from, rest)?;
+        rest = value_end(syntax, level, vr, len, after)?;
+        from = u64::from(tag.number()) + 1;
+    }
+}
+
+/// What follows the items at the front, which stand inside so many others.
+#[cycle(passing)]
+fn items_end(
+    syntax: TransferSyntax,
+    level: u8,
+    reach: Reach,
+    text: &[u8],
+) -> Result<&[u8], SetFault>
+    requires { level ≤ MAX_DEPTH }
+    ensures { MatchResult result (λ rest. (is : Items) × SpellsItems syntax level reach text.now is rest.now) (ItemsFail syntax level reach text.now) }
+{
+    let mut rest = text;
+    loop {
+        if let Some(end) = end_at(SEQUENCE_DELIMITATION, reach, rest) {
+            return Ok(end);
+        }
+        let (len, after) = item_at(level, rest)?;
+        let (within, inner, behind) = opened(len, after);
+        let left = elements_end(syntax, level + 1, within, inner)?;
+        rest = rest_behind(within, left, behind);
+    }
+}

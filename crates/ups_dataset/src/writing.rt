@@ -1,0 +1,192 @@
+//! Writing data sets, with lengths that are given (PS3.5 sections 7.1 and 7.5).
+
+ghost use Rattle.std.specs.Prelude.{◌≡◌, ◌<◌, ◌^◌, ◌++◌, length, min, OnOk, IfOk};
+ghost use Rattle.ups_dataset.specs.declared.syntax.TransferSyntax.TheVariants.{Explicit};
+ghost use Rattle.ups_dataset.specs.View.{value_view, element_view};
+ghost use Rattle.ups_dataset.specs.Written.{written, written_length, written_head, written_data, written_element, written_item, KeepsVrs};
+ghost use Rattle.ups_dataset.specs.Vr.{is_long};
+ghost use Rattle.ups_dataset.specs.Spelling.{SpellsSet};
+
+use crate::set::{DataSet, Element, Value};
+use crate::syntax::TransferSyntax;
+use crate::tag::{ITEM, Tag};
+use crate::vr::Vr;
+use std::alloc::{AllocError, Allocator};
+
+/// How long a header is.
+fn head_size(syntax: TransferSyntax, vr: Vr) -> u64
+    ensures { result ≡ length (written_head syntax ITEM vr 0) }
+{
+    match syntax {
+        TransferSyntax::Implicit => 8,
+        TransferSyntax::Explicit => {
+            if vr.is_long() {
+                return 12;
+            }
+            8
+        }
+    }
+}
+
+/// How many bytes a set takes, or the greatest number.
+#[cycle(sizing)]
+pub(crate) fn set_size<A: Allocator + Copy>(syntax: TransferSyntax, set: &DataSet<A>) -> u64
+    ensures { result ≡ min (length (written syntax set.now)) 18446744073709551615 }
+{
+    let mut total: u64 = 0;
+    for element in &set.elements {
+        total = total.saturating_add(element_size(syntax, element));
+    }
+    total
+}
+
+/// How many bytes an element takes, or the greatest number.
+#[cycle(sizing)]
+fn element_size<A: Allocator + Copy>(syntax: TransferSyntax, element: &Element<A>) -> u64
+    ensures { result ≡ min (length (written_element syntax (element_view element.now))) 18446744073709551615 }
+{
+    head_size(syntax, element.vr).saturating_add(value_size(syntax, &element.value))
+}
+
+/// How many bytes a value takes, or the greatest number.
+#[cycle(sizing)]
+fn value_size<A: Allocator + Copy>(syntax: TransferSyntax, value: &Value<A>) -> u64
+    ensures { result ≡ min (length (written_data syntax (value_view value.now))) 18446744073709551615 }
+{
+    match value {
+        Value::Bytes(bytes) => bytes.len() as u64,
+        Value::Items(sets) => {
+            let mut total: u64 = 0;
+            for set in sets {
+                total = total.saturating_add(set_size(syntax, set).saturating_add(8));
+            }
+            total
+        }
+    }
+}
+
+/// Writes the length that stands behind the letters.
+fn put_length<A: Allocator + Copy>(out: &mut Vec<u8, A>, vr: Vr, len: u32) -> Result<(), AllocError>
+    ensures { OnOk result (out.new.items ≡ out.old.items ++ written_length (is_long vr) len) }
+{
+    if vr.is_long() {
+        out.extend_from_slice(&[0, 0])?;
+        out.extend_from_slice(&len.to_le_bytes())?;
+        return Ok(());
+    }
+    let [first, second, ..] = len.to_le_bytes();
+    out.push(first)?;
+    out.push(second)?;
+    Ok(())
+}
+
+/// Writes a header.
+fn put_head<A: Allocator + Copy>(
+    out: &mut Vec<u8, A>,
+    syntax: TransferSyntax,
+    tag: Tag,
+    vr: Vr,
+    len: u32,
+) -> Result<(), AllocError>
+    ensures { OnOk result (out.new.items ≡ out.old.items ++ written_head syntax tag vr len) }
+{
+    tag.put(out)?;
+    match syntax {
+        TransferSyntax::Implicit => out.extend_from_slice(&len.to_le_bytes())?,
+        TransferSyntax::Explicit => {
+            out.extend_from_slice(&vr.letters())?;
+            put_length(out, vr, len)?;
+        }
+    }
+    Ok(())
+}
+
+/// Writes a set at the end.
+#[cycle(putting)]
+fn put_set<A: Allocator + Copy>(
+    out: &mut Vec<u8, A>,
+    syntax: TransferSyntax,
+    set: &DataSet<A>,
+) -> Result<(), AllocError>
+    requires { length (written syntax set.now) < 2 ^ 32 }
+    ensures { OnOk result (out.new.items ≡ out.old.items ++ written syntax set.now) }
+{
+    for element in &set.elements {
+        put_element(out, syntax, element)?;
+    }
+    Ok(())
+}
+
+/// Writes an element at the end.
+#[cycle(putting)]
+fn put_element<A: Allocator + Copy>(
+    out: &mut Vec<u8, A>,
+    syntax: TransferSyntax,
+    element: &Element<A>,
+) -> Result<(), AllocError>
+    requires { length (written_element syntax (element_view element.now)) < 2 ^ 32 }
+    ensures { OnOk result (out.new.items ≡ out.old.items ++ written_element syntax (element_view element.now)) }
+{
+    let len = value_size(syntax, &element.value) as u32;
+    put_head(out, syntax, element.tag, element.vr, len)?;
+    put_value(out, syntax, &element.value)
+}
+
+/// Writes an item at the end.
+#[cycle(putting)]
+fn put_item<A: Allocator + Copy>(
+    out: &mut Vec<u8, A>,
+    syntax: TransferSyntax,
+    set: &DataSet<A>,
+) -> Result<(), AllocError>
+    requires { length (written_item syntax set.now) < 2 ^ 32 }
+    ensures { OnOk result (out.new.items ≡ out.old.items ++ written_item syntax set.now) }
+{
+    let len = set_size(syntax, set) as u32;
+    ITEM.put(out)?;
+    out.extend_from_slice(&len.to_le_bytes())?;
+    put_set(out, syntax, set)
+}
+
+/// Writes a value at the end.
+#[cycle(putting)]
+fn put_value<A: Allocator + Copy>(
+    out: &mut Vec<u8, A>,
+    syntax: TransferSyntax,
+    value: &Value<A>,
+) -> Result<(), AllocError>
+    requires { length (written_data syntax (value_view value.now)) < 2 ^ 32 }
+    ensures { OnOk result (out.new.items ≡ out.old.items ++ written_data syntax (value_view value.now)) }
+{
+    match value {
+        Value::Bytes(bytes) => out.extend_from_slice(bytes.as_slice()),
+        Value::Items(sets) => {
+            for set in sets {
+                put_item(out, syntax, set)?;
+            }
+            Ok(())
+        }
+    }
+}
+
+/// The bytes of a set, with lengths that are given and without group lengths. Where its size in Explicit is known
+/// to be below 2^32, so is its size in Implicit.
+///
+/// # Errors
+///
+/// Where memory runs out.
+pub fn write_set<A: Allocator + Copy>(
+    alloc: A,
+    syntax: TransferSyntax,
+    set: &DataSet<A>,
+) -> Result<Vec<u8, A>, AllocError>
+    requires { length (written Explicit set.now) < 2 ^ 32 }
+    ensures written { IfOk result (λ v. v.items ≡ written syntax set.now) }
+    // The bytes spell the set again; in Implicit where a reading gives each tag the representation that it has.
+    ensures again { KeepsVrs syntax set.now → IfOk result (λ v. SpellsSet syntax v.items set.now) }
+{
+    set.is_a_data_set();
+    let mut out = Vec::new(alloc);
+    put_set(&mut out, syntax, set)?;
+    Ok(out)
+}

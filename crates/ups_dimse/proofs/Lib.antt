@@ -1,0 +1,7 @@
+pub mod Again
+pub mod AttributeTags
+pub mod Failing
+pub mod Sizes
+pub mod UidText
+pub mod Unique
+pub mod Walk

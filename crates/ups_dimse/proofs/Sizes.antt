@@ -1,0 +1,81 @@
+-- How long what is written is.
+use Rattle.std.proofs.Common.{◌≡◌, ◌≢◌, ℕ, eqb, true, false, ◌+◌, ◌*◌, ◌^◌, ◌<◌, ◌≤◌, Option, None, Some, IfSome, List, [], ◌∷◌, ◌++◌, length, take, get_or, ◌⊎◌, inl, inr, refl, sym, ap, subst, ◌∙◌, append_assoc, arith}
+use Rattle.std.specs.List.{flat_map}
+use Rattle.std.specs.Int.{w32, to_le_bytes}
+use Rattle.std.proofs.lemmas.List.{append-nil, length-append, flat_map_more, take_more, take_all, get_or_default}
+use Rattle.std.proofs.lemmas.Bool.Decides.{eqb_tells}
+use Rattle.std.proofs.lemmas.Grind.{flat_map-append}
+use Rattle.ups_pdu.specs.Identifier.{IsUid}
+use Rattle.ups_dataset.specs.declared.tag.Tag.{Tag}
+use Rattle.ups_dataset.specs.Tag.{tag_bytes}
+use Rattle.ups_dimse.specs.declared.command.Command.{Command}
+use Rattle.ups_dimse.specs.declared.command.Command.TheVariants.{Request, Response}
+use Rattle.ups_dimse.specs.declared.command.Operation.{Operation}
+use Rattle.ups_dimse.specs.declared.command.Operation.TheVariants as operations
+use Rattle.ups_dimse.specs.declared.command.OperationResult.{OperationResult}
+use Rattle.ups_dimse.specs.declared.command.OperationResult.TheVariants as results
+use Rattle.ups_dimse.specs.Elements.{CommandElement, command_tag}
+use Rattle.ups_dimse.specs.Commands.{class_element}
+use Rattle.ups_dimse.specs.Held.{IsHeldTag, IsHeldOperation, IsHeldResult, IsHeld}
+use Rattle.ups_dimse.specs.Written.{written_element, uid_element, tags_element, operation_elements, result_elements, command_elements, tags_of, Fits}
+use Rattle.ups_dimse.proofs.UidText.{padded_short}
+
+pub length-tags : (ts : List Tag) → length (flat_map tag_bytes ts) ≡ 4 * length ts
+length-tags [] = refl
+length-tags (t ∷ ts) = omega (arith, length-tags ts)
+
+-- the elements of a request and of a response, one after the other
+pub request_joined : (old a1 a2 a3 a4 out : List ℕ) (c os : List CommandElement) (f i d : CommandElement)
+    → a1 ≡ old ++ flat_map written_element c → a2 ≡ a1 ++ written_element f → a3 ≡ a2 ++ written_element i → a4 ≡ a3 ++ written_element d → out ≡ a4 ++ flat_map written_element os
+    → out ≡ old ++ flat_map written_element (c ++ (f ∷ i ∷ d ∷ os))
+request_joined old a1 a2 a3 a4 out c os f i d e1 e2 e3 e4 e5 = rw (e5, e4, e3, e2, e1) (simp (flat_map-append, append_assoc))
+
+pub response_joined : (old a1 a2 a3 a4 a5 out : List ℕ) (c os : List CommandElement) (f i d s : CommandElement)
+    → a1 ≡ old ++ flat_map written_element c → a2 ≡ a1 ++ written_element f → a3 ≡ a2 ++ written_element i → a4 ≡ a3 ++ written_element d → a5 ≡ a4 ++ written_element s → out ≡ a5 ++ flat_map written_element os
+    → out ≡ old ++ flat_map written_element (c ++ (f ∷ i ∷ d ∷ s ∷ os))
+response_joined old a1 a2 a3 a4 a5 out c os f i d s e1 e2 e3 e4 e5 e6 = rw (e6, e5, e4, e3, e2, e1) (simp (flat_map-append, append_assoc))
+
+-- one tag more
+pub tags_more : (front out after : List ℕ) (ts : List Tag) (i : ℕ) (d : Tag) → i < length ts → out ≡ front ++ flat_map tag_bytes (take i ts) → after ≡ out ++ tag_bytes (get_or ts i d)
+    → after ≡ front ++ flat_map tag_bytes (take (i + 1) ts)
+tags_more front out after ts i d l e f =
+    f ∙ ap (λ (x : List ℕ). x ++ tag_bytes (get_or ts i d)) e ∙ flat_map_more tag_bytes front (take i ts) (get_or ts i d) ∙ ap (λ (x : List Tag). front ++ flat_map tag_bytes x) (sym (take_more ts i d l))
+
+pub held_more : (ts : List Tag) (i : ℕ) (e : Tag) → i < length ts → ((k : ℕ) → (d : Tag) → k < i → IsHeldTag (get_or ts k d)) → IsHeldTag (get_or ts i e) → (k : ℕ) → (d : Tag) → k < i + 1 → IsHeldTag (get_or ts k d)
+held_more ts i e l below this k d m = by_place (eqb_tells k i)
+  where
+    by_place : ((eqb k i ≡ true) × (k ≡ i)) ⊎ ((eqb k i ≡ false) × (k ≢ i)) → IsHeldTag (get_or ts k d)
+    by_place (inl same) = subst (λ (n : ℕ). IsHeldTag (get_or ts n d)) (sym same.1) (subst (λ (t : Tag). IsHeldTag t) (get_or_default ts i e d l) this)
+    by_place (inr other) = below k d (omega (arith, m, other.1))
+
+pub tags_written : (n : ℕ) (ts : List Tag) (old head out : List ℕ) (i : ℕ) → (ts ≡ [] → ⊥) → length ts ≤ i → head ≡ old ++ (tag_bytes (command_tag n) ++ to_le_bytes w32 (4 * length ts)) → out ≡ head ++ flat_map tag_bytes (take i ts)
+    → out ≡ old ++ flat_map written_element (tags_element n ts)
+tags_written n [] old head out i some l e f = absurd (some refl)
+tags_written n (t ∷ ts) old head out i some l e f =
+    let whole : out ≡ head ++ flat_map tag_bytes (t ∷ ts) = f ∙ ap (λ (x : List Tag). head ++ flat_map tag_bytes x) (take_all i (t ∷ ts) l) in
+    let front : head ≡ old ++ (tag_bytes (command_tag n) ++ to_le_bytes w32 (length (flat_map tag_bytes (t ∷ ts)))) = e ∙ ap (λ (m : ℕ). old ++ (tag_bytes (command_tag n) ++ to_le_bytes w32 m)) (sym (length-tags (t ∷ ts))) in
+    rw (whole, front) (simp (append_assoc, append-nil))
+
+uid_size : (n : ℕ) (o : Option (List ℕ)) → IfSome o IsUid → length (flat_map written_element (uid_element n o)) ≤ 73
+uid_size n None h = omega arith
+uid_size n (Some u) h = omega (arith, padded_short u h, length-append (written_element (record { number = n; value = Rattle.ups_dimse.specs.Written.padded u })) [])
+
+tags_size : (n : ℕ) (ts : List Tag) → length (flat_map written_element (tags_element n ts)) ≤ 8 + 4 * length ts
+tags_size n [] = omega arith
+tags_size n (t ∷ ts) = omega (arith, length-tags (t ∷ ts), length-append (written_element (record { number = n; value = flat_map tag_bytes (t ∷ ts) })) [])
+
+operation_size : {A : Type 0} (o : Operation A) → IsHeldOperation o → length (flat_map written_element (operation_elements o)) ≤ 81 + 4 * length (tags_of o)
+operation_size (operations.Create i) h = omega (arith, uid_size 0x1000 i h)
+operation_size (operations.Get i ts) h = rw (flat_map-append written_element (uid_element 0x1001 i) (tags_element 0x1005 ts)) (omega (arith, uid_size 0x1001 i h.0, tags_size 0x1005 ts, length-append (flat_map written_element (uid_element 0x1001 i)) (flat_map written_element (tags_element 0x1005 ts))))
+
+result_size : (o : OperationResult) → IsHeldResult o → length (flat_map written_element (result_elements o)) ≤ 73
+result_size (results.Create i) h = uid_size 0x1000 i h
+result_size (results.Get i) h = uid_size 0x1000 i h
+
+pub command_short : {A : Type 0} (c : Command A) → Fits c → IsHeld c → length (flat_map written_element (command_elements c)) < 2 ^ 32
+command_short (Request r) fits h =
+    rw (flat_map-append written_element (uid_element (class_element r.operation) r.sop_class) _)
+    (omega (arith, fits, uid_size (class_element r.operation) r.sop_class h.sop_class, operation_size r.operation h.operation, length-append {A = ℕ}))
+command_short (Response r) fits h =
+    rw (flat_map-append written_element (uid_element 0x0002 r.sop_class) _)
+    (omega (arith, uid_size 0x0002 r.sop_class h.sop_class, result_size r.result h.operation, length-append {A = ℕ}))

@@ -1,0 +1,76 @@
+-- Which bytes spell which command (PS3.7 section 10.3).
+use Rattle.std.specs.Prelude.{ℕ, List, []}
+use Rattle.ups_dimse.specs.declared.command.Command.{Command}
+use Rattle.ups_dimse.specs.declared.command.Command.TheVariants.{Request, Response}
+use Rattle.ups_dimse.specs.declared.command.RequestCommand.{RequestCommand}
+use Rattle.ups_dimse.specs.declared.command.ResponseCommand.{ResponseCommand}
+use Rattle.ups_dimse.specs.declared.command.Operation.{Operation}
+use Rattle.ups_dimse.specs.declared.command.Operation.TheVariants as operations
+use Rattle.ups_dimse.specs.declared.command.OperationResult.{OperationResult}
+use Rattle.ups_dimse.specs.declared.command.OperationResult.TheVariants as results
+use Rattle.ups_dimse.specs.declared.message.Message.{Message}
+use Rattle.ups_dimse.specs.declared.message.Message.TheVariants.{GetRequest, GetResponse, CreateRequest, CreateResponse}
+use Rattle.ups_dimse.specs.Elements.{CommandElement, SpellsElements}
+use Rattle.ups_dimse.specs.Messages.{field_of}
+use Rattle.ups_dimse.specs.Values.{HasUs, HasUid, HasDataSet, HasTags}
+
+-- the message that requests an operation
+abbrev pub request_of : {A : Type 0} → Operation A → Message
+request_of (operations.Create instance) = CreateRequest
+request_of (operations.Get instance attributes) = GetRequest
+
+-- the message that responds with a result
+abbrev pub response_of : OperationResult → Message
+response_of (results.Create instance) = CreateResponse
+response_of (results.Get instance) = GetResponse
+
+-- the element that names the SOP class of a request: Affected (0002) or Requested (0003) SOP Class UID
+abbrev pub class_element : {A : Type 0} → Operation A → ℕ
+class_element (operations.Create instance) = 0x0002
+class_element (operations.Get instance attributes) = 0x0003
+
+-- the elements of a request that are its operation's own: Affected (1000) or Requested (1001) SOP Instance UID,
+-- Attribute Identifier List (1005)
+abbrev pub HasOperation : {A : Type 0} → List CommandElement → Operation A → Type 0
+HasOperation elements (operations.Create instance) = HasUid elements 0x1000 instance
+HasOperation elements (operations.Get instance attributes) = HasUid elements 0x1001 instance × HasTags elements 0x1005 attributes
+
+-- the elements of a response that are its operation's own: Affected SOP Instance UID (1000)
+abbrev pub HasResult : List CommandElement → OperationResult → Type 0
+HasResult elements (results.Create instance) = HasUid elements 0x1000 instance
+HasResult elements (results.Get instance) = HasUid elements 0x1000 instance
+
+-- a request: its SOP class, Command Field (0100), Message ID (0110), Command Data Set Type (0800), and its operation's
+pub record IsRequest {A : Type 0} (elements : List CommandElement) (request : RequestCommand A) : Type 0 where
+  pub sop_class : HasUid elements (class_element request.operation) request.sop_class
+  pub field : HasUs elements 0x0100 (field_of (request_of request.operation))
+  pub message_id : HasUs elements 0x0110 request.message_id
+  pub data_set : HasDataSet elements request.has_data_set
+  pub operation : HasOperation elements request.operation
+
+-- a response: Affected SOP Class UID (0002), Command Field (0100), Message ID Being Responded To (0120), Command Data
+-- Set Type (0800), Status (0900), and its operation's
+pub record IsResponse (elements : List CommandElement) (response : ResponseCommand) : Type 0 where
+  pub sop_class : HasUid elements 0x0002 response.sop_class
+  pub field : HasUs elements 0x0100 (field_of (response_of response.result))
+  pub responded_to : HasUs elements 0x0120 response.responded_to
+  pub data_set : HasDataSet elements response.has_data_set
+  pub status : HasUs elements 0x0900 response.status
+  pub operation : HasResult elements response.result
+
+-- the elements are those of this command; others may stand among them
+abbrev pub IsCommand : {A : Type 0} → List CommandElement → Command A → Type 0
+IsCommand elements (Request request) = IsRequest elements request
+IsCommand elements (Response response) = IsResponse elements response
+
+-- The bytes are elements with rising numbers, and those of this command are among them. Command Group Length (0000)
+-- is none of the command's, so it may be absent, and is not looked at.
+pub record SpellsCommand {A : Type 0} (bytes : List ℕ) (command : Command A) : Type 0 where
+  pub elements : List CommandElement
+  pub spelled : SpellsElements 0 bytes elements []
+  pub is : IsCommand elements command
+
+-- what a response to an operation is the result of
+abbrev pub result_of : {A : Type 0} → Operation A → OperationResult
+result_of (operations.Create instance) = results.Create instance
+result_of (operations.Get instance attributes) = results.Get instance

@@ -1,0 +1,50 @@
+-- What holds of each command that a program holds, whatever its bytes: numbers fit two bytes, and UIDs are UIDs.
+use Rattle.std.specs.Prelude.{◌<◌, ◌^◌, List, IfSome}
+use Rattle.std.specs.List.{All}
+use Rattle.ups_pdu.specs.Identifier.{IsUid}
+use Rattle.ups_dataset.specs.declared.tag.Tag.{Tag}
+use Rattle.ups_dimse.specs.declared.command.Command.{Command}
+use Rattle.ups_dimse.specs.declared.command.Command.TheVariants.{Request, Response}
+use Rattle.ups_dimse.specs.declared.command.RequestCommand.{RequestCommand}
+use Rattle.ups_dimse.specs.declared.command.ResponseCommand.{ResponseCommand}
+use Rattle.ups_dimse.specs.declared.command.Operation.{Operation}
+use Rattle.ups_dimse.specs.declared.command.Operation.TheVariants as operations
+use Rattle.ups_dimse.specs.declared.command.OperationResult.{OperationResult}
+use Rattle.ups_dimse.specs.declared.command.OperationResult.TheVariants as results
+
+-- a tag
+pub record IsHeldTag (tag : Tag) : Type 0 where
+  pub group_fits : tag.group < 2 ^ 16
+  pub element_fits : tag.element < 2 ^ 16
+
+-- tags
+abbrev pub AreHeldTags : List Tag → Type 0
+AreHeldTags tags = All IsHeldTag tags
+
+-- what is an operation's own
+abbrev pub IsHeldOperation : {A : Type 0} → Operation A → Type 0
+IsHeldOperation (operations.Create instance) = IfSome instance IsUid
+IsHeldOperation (operations.Get instance attributes) = IfSome instance IsUid × AreHeldTags attributes
+
+-- what is a result's own
+abbrev pub IsHeldResult : OperationResult → Type 0
+IsHeldResult (results.Create instance) = IfSome instance IsUid
+IsHeldResult (results.Get instance) = IfSome instance IsUid
+
+-- a request
+pub record IsHeldRequest {A : Type 0} (request : RequestCommand A) : Type 0 where
+  pub sop_class : IfSome request.sop_class IsUid
+  pub message_id : request.message_id < 2 ^ 16
+  pub operation : IsHeldOperation request.operation
+
+-- a response
+pub record IsHeldResponse (response : ResponseCommand) : Type 0 where
+  pub sop_class : IfSome response.sop_class IsUid
+  pub responded_to : response.responded_to < 2 ^ 16
+  pub status : response.status < 2 ^ 16
+  pub operation : IsHeldResult response.result
+
+-- a command
+abbrev pub IsHeld : {A : Type 0} → Command A → Type 0
+IsHeld (Request request) = IsHeldRequest request
+IsHeld (Response response) = IsHeldResponse response

@@ -1,0 +1,7 @@
+pub mod Commands
+pub mod Elements
+pub mod Faults
+pub mod Held
+pub mod Messages
+pub mod Values
+pub mod Written

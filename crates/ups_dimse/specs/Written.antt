@@ -1,0 +1,87 @@
+-- The one spelling of a command that is written.
+use Rattle.std.specs.Prelude.{ℕ, ◌-◌, ◌*◌, ◌<◌, ◌%◌, ◌^◌, ◌==◌, Bool, if◌then◌else◌, List, [], ◌∷◌, ◌++◌, length, Option, None, Some}
+use Rattle.std.specs.Int.{w16, w32, to_le_bytes}
+use Rattle.std.specs.List.{flat_map}
+use Rattle.ups_dataset.specs.declared.tag.Tag.{Tag}
+use Rattle.ups_dataset.specs.Tag.{tag_bytes}
+use Rattle.ups_dimse.specs.declared.command.Command.{Command}
+use Rattle.ups_dimse.specs.declared.command.Command.TheVariants.{Request, Response}
+use Rattle.ups_dimse.specs.declared.command.RequestCommand.{RequestCommand}
+use Rattle.ups_dimse.specs.declared.command.ResponseCommand.{ResponseCommand}
+use Rattle.ups_dimse.specs.declared.command.Operation.{Operation}
+use Rattle.ups_dimse.specs.declared.command.Operation.TheVariants as operations
+use Rattle.ups_dimse.specs.declared.command.OperationResult.{OperationResult}
+use Rattle.ups_dimse.specs.declared.command.OperationResult.TheVariants as results
+use Rattle.ups_dimse.specs.Elements.{CommandElement, command_tag}
+use Rattle.ups_dimse.specs.Messages.{field_of}
+use Rattle.ups_dimse.specs.Commands.{request_of, response_of, class_element}
+
+-- an element's tag, the length of its value, and its value (PS3.5 section 7.1.3)
+abbrev pub written_element : CommandElement → List ℕ
+written_element e = tag_bytes (command_tag e.number) ++ (to_le_bytes w32 (length e.value) ++ e.value)
+
+-- a number in two bytes (PS3.5 section 6.2)
+abbrev pub us_element : ℕ → ℕ → CommandElement
+us_element number value = record { number = number; value = to_le_bytes w16 value }
+
+-- a UID of odd length has one NUL behind it (PS3.5 section 9.1)
+abbrev pub padded : List ℕ → List ℕ
+padded uid = if length uid % 2 == 0 then uid else uid ++ 0 ∷ []
+
+-- a UID that is absent has no element
+abbrev pub uid_element : ℕ → Option (List ℕ) → List CommandElement
+uid_element number None = []
+uid_element number (Some uid) = record { number = number; value = padded uid } ∷ []
+
+-- a list without tags has no element
+abbrev pub tags_element : ℕ → List Tag → List CommandElement
+tags_element number [] = []
+tags_element number (tag ∷ tags) = record { number = number; value = flat_map tag_bytes (tag ∷ tags) } ∷ []
+
+-- Command Data Set Type: 0001H where a data set follows, 0101H where none does (PS3.7 annex E.1)
+abbrev pub data_set_element : Bool → CommandElement
+data_set_element there = us_element 0x0800 (if there then 0x0001 else 0x0101)
+
+-- the elements that are an operation's own (PS3.7 sections 10.3.2.1 and 10.3.5.1)
+abbrev pub operation_elements : {A : Type 0} → Operation A → List CommandElement
+operation_elements (operations.Create instance) = uid_element 0x1000 instance
+operation_elements (operations.Get instance attributes) = uid_element 0x1001 instance ++ tags_element 0x1005 attributes
+
+-- the elements that are a result's own (PS3.7 sections 10.3.2.2 and 10.3.5.2)
+abbrev pub result_elements : OperationResult → List CommandElement
+result_elements (results.Create instance) = uid_element 0x1000 instance
+result_elements (results.Get instance) = uid_element 0x1000 instance
+
+-- the elements of a request, by rising numbers
+abbrev pub request_elements : {A : Type 0} → RequestCommand A → List CommandElement
+request_elements r = uid_element (class_element r.operation) r.sop_class
+    ++ (us_element 0x0100 (field_of (request_of r.operation)) ∷ us_element 0x0110 r.message_id ∷ data_set_element r.has_data_set ∷ operation_elements r.operation)
+
+-- the elements of a response, by rising numbers
+abbrev pub response_elements : ResponseCommand → List CommandElement
+response_elements r = uid_element 0x0002 r.sop_class
+    ++ (us_element 0x0100 (field_of (response_of r.result)) ∷ us_element 0x0120 r.responded_to ∷ data_set_element r.has_data_set ∷ us_element 0x0900 r.status ∷ result_elements r.result)
+
+-- the elements behind Command Group Length (0000,0000), by rising numbers
+abbrev pub command_elements : {A : Type 0} → Command A → List CommandElement
+command_elements (Request request) = request_elements request
+command_elements (Response response) = response_elements response
+
+-- elements, with the length of them all before them (PS3.7 section 6.3.1)
+abbrev pub grouped : List CommandElement → List CommandElement
+grouped elements = record { number = 0x0000; value = to_le_bytes w32 (length (flat_map written_element elements)) } ∷ elements
+
+-- the bytes of a command set
+abbrev pub written : {A : Type 0} → Command A → List ℕ
+written command = flat_map written_element (grouped (command_elements command))
+
+-- the attributes that a request lists
+abbrev pub tags_of : {A : Type 0} → Operation A → List Tag
+tags_of (operations.Create instance) = []
+tags_of (operations.Get instance attributes) = attributes
+
+-- The length of the elements fits the four bytes of Command Group Length, with 256 bytes left for those other than the
+-- attributes.
+abbrev pub Fits : {A : Type 0} → Command A → Type 0
+Fits (Request request) = 4 * length (tags_of request.operation) < 2 ^ 32 - 256
+Fits (Response response) = Unit {0}

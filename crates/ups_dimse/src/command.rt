@@ -1,0 +1,175 @@
+//! Commands.
+
+use crate::message::Message;
+use crate::numbers::{AFFECTED_CLASS, REQUESTED_CLASS};
+use crate::tag_list::Tags;
+use std::alloc::Allocator;
+use ups_pdu::Uid;
+
+/// What a command set says (PS3.7 section 6.3.1).
+#[derive(Drop)]
+pub enum Command<A: Allocator + Copy> {
+    /// The command of a request (PS3.7 section 10.3).
+    Request(RequestCommand<A>),
+    /// The command of a response (PS3.7 section 10.3).
+    Response(ResponseCommand),
+}
+
+/// The command of a request.
+#[derive(Drop)]
+pub struct RequestCommand<A: Allocator + Copy> {
+    /// The SOP class, Affected or Requested as the operation has it; None where it is absent or malformed.
+    pub sop_class: Option<Uid>,
+    /// Message ID (0000,0110).
+    pub message_id: u16,
+    /// Whether a data set follows the command, by Command Data Set Type (0000,0800).
+    pub has_data_set: bool,
+    /// What is requested.
+    pub operation: Operation<A>,
+}
+
+/// What a request asks for, with what is its own in the command.
+#[derive(Drop)]
+pub enum Operation<A: Allocator + Copy> {
+    /// N-CREATE (PS3.7 section 10.3.5).
+    Create {
+        /// Affected SOP Instance UID (0000,1000); None where it is absent or malformed.
+        instance: Option<Uid>,
+    },
+    /// N-GET (PS3.7 section 10.3.2).
+    Get {
+        /// Requested SOP Instance UID (0000,1001); None where it is absent or malformed.
+        instance: Option<Uid>,
+        /// Attribute Identifier List (0000,1005); no tags where it is absent.
+        attributes: Tags<A>,
+    },
+}
+
+/// The command of a response.
+#[derive(Clone, Copy)]
+pub struct ResponseCommand {
+    /// Affected SOP Class UID (0000,0002); None where it is absent or malformed.
+    pub sop_class: Option<Uid>,
+    /// Message ID Being Responded To (0000,0120).
+    pub responded_to: u16,
+    /// Whether a data set follows the command, by Command Data Set Type (0000,0800).
+    pub has_data_set: bool,
+    /// Status (0000,0900) (PS3.7 annex C).
+    pub status: u16,
+    /// What it responds to.
+    pub result: OperationResult,
+}
+
+/// What a response answers, with what is its own in the command.
+#[derive(Clone, Copy)]
+pub enum OperationResult {
+    /// N-CREATE (PS3.7 section 10.3.5.2).
+    Create {
+        /// Affected SOP Instance UID (0000,1000); None where it is absent or malformed.
+        instance: Option<Uid>,
+    },
+    /// N-GET (PS3.7 section 10.3.2.2).
+    Get {
+        /// Affected SOP Instance UID (0000,1000); None where it is absent or malformed.
+        instance: Option<Uid>,
+    },
+}
+
+impl<A: Allocator + Copy> Command<A> {
+    ghost use Rattle.std.specs.Prelude.{◌↔◌, IsTrue};
+    ghost use Rattle.ups_dimse.specs.Written.{Fits};
+
+    /// Whether the length of its elements fits Command Group Length (0000,0000), which every command does but a request
+    /// for about 2^30 attributes.
+    pub fn fits(&self) -> bool
+        ensures { IsTrue result ↔ Fits self.now }
+    {
+        match self {
+            Command::Request(request) => request.operation.attributes() < 0x3fff_ffc0,
+            Command::Response(_) => true,
+        }
+    }
+}
+
+impl<A: Allocator + Copy> Operation<A> {
+    ghost use Rattle.std.specs.Prelude.{◌≡◌, length};
+    ghost use Rattle.ups_dimse.specs.Commands.{request_of, class_element};
+    ghost use Rattle.ups_dimse.specs.Written.{tags_of};
+
+    /// The message that requests it.
+    pub(crate) fn message(&self) -> Message
+        ensures { result ≡ request_of self.now }
+    {
+        match self {
+            Operation::Create { .. } => Message::CreateRequest,
+            Operation::Get { .. } => Message::GetRequest,
+        }
+    }
+
+    /// The number of the element that names the SOP class of the request.
+    pub(crate) fn class_element(&self) -> u16
+        ensures { result ≡ class_element self.now }
+    {
+        match self {
+            Operation::Create { .. } => AFFECTED_CLASS,
+            Operation::Get { .. } => REQUESTED_CLASS,
+        }
+    }
+
+    /// How many attributes are listed.
+    fn attributes(&self) -> usize
+        ensures { result ≡ length (tags_of self.now) }
+    {
+        match self {
+            Operation::Create { .. } => 0,
+            Operation::Get { attributes, .. } => attributes.as_slice().len(),
+        }
+    }
+}
+
+impl OperationResult {
+    ghost use Rattle.std.specs.Prelude.{◌≡◌};
+    ghost use Rattle.ups_dimse.specs.Commands.{response_of};
+
+    /// The message that responds with it.
+    pub(crate) fn message(self) -> Message
+        ensures { result ≡ response_of self }
+    {
+        match self {
+            OperationResult::Create { .. } => Message::CreateResponse,
+            OperationResult::Get { .. } => Message::GetResponse,
+        }
+    }
+}
+
+impl<A: Allocator + Copy> RequestCommand<A> {
+    ghost use Rattle.std.specs.Prelude.{◌≡◌, Some};
+    ghost use Rattle.std.specs.Option.{unwrap_or};
+    ghost use Rattle.ups_dimse.specs.Commands.{result_of};
+
+    /// The response to this request: of its SOP class, or of the one that is given where it names none; with its
+    /// message ID, its operation and its instance.
+    pub fn answered(&self, sop_class: Uid, status: u16, has_data_set: bool) -> ResponseCommand
+        ensures class { result.sop_class ≡ Some (unwrap_or self.now.sop_class sop_class) }
+        ensures responded_to { result.responded_to ≡ self.now.message_id }
+        ensures data_set { result.has_data_set ≡ has_data_set }
+        ensures status { result.status ≡ status }
+        ensures operation { result.result ≡ result_of self.now.operation }
+    {
+        let result = match &self.operation {
+            Operation::Create { instance } => OperationResult::Create {
+                instance: *instance,
+            },
+            Operation::Get { instance, .. } => OperationResult::Get {
+                instance: *instance,
+            },
+        };
+        ResponseCommand {
+            sop_class: Some(self.sop_class.unwrap_or(sop_class)),
+            responded_to: self.message_id,
+            has_data_set,
+            status,
+            result,
+        }
+    }
+}

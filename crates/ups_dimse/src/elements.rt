@@ -1,0 +1,123 @@
+//! The elements of a command set (PS3.7 section 6.3.1): in Implicit VR Little Endian, each is its tag, the length of
+//! its value in four bytes, and its value.
+
+ghost use Rattle.std.specs.Prelude.{◌≡◌, ◌↔◌, ◌%◌, ℕ, List, [], None, Some, length, IsTrue, IfOk, MatchOption, MatchResult};
+ghost use Rattle.ups_pdu.specs.Each.{Each};
+ghost use Rattle.ups_dataset.specs.declared.tag.Tag.{Tag};
+ghost use Rattle.ups_dimse.specs.Elements.{CommandElement, IsElement, SpellsElements, AreElements, value_in};
+ghost use Rattle.ups_dimse.specs.Faults.{Gives};
+ghost use Rattle.ups_dimse.specs.Values.{HasUs, UsFails, HasUid, HasDataSet, IsTagAt, HasTags, TagsFail};
+
+use crate::fault::DimseFault;
+use crate::numbers::{DATA_SET_TYPE, command_tag};
+use crate::tag_list::Tags;
+use std::alloc::{AllocError, Allocator};
+use ups_dataset::Tag;
+use ups_pdu::{Uid, le_u16_at, le_u32_at};
+
+/// The number and the value of the element at the front, and the rest.
+fn element_at(bytes: &[u8]) -> Option<(u16, &[u8], &[u8])>
+    ensures { MatchOption result
+        ((element : CommandElement) → (rest : List ℕ) → IsElement bytes.now element rest → ⊥)
+        (λ x. IsElement bytes.now (record { number = x.0; value = x.1.now }) x.2.now) }
+{
+    let (tag, after) = Tag::at(bytes)?;
+    let (len, rest) = le_u32_at(after)?;
+    if tag.group != 0 || len == 0xffff_ffff || len % 2 != 0 || rest.len() < len as usize {
+        return None;
+    }
+    let (value, rest) = rest.split_at(len as usize);
+    Some((tag.element, value, rest))
+}
+
+/// Whether the bytes are elements with rising tags, and nothing else.
+pub(crate) fn are_elements(bytes: &[u8]) -> bool
+    ensures { IsTrue result ↔ AreElements 0 bytes.now }
+{
+    let mut from = 0;
+    let mut rest = bytes;
+    while !rest.is_empty() {
+        let Some((number, _, after)) = element_at(rest) else {
+            return false;
+        };
+        if u32::from(number) < from {
+            return false;
+        }
+        from = u32::from(number) + 1;
+        rest = after;
+    }
+    true
+}
+
+/// The value of an element, in bytes that are elements.
+fn value_of(bytes: &[u8], number: u16) -> Option<&[u8]>
+    ensures { (elements : List CommandElement) → SpellsElements 0 bytes.now elements [] → MatchOption result (value_in number elements ≡ None) (λ v. value_in number elements ≡ Some v.now) }
+{
+    let mut rest = bytes;
+    while let Some((found, value, after)) = element_at(rest) {
+        if found == number {
+            return Some(value);
+        }
+        rest = after;
+    }
+    None
+}
+
+/// The number in an element with the value representation US (PS3.5 section 6.2).
+pub(crate) fn us_of(bytes: &[u8], number: u16) -> Result<u16, DimseFault>
+    ensures { (elements : List CommandElement) → SpellsElements 0 bytes.now elements [] → MatchResult result (HasUs elements number) (UsFails elements number) }
+{
+    let Some(value) = value_of(bytes, number) else {
+        return Err(DimseFault::Missing(command_tag(number)));
+    };
+    if value.len() != 2 {
+        return Err(DimseFault::BadValue(command_tag(number)));
+    }
+    Ok(u16::from_le_bytes([value[0], value[1]]))
+}
+
+/// The UID in an element with the value representation UI (PS3.5 section 6.2).
+pub(crate) fn uid_of(bytes: &[u8], number: u16) -> Option<Uid>
+    ensures { (elements : List CommandElement) → SpellsElements 0 bytes.now elements [] → HasUid elements number result }
+{
+    Uid::of(value_of(bytes, number)?)
+}
+
+/// Whether a data set follows the command (PS3.7 annex E.1, Command Data Set Type).
+pub(crate) fn has_data_set(bytes: &[u8]) -> Result<bool, DimseFault>
+    ensures { (elements : List CommandElement) → SpellsElements 0 bytes.now elements [] → MatchResult result (HasDataSet elements) (UsFails elements 0x0800) }
+{
+    Ok(us_of(bytes, DATA_SET_TYPE)? != 0x0101)
+}
+
+/// The tags that the bytes are.
+fn tags_in<A: Allocator + Copy>(alloc: A, bytes: &[u8]) -> Result<Tags<A>, AllocError>
+    requires { length bytes.now % 4 ≡ 0 }
+    ensures read { IfOk result (Each IsTagAt bytes.now) }
+    ensures there { (tags : List Tag) × Each IsTagAt bytes.now tags }
+{
+    let mut tags = Vec::new(alloc);
+    let mut rest = bytes;
+    while let Some((tag, after)) = Tag::at(rest) {
+        tags.push(tag)?;
+        rest = after;
+    }
+    Ok(Tags::from_vec(tags))
+}
+
+/// The tags in an element with the value representation AT (PS3.5 section 6.2); none where there is no such element.
+pub(crate) fn tags_of<A: Allocator + Copy>(
+    alloc: A,
+    bytes: &[u8],
+    number: u16,
+) -> Result<Tags<A>, DimseFault>
+    ensures { (elements : List CommandElement) → SpellsElements 0 bytes.now elements [] → Gives (HasTags elements number) (TagsFail elements number) result }
+{
+    let Some(value) = value_of(bytes, number) else {
+        return Ok(Tags::new(alloc));
+    };
+    if value.len() % 4 != 0 {
+        return Err(DimseFault::BadValue(command_tag(number)));
+    }
+    Ok(tags_in(alloc, value)?)
+}

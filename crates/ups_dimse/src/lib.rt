@@ -1,0 +1,20 @@
+//! The commands of DICOM messages (PS3.7), and the command sets that spell them, read and written exactly.
+#![tactic(auto)]
+
+mod command;
+mod elements;
+mod fault;
+mod message;
+mod numbers;
+mod reading;
+mod tag_list;
+mod writing;
+
+pub use command::{Command, Operation, OperationResult, RequestCommand, ResponseCommand};
+pub use fault::DimseFault;
+pub use reading::{command_is_unique, fault_is_unique, read_command};
+pub use tag_list::Tags;
+pub use writing::write_command;
+
+#[cfg(test)]
+mod tests;

@@ -1,0 +1,56 @@
+//! Which message a command set is of.
+
+ghost use Rattle.std.specs.Prelude.{◌≡◌, MatchOption};
+ghost use Rattle.ups_dimse.specs.declared.message.Message.{Message};
+ghost use Rattle.ups_dimse.specs.Messages.{field_of};
+
+/// The messages that are read and written.
+#[derive(Clone, Copy, Debug, PartialEq, Eq)]
+pub(crate) enum Message {
+    /// N-GET-RQ (PS3.7 section 10.3.2.1).
+    GetRequest,
+    /// N-GET-RSP (PS3.7 section 10.3.2.2).
+    GetResponse,
+    /// N-CREATE-RQ (PS3.7 section 10.3.5.1).
+    CreateRequest,
+    /// N-CREATE-RSP (PS3.7 section 10.3.5.2).
+    CreateResponse,
+}
+
+/// The values of Command Field (PS3.7 annex E.1).
+mod field {
+    pub(super) const GET_REQUEST: u16 = 0x0110;
+
+    pub(super) const GET_RESPONSE: u16 = 0x8110;
+
+    pub(super) const CREATE_REQUEST: u16 = 0x0140;
+
+    pub(super) const CREATE_RESPONSE: u16 = 0x8140;
+}
+
+impl Message {
+    /// The value of its Command Field.
+    pub(crate) fn field(self) -> u16
+        ensures { result ≡ field_of self }
+    {
+        match self {
+            Message::GetRequest => field::GET_REQUEST,
+            Message::GetResponse => field::GET_RESPONSE,
+            Message::CreateRequest => field::CREATE_REQUEST,
+            Message::CreateResponse => field::CREATE_RESPONSE,
+        }
+    }
+
+    /// The message whose Command Field has this value.
+    pub(crate) fn of(field: u16) -> Option<Message>
+        ensures { MatchOption result ((message : Message) → field_of message ≡ field → ⊥) (λ message. field_of message ≡ field) }
+    {
+        match field {
+            field::GET_REQUEST => Some(Message::GetRequest),
+            field::GET_RESPONSE => Some(Message::GetResponse),
+            field::CREATE_REQUEST => Some(Message::CreateRequest),
+            field::CREATE_RESPONSE => Some(Message::CreateResponse),
+            _ => None,
+        }
+    }
+}

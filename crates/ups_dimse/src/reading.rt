@@ -1,0 +1,130 @@
+//! Reading command sets.
+
+ghost use Rattle.std.specs.Prelude.{◌≡◌, List, ℕ, [], IfOk, IfErr, MatchResult};
+ghost use Rattle.ups_dimse.specs.declared.command.Command.{Command};
+ghost use Rattle.ups_dimse.specs.declared.fault.DimseFault.{DimseFault};
+ghost use Rattle.ups_dimse.specs.declared.fault.DimseFault.TheVariants.{Memory};
+ghost use Rattle.ups_dimse.specs.Elements.{CommandElement, SpellsElements};
+ghost use Rattle.ups_dimse.specs.Messages.{field_of, needs};
+ghost use Rattle.ups_dimse.specs.Values.{HasUs};
+ghost use Rattle.ups_dimse.specs.Commands.{HasResult, IsRequest, IsResponse, IsCommand, SpellsCommand, response_of};
+ghost use Rattle.ups_dimse.specs.Faults.{FirstFails, Gives, IsFault};
+ghost use Rattle.ups_dimse.specs.declared.message.Message.TheVariants.{GetRequest, CreateRequest};
+
+use crate::command::{Command, Operation, OperationResult, RequestCommand, ResponseCommand};
+use crate::elements::{are_elements, has_data_set, tags_of, uid_of, us_of};
+use crate::fault::DimseFault;
+use crate::message::Message;
+use crate::numbers::{
+    AFFECTED_CLASS, AFFECTED_INSTANCE, ATTRIBUTES, COMMAND_FIELD, GROUP_LENGTH, MESSAGE_ID,
+    REQUESTED_CLASS, REQUESTED_INSTANCE, RESPONDED_TO, STATUS, command_tag,
+};
+use std::alloc::Allocator;
+
+/// N-CREATE-RQ (PS3.7 section 10.3.5.1).
+fn create_request<A: Allocator + Copy>(bytes: &[u8]) -> Result<RequestCommand<A>, DimseFault>
+    ensures { (elements : List CommandElement) → SpellsElements 0 bytes.now elements [] → HasUs elements 0x0100 (field_of CreateRequest)
+        → MatchResult result (IsRequest elements) (FirstFails elements (needs CreateRequest)) }
+{
+    Ok(RequestCommand {
+        sop_class: uid_of(bytes, AFFECTED_CLASS),
+        message_id: us_of(bytes, MESSAGE_ID)?,
+        has_data_set: has_data_set(bytes)?,
+        operation: Operation::Create {
+            instance: uid_of(bytes, AFFECTED_INSTANCE),
+        },
+    })
+}
+
+/// N-GET-RQ (PS3.7 section 10.3.2.1).
+fn get_request<A: Allocator + Copy>(alloc: A, bytes: &[u8]) -> Result<RequestCommand<A>, DimseFault>
+    ensures { (elements : List CommandElement) → SpellsElements 0 bytes.now elements [] → HasUs elements 0x0100 (field_of GetRequest)
+        → Gives (IsRequest elements) (FirstFails elements (needs GetRequest)) result }
+{
+    Ok(RequestCommand {
+        sop_class: uid_of(bytes, REQUESTED_CLASS),
+        message_id: us_of(bytes, MESSAGE_ID)?,
+        has_data_set: has_data_set(bytes)?,
+        operation: Operation::Get {
+            instance: uid_of(bytes, REQUESTED_INSTANCE),
+            attributes: tags_of(alloc, bytes, ATTRIBUTES)?,
+        },
+    })
+}
+
+/// The response with this result (PS3.7 section 10.3).
+fn response(bytes: &[u8], outcome: OperationResult) -> Result<ResponseCommand, DimseFault>
+    ensures { (elements : List CommandElement) → SpellsElements 0 bytes.now elements [] → HasUs elements 0x0100 (field_of (response_of outcome))
+        → HasResult elements outcome → MatchResult result (λ r. IsResponse elements r × (r.result ≡ outcome)) (FirstFails elements (needs (response_of outcome))) }
+{
+    Ok(ResponseCommand {
+        sop_class: uid_of(bytes, AFFECTED_CLASS),
+        responded_to: us_of(bytes, RESPONDED_TO)?,
+        has_data_set: has_data_set(bytes)?,
+        status: us_of(bytes, STATUS)?,
+        result: outcome,
+    })
+}
+
+/// The command of a message.
+fn command_of<A: Allocator + Copy>(
+    alloc: A,
+    bytes: &[u8],
+    message: Message,
+) -> Result<Command<A>, DimseFault>
+    ensures { (elements : List CommandElement) → SpellsElements 0 bytes.now elements [] → HasUs elements 0x0100 (field_of message)
+        → Gives (IsCommand elements) (FirstFails elements (needs message)) result }
+{
+    match message {
+        Message::GetRequest => Ok(Command::Request(get_request(alloc, bytes)?)),
+        Message::CreateRequest => Ok(Command::Request(create_request(bytes)?)),
+        Message::GetResponse => {
+            let instance = uid_of(bytes, AFFECTED_INSTANCE);
+            let outcome = OperationResult::Get { instance };
+            Ok(Command::Response(response(bytes, outcome)?))
+        }
+        Message::CreateResponse => {
+            let instance = uid_of(bytes, AFFECTED_INSTANCE);
+            let outcome = OperationResult::Create { instance };
+            Ok(Command::Response(response(bytes, outcome)?))
+        }
+    }
+}
+
+/// The command that a command set spells (PS3.7 section 6.3.1): the bytes of all the command fragments of a message.
+/// Elements that the message does not name are passed over, and Command Group Length is not looked at.
+///
+/// # Errors
+///
+/// The first of these, in this order. `BadValue` of (0000,0000): the bytes are no elements of group 0000 with rising
+/// tags. `Missing` or `BadValue` of Command Field (0000,0100). `UnknownField`: no known message has that field. `Missing`
+/// or `BadValue` of the message's elements, by rising tag: a number that is missing or has other than two bytes, or a
+/// list of tags whose length is no multiple of four. `Memory`: the bytes spell a command, and memory ran out.
+pub fn read_command<A: Allocator + Copy>(alloc: A, bytes: &[u8]) -> Result<Command<A>, DimseFault>
+    // What is read is spelled.
+    ensures found { IfOk result (SpellsCommand bytes.now) }
+    // What is spelled is read, unless memory runs out.
+    ensures only { (command : Command A) → SpellsCommand bytes.now command → MatchResult result (λ c. c ≡ command) (λ e. e ≡ Memory) }
+    // A fault is the first one.
+    ensures fault { IfErr result (IsFault A bytes.now) }
+{
+    if !are_elements(bytes) {
+        return Err(DimseFault::BadValue(command_tag(GROUP_LENGTH)));
+    }
+    let field = us_of(bytes, COMMAND_FIELD)?;
+    let Some(message) = Message::of(field) else {
+        return Err(DimseFault::UnknownField);
+    };
+    command_of(alloc, bytes, message)
+}
+
+/// Bytes spell one command at most. It does nothing: its contract is that law.
+pub fn command_is_unique<A: Allocator + Copy>()
+    ensures { (bytes : List ℕ) → (c : Command A) → (d : Command A) → SpellsCommand bytes c → SpellsCommand bytes d → c ≡ d }
+{}
+
+/// Bytes have one first fault at most, and none where they spell a command, but that memory may run out. It does
+/// nothing: its contract is that law.
+pub fn fault_is_unique<A: Allocator + Copy>()
+    ensures { (bytes : List ℕ) → (f : DimseFault) → (g : DimseFault) → IsFault A bytes f → IsFault A bytes g → f ≡ g }
+{}

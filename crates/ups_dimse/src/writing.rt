@@ -1,0 +1,221 @@
+//! Writing command sets.
+
+ghost use Rattle.std.specs.Prelude.{◌≡◌, ◌<◌, ◌*◌, ◌^◌, ◌++◌, length, IfOk, IfSome, OnOk};
+ghost use Rattle.std.specs.Int.{to_le_bytes, w32};
+ghost use Rattle.std.specs.List.{flat_map};
+ghost use Rattle.ups_pdu.specs.Identifier.{IsUid};
+ghost use Rattle.ups_dataset.specs.Tag.{tag_bytes};
+ghost use Rattle.ups_dimse.specs.Elements.{command_tag};
+ghost use Rattle.ups_dimse.specs.Commands.{SpellsCommand};
+ghost use Rattle.ups_dimse.specs.Written.{written, written_element, us_element, uid_element, tags_element, data_set_element, operation_elements, result_elements, request_elements, response_elements, command_elements, tags_of, Fits};
+ghost use Rattle.ups_dimse.specs.Held.{IsHeldTag, AreHeldTags, IsHeldOperation, IsHeldResult, IsHeldRequest, IsHeldResponse, IsHeld};
+
+use crate::command::{Command, Operation, OperationResult, RequestCommand, ResponseCommand};
+use crate::numbers::{
+    AFFECTED_CLASS, AFFECTED_INSTANCE, ATTRIBUTES, COMMAND_FIELD, DATA_SET_TYPE, GROUP_LENGTH,
+    MESSAGE_ID, REQUESTED_INSTANCE, RESPONDED_TO, STATUS, command_tag,
+};
+use std::alloc::{AllocError, Allocator};
+use ups_dataset::Tag;
+use ups_pdu::Uid;
+
+/// Writes the header of an element at the end: its tag, and the length of its value.
+fn put_header<A: Allocator + Copy>(
+    out: &mut Vec<u8, A>,
+    number: u16,
+    len: u32,
+) -> Result<(), AllocError>
+    ensures { OnOk result (out.new.items ≡ out.old.items ++ (tag_bytes (command_tag number) ++ to_le_bytes w32 len)) }
+{
+    command_tag(number).put(out)?;
+    out.extend_from_slice(&len.to_le_bytes())?;
+    Ok(())
+}
+
+/// Writes a number at the end.
+fn put_us<A: Allocator + Copy>(
+    out: &mut Vec<u8, A>,
+    number: u16,
+    value: u16,
+) -> Result<(), AllocError>
+    ensures wrote { OnOk result (out.new.items ≡ out.old.items ++ written_element (us_element number value)) }
+    ensures held { value < 2 ^ 16 }
+{
+    put_header(out, number, 2)?;
+    out.extend_from_slice(&value.to_le_bytes())?;
+    Ok(())
+}
+
+/// Writes Command Data Set Type (0000,0800) at the end.
+fn put_data_set<A: Allocator + Copy>(
+    out: &mut Vec<u8, A>,
+    has_data_set: bool,
+) -> Result<(), AllocError>
+    ensures { OnOk result (out.new.items ≡ out.old.items ++ written_element (data_set_element has_data_set)) }
+{
+    let value = if has_data_set { 0x0001 } else { 0x0101 };
+    put_us(out, DATA_SET_TYPE, value)
+}
+
+/// Writes a UID at the end, where there is one.
+fn put_uid<A: Allocator + Copy>(
+    out: &mut Vec<u8, A>,
+    number: u16,
+    uid: Option<Uid>,
+) -> Result<(), AllocError>
+    ensures wrote { OnOk result (out.new.items ≡ out.old.items ++ flat_map written_element (uid_element number uid)) }
+    ensures held { OnOk result (IfSome uid IsUid) }
+{
+    let Some(uid) = uid else {
+        return Ok(());
+    };
+    let text = uid.as_bytes();
+    let len = text.len() as u32;
+    put_header(out, number, len + len % 2)?;
+    out.extend_from_slice(text)?;
+    if len % 2 != 0 {
+        out.push(0)?;
+    }
+    Ok(())
+}
+
+/// Writes a tag at the end.
+fn put_tag<A: Allocator + Copy>(out: &mut Vec<u8, A>, tag: Tag) -> Result<(), AllocError>
+    ensures wrote { OnOk result (out.new.items ≡ out.old.items ++ tag_bytes tag) }
+    ensures held { IsHeldTag tag }
+{
+    tag.put(out)
+}
+
+/// Writes tags at the end, where there are any.
+fn put_tags<A: Allocator + Copy>(
+    out: &mut Vec<u8, A>,
+    number: u16,
+    tags: &[Tag],
+) -> Result<(), AllocError>
+    requires { 4 * length tags.now < 2 ^ 32 }
+    ensures wrote { OnOk result (out.new.items ≡ out.old.items ++ flat_map written_element (tags_element number tags.now)) }
+    ensures held { OnOk result (AreHeldTags tags.now) }
+{
+    if tags.is_empty() {
+        return Ok(());
+    }
+    put_header(out, number, 4 * tags.len() as u32)?;
+    for tag in tags {
+        put_tag(out, *tag)?;
+    }
+    Ok(())
+}
+
+/// Writes the elements that are an operation's own at the end.
+fn put_operation<A: Allocator + Copy>(
+    out: &mut Vec<u8, A>,
+    operation: &Operation<A>,
+) -> Result<(), AllocError>
+    requires { 4 * length (tags_of operation.now) < 2 ^ 32 }
+    ensures wrote { OnOk result (out.new.items ≡ out.old.items ++ flat_map written_element (operation_elements operation.now)) }
+    ensures held { OnOk result (IsHeldOperation operation.now) }
+{
+    match operation {
+        Operation::Create { instance } => put_uid(out, AFFECTED_INSTANCE, *instance)?,
+        Operation::Get {
+            instance,
+            attributes,
+        } => {
+            put_uid(out, REQUESTED_INSTANCE, *instance)?;
+            put_tags(out, ATTRIBUTES, attributes.as_slice())?;
+        }
+    }
+    Ok(())
+}
+
+/// Writes the elements of a request at the end.
+fn put_request<A: Allocator + Copy>(
+    out: &mut Vec<u8, A>,
+    request: &RequestCommand<A>,
+) -> Result<(), AllocError>
+    requires { 4 * length (tags_of request.now.operation) < 2 ^ 32 }
+    ensures wrote { OnOk result (out.new.items ≡ out.old.items ++ flat_map written_element (request_elements request.now)) }
+    ensures held { OnOk result (IsHeldRequest request.now) }
+{
+    let operation = &request.operation;
+    put_uid(out, operation.class_element(), request.sop_class)?;
+    put_us(out, COMMAND_FIELD, operation.message().field())?;
+    put_us(out, MESSAGE_ID, request.message_id)?;
+    put_data_set(out, request.has_data_set)?;
+    put_operation(out, operation)?;
+    Ok(())
+}
+
+/// Writes the elements that are a result's own at the end.
+fn put_result<A: Allocator + Copy>(
+    out: &mut Vec<u8, A>,
+    outcome: &OperationResult,
+) -> Result<(), AllocError>
+    ensures wrote { OnOk result (out.new.items ≡ out.old.items ++ flat_map written_element (result_elements outcome.now)) }
+    ensures held { OnOk result (IsHeldResult outcome.now) }
+{
+    match outcome {
+        OperationResult::Create { instance } => put_uid(out, AFFECTED_INSTANCE, *instance)?,
+        OperationResult::Get { instance } => put_uid(out, AFFECTED_INSTANCE, *instance)?,
+    }
+    Ok(())
+}
+
+/// Writes the elements of a response at the end.
+fn put_response<A: Allocator + Copy>(
+    out: &mut Vec<u8, A>,
+    response: &ResponseCommand,
+) -> Result<(), AllocError>
+    ensures wrote { OnOk result (out.new.items ≡ out.old.items ++ flat_map written_element (response_elements response.now)) }
+    ensures held { OnOk result (IsHeldResponse response.now) }
+{
+    put_uid(out, AFFECTED_CLASS, response.sop_class)?;
+    put_us(out, COMMAND_FIELD, response.result.message().field())?;
+    put_us(out, RESPONDED_TO, response.responded_to)?;
+    put_data_set(out, response.has_data_set)?;
+    put_us(out, STATUS, response.status)?;
+    put_result(out, &response.result)?;
+    Ok(())
+}
+
+/// The elements of a command, without Command Group Length.
+fn elements_of<A: Allocator + Copy>(
+    alloc: A,
+    command: &Command<A>,
+) -> Result<Vec<u8, A>, AllocError>
+    requires { Fits command.now }
+    ensures wrote { IfOk result (λ v. v.items ≡ flat_map written_element (command_elements command.now)) }
+    ensures held { OnOk result (IsHeld command.now) }
+{
+    let mut out = Vec::new(alloc);
+    match command {
+        Command::Request(request) => put_request(&mut out, request)?,
+        Command::Response(response) => put_response(&mut out, response)?,
+    }
+    Ok(out)
+}
+
+/// The one spelling of a command that is written: Command Group Length (0000,0000) with the exact length of the rest,
+/// and then the elements by rising tag (PS3.7 section 6.3.1). Absent UIDs and an empty attribute list have no element.
+///
+/// # Errors
+///
+/// Memory ran out.
+pub fn write_command<A: Allocator + Copy>(
+    alloc: A,
+    command: &Command<A>,
+) -> Result<Vec<u8, A>, AllocError>
+    requires { Fits command.now }
+    // The one spelling is written.
+    ensures written { IfOk result (λ v. v.items ≡ written command.now) }
+    // What is written is read again as the same command.
+    ensures again { IfOk result (λ v. SpellsCommand v.items command.now) }
+{
+    let elements = elements_of(alloc, command)?;
+    let mut out = Vec::new(alloc);
+    put_header(&mut out, GROUP_LENGTH, 4)?;
+    out.extend_from_slice(&(elements.len() as u32).to_le_bytes())?;
+    out.extend_from_slice(elements.as_slice())?;
+    Ok(out)
+}

@@ -1,0 +1,42 @@
+//! What is shown of a row.
+
+ghost use Rattle.std.specs.Prelude.{◌≡◌, IfOk};
+ghost use Rattle.ups_life.specs.History.{has_all, shown};
+
+use crate::request::Reply;
+use crate::status::Status;
+use std::alloc::{AllocError, Allocator};
+use ups_dataset::{DataSet, Tag};
+
+/// Whether a set has an element for each of these tags.
+fn has_all<A: Allocator + Copy>(set: &DataSet<A>, tags: &[Tag]) -> bool
+    ensures { result ≡ has_all set.now tags.now }
+{
+    for tag in tags {
+        if set.get(*tag).is_none() {
+            return false;
+        }
+    }
+    true
+}
+
+/// What an N-GET is answered of the attributes of a step (PS3.4 CC.2.7): all of them where the list is empty,
+/// else those that are listed, with 0001H where one is not there.
+///
+/// Errors: want of memory.
+pub fn shown<A: Allocator + Copy>(
+    attributes: &DataSet<A>,
+    listed: &[Tag],
+) -> Result<Reply<A>, AllocError>
+    ensures { IfOk result (λ reply. reply ≡ shown attributes.now listed.now) }
+{
+    if listed.is_empty() {
+        return Ok(Reply::Set(Status::Success, attributes.copy()?));
+    }
+    let status = if has_all(attributes, listed) {
+        Status::Success
+    } else {
+        Status::AttributesNotSupported
+    };
+    Ok(Reply::Set(status, attributes.project(listed)?))
+}

@@ -1,0 +1,47 @@
+-- What each PDU begins with (PS3.8 section 9.3.1).
+use Rattle.std.specs.Prelude.{◌≡◌, ℕ, ◌<◌, ◌≤◌, ◌^◌, ◌⊎◌, List, ◌∷◌, ◌++◌, length}
+use Rattle.std.specs.Int.{w32, to_be_bytes}
+use Rattle.ups_pdu.specs.declared.fault.PduFault.{PduFault}
+use Rattle.ups_pdu.specs.declared.fault.PduFault.TheVariants.{Short, UnknownType, BadLength, BadItem, TooLong, Memory}
+use Rattle.ups_pdu.specs.declared.kind.PduKind.{PduKind}
+use Rattle.ups_pdu.specs.declared.kind.PduKind.TheVariants.{AssociateRq, AssociateAc, AssociateRj, Data, ReleaseRq, ReleaseRp, Abort}
+
+-- the type byte (PS3.8 tables 9-11 to 9-26)
+abbrev pub code : PduKind → ℕ
+code AssociateRq = 1
+code AssociateAc = 2
+code AssociateRj = 3
+code Data = 4
+code ReleaseRq = 5
+code ReleaseRp = 6
+code Abort = 7
+
+-- how long a body may be
+abbrev pub limit : PduKind → ℕ
+limit AssociateRq = 131072
+limit AssociateAc = 131072
+limit AssociateRj = 131072
+limit Data = 16384
+limit ReleaseRq = 131072
+limit ReleaseRp = 131072
+limit Abort = 131072
+
+-- a type byte, a reserved byte, and a length in four bytes; and what follows
+pub record IsHeader (bytes : List ℕ) (byte len : ℕ) (rest : List ℕ) : Type 0 where
+  pub reserved : ℕ
+  pub fits : len < 2 ^ 32
+  pub parts : bytes ≡ byte ∷ reserved ∷ to_be_bytes w32 len ++ rest
+
+-- a header of a known type, a body within its limit, and what follows
+pub record IsWhole (bytes : List ℕ) (kind : PduKind) (body rest : List ℕ) : Type 0 where
+  pub header : IsHeader bytes (code kind) (length body) (body ++ rest)
+  pub within : length body ≤ limit kind
+
+-- Why the bytes begin with no whole PDU: each test is made where the tests before it pass.
+abbrev pub HeaderFails : List ℕ → PduFault → Type 0
+HeaderFails bytes Short = (length bytes < 6) ⊎ ((kind : PduKind) × (len : ℕ) × (rest : List ℕ) × IsHeader bytes (code kind) len rest × (len ≤ limit kind) × (length rest < len))
+HeaderFails bytes UnknownType = (byte : ℕ) × (len : ℕ) × (rest : List ℕ) × IsHeader bytes byte len rest × ((kind : PduKind) → code kind ≡ byte → ⊥)
+HeaderFails bytes TooLong = (kind : PduKind) × (len : ℕ) × (rest : List ℕ) × IsHeader bytes (code kind) len rest × (limit kind < len)
+HeaderFails bytes BadLength = ⊥
+HeaderFails bytes BadItem = ⊥
+HeaderFails bytes Memory = ⊥

@@ -1,0 +1,16 @@
+pub mod Association
+pub mod Context
+pub mod Each
+pub mod Fits
+pub mod Fragment
+pub mod Header
+pub mod Identifier
+pub mod InPlace
+pub mod Item
+pub mod Lengths
+pub mod Padding
+pub mod Registered
+pub mod Spelling
+pub mod Title
+pub mod UserItems
+pub mod Written

@@ -1,0 +1,116 @@
+//! The types of PDU, and the header that each begins with (PS3.8 section 9.3.1).
+
+ghost use Rattle.std.specs.Prelude.{◌≡◌, ◌≢◌, ◌<◌, ◌≤◌, ℕ, List, length, MatchOption, MatchResult};
+ghost use Rattle.ups_pdu.specs.declared.fault.PduFault.TheVariants.{Short, Memory};
+ghost use Rattle.ups_pdu.specs.declared.kind.PduKind.{PduKind};
+ghost use Rattle.ups_pdu.specs.Header.{code, limit, IsHeader, IsWhole, HeaderFails};
+
+use crate::fault::PduFault;
+use crate::number::be_u32_at;
+
+/// The type of a PDU.
+#[derive(Clone, Copy, Debug, PartialEq, Eq)]
+pub enum PduKind {
+    AssociateRq,
+    AssociateAc,
+    AssociateRj,
+    Data,
+    ReleaseRq,
+    ReleaseRp,
+    Abort,
+}
+
+impl PduKind {
+    /// The type that a type byte stands for.
+    fn of(byte: u8) -> Option<PduKind>
+        ensures { MatchOption result ((kind : PduKind) → code kind ≡ byte → ⊥) (λ kind. code kind ≡ byte) }
+    {
+        match byte {
+            1 => Some(PduKind::AssociateRq),
+            2 => Some(PduKind::AssociateAc),
+            3 => Some(PduKind::AssociateRj),
+            4 => Some(PduKind::Data),
+            5 => Some(PduKind::ReleaseRq),
+            6 => Some(PduKind::ReleaseRp),
+            7 => Some(PduKind::Abort),
+            _ => None,
+        }
+    }
+
+    /// The type byte.
+    pub fn code(self) -> u8
+        ensures { result ≡ code self }
+    {
+        match self {
+            PduKind::AssociateRq => 1,
+            PduKind::AssociateAc => 2,
+            PduKind::AssociateRj => 3,
+            PduKind::Data => 4,
+            PduKind::ReleaseRq => 5,
+            PduKind::ReleaseRp => 6,
+            PduKind::Abort => 7,
+        }
+    }
+
+    /// How many bytes may follow the header.
+    pub fn limit(self) -> usize
+        ensures { result ≡ limit self }
+    {
+        match self {
+            PduKind::Data => 16_384,
+            _ => 131_072,
+        }
+    }
+}
+
+/// The type byte, the length and what follows them.
+fn split_header(bytes: &[u8]) -> Option<(u8, u32, &[u8])>
+    ensures { MatchOption result (length bytes.now < 6) (λ x. IsHeader bytes.now x.0 x.1 x.2.now) }
+{
+    let [code, _, after @ ..] = bytes else {
+        return None;
+    };
+    let (len, rest) = be_u32_at(after)?;
+    Some((*code, len, rest))
+}
+
+/// The type and the body of the PDU at the front, and what follows it; or the first fault of its header.
+pub(crate) fn split_pdu(bytes: &[u8]) -> Result<(PduKind, &[u8], &[u8]), PduFault>
+    ensures { MatchResult result (λ x. IsWhole bytes.now x.0 x.1.now x.2.now) (HeaderFails bytes.now) }
+{
+    let Some((code, len, rest)) = split_header(bytes) else {
+        return Err(PduFault::Short);
+    };
+    let Some(kind) = PduKind::of(code) else {
+        return Err(PduFault::UnknownType);
+    };
+    let len = len as usize;
+    if len > kind.limit() {
+        return Err(PduFault::TooLong);
+    }
+    if rest.len() < len {
+        return Err(PduFault::Short);
+    }
+    let (body, rest) = rest.split_at(len);
+    Ok((kind, body, rest))
+}
+
+/// How many bytes follow a header of six bytes. An unknown type and a length over the limit are known from
+/// the header alone, so that nobody waits for such a body.
+pub fn body_len(header: &[u8]) -> Result<usize, PduFault>
+    requires { length header.now ≡ 6 }
+    ensures { MatchResult result (λ n. (kind : PduKind) × (rest : List ℕ) × IsHeader header.now (code kind) n rest × (n ≤ limit kind))
+        (λ e. (e ≢ Short) × (e ≢ Memory) × HeaderFails header.now e) }
+{
+    let Some((code, len, _)) = split_header(header) else {
+        unreachable!();
+    };
+    let Some(kind) = PduKind::of(code) else {
+        return Err(PduFault::UnknownType);
+    };
+    let len = len as usize;
+    if len > kind.limit() {
+        return Err(PduFault::TooLong);
+    }
+    Ok(len)
+}

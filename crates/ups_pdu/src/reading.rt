@@ -1,0 +1,84 @@
+//! Reading a PDU (PS3.8 section 9.3).
+
+ghost use Rattle.std.specs.Prelude.{◌≡◌, ◌≤◌, ℕ, MatchResult, IfOk, IfErr, length, take};
+ghost use Rattle.ups_pdu.specs.declared.pdu.Pdu.{Pdu};
+ghost use Rattle.ups_pdu.specs.declared.fault.PduFault.TheVariants.{Memory};
+ghost use Rattle.ups_pdu.specs.Lengths.{LengthsFill};
+ghost use Rattle.ups_pdu.specs.Spelling.{Gives, SpellsData, IsBody, IsFront, SpellsPdu, IsFault};
+
+use crate::association::{answer_of, request_of};
+use crate::fault::PduFault;
+use crate::fragment::pdvs_of;
+use crate::kind::{PduKind, split_pdu};
+use crate::lengths::lengths_fill;
+use crate::pdu::Pdu;
+use crate::pdv::Pdvs;
+use std::alloc::Allocator;
+
+/// The presentation data values of a body, of which there is one at least.
+fn data_of<A: Allocator + Copy>(alloc: A, body: &[u8]) -> Result<Pdvs<A>, PduFault>
+    requires { LengthsFill PduKind.Data body.now }
+    ensures { Gives (SpellsData body.now) result }
+{
+    if body.is_empty() {
+        return Err(PduFault::BadItem);
+    }
+    let pdvs = pdvs_of(alloc, body)?;
+    Ok(pdvs)
+}
+
+/// What a body spells.
+fn body_of<A: Allocator + Copy>(alloc: A, kind: PduKind, body: &[u8]) -> Result<Pdu<A>, PduFault>
+    requires { LengthsFill kind body.now }
+    ensures { Gives (IsBody kind body.now) result }
+{
+    match kind {
+        PduKind::AssociateRq => Ok(Pdu::AssociateRq(request_of(alloc, body)?)),
+        PduKind::AssociateAc => Ok(Pdu::AssociateAc(answer_of(alloc, body)?)),
+        PduKind::Data => Ok(Pdu::Data(data_of(alloc, body)?)),
+        PduKind::ReleaseRq => Ok(Pdu::ReleaseRq),
+        PduKind::ReleaseRp => Ok(Pdu::ReleaseRp),
+        PduKind::AssociateRj => match body {
+            [_, result, source, reason] => Ok(Pdu::AssociateRj {
+                result: *result,
+                source: *source,
+                reason: *reason,
+            }),
+            _ => Err(PduFault::BadItem),
+        },
+        PduKind::Abort => match body {
+            [_, _, source, reason] => Ok(Pdu::Abort {
+                source: *source,
+                reason: *reason,
+            }),
+            _ => Err(PduFault::BadItem),
+        },
+    }
+}
+
+/// The PDU at the front of the bytes, or the first fault.
+fn front_of<A: Allocator + Copy>(alloc: A, bytes: &[u8]) -> Result<(Pdu<A>, usize), PduFault>
+    ensures { MatchResult result (λ x. IsFront bytes.now x.0 x.1) (IsFault A bytes.now) }
+{
+    let (kind, body, _) = split_pdu(bytes)?;
+    if !lengths_fill(kind, body) {
+        return Err(PduFault::BadLength);
+    }
+    let pdu = body_of(alloc, kind, body)?;
+    Ok((pdu, 6 + body.len()))
+}
+
+/// The PDU at the front of the bytes, and how many bytes it takes.
+///
+/// The fault is the first of these: fewer than 6 bytes (Short), a type that no PDU has (UnknownType), a length
+/// over the limit of the type (TooLong), fewer bytes than the length (Short), a length inside that does not fill
+/// what it is the length of (BadLength), anything else that the PDU's grammar does not have (BadItem). Memory
+/// is for bytes that do spell a PDU.
+pub fn read_pdu<A: Allocator + Copy>(alloc: A, bytes: &[u8]) -> Result<(Pdu<A>, usize), PduFault>
+    ensures found { IfOk result (λ x. (x.1 ≤ length bytes.now) × SpellsPdu (take x.1 bytes.now) x.0) }
+    ensures only { (n : ℕ) → (pdu : Pdu A) → n ≤ length bytes.now → SpellsPdu (take n bytes.now) pdu
+        → MatchResult result (λ x. x ≡ (pdu, n)) (λ e. e ≡ Memory) }
+    ensures fault { IfErr result (IsFault A bytes.now) }
+{
+    front_of(alloc, bytes)
+}

@@ -1,0 +1,112 @@
+//! Unique identifiers.
+
+ghost use Rattle.std.specs.Prelude.{◌≡◌, ◌↔◌, ◌≤◌, ◌++◌, ◌-◌, List, ℕ, length, replicate, IsTrue, MatchOption};
+ghost use Rattle.std.specs.List.{list_all, slice_split};
+ghost use Rattle.ups_pdu.specs.Identifier.{is_digit, is_dot, is_component, IsUid, SpellsUid};
+
+use crate::text::without_padding;
+use std::marker::Model;
+
+/// A unique identifier (PS3.5 section 9): 1 to 64 bytes, digits and dots. It holds its bytes in place, so
+/// copying takes no memory. A contract sees it as the list of its bytes.
+#[derive(Clone, Copy)]
+pub struct Uid {
+    bytes: [u8; 64],
+    len: usize,
+}
+
+impl Model for Uid {
+    ghost use Rattle.std.specs.Prelude.{◌≡◌, ◌≤◌, ◌-◌, ◌++◌, List, ℕ, length, take, drop, replicate};
+    ghost use Rattle.ups_pdu.specs.Identifier.{IsUid};
+    ghost use Rattle.ups_pdu.specs.InPlace.{array_again};
+
+    ghost Value = { List ℕ };
+
+    ghost view = { λ u. take u.len u.bytes };
+
+    ghost invariant = { λ u. (u.len ≤ 64) × (length u.bytes ≡ 64) × (drop u.len u.bytes ≡ replicate (64 - u.len) 0) × IsUid (take u.len u.bytes) };
+
+    ghost inverse = { λ t. record { bytes = t ++ replicate (64 - length t) 0; len = length t } };
+
+    ghost inverse_ok = { λ a h. let e = array_again 64 a.bytes a.len h.0 h.1 h.2 in λ i. record { bytes = e.0 i; len = e.1 i } };
+}
+
+fn are_digits(text: &[u8]) -> bool
+    ensures { result ≡ list_all is_digit text.now }
+{
+    text.iter().all(|b| *b >= b'0' && *b <= b'9')
+}
+
+fn is_component(text: &[u8]) -> bool
+    ensures { result ≡ is_component text.now }
+{
+    !text.is_empty() && (text.len() == 1 || text[0] != b'0') && are_digits(text)
+}
+
+fn are_components(text: &[u8]) -> bool
+    ensures { result ≡ list_all is_component (slice_split is_dot text.now) }
+{
+    text.split(|b| *b == b'.').all(|c| is_component(c))
+}
+
+fn is_uid(text: &[u8]) -> bool
+    ensures { IsTrue result ↔ IsUid text.now }
+{
+    !text.is_empty() && text.len() <= 64 && are_components(text)
+}
+
+/// A text, and zeros behind it.
+fn in_place(text: &[u8]) -> [u8; 64]
+    requires { length text.now ≤ 64 }
+    ensures { result ≡ text.now ++ replicate (64 - length text.now) 0 }
+{
+    let mut bytes = [0; 64];
+    for (i, b) in text.iter().enumerate() {
+        bytes[i] = *b;
+    }
+    bytes
+}
+
+impl Uid {
+    /// The UID that the bytes spell, with spaces and NULs behind it; None where they spell none.
+    pub fn of(bytes: &[u8]) -> Option<Uid>
+        ensures { MatchOption result ((uid : List ℕ) → SpellsUid bytes.now uid → ⊥) (SpellsUid bytes.now) }
+    {
+        let text = without_padding(bytes);
+        if !is_uid(text) {
+            return None;
+        }
+        Some(Uid {
+            bytes: in_place(text),
+            len: text.len(),
+        })
+    }
+
+    /// The bytes of the UID, without padding.
+    pub fn as_bytes(&self) -> &[u8]
+        ensures bytes { result.now ≡ self.now }
+        ensures is_uid { IsUid self.now }
+    {
+        &self.bytes[..self.len]
+    }
+}
+
+impl PartialEq for Uid {
+    ghost use Rattle.std.specs.Prelude.{nat_eq};
+    ghost use Rattle.std.specs.Cmp.Lexicographic.{pointwise, nat_list_eq_equiv};
+    ghost use Rattle.std.specs.Cmp.{partial_equiv_from_equiv};
+
+    ghost eq = { λ a b. pointwise nat_eq a b };
+
+    ghost laws = { partial_equiv_from_equiv nat_list_eq_equiv };
+
+    fn eq(&self, other: &Uid) -> bool {
+        self.as_bytes() == other.as_bytes()
+    }
+}
+
+impl Eq for Uid {
+    ghost use Rattle.std.specs.Cmp.Lexicographic.{nat_list_eq_equiv};
+
+    ghost laws = { nat_list_eq_equiv };
+}

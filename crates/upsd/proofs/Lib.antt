@@ -1,0 +1,12 @@
+mod Alone
+mod Bodies
+mod Entering
+mod Filling
+mod Fitting
+mod Headed
+mod Hearings
+mod Pieces
+mod Saying
+mod Serving
+mod Spoken
+mod Talking

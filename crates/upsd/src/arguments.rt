@@ -1,0 +1,127 @@
+//! The command line.
+
+use clap::{Arg, ArgAction, Command};
+use std::alloc::{AllocError, AllocFailed, Allocator, Global};
+use thiserror::Error;
+use ups_life::Peer;
+use ups_pdu::Ae;
+
+/// How many peers may be named at most.
+pub(crate) const PEERS_LIMIT: usize = 1_000;
+
+/// Why the words of a command line are refused.
+#[derive(Clone, Copy, Debug, PartialEq, Eq, Error)]
+pub(crate) enum ArgumentFault {
+    /// The word behind `--ae` is not a title.
+    #[error("--ae takes the title of an application entity: 1 to 16 printable characters without a backslash")]
+    Ae,
+    /// A word names no peer.
+    #[error("a PEER is AE=host:port or AE=host:port,lock")]
+    Peer,
+    /// A title is named by two words.
+    #[error("a PEER is named twice")]
+    Doubled,
+    /// More peers than may be named.
+    #[error("more than 1,000 PEERs are named")]
+    TooMany,
+    /// Memory ran out.
+    #[error("out of memory")]
+    Memory,
+}
+
+impl From<AllocError> for ArgumentFault {
+    fn from(_e: AllocError) -> ArgumentFault {
+        ArgumentFault::Memory
+    }
+}
+
+impl<T: Drop> From<AllocFailed<T>> for ArgumentFault {
+    fn from(_e: AllocFailed<T>) -> ArgumentFault {
+        ArgumentFault::Memory
+    }
+}
+
+/// The command line of `upsd`.
+pub(crate) fn command<'a>(alloc: Global) -> Result<Command<'a>, AllocError> {
+    let ae = Arg::new(alloc, "ae")
+        .long("ae")
+        .value_name("AE")
+        .help("the title of this application entity")
+        .required(true)
+        .action(ArgAction::Set);
+    let hex = Arg::new(alloc, "hex")
+        .long("hex")
+        .help("read hex digits, and write each PDU as a line of them")
+        .action(ArgAction::SetTrue);
+    let peers = Arg::new(alloc, "peer")
+        .value_name("PEER")
+        .help("an application entity that may watch steps: AE=host:port or AE=host:port,lock")
+        .action(ArgAction::Append);
+    let pipe = Command::new(alloc, "pipe")
+        .about("answers one association from standard input to standard output")
+        .arg(ae)?
+        .arg(hex)?
+        .arg(peers)?;
+    Command::new(alloc, "upsd")
+        .version("0.1.0")
+        .about("a DICOM Unified Procedure Step manager")
+        .subcommand_required(true)
+        .subcommand(pipe)
+}
+
+fn is_port(text: &str) -> bool {
+    let digits = text.as_bytes().iter().all(|b| b.is_ascii_digit());
+    digits && text.parse::<u16>().is_ok_and(|port| port > 0)
+}
+
+/// The peer that a word names, as `AE=host:port` or `AE=host:port,lock`.
+pub(crate) fn peer_of(word: &str) -> Option<Peer> {
+    let (title, address) = word.split_once('=')?;
+    let ae = Ae::of(title.as_bytes())?;
+    let (address, lock) = match address.strip_suffix(",lock") {
+        Some(address) => (address, true),
+        None => (address, false),
+    };
+    let (host, port) = address.rsplit_once(':')?;
+    if host.is_empty() || !is_port(port) {
+        return None;
+    }
+    Some(Peer { ae, lock })
+}
+
+/// The title that a word is.
+///
+/// Errors: Ae where it is none.
+pub(crate) fn ae_of(word: &str) -> Result<Ae, ArgumentFault> {
+    match Ae::of(word.as_bytes()) {
+        Some(ae) => Ok(ae),
+        None => Err(ArgumentFault::Ae),
+    }
+}
+
+/// The peers that words name.
+///
+/// Errors: Peer where a word names none; Doubled where two words name the same; TooMany; want of memory.
+pub(crate) fn peers_of<A: Allocator + Copy>(
+    alloc: A,
+    words: &[&str],
+) -> Result<Vec<Peer, A>, ArgumentFault> {
+    let mut peers = Vec::new(alloc);
+    if words.len() > PEERS_LIMIT {
+        return Err(ArgumentFault::TooMany);
+    }
+    for word in words {
+        let Some(peer) = peer_of(word) else {
+            return Err(ArgumentFault::Peer);
+        };
+        if is_named(&peers, peer.ae) {
+            return Err(ArgumentFault::Doubled);
+        }
+        peers.push(peer)?;
+    }
+    Ok(peers)
+}
+
+fn is_named(peers: &[Peer], ae: Ae) -> bool {
+    peers.iter().any(|peer| peer.ae == ae)
+}

@@ -1,0 +1,125 @@
+//! `upsd`, a DICOM Unified Procedure Step manager.
+#![tactic(auto)]
+
+mod accepting;
+mod arguments;
+mod fault;
+mod fragmenting;
+mod hearing;
+mod hexing;
+mod manager;
+mod phase;
+mod piping;
+mod session;
+#[cfg(test)]
+mod tests;
+mod wire;
+
+use crate::arguments::{ArgumentFault, ae_of, command, peers_of};
+use clap::ArgMatches;
+pub use fault::{End, SessionFault};
+pub use piping::pipe;
+use std::alloc::{AllocError, Global};
+use std::io::{self, BufReader};
+use std::process::ExitCode;
+use ups_life::Peer;
+use ups_pdu::Ae;
+
+/// The exit status where the command line is not one that is taken.
+const USAGE: u8 = 1;
+
+/// The exit status where a session stopped before its association came to an end.
+const STOPPED: u8 = 2;
+
+/// The exit status where memory ran out.
+const MEMORY: u8 = 3;
+
+/// How many PDUs one association may have.
+const TURNS: u64 = 1_000_000;
+
+/// What a command line asks of `pipe`.
+#[derive(Drop)]
+struct PipeArguments {
+    ae: Ae,
+    hex: bool,
+    peers: Vec<Peer>,
+}
+
+/// Reads what a command line asks of `pipe`.
+///
+/// Errors: those of its words.
+fn pipe_arguments(alloc: Global, matches: &ArgMatches<'_>) -> Result<PipeArguments, ArgumentFault> {
+    Ok(PipeArguments {
+        ae: ae_of(matches.get_str("ae").unwrap_or(""))?,
+        hex: matches.get_flag("hex"),
+        peers: peers_of(alloc, matches.get_strs("peer").unwrap_or(&[]))?,
+    })
+}
+
+/// Answers one association, and gives the exit status.
+fn answer(rt: &HostRuntime, asked: &PipeArguments) -> Result<u8, AllocError> {
+    let alloc = rt.alloc();
+    let Ok(mut reader) = BufReader::new(alloc, rt.reader()) else {
+        return Err(AllocError);
+    };
+    let mut writer = io::writer(rt);
+    let ended = pipe(
+        alloc,
+        &mut reader,
+        &mut writer,
+        asked.ae,
+        &asked.peers,
+        asked.hex,
+        TURNS,
+    );
+    let Err(fault) = ended else {
+        return Ok(0);
+    };
+    let _ = eprintln!(rt; "upsd: {fault}");
+    match fault {
+        SessionFault::Memory => Ok(MEMORY),
+        _ => Ok(STOPPED),
+    }
+}
+
+/// Does what the words of a command line ask, and gives the exit status.
+fn run(rt: &HostRuntime, words: &[String]) -> Result<u8, AllocError> {
+    let matches = match command(rt.alloc())?.try_get_matches_from(words) {
+        Ok(matches) => matches,
+        Err(error) => {
+            let _ = error.print(rt);
+            return Ok(if error.use_stderr() { USAGE } else { 0 });
+        }
+    };
+    let Some((_, matches)) = matches.subcommand() else {
+        return Ok(USAGE);
+    };
+    match pipe_arguments(rt.alloc(), matches) {
+        Ok(asked) => answer(rt, &asked),
+        Err(ArgumentFault::Memory) => Err(AllocError),
+        Err(fault) => {
+            let _ = eprintln!(rt; "upsd: {fault}");
+            Ok(USAGE)
+        }
+    }
+}
+
+/// The words of the command line.
+fn words(rt: &HostRuntime) -> io::Result<Vec<String>> {
+    let words: Vec<String> = std::env::args(rt)?.collect(rt.alloc())?;
+    Ok(words)
+}
+
+fn main(rt: HostRuntime) -> ExitCode {
+    let Ok(words) = words(&rt) else {
+        let _ = eprintln!(rt; "upsd: the words of the command line could not be read");
+        return ExitCode::from(MEMORY);
+    };
+    match run(&rt, &words) {
+        Ok(status) => ExitCode::from(status),
+        Err(_) => {
+            let _ = eprintln!(rt; "upsd: out of memory");
+            ExitCode::from(MEMORY)
+        }
+    }
+}
