@@ -18,7 +18,7 @@ use Rattle.ups_dimse.specs.declared.command.Operation.TheVariants as operations
 use Rattle.ups_dimse.specs.declared.command.OperationResult.{OperationResult}
 use Rattle.ups_dimse.specs.declared.command.OperationResult.TheVariants as results
 use Rattle.ups_dimse.specs.declared.message.Message.{Message}
-use Rattle.ups_dimse.specs.declared.message.Message.TheVariants.{GetRequest, GetResponse, CreateRequest, CreateResponse}
+use Rattle.ups_dimse.specs.declared.message.Message.TheVariants.{GetRequest, GetResponse, CreateRequest, CreateResponse, EchoRequest, EchoResponse}
 use Rattle.ups_dimse.specs.Elements.{CommandElement, IsElement, SpellsElements, value_in}
 use Rattle.ups_dimse.specs.Messages.{field_of}
 use Rattle.ups_dimse.specs.Values.{HasUid, HasDataSet, IsTagAt}
@@ -67,14 +67,17 @@ good_only_uid from n (Some u) small l h = (record { in_group = small; defined = 
 good_operation : {A : Type 0} (o : Operation A) → 4 * length (tags_of o) < 2 ^ 32 - 256 → IsHeldOperation o → AreGood 0x0801 (operation_elements o)
 good_operation (operations.Create i) short h = good_only_uid 0x0801 0x1000 i (omega arith) (omega arith) h
 good_operation (operations.Get i ts) short h = good_uid 0x0801 0x1001 i (tags_element 0x1005 ts) (omega arith) (omega arith) h.0 (good_tags 0x1002 0x1005 ts (omega arith) (omega arith) short)
+good_operation operations.Echo short h = tt
 
 good_result : (o : OperationResult) → IsHeldResult o → AreGood 0x0901 (result_elements o)
 good_result (results.Create i) h = good_only_uid 0x0901 0x1000 i (omega arith) (omega arith) h
 good_result (results.Get i) h = good_only_uid 0x0901 0x1000 i (omega arith) (omega arith) h
+good_result results.Echo h = tt
 
 class_low : {A : Type 0} (o : Operation A) → (1 ≤ class_element o) × (class_element o + 1 ≤ 0x0100)
 class_low (operations.Create i) = (omega arith, omega arith)
 class_low (operations.Get i ts) = (omega arith, omega arith)
+class_low operations.Echo = (omega arith, omega arith)
 
 good_command : {A : Type 0} (c : Command A) → Fits c → IsHeld c → AreGood 1 (command_elements c)
 good_command (Request r) fits h =
@@ -147,16 +150,20 @@ field_small GetRequest = omega arith
 field_small GetResponse = omega arith
 field_small CreateRequest = omega arith
 field_small CreateResponse = omega arith
+field_small EchoRequest = omega arith
+field_small EchoResponse = omega arith
 
 -- the elements that are an operation's own, by a number that they may have
 own_none : {A : Type 0} (n : ℕ) (o : Operation A) → n < 0x1000 → value_in n (operation_elements o) ≡ None
 own_none n (operations.Create i) l = not_uid n 0x1000 i (ne_eqb 0x1000 n (λ e. omega (arith, l, e)))
 own_none n (operations.Get i ts) l =
     past n 0x1001 i (tags_element 0x1005 ts) (ne_eqb 0x1001 n (λ e. omega (arith, l, e))) ∙ not_tags n 0x1005 ts (ne_eqb 0x1005 n (λ e. omega (arith, l, e)))
+own_none n operations.Echo l = refl
 
 own_result_none : (n : ℕ) (o : OperationResult) → n < 0x1000 → value_in n (result_elements o) ≡ None
 own_result_none n (results.Create i) l = not_uid n 0x1000 i (ne_eqb 0x1000 n (λ e. omega (arith, l, e)))
 own_result_none n (results.Get i) l = not_uid n 0x1000 i (ne_eqb 0x1000 n (λ e. omega (arith, l, e)))
+own_result_none n results.Echo l = refl
 
 -- the elements before them hide none of theirs
 skip : (n k : ℕ) (v : List ℕ) (es : List CommandElement) → eqb k n ≡ false → value_in n (record { number = k; value = v } ∷ es) ≡ value_in n es
@@ -203,10 +210,12 @@ operation_again es (operations.Get i ts) same h = (
   uid_by es 0x1001 i h.0 (same 0x1001 (omega arith) ∙ here 0x1001 i (tags_element 0x1005 ts) refl (not_tags 0x1001 0x1005 ts refl)),
   subst (λ (l : List ℕ). Each IsTagAt l ts) (sym (ap (λ (o : Option (List ℕ)). unwrap_or o []) (same 0x1005 (omega arith) ∙ past 0x1005 0x1001 i (tags_element 0x1005 ts) refl) ∙ tags_value 0x1005 ts refl)) (tags_again ts h.1),
 )
+operation_again es operations.Echo same h = tt
 
 result_again : (es : List CommandElement) (o : OperationResult) → ((n : ℕ) → 0x1000 ≤ n → value_in n es ≡ value_in n (result_elements o)) → IsHeldResult o → HasResult es o
 result_again es (results.Create i) same h = uid_by es 0x1000 i h (same 0x1000 (omega arith) ∙ only_here 0x1000 i refl)
 result_again es (results.Get i) same h = uid_by es 0x1000 i h (same 0x1000 (omega arith) ∙ only_here 0x1000 i refl)
+result_again es results.Echo same h = tt
 
 -- the class of a request stands first, and nowhere else
 class_by_operation : {A : Type 0} (sop_class : Option (List ℕ)) (id : ℕ) (there : Bool) (o : Operation A)
@@ -215,6 +224,8 @@ class_by_operation sop_class id there (operations.Create i) =
     here 0x0002 sop_class (us_element 0x0100 0x0140 ∷ us_element 0x0110 id ∷ data_set_element there ∷ uid_element 0x1000 i) refl (own_none {A = ℕ} 0x0002 (operations.Create i) (omega arith))
 class_by_operation sop_class id there (operations.Get i ts) =
     here 0x0003 sop_class (us_element 0x0100 0x0110 ∷ us_element 0x0110 id ∷ data_set_element there ∷ (uid_element 0x1001 i ++ tags_element 0x1005 ts)) refl (own_none {A = ℕ} 0x0003 (operations.Get i ts) (omega arith))
+class_by_operation sop_class id there operations.Echo =
+    here 0x0002 sop_class (us_element 0x0100 0x0030 ∷ us_element 0x0110 id ∷ data_set_element there ∷ []) refl (own_none {A = ℕ} 0x0002 operations.Echo (omega arith))
 
 class_in_request : {A : Type 0} (r : RequestCommand A) → value_in (class_element r.operation) (grouped (request_elements r)) ≡ option_map padded r.sop_class
 class_in_request r = class_by_operation r.sop_class r.message_id r.has_data_set r.operation

@@ -52,10 +52,12 @@ message_of (Response r) = response_of r.result
 operation_holds : {A : Type 0} (es : List CommandElement) (o : Operation A) (id : ℕ) (there : Rattle.std.proofs.Common.Bool) → HasUs es 0x0110 id → HasDataSet es there → HasOperation es o → AllHold es (needs (request_of o))
 operation_holds es (operations.Create i) id there h d k = ((id, h), ((d.0, d.1), tt))
 operation_holds es (operations.Get i ts) id there h d k = ((id, h), ((d.0, d.1), ((ts, k.1), tt)))
+operation_holds es operations.Echo id there h d k = ((id, h), ((d.0, d.1), tt))
 
 result_holds : (es : List CommandElement) (o : OperationResult) (id status : ℕ) (there : Rattle.std.proofs.Common.Bool) → HasUs es 0x0120 id → HasDataSet es there → HasUs es 0x0900 status → AllHold es (needs (response_of o))
 result_holds es (results.Create i) id status there h d s = ((id, h), ((d.0, d.1), ((status, s), tt)))
 result_holds es (results.Get i) id status there h d s = ((id, h), ((d.0, d.1), ((status, s), tt)))
+result_holds es results.Echo id status there h d s = ((id, h), ((d.0, d.1), ((status, s), tt)))
 
 command_holds : {A : Type 0} (es : List CommandElement) (c : Command A) → IsCommand es c → AllHold es (needs (message_of c))
 command_holds es (Request r) p = operation_holds es r.operation r.message_id r.has_data_set p.message_id p.data_set p.operation

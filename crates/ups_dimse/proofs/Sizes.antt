@@ -67,10 +67,12 @@ tags_size n (t ∷ ts) = omega (arith, length-tags (t ∷ ts), length-append (wr
 operation_size : {A : Type 0} (o : Operation A) → IsHeldOperation o → length (flat_map written_element (operation_elements o)) ≤ 81 + 4 * length (tags_of o)
 operation_size (operations.Create i) h = omega (arith, uid_size 0x1000 i h)
 operation_size (operations.Get i ts) h = rw (flat_map-append written_element (uid_element 0x1001 i) (tags_element 0x1005 ts)) (omega (arith, uid_size 0x1001 i h.0, tags_size 0x1005 ts, length-append (flat_map written_element (uid_element 0x1001 i)) (flat_map written_element (tags_element 0x1005 ts))))
+operation_size operations.Echo h = omega arith
 
 result_size : (o : OperationResult) → IsHeldResult o → length (flat_map written_element (result_elements o)) ≤ 73
 result_size (results.Create i) h = uid_size 0x1000 i h
 result_size (results.Get i) h = uid_size 0x1000 i h
+result_size results.Echo h = omega arith
 
 pub command_short : {A : Type 0} (c : Command A) → Fits c → IsHeld c → length (flat_map written_element (command_elements c)) < 2 ^ 32
 command_short (Request r) fits h =

@@ -13,7 +13,7 @@ use Rattle.ups_dimse.specs.declared.command.Operation.TheVariants as operations
 use Rattle.ups_dimse.specs.declared.command.OperationResult.{OperationResult}
 use Rattle.ups_dimse.specs.declared.command.OperationResult.TheVariants as results
 use Rattle.ups_dimse.specs.declared.message.Message.{Message}
-use Rattle.ups_dimse.specs.declared.message.Message.TheVariants.{GetRequest, GetResponse, CreateRequest, CreateResponse}
+use Rattle.ups_dimse.specs.declared.message.Message.TheVariants.{GetRequest, GetResponse, CreateRequest, CreateResponse, EchoRequest, EchoResponse}
 use Rattle.ups_dimse.specs.Elements.{CommandElement}
 use Rattle.ups_dimse.specs.Messages.{field_of}
 use Rattle.ups_dimse.specs.Values.{HasUs, HasUid, HasDataSet}
@@ -23,13 +23,15 @@ use Rattle.ups_dimse.proofs.Walk.{one_list}
 
 -- a message back from its field
 abbrev message_at : ℕ → Option Message
-message_at field = cond (eqb field 0x0110) (Some GetRequest) (cond (eqb field 0x8110) (Some GetResponse) (cond (eqb field 0x0140) (Some CreateRequest) (Some CreateResponse)))
+message_at field = cond (eqb field 0x0110) (Some GetRequest) (cond (eqb field 0x8110) (Some GetResponse) (cond (eqb field 0x0140) (Some CreateRequest) (cond (eqb field 0x8140) (Some CreateResponse) (cond (eqb field 0x0030) (Some EchoRequest) (Some EchoResponse)))))
 
 message_again : (m : Message) → message_at (field_of m) ≡ Some m
 message_again GetRequest = refl
 message_again GetResponse = refl
 message_again CreateRequest = refl
 message_again CreateResponse = refl
+message_again EchoRequest = refl
+message_again EchoResponse = refl
 
 pub one_message : (m n : Message) → field_of m ≡ field_of n → m ≡ n
 one_message m n e = same_Some m n (sym (message_again m) ∙ ap message_at e ∙ message_again n)
@@ -57,12 +59,22 @@ one_operation es (operations.Get i ts) (operations.Get j bs) e h k =
     λ t. operations.Get (same t) (tags t)
 one_operation es (operations.Create i) (operations.Get j bs) e h k = cc
 one_operation es (operations.Get i ts) (operations.Create j) e h k = cc
+one_operation es operations.Echo operations.Echo e h k = refl
+one_operation es operations.Echo (operations.Create j) e h k = cc
+one_operation es operations.Echo (operations.Get j bs) e h k = cc
+one_operation es (operations.Create i) operations.Echo e h k = cc
+one_operation es (operations.Get i ts) operations.Echo e h k = cc
 
 one_result : (es : List CommandElement) (o p : OperationResult) → response_of o ≡ response_of p → HasResult es o → HasResult es p → o ≡ p
 one_result es (results.Create i) (results.Create j) e h k = let same = one_uid es 0x1000 i j h k in λ t. results.Create (same t)
 one_result es (results.Get i) (results.Get j) e h k = let same = one_uid es 0x1000 i j h k in λ t. results.Get (same t)
 one_result es (results.Create i) (results.Get j) e h k = cc
 one_result es (results.Get i) (results.Create j) e h k = cc
+one_result es results.Echo results.Echo e h k = refl
+one_result es results.Echo (results.Create j) e h k = cc
+one_result es results.Echo (results.Get j) e h k = cc
+one_result es (results.Create i) results.Echo e h k = cc
+one_result es (results.Get i) results.Echo e h k = cc
 
 one_request : {A : Type 0} (es : List CommandElement) (r s : RequestCommand A) → IsRequest es r → IsRequest es s → r ≡ s
 one_request es r s p q =
@@ -93,6 +105,11 @@ request_response es r s p q =
     not_both (operations.Create i) (results.Get j) e = cc
     not_both (operations.Get i ts) (results.Create j) e = cc
     not_both (operations.Get i ts) (results.Get j) e = cc
+    not_both (operations.Create i) results.Echo e = cc
+    not_both (operations.Get i ts) results.Echo e = cc
+    not_both operations.Echo (results.Create j) e = cc
+    not_both operations.Echo (results.Get j) e = cc
+    not_both operations.Echo results.Echo e = cc
 
 one_of_elements : {A : Type 0} (es : List CommandElement) (c d : Command A) → IsCommand es c → IsCommand es d → c ≡ d
 one_of_elements es (Request r) (Request s) p q = let same = one_request es r s p q in λ i. Request (same i)

@@ -25,11 +25,13 @@ AreHeldTags tags = All IsHeldTag tags
 abbrev pub IsHeldOperation : {A : Type 0} → Operation A → Type 0
 IsHeldOperation (operations.Create instance) = IfSome instance IsUid
 IsHeldOperation (operations.Get instance attributes) = IfSome instance IsUid × AreHeldTags attributes
+IsHeldOperation operations.Echo = Unit {0}
 
 -- what is a result's own
 abbrev pub IsHeldResult : OperationResult → Type 0
 IsHeldResult (results.Create instance) = IfSome instance IsUid
 IsHeldResult (results.Get instance) = IfSome instance IsUid
+IsHeldResult results.Echo = Unit {0}
 
 -- a request
 pub record IsHeldRequest {A : Type 0} (request : RequestCommand A) : Type 0 where

@@ -1,7 +1,8 @@
--- The messages, by their command fields (PS3.7 annex E.1) and by the elements that they have (PS3.7 section 10.3).
+-- The messages, by their command fields (PS3.7 annex E.1) and by the elements that they have (PS3.7 sections 9.3
+-- and 10.3).
 use Rattle.std.specs.Prelude.{ℕ, List, [], ◌∷◌}
 use Rattle.ups_dimse.specs.declared.message.Message.{Message}
-use Rattle.ups_dimse.specs.declared.message.Message.TheVariants.{GetRequest, GetResponse, CreateRequest, CreateResponse}
+use Rattle.ups_dimse.specs.declared.message.Message.TheVariants.{GetRequest, GetResponse, CreateRequest, CreateResponse, EchoRequest, EchoResponse}
 
 -- Command Field (0000,0100). That of a response has its highest bit set.
 abbrev pub field_of : Message → ℕ
@@ -9,6 +10,8 @@ field_of GetRequest = 0x0110
 field_of GetResponse = 0x8110
 field_of CreateRequest = 0x0140
 field_of CreateResponse = 0x8140
+field_of EchoRequest = 0x0030
+field_of EchoResponse = 0x8030
 
 -- an element whose value has to have a certain length: a US, which has to be there, or an AT, which may be absent
 pub data Need : Type 0 where
@@ -22,3 +25,5 @@ needs GetRequest = has_us 0x0110 ∷ has_us 0x0800 ∷ may_have_at 0x1005 ∷ []
 needs GetResponse = has_us 0x0120 ∷ has_us 0x0800 ∷ has_us 0x0900 ∷ []
 needs CreateRequest = has_us 0x0110 ∷ has_us 0x0800 ∷ []
 needs CreateResponse = has_us 0x0120 ∷ has_us 0x0800 ∷ has_us 0x0900 ∷ []
+needs EchoRequest = has_us 0x0110 ∷ has_us 0x0800 ∷ []
+needs EchoResponse = has_us 0x0120 ∷ has_us 0x0800 ∷ has_us 0x0900 ∷ []

@@ -9,9 +9,9 @@ use ups_pdu::Uid;
 /// What a command set says (PS3.7 section 6.3.1).
 #[derive(Drop)]
 pub enum Command<A: Allocator + Copy> {
-    /// The command of a request (PS3.7 section 10.3).
+    /// The command of a request (PS3.7 sections 9.3 and 10.3).
     Request(RequestCommand<A>),
-    /// The command of a response (PS3.7 section 10.3).
+    /// The command of a response (PS3.7 sections 9.3 and 10.3).
     Response(ResponseCommand),
 }
 
@@ -43,6 +43,8 @@ pub enum Operation<A: Allocator + Copy> {
         /// Attribute Identifier List (0000,1005); no tags where it is absent.
         attributes: Tags<A>,
     },
+    /// C-ECHO (PS3.7 section 9.3.5): whether the other side answers. It has no instance.
+    Echo,
 }
 
 /// The command of a response.
@@ -73,6 +75,8 @@ pub enum OperationResult {
         /// Affected SOP Instance UID (0000,1000); None where it is absent or malformed.
         instance: Option<Uid>,
     },
+    /// C-ECHO (PS3.7 section 9.3.5.2).
+    Echo,
 }
 
 impl<A: Allocator + Copy> Command<A> {
@@ -103,6 +107,7 @@ impl<A: Allocator + Copy> Operation<A> {
         match self {
             Operation::Create { .. } => Message::CreateRequest,
             Operation::Get { .. } => Message::GetRequest,
+            Operation::Echo => Message::EchoRequest,
         }
     }
 
@@ -111,7 +116,7 @@ impl<A: Allocator + Copy> Operation<A> {
         ensures { result ≡ class_element self.now }
     {
         match self {
-            Operation::Create { .. } => AFFECTED_CLASS,
+            Operation::Create { .. } | Operation::Echo => AFFECTED_CLASS,
             Operation::Get { .. } => REQUESTED_CLASS,
         }
     }
@@ -121,7 +126,7 @@ impl<A: Allocator + Copy> Operation<A> {
         ensures { result ≡ length (tags_of self.now) }
     {
         match self {
-            Operation::Create { .. } => 0,
+            Operation::Create { .. } | Operation::Echo => 0,
             Operation::Get { attributes, .. } => attributes.as_slice().len(),
         }
     }
@@ -138,6 +143,7 @@ impl OperationResult {
         match self {
             OperationResult::Create { .. } => Message::CreateResponse,
             OperationResult::Get { .. } => Message::GetResponse,
+            OperationResult::Echo => Message::EchoResponse,
         }
     }
 }
@@ -163,6 +169,7 @@ impl<A: Allocator + Copy> RequestCommand<A> {
             Operation::Get { instance, .. } => OperationResult::Get {
                 instance: *instance,
             },
+            Operation::Echo => OperationResult::Echo,
         };
         ResponseCommand {
             sop_class: Some(self.sop_class.unwrap_or(sop_class)),

@@ -10,7 +10,7 @@ use ups_dataset::Tag;
 /// Why no command was read: the first of the tests that fails.
 #[derive(Clone, Copy, Debug, PartialEq, Eq, Error)]
 pub enum DimseFault {
-    /// An element that the message has to have is missing (PS3.7 section 10.3).
+    /// An element that the message has to have is missing (PS3.7 sections 9.3 and 10.3).
     #[error("the command set has no element ({:04x},{:04x})", .0.group, .0.element)]
     Missing(Tag),
     /// A value does not have the length of its value representation (PS3.5 section 6.2). With (0000,0000):

@@ -15,6 +15,10 @@ pub(crate) enum Message {
     CreateRequest,
     /// N-CREATE-RSP (PS3.7 section 10.3.5.2).
     CreateResponse,
+    /// C-ECHO-RQ (PS3.7 section 9.3.5.1).
+    EchoRequest,
+    /// C-ECHO-RSP (PS3.7 section 9.3.5.2).
+    EchoResponse,
 }
 
 /// The values of Command Field (PS3.7 annex E.1).
@@ -26,6 +30,10 @@ mod field {
     pub(super) const CREATE_REQUEST: u16 = 0x0140;
 
     pub(super) const CREATE_RESPONSE: u16 = 0x8140;
+
+    pub(super) const ECHO_REQUEST: u16 = 0x0030;
+
+    pub(super) const ECHO_RESPONSE: u16 = 0x8030;
 }
 
 impl Message {
@@ -38,6 +46,8 @@ impl Message {
             Message::GetResponse => field::GET_RESPONSE,
             Message::CreateRequest => field::CREATE_REQUEST,
             Message::CreateResponse => field::CREATE_RESPONSE,
+            Message::EchoRequest => field::ECHO_REQUEST,
+            Message::EchoResponse => field::ECHO_RESPONSE,
         }
     }
 
@@ -50,6 +60,8 @@ impl Message {
             field::GET_RESPONSE => Some(Message::GetResponse),
             field::CREATE_REQUEST => Some(Message::CreateRequest),
             field::CREATE_RESPONSE => Some(Message::CreateResponse),
+            field::ECHO_REQUEST => Some(Message::EchoRequest),
+            field::ECHO_RESPONSE => Some(Message::EchoResponse),
             _ => None,
         }
     }

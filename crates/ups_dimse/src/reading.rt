@@ -9,7 +9,7 @@ ghost use Rattle.ups_dimse.specs.Messages.{field_of, needs};
 ghost use Rattle.ups_dimse.specs.Values.{HasUs};
 ghost use Rattle.ups_dimse.specs.Commands.{HasResult, IsRequest, IsResponse, IsCommand, SpellsCommand, response_of};
 ghost use Rattle.ups_dimse.specs.Faults.{FirstFails, Gives, IsFault};
-ghost use Rattle.ups_dimse.specs.declared.message.Message.TheVariants.{GetRequest, CreateRequest};
+ghost use Rattle.ups_dimse.specs.declared.message.Message.TheVariants.{GetRequest, CreateRequest, EchoRequest};
 
 use crate::command::{Command, Operation, OperationResult, RequestCommand, ResponseCommand};
 use crate::elements::{are_elements, has_data_set, tags_of, uid_of, us_of};
@@ -52,7 +52,20 @@ fn get_request<A: Allocator + Copy>(alloc: A, bytes: &[u8]) -> Result<RequestCom
     })
 }
 
-/// The response with this result (PS3.7 section 10.3).
+/// C-ECHO-RQ (PS3.7 section 9.3.5.1).
+fn echo_request<A: Allocator + Copy>(bytes: &[u8]) -> Result<RequestCommand<A>, DimseFault>
+    ensures { (elements : List CommandElement) → SpellsElements 0 bytes.now elements [] → HasUs elements 0x0100 (field_of EchoRequest)
+        → MatchResult result (IsRequest elements) (FirstFails elements (needs EchoRequest)) }
+{
+    Ok(RequestCommand {
+        sop_class: uid_of(bytes, AFFECTED_CLASS),
+        message_id: us_of(bytes, MESSAGE_ID)?,
+        has_data_set: has_data_set(bytes)?,
+        operation: Operation::Echo,
+    })
+}
+
+/// The response with this result (PS3.7 sections 9.3 and 10.3).
 fn response(bytes: &[u8], outcome: OperationResult) -> Result<ResponseCommand, DimseFault>
     ensures { (elements : List CommandElement) → SpellsElements 0 bytes.now elements [] → HasUs elements 0x0100 (field_of (response_of outcome))
         → HasResult elements outcome → MatchResult result (λ r. IsResponse elements r × (r.result ≡ outcome)) (FirstFails elements (needs (response_of outcome))) }
@@ -78,6 +91,7 @@ fn command_of<A: Allocator + Copy>(
     match message {
         Message::GetRequest => Ok(Command::Request(get_request(alloc, bytes)?)),
         Message::CreateRequest => Ok(Command::Request(create_request(bytes)?)),
+        Message::EchoRequest => Ok(Command::Request(echo_request(bytes)?)),
         Message::GetResponse => {
             let instance = uid_of(bytes, AFFECTED_INSTANCE);
             let outcome = OperationResult::Get { instance };
@@ -88,6 +102,7 @@ fn command_of<A: Allocator + Copy>(
             let outcome = OperationResult::Create { instance };
             Ok(Command::Response(response(bytes, outcome)?))
         }
+        Message::EchoResponse => Ok(Command::Response(response(bytes, OperationResult::Echo)?)),
     }
 }
 

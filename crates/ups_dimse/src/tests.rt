@@ -26,6 +26,11 @@ const DATA_SET_TYPE: Tag = Tag {
     element: 0x0800,
 };
 
+const STATUS: Tag = Tag {
+    group: 0,
+    element: 0x0900,
+};
+
 const ATTRIBUTES: Tag = Tag {
     group: 0,
     element: 0x1005,
@@ -43,15 +48,23 @@ const GET_REQUEST: &str =
 const GET_RESPONSE: &str =
     "00000000 04000000 5a000000 00000200 1a000000 PUSH 00000001 02000000 1081 00002001 02000000 0200 00000008 02000000 0100 00000009 02000000 0000 00000010 08000000 INST";
 
+const ECHO_REQUEST: &str =
+    "00000000 04000000 38000000 00000200 12000000 VERIFICATION 00000001 02000000 3000 00001001 02000000 0700 00000008 02000000 0101";
+
+const ECHO_RESPONSE: &str =
+    "00000000 04000000 42000000 00000200 12000000 VERIFICATION 00000001 02000000 3080 00002001 02000000 0700 00000008 02000000 0101 00000009 02000000 0000";
+
 const LISTED_REQUEST: &str =
     "00000000 04000000 60000000 00000300 1a000000 PUSH 00000001 02000000 1001 00001001 02000000 0200 00000008 02000000 0101 00000110 08000000 INST 00000510 08000000 74000010 08001800";
 
-/// Bytes by their hexadecimal digits, in which PUSH is the UID of the UPS Push SOP class and INST is 1.2.3.4.
+/// Bytes by their hexadecimal digits, in which PUSH is the UID of the UPS Push SOP class, VERIFICATION that of the
+/// Verification SOP class, and INST is 1.2.3.4.
 fn bytes_of(rt: &impl AllocGlobal, digits: &str) -> Result<Vec<u8>, Fail> {
     let mut text = String::new(rt.alloc());
     for word in digits.split(' ') {
         text.push_str(match word {
             "PUSH" => "312e322e3834302e31303030382e352e312e342e33342e362e31",
+            "VERIFICATION" => "312e322e3834302e31303030382e312e3100",
             "INST" => "312e322e332e3400",
             other => other,
         })?;
@@ -110,7 +123,7 @@ fn a_create_request_is_read_and_written(rt: HostRuntime) -> Result<(), Fail> {
     assert!(rt; read.has_data_set);
     match &read.operation {
         Operation::Create { instance: found } => assert!(rt; *found == instance()),
-        Operation::Get { .. } => return Err("an N-GET".into()),
+        _ => return Err("another operation".into()),
     }
     assert_written(&rt, &Command::Request(read), CREATE_REQUEST)
 }
@@ -129,9 +142,30 @@ fn a_get_request_is_read_and_written(rt: HostRuntime) -> Result<(), Fail> {
             assert!(rt; *found == instance());
             assert!(rt; attributes.as_slice().is_empty());
         }
-        Operation::Create { .. } => return Err("an N-CREATE".into()),
+        _ => return Err("another operation".into()),
     }
     assert_written(&rt, &Command::Request(read), GET_REQUEST)
+}
+
+#[test]
+fn an_echo_request_is_read_and_written(rt: HostRuntime) -> Result<(), Fail> {
+    let read = request(&rt, ECHO_REQUEST)?;
+    assert!(rt; read.sop_class == Uid::of(b"1.2.840.10008.1.1"));
+    assert_eq!(rt; read.message_id, 7);
+    assert!(rt; !read.has_data_set);
+    assert!(rt; matches!(&read.operation, Operation::Echo));
+    assert_written(&rt, &Command::Request(read), ECHO_REQUEST)
+}
+
+#[test]
+fn an_echo_response_is_read_and_written(rt: HostRuntime) -> Result<(), Fail> {
+    let read = response(&rt, ECHO_RESPONSE)?;
+    assert!(rt; read.sop_class == Uid::of(b"1.2.840.10008.1.1"));
+    assert_eq!(rt; read.responded_to, 7);
+    assert!(rt; !read.has_data_set);
+    assert_eq!(rt; read.status, 0);
+    assert!(rt; matches!(&read.result, OperationResult::Echo));
+    assert_written(&rt, &Command::Response(read), ECHO_RESPONSE)
 }
 
 #[test]
@@ -141,6 +175,8 @@ fn requests_are_answered(rt: HostRuntime) -> Result<(), Fail> {
     assert_written(&rt, &Command::Response(created), CREATE_RESPONSE)?;
     let got = request(&rt, GET_REQUEST)?.answered(other, 0, true);
     assert_written(&rt, &Command::Response(got), GET_RESPONSE)?;
+    let echoed = request(&rt, ECHO_REQUEST)?.answered(other, 0, false);
+    assert_written(&rt, &Command::Response(echoed), ECHO_RESPONSE)?;
     let unnamed = "00000001 02000000 4001 00001001 02000000 0700 00000008 02000000 0101";
     let answer = request(&rt, unnamed)?.answered(other, 0x0110, false);
     assert_written(
@@ -159,14 +195,14 @@ fn responses_are_read(rt: HostRuntime) -> Result<(), Fail> {
     assert_eq!(rt; created.status, 0);
     match created.result {
         OperationResult::Create { instance: found } => assert!(rt; found == instance()),
-        OperationResult::Get { .. } => return Err("an N-GET".into()),
+        _ => return Err("another result".into()),
     }
     let got = response(&rt, GET_RESPONSE)?;
     assert_eq!(rt; got.responded_to, 2);
     assert!(rt; got.has_data_set);
     match got.result {
         OperationResult::Get { instance: found } => assert!(rt; found == instance()),
-        OperationResult::Create { .. } => return Err("an N-CREATE".into()),
+        _ => return Err("another result".into()),
     }
     let bare =
         "00000001 02000000 1081 00002001 02000000 0900 00000008 02000000 0101 00000009 02000000 07c3";
@@ -191,7 +227,7 @@ fn attributes_are_read_and_written_in_their_order(rt: HostRuntime) -> Result<(),
             };
             assert_eq!(rt; attributes.as_slice(), [state, uid].as_slice());
         }
-        Operation::Create { .. } => return Err("an N-CREATE".into()),
+        _ => return Err("another operation".into()),
     }
     assert_written(&rt, &Command::Request(read), LISTED_REQUEST)
 }
@@ -219,7 +255,7 @@ fn a_malformed_uid_is_read_as_none(rt: HostRuntime) -> Result<(), Fail> {
     assert!(rt; read.sop_class.is_none());
     match &read.operation {
         Operation::Create { instance: found } => assert!(rt; found.is_none()),
-        Operation::Get { .. } => return Err("an N-GET".into()),
+        _ => return Err("another operation".into()),
     }
     Ok(())
 }
@@ -272,6 +308,14 @@ fn the_first_fault_is_answered(rt: HostRuntime) -> Result<(), Fail> {
         (
             "00000001 02000000 1001 00001001 02000000 0200 00000510 06000000 740000100800",
             DimseFault::Missing(DATA_SET_TYPE),
+        ),
+        (
+            "00000001 02000000 3000 00001001 02000000 0700",
+            DimseFault::Missing(DATA_SET_TYPE),
+        ),
+        (
+            "00000001 02000000 3080 00002001 02000000 0700 00000008 02000000 0101",
+            DimseFault::Missing(STATUS),
         ),
         (
             "00000001 02000000 1001 00001001 02000000 0200 00000008 02000000 0101 00000510 06000000 740000100800",

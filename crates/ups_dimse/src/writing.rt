@@ -125,6 +125,7 @@ fn put_operation<A: Allocator + Copy>(
             put_uid(out, REQUESTED_INSTANCE, *instance)?;
             put_tags(out, ATTRIBUTES, attributes.as_slice())?;
         }
+        Operation::Echo => (),
     }
     Ok(())
 }
@@ -158,6 +159,7 @@ fn put_result<A: Allocator + Copy>(
     match outcome {
         OperationResult::Create { instance } => put_uid(out, AFFECTED_INSTANCE, *instance)?,
         OperationResult::Get { instance } => put_uid(out, AFFECTED_INSTANCE, *instance)?,
+        OperationResult::Echo => (),
     }
     Ok(())
 }

@@ -1,6 +1,6 @@
 -- Worked rows: what the definitions say of small histories, computed by the check.
 use Rattle.std.proofs.Common.{◌≡◌, ℕ, List, [], ◌∷◌, ◌++◌, refl}
-use Rattle.std.specs.Prelude.{Some, None, Err, codes}
+use Rattle.std.specs.Prelude.{Some, None, Err, codes, pos}
 use Rattle.ups_pdu.specs.declared.registered.RegisteredUid.TheVariants.{UpsPush, GlobalSubscription}
 use Rattle.ups_pdu.specs.Registered.{text_of}
 use Rattle.ups_dataset.specs.declared.tag.Tag.{Tag}
@@ -21,7 +21,7 @@ use Rattle.ups_life.specs.Steps.{row, held}
 use Rattle.ups_life.specs.History.{status, entered, got}
 
 abbrev site : Settings
-site = record { peers = []; keep = 60; limit = 1000000 }
+site = record { peers = []; keep = 60; offset = pos 0; limit = 1000000 }
 
 -- no allocator is looked at
 abbrev Asked : Type 0
@@ -147,7 +147,7 @@ malformed_instance_is_not_shown = refl
 
 -- the history has room for as many entries as its limit says
 abbrev small_site : Settings
-small_site = record { peers = []; keep = 60; limit = 2 }
+small_site = record { peers = []; keep = 60; offset = pos 0; limit = 2 }
 
 full_history_takes_no_more : statuses small_site [] (create step_one a_step ∷ create step_two a_step ∷ create step_three a_step ∷ create step_one a_step ∷ [])
     ≡ Success ∷ Success ∷ ResourceLimitation ∷ DuplicateSopInstance ∷ []

@@ -1,7 +1,7 @@
 -- The numbers of the statuses (PS3.7 annex C, PS3.4 CC.2).
 use Rattle.std.specs.Prelude.{ℕ}
 use Rattle.ups_life.specs.declared.status.Status.{Status}
-use Rattle.ups_life.specs.declared.status.Status.TheVariants.{Success, AttributesNotSupported, InvalidAttributeValue, ProcessingFailure, DuplicateSopInstance, InvalidObjectInstance, NoSuchSopClass, MissingAttribute, MissingAttributeValue, ResourceLimitation, UnknownInstance, NotScheduled}
+use Rattle.ups_life.specs.declared.status.Status.TheVariants.{Success, AttributesNotSupported, InvalidAttributeValue, ProcessingFailure, DuplicateSopInstance, InvalidObjectInstance, NoSuchSopClass, MissingAttribute, MissingAttributeValue, UnrecognizedOperation, ResourceLimitation, UnknownInstance, NotScheduled}
 
 abbrev pub code : Status → ℕ
 code Success = 0x0000
@@ -13,6 +13,7 @@ code InvalidObjectInstance = 0x0117
 code NoSuchSopClass = 0x0118
 code MissingAttribute = 0x0120
 code MissingAttributeValue = 0x0121
+code UnrecognizedOperation = 0x0211
 code ResourceLimitation = 0x0213
 code UnknownInstance = 0xc307
 code NotScheduled = 0xc309

@@ -25,8 +25,9 @@ fn is_well_known(uid: Uid) -> bool
 
 /// What a message asks: its operation, with the data set that came with it, or an empty one.
 ///
-/// Errors: 0117H where a step is to be created whose UID is absent, malformed or well known; 0213H where
-/// memory runs out, and only for a message that asks something.
+/// Errors: 0117H where a step is to be created whose UID is absent, malformed or well known; 0211H for a
+/// C-ECHO, which asks nothing of a step (PS3.4 annex A); 0213H where memory runs out, and only for a message
+/// that asks something.
 pub fn read_request<A: Allocator + Copy>(
     alloc: A,
     operation: &Operation<A>,
@@ -56,5 +57,6 @@ pub fn read_request<A: Allocator + Copy>(
                 attributes: Tags::from_vec(listed),
             })
         }
+        Operation::Echo => Err(Status::UnrecognizedOperation),
     }
 }

@@ -24,6 +24,8 @@ pub enum Status {
     MissingAttribute,
     /// 0121H: a required attribute has no value.
     MissingAttributeValue,
+    /// 0211H: the service isn't one of the SOP class.
+    UnrecognizedOperation,
     /// 0213H: there is no room.
     ResourceLimitation,
     /// C307H: no step with this instance UID is held.
@@ -47,6 +49,7 @@ impl Status {
             Status::NoSuchSopClass => 0x0118,
             Status::MissingAttribute => 0x0120,
             Status::MissingAttributeValue => 0x0121,
+            Status::UnrecognizedOperation => 0x0211,
             Status::ResourceLimitation => 0x0213,
             Status::UnknownInstance => 0xc307,
             Status::NotScheduled => 0xc309,

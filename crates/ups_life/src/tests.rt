@@ -392,13 +392,24 @@ fn a_get_asks_for_the_listed_attributes(rt: HostRuntime) -> Result<(), Fail> {
 }
 
 #[test]
-fn a_configuration_has_the_limit_that_it_was_given(rt: HostRuntime) -> Result<(), Fail> {
+fn a_configuration_has_what_it_was_given(rt: HostRuntime) -> Result<(), Fail> {
     let mut peers = Vec::new(rt.alloc());
-    peers.push(Peer {
-        ae: Ae::of(b"WATCH1").ok_or("a title")?,
-        lock: true,
-    })?;
-    let configuration = Configuration::new(peers, 60, 1_000_000);
+    for (ae, lock) in [("WATCH1", true), ("WATCH2", false)] {
+        let ae = Ae::of(ae.as_bytes()).ok_or("a title")?;
+        peers.push(Peer { ae, lock })?;
+    }
+    let configuration = Configuration::new(peers, 60, -300, 1_000_000);
+    assert_eq!(rt; configuration.peers().len(), 2);
+    for (peer, (ae, lock)) in configuration
+        .peers()
+        .iter()
+        .zip([("WATCH1", true), ("WATCH2", false)])
+    {
+        assert!(rt; peer.ae.as_bytes() == ae.as_bytes(), "at {ae}");
+        assert_eq!(rt; peer.lock, lock, "at {ae}");
+    }
+    assert_eq!(rt; configuration.keep(), 60);
+    assert_eq!(rt; configuration.offset(), -300);
     assert_eq!(rt; configuration.limit(), 1_000_000);
     Ok(())
 }
@@ -524,5 +535,15 @@ fn a_decision_takes_no_memory(rt: HostRuntime) -> Result<(), Fail> {
     assert!(rt; used(history.as_slice(), uid("1.2.3.1")?));
     assert_eq!(rt; verdict(false, &history[0].request).code(), 0x0000);
     assert!(rt; heap.is_armed());
+    Ok(())
+}
+
+#[test]
+fn an_echo_asks_nothing_of_a_step(rt: HostRuntime) -> Result<(), Fail> {
+    let Err(status) = read_request(rt.alloc(), &Operation::Echo, a_step(rt.alloc())?) else {
+        return Err("an ask".into());
+    };
+    assert_eq!(rt; status, Status::UnrecognizedOperation);
+    assert_eq!(rt; status.code(), 0x0211);
     Ok(())
 }

@@ -1,12 +1,2 @@
-mod Alone
-mod Bodies
-mod Entering
-mod Filling
-mod Fitting
-mod Headed
-mod Hearings
-mod Pieces
-mod Saying
-mod Serving
-mod Spoken
-mod Talking
+mod Naming
+mod Settling

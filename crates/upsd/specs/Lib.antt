@@ -1,6 +1,1 @@
-pub mod Accepting
-pub mod Fragments
-pub mod Kept
-pub mod Session
-pub mod Turn
-pub mod Wire
+pub mod Piping

@@ -1,5 +1,8 @@
 //! The command line.
 
+ghost use Rattle.std.specs.Prelude.{◌≡◌, ◌≤◌, length, None, IfOk, pos};
+ghost use Rattle.ups_manager.specs.Refusal.{is_named, refusal};
+
 use clap::{Arg, ArgAction, Command};
 use std::alloc::{AllocError, AllocFailed, Allocator, Global};
 use thiserror::Error;
@@ -102,10 +105,14 @@ pub(crate) fn ae_of(word: &str) -> Result<Ae, ArgumentFault> {
 /// The peers that words name.
 ///
 /// Errors: Peer where a word names none; Doubled where two words name the same; TooMany; want of memory.
+#[tactic(auto, using(crate::proofs::Naming::twice_on, crate::proofs::Naming::unrefused))]
 pub(crate) fn peers_of<A: Allocator + Copy>(
     alloc: A,
     words: &[&str],
-) -> Result<Vec<Peer, A>, ArgumentFault> {
+) -> Result<Vec<Peer, A>, ArgumentFault>
+    ensures few { IfOk result (λ peers. length peers.items ≤ 1000) }
+    ensures allowed { IfOk result (λ peers. refusal peers.items (pos 0) 1000000 ≡ None) }
+{
     let mut peers = Vec::new(alloc);
     if words.len() > PEERS_LIMIT {
         return Err(ArgumentFault::TooMany);
@@ -122,6 +129,9 @@ pub(crate) fn peers_of<A: Allocator + Copy>(
     Ok(peers)
 }
 
-fn is_named(peers: &[Peer], ae: Ae) -> bool {
+/// Whether one of the peers has this title.
+fn is_named(peers: &[Peer], ae: Ae) -> bool
+    ensures { result ≡ is_named ae peers.now }
+{
     peers.iter().any(|peer| peer.ae == ae)
 }

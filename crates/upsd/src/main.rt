@@ -1,29 +1,25 @@
 //! `upsd`, a DICOM Unified Procedure Step manager.
 #![tactic(auto)]
 
-mod accepting;
+ghost use Rattle.std.specs.Prelude.{◌≡◌, ◌≤◌, length, None, IfOk, pos};
+ghost use Rattle.ups_manager.specs.Refusal.{refusal};
+
 mod arguments;
-mod fault;
-mod fragmenting;
-mod hearing;
+mod gate;
 mod hexing;
-mod manager;
-mod phase;
 mod piping;
-mod session;
 #[cfg(test)]
 mod tests;
-mod wire;
 
 use crate::arguments::{ArgumentFault, ae_of, command, peers_of};
 use clap::ArgMatches;
-pub use fault::{End, SessionFault};
 pub use piping::pipe;
 use std::alloc::{AllocError, Global};
 use std::io::{self, BufReader};
 use std::process::ExitCode;
 use ups_life::Peer;
 use ups_pdu::Ae;
+pub use ups_session::{End, SessionFault};
 
 /// The exit status where the command line is not one that is taken.
 const USAGE: u8 = 1;
@@ -48,7 +44,10 @@ struct PipeArguments {
 /// Reads what a command line asks of `pipe`.
 ///
 /// Errors: those of its words.
-fn pipe_arguments(alloc: Global, matches: &ArgMatches<'_>) -> Result<PipeArguments, ArgumentFault> {
+fn pipe_arguments(alloc: Global, matches: &ArgMatches<'_>) -> Result<PipeArguments, ArgumentFault>
+    ensures few { IfOk result (λ asked. length asked.peers.items ≤ 1000) }
+    ensures allowed { IfOk result (λ asked. refusal asked.peers.items (pos 0) 1000000 ≡ None) }
+{
     Ok(PipeArguments {
         ae: ae_of(matches.get_str("ae").unwrap_or(""))?,
         hex: matches.get_flag("hex"),
@@ -57,7 +56,10 @@ fn pipe_arguments(alloc: Global, matches: &ArgMatches<'_>) -> Result<PipeArgumen
 }
 
 /// Answers one association, and gives the exit status.
-fn answer(rt: &HostRuntime, asked: &PipeArguments) -> Result<u8, AllocError> {
+fn answer(rt: &HostRuntime, asked: &PipeArguments) -> Result<u8, AllocError>
+    requires few { length asked.now.peers.items ≤ 1000 }
+    requires allowed { refusal asked.now.peers.items (pos 0) 1000000 ≡ None }
+{
     let alloc = rt.alloc();
     let Ok(mut reader) = BufReader::new(alloc, rt.reader()) else {
         return Err(AllocError);

@@ -1,33 +1,42 @@
 //! One association from a reader to a writer.
 
-ghost use Rattle.std.specs.Prelude.{◌≡◌, ℕ, List, false};
-ghost use Rattle.std.specs.Io.KnownBytes.{Appends, Consumes};
-ghost use Rattle.upsd.specs.Session.{IsSession};
+ghost use Rattle.std.specs.Prelude.{◌≡◌, ◌≤◌, ℕ, List, [], length, None, false, pos};
+ghost use Rattle.std.specs.Io.KnownBytes.{Consumes};
+ghost use Rattle.ups_life.specs.declared.entry.Entry.{Entry};
+ghost use Rattle.ups_manager.specs.Refusal.{refusal};
+ghost use Rattle.ups_session.specs.Acceptor.{acceptor, opened};
+ghost use Rattle.ups_session.specs.Session.{IsSession};
+ghost use Rattle.ups_session.specs.World.{world};
+ghost use Rattle.upsd.specs.Piping.{settings};
 
-use crate::fault::{End, SessionFault};
+use crate::gate::Epoch;
 use crate::hexing::{HexReader, HexWriter};
-use crate::manager::Manager;
-use crate::session::serve;
 use std::alloc::Allocator;
 use std::io::{Read, Write};
-use ups_life::{Configuration, Peer};
+use ups_assoc::Config;
+use ups_life::Peer;
+use ups_manager::Manager;
 use ups_pdu::Ae;
+use ups_session::{End, SessionFault, serve};
 
 /// For how many seconds a finished step is kept at least.
 const KEEP: u32 = 60;
 
+/// The offset of the local time from UTC, in minutes.
+const OFFSET: i16 = 0;
+
 /// How many requests may be entered in the history.
 const HISTORY_LIMIT: u64 = 1_000_000;
 
-/// Answers one association from a reader to a writer: each PDU that is read, up to `turns` of them, is answered by
-/// the requests that were accepted before (PS3.8 section 9, PS3.7 section 10, PS3.4 annex CC). `ae` is the title
-/// of this application entity, and `peers` are those that may watch steps. With `hex` both sides are hexadecimal
-/// digits, and each PDU is written as a line.
+/// Answers one association from a reader to a writer, by a manager that has no history before it (PS3.8 section 9.2,
+/// PS3.7 section 10, PS3.4 annex CC): until it has ended, or `turns` PDUs were read. `ae` is the title of this
+/// application entity, and `peers` are those that may watch steps. With `hex` both sides are hexadecimal digits, and
+/// each PDU is written as a line.
 ///
 /// # Errors
 ///
-/// Read where the input fails, ends before the release or goes on with something that is not taken; Write where
-/// the output fails; Turns where as many PDUs were read as `turns`; Memory where memory runs out.
+/// Read where a read failed or the input ended inside a PDU; Write where a write failed; Turns where as many PDUs were
+/// read as `turns`; Memory where memory ran out. What was accepted was then answered as far as it was written.
 pub fn pipe<A: Allocator + Copy, R: Read, W: Write>(
     alloc: A,
     reader: &mut R,
@@ -37,17 +46,38 @@ pub fn pipe<A: Allocator + Copy, R: Read, W: Write>(
     hex: bool,
     turns: u64,
 ) -> Result<End, SessionFault>
-    ensures session { hex ≡ false → (input : List ℕ) × (sent : List ℕ) × Consumes (R.remaining reader.old) (R.remaining reader.new) input
-        × Appends (W.contents writer.old) (W.contents writer.new) sent
-        × IsSession A (record { peers = peers.now; keep = 60; limit = 1000000 }) ae turns input sent result }
+    requires few { length peers.now ≤ 1000 }
+    requires allowed { refusal peers.now (pos 0) 1000000 ≡ None }
+    ensures session { hex ≡ false → (input : List ℕ) × (history : List (Entry A)) × Consumes (R.remaining reader.old) (R.remaining reader.new) input
+        × IsSession (acceptor ae) (λ live. live.ending) opened turns (R.remaining reader.new) input
+        (world (W.contents writer.old) None (settings peers.now) 0 [])
+        (world (W.contents writer.new) None (settings peers.now) 0 history) result }
 {
-    let mut named = Vec::new(alloc);
-    named.extend_from_slice(peers)?;
-    let mut manager = Manager::new(alloc, Configuration::new(named, KEEP, HISTORY_LIMIT));
+    let Ok(mut manager) = Manager::new(alloc, peers, KEEP, OFFSET, HISTORY_LIMIT) else {
+        return Err(SessionFault::Memory);
+    };
+    let config = Config { ae, offset: OFFSET };
+    let mut gate = Epoch;
     if hex {
         let mut digits = HexReader::new(reader);
         let mut lines = HexWriter::new(writer);
-        return serve(alloc, ae, &mut manager, &mut digits, &mut lines, turns);
+        return serve(
+            alloc,
+            &mut digits,
+            &mut lines,
+            &mut manager,
+            &mut gate,
+            &config,
+            turns,
+        );
     }
-    serve(alloc, ae, &mut manager, reader, writer, turns)
+    serve(
+        alloc,
+        reader,
+        writer,
+        &mut manager,
+        &mut gate,
+        &config,
+        turns,
+    )
 }

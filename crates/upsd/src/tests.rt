@@ -72,6 +72,37 @@ const RELEASE: &str = "05 00 00000004 00000000";
 
 const RELEASED: &str = "06 00 00000004 00000000";
 
+/// The A-ASSOCIATE-RQ with the maximum length 32, and one for the title OTHER.
+const SMALL_REQUEST: &str =
+    "01 00 000000ad 0001 0000 \"UPSD\" 20*12 \"SCHED1\" 20*10 00*32 10 00 0015 \"1.2.840.10008.3.1.1.1\" 20 00 0037 01 000000 30 00 001a PUSH 40 00 0011 \"1.2.840.10008.1.2\" 50 00 0011 51 00 0004 00000020 52 00 0005 \"1.2.3\"";
+
+const OTHER: &str =
+    "01 00 000000ad 0001 0000 \"OTHER\" 20*11 \"SCHED1\" 20*10 00*32 10 00 0015 \"1.2.840.10008.3.1.1.1\" 20 00 0037 01 000000 30 00 001a PUSH 40 00 0011 \"1.2.840.10008.1.2\" 50 00 0011 51 00 0004 00004000 52 00 0005 \"1.2.3\"";
+
+/// The A-ASSOCIATE-RJ for it: the called title is not recognized (PS3.8 section 9.3.4).
+const REJECTED: &str = "03 00 00000004 00 01 01 07";
+
+/// A-ABORT of the service user; and of the service provider for an unknown PDU, a PDU that is not expected, and one
+/// with a value that is not taken (PS3.8 section 9.3.8).
+const ABORT: &str = "07 00 00000004 0000 00 00";
+
+const UNKNOWN: &str = "07 00 00000004 0000 02 01";
+
+const UNEXPECTED: &str = "07 00 00000004 0000 02 02";
+
+const UNREADABLE: &str = "07 00 00000004 0000 02 06";
+
+/// An A-ASSOCIATE-RQ for the Verification class.
+const ECHO_REQUEST: &str =
+    "01 00 000000a4 0001 0000 \"UPSD\" 20*12 \"SCHED1\" 20*10 00*32 10 00 0015 \"1.2.840.10008.3.1.1.1\" 20 00 002e 01 000000 30 00 0011 \"1.2.840.10008.1.1\" 40 00 0011 \"1.2.840.10008.1.2\" 50 00 0011 51 00 0004 00004000 52 00 0005 \"1.2.3\"";
+
+/// A C-ECHO request and its response.
+const ECHO: &str =
+    "04 00 0000004a 00000046 01 03 00000000 04000000 38000000 00000200 12000000 \"1.2.840.10008.1.1\" 00 00000001 02000000 3000 00001001 02000000 0700 00000008 02000000 0101";
+
+const ECHOED: &str =
+    "04 00 00000054 00000050 01 03 00000000 04000000 42000000 00000200 12000000 \"1.2.840.10008.1.1\" 00 00000001 02000000 3080 00002001 02000000 0700 00000008 02000000 0101 00000009 02000000 0000";
+
 /// An association that creates a step and reads it, and what it is answered.
 const ASKED: [&str; 5] = [REQUEST, CREATE, STEP, GET, RELEASE];
 
@@ -180,22 +211,115 @@ fn the_transaction_uid_is_left_out_and_the_rest_is_shown(rt: HostRuntime) -> Res
 }
 
 #[test]
-fn what_is_not_taken_ends_the_session_behind_what_was_answered(
+fn what_comes_where_it_is_not_expected_is_answered_by_an_abort(
     rt: HostRuntime,
 ) -> Result<(), Fail> {
-    let read = Err(SessionFault::Read);
-    answers(&rt, &[RELEASE], read, &[])?;
-    answers(&rt, &[CREATE, STEP], read, &[])?;
-    answers(&rt, &[REQUEST, REQUEST], read, &[ACCEPTED])?;
-    answers(&rt, &[REQUEST, STEP], read, &[ACCEPTED])?;
-    answers(&rt, &[REQUEST, CREATED], read, &[ACCEPTED])?;
-    answers(&rt, &[REQUEST, CREATE, RELEASE], read, &[ACCEPTED])?;
+    let aborted = Ok(End::AbortSent);
+    answers(&rt, &[RELEASE], aborted, &[ABORT])?;
+    answers(&rt, &[CREATE, STEP], aborted, &[ABORT])?;
+    answers(&rt, &[REQUEST, STEP], aborted, &[ACCEPTED, ABORT])?;
+    answers(&rt, &[REQUEST, REQUEST], aborted, &[ACCEPTED, UNEXPECTED])
+}
+
+#[test]
+fn a_response_that_nobody_asked_for_is_not_answered(rt: HostRuntime) -> Result<(), Fail> {
     answers(
         &rt,
-        &[REQUEST, CREATE, STEP, "09"],
-        read,
+        &[REQUEST, CREATED, RELEASE],
+        Ok(End::Released),
+        &[ACCEPTED, RELEASED],
+    )
+}
+
+#[test]
+fn bytes_that_are_no_pdu_are_answered_by_an_abort(rt: HostRuntime) -> Result<(), Fail> {
+    let aborted = Ok(End::AbortSent);
+    answers(&rt, &["09 00 00000004 00000000"], aborted, &[ABORT])?;
+    answers(
+        &rt,
+        &[REQUEST, "09 00 00000004 00000000"],
+        aborted,
+        &[ACCEPTED, UNKNOWN],
+    )?;
+    answers(
+        &rt,
+        &[REQUEST, "05 00 00000005 0000000000"],
+        aborted,
+        &[ACCEPTED, UNREADABLE],
+    )
+}
+
+#[test]
+fn an_association_for_another_title_is_rejected(rt: HostRuntime) -> Result<(), Fail> {
+    answers(&rt, &[OTHER], Ok(End::Rejected), &[REJECTED])
+}
+
+#[test]
+fn an_input_that_ends_between_two_pdus_closes_the_association(rt: HostRuntime) -> Result<(), Fail> {
+    answers(&rt, &[], Ok(End::Closed), &[])?;
+    answers(&rt, &[REQUEST], Ok(End::Closed), &[ACCEPTED])?;
+    answers(
+        &rt,
+        &[REQUEST, CREATE, STEP],
+        Ok(End::Closed),
         &[ACCEPTED, CREATED],
     )
+}
+
+#[test]
+fn an_abort_of_the_peer_ends_the_association(rt: HostRuntime) -> Result<(), Fail> {
+    answers(&rt, &[REQUEST, ABORT], Ok(End::AbortReceived), &[ACCEPTED])
+}
+
+#[test]
+fn an_echo_is_answered(rt: HostRuntime) -> Result<(), Fail> {
+    answers(
+        &rt,
+        &[ECHO_REQUEST, ECHO, RELEASE],
+        Ok(End::Released),
+        &[ACCEPTED, ECHOED, RELEASED],
+    )
+}
+
+/// Puts a part of a message, cut into fragments of one byte: eight to a PDU, and four to the last one. `control` is the
+/// message control header of each but the last, which is one of `last`.
+fn put_cut(bytes: &mut Vec<u8>, value: &[u8], control: u8, last: u8) -> Result<(), Fail> {
+    let count = value.len();
+    for (place, byte) in value.iter().enumerate() {
+        let left = count.saturating_sub(place);
+        if place % 8 == 0 {
+            let len = if left < 8 { 28 } else { 56 };
+            bytes.extend_from_slice([4, 0, 0, 0, 0, len].as_slice())?;
+        }
+        let header = if left == 1 { last } else { control };
+        bytes.extend_from_slice([0, 0, 0, 3, 1, header, *byte].as_slice())?;
+    }
+    Ok(())
+}
+
+#[test]
+fn a_message_in_fragments_of_a_byte_is_answered_in_short_ones(rt: HostRuntime) -> Result<(), Fail> {
+    let mut input = bytes_of(&rt, &[SMALL_REQUEST])?;
+    let command = bytes_of(&rt, &[CREATE])?;
+    let step = bytes_of(&rt, &[STEP])?;
+    put_cut(&mut input, command.get(12..).ok_or("a command")?, 1, 3)?;
+    put_cut(&mut input, step.get(12..).ok_or("a data set")?, 0, 2)?;
+    input.extend_from_slice(&bytes_of(&rt, &["05 00 00000004 000000"])?)?;
+    let created = bytes_of(&rt, &[CREATED])?;
+    let mut expected = bytes_of(&rt, &[ACCEPTED])?;
+    for (header, from, to) in [
+        ("04 00 00000020 0000001c 01 01", 12, 38),
+        ("04 00 00000020 0000001c 01 01", 38, 64),
+        ("04 00 00000020 0000001c 01 01", 64, 90),
+        ("04 00 0000001e 0000001a 01 03", 90, 114),
+    ] {
+        expected.extend_from_slice(&bytes_of(&rt, &[header])?)?;
+        expected.extend_from_slice(created.get(from..to).ok_or("a part")?)?;
+    }
+    let found = session(&rt, &input, false, TURNS)?;
+    assert_eq!(rt; found.ended, Err(SessionFault::Read));
+    assert_eq!(rt; found.output.as_slice(), expected.as_slice());
+    Ok(())
 }
 
 #[test]
@@ -227,13 +351,21 @@ fn answered_to(len: usize) -> &'static [&'static str] {
     }
 }
 
+/// How a session ends whose input ends after the first bytes of the association: between two PDUs or inside one.
+fn ended_after(len: usize) -> Result<End, SessionFault> {
+    match len {
+        0 | 179 | 283 | 379 | 483 => Ok(End::Closed),
+        _ => Err(SessionFault::Read),
+    }
+}
+
 #[test]
 fn an_input_that_ends_early_was_answered_as_far_as_it_went(rt: HostRuntime) -> Result<(), Fail> {
     let input = bytes_of(&rt, &ASKED)?;
     assert_eq!(rt; input.len(), 493);
     for len in 0..493 {
         let found = session(&rt, input.get(..len).ok_or("a part")?, false, TURNS)?;
-        assert_eq!(rt; found.ended, Err(SessionFault::Read));
+        assert_eq!(rt; found.ended, ended_after(len));
         let expected = bytes_of(&rt, answered_to(len))?;
         assert_eq!(rt; found.output.as_slice(), expected.as_slice());
     }
@@ -364,7 +496,7 @@ fn each_refused_growth_is_memory_or_told_to_the_peer(rt: HostRuntime) -> Result<
     let not_created = bytes_of(&rt, &[ACCEPTED, OUT_OF_RESOURCES, NOT_HELD, RELEASED])?;
     let not_shown = bytes_of(&rt, &[ACCEPTED, CREATED, NOT_SHOWN, RELEASED])?;
     let heap = Refusing::new(rt.alloc());
-    for growth in 1..500 {
+    for growth in 1..2000 {
         heap.refuse(growth);
         let mut reader = input.as_slice();
         let mut output = Vec::new(rt.alloc());
@@ -396,8 +528,11 @@ fn each_refused_growth_is_memory_or_told_to_the_peer(rt: HostRuntime) -> Result<
 fn digits_are_read_with_white_space_and_each_pdu_is_a_line(rt: HostRuntime) -> Result<(), Fail> {
     let input = b" 05 00\t000000\r\n04 0000\n0000 ";
     let found = session(&rt, input, true, TURNS)?;
-    assert_eq!(rt; found.ended, Err(SessionFault::Read));
-    assert!(rt; found.output.is_empty());
+    assert_eq!(rt; found.ended, Ok(End::AbortSent));
+    assert_eq!(rt;
+        found.output.as_slice(),
+        b"07000000000400000000\n".as_slice()
+    );
     let mut asked = String::new(rt.alloc());
     let mut answered = String::new(rt.alloc());
     for text in [REQUEST, RELEASE] {

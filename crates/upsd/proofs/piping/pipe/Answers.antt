@@ -1,10 +1,24 @@
-use Rattle.std.proofs.Common.{[]}
-use Rattle.std.proofs.KnownBytes.{Appends-nil, Consumes-nil}
-use Rattle.std.proofs.lemmas.Result.{err_from_is_err_and}
-use Rattle.upsd.proofs.Talking.{unbegun}
+use Rattle.std.proofs.Common.{[], None}
+use Rattle.std.proofs.KnownBytes.{Consumes-nil}
+use Rattle.ups_session.specs.Acceptor.{acceptor, opened}
+use Rattle.ups_session.specs.World.{world}
+use Rattle.upsd.specs.Piping.{settings}
+use Rattle.upsd.proofs.Settling.{settled, unbegun}
 use Rattle.upsd.proofs.piping.pipe.Goals as goal
 
-pub returns-in_err-extend_from_slice : goal.returns-in_err-extend_from_slice
-returns-in_err-extend_from_slice g c =
-    let p = err_from_is_err_and c.from_residual.result c.from_residual.ensures.1 in
-    record { session = λ h. ([], [], Consumes-nil _, Appends-nil _, rw (p.1, p.2) (unbegun g.row.A.Denot (record { peers = c.args.peers.now; keep = 60; limit = 1000000 }) c.args.ae c.args.turns)) }
+pub returns-in_default : goal.returns-in_default
+returns-in_default g c =
+    let w = world {A = g.row.A.Denot} (g.W.Write.contents c.args.writer.now) None (settings c.args.peers.now) 0 [] in
+    record { session = λ h. ([], [], Consumes-nil _, unbegun (acceptor c.args.ae) (λ live. live.ending) opened c.args.turns (g.R.Read.remaining c.args.reader.now) w) }
+
+pub returns : goal.returns
+returns g c = record {
+  session = λ h.
+      let (input, consumed, is) = c.serve-2.ensures.session in (
+        input,
+        c.serve-2.new.service.history,
+        consumed,
+        settled (acceptor c.args.ae) (λ live. live.ending) opened c.args.turns (g.R.Read.remaining c.serve-2.new.reader) input (g.W.Write.contents c.args.writer.now) (g.W.Write.contents c.serve-2.new.writer) None None
+            (settings c.args.peers.now) c.in-Ok.manager.settings c.serve-2.new.service.settings 0 c.in-Ok.manager.history c.serve-2.new.service.history c.serve-2.result c.in-Ok.ensures.settings c.in-Ok.ensures.history is,
+      );
+}

@@ -1,0 +1,108 @@
+#!/usr/bin/env python3
+"""Runs `upsd pipe` on mutated associations, and on requests of extreme form.
+
+Usage: bench/fuzz.py [PROGRAM [COUNT [SEED]]]     (crates/upsd/out/upsd, 10,000, 1)
+
+Each run has to end by itself within ten seconds, with status 0 or 2, and to write whole PDUs alone. It prints how
+often each status came, and the first input that did otherwise.
+"""
+
+import collections
+import random
+import struct
+import subprocess
+import sys
+
+sys.path.insert(0, __file__.rsplit("/", 1)[0])
+from pipe import EXPLICIT, IMPLICIT, PUSH, RELEASE, VERIFICATION, associate, create, echo, get, item, pdu, step
+
+
+def seeds():
+    """Associations that are answered to the end."""
+    yield associate([(VERIFICATION, IMPLICIT)]) + echo(1) + echo(2) + RELEASE
+    for syntax, explicit in ((IMPLICIT, False), (EXPLICIT, True)):
+        steps = b"".join(create(1, i, b"1.2.3.%d" % i, step(explicit)) + get(1, 10 + i, b"1.2.3.%d" % i) for i in (1, 2))
+        yield associate([(PUSH, syntax)]) + steps + RELEASE
+        yield associate([(PUSH, syntax), (VERIFICATION, syntax)]) + steps[: len(steps) // 2] + RELEASE
+
+
+def mutated(chance, seed):
+    """A seed with some of its bytes changed, dropped, doubled or put elsewhere, or cut off."""
+    given = bytearray(seed)
+    for _ in range(chance.randint(1, 4)):
+        at = chance.randrange(len(given))
+        kind = chance.randrange(6)
+        if kind == 0:
+            given[at] = chance.randrange(256)
+        elif kind == 1:
+            given[at] ^= 1 << chance.randrange(8)
+        elif kind == 2:
+            del given[at : at + chance.randint(1, 8)]
+        elif kind == 3:
+            given[at:at] = given[at : at + chance.randint(1, 300)]
+        elif kind == 4:
+            given[at : at + 4] = struct.pack(">I", chance.choice([0, 1, 0x7FFFFFFF, 0xFFFFFFFF, 16384, 131072]))
+        else:
+            del given[at:]
+        if not given:
+            given = bytearray(b"\x05")
+    return bytes(given)
+
+
+def are_pdus(out):
+    """Whether the bytes are whole PDUs."""
+    while out:
+        if len(out) < 6:
+            return False
+        kind, _, length = struct.unpack(">BBI", out[:6])
+        if kind not in range(1, 8) or len(out) < 6 + length:
+            return False
+        out = out[6 + length :]
+    return True
+
+
+def run(program, given):
+    return subprocess.run([program, "pipe", "--ae", "UPSD"], input=given, capture_output=True, timeout=10)
+
+
+def fuzz(program, count, seed):
+    chance = random.Random(seed)
+    origins = list(seeds())
+    statuses = collections.Counter()
+    for number in range(count):
+        given = mutated(chance, chance.choice(origins))
+        done = run(program, given)
+        statuses[done.returncode] += 1
+        if done.returncode not in (0, 2) or not are_pdus(done.stdout):
+            sys.exit(f"number {number}: status {done.returncode}, input {given.hex()}, output {done.stdout.hex()}")
+    print(f"{count:,} mutated associations: " + ", ".join(f"status {s}: {n:,}" for s, n in sorted(statuses.items())))
+
+
+def proposed(ident, abstract, transfers):
+    return item(0x20, bytes([ident, 0, 0, 0]) + item(0x30, abstract) + b"".join(item(0x40, t) for t in transfers))
+
+
+def largest(program):
+    """A request of 129,691 bytes, with 128 contexts and an unknown sub-item that fills it up."""
+    head = struct.pack(">HH", 1, 0) + b"UPSD".ljust(16) + b"BENCH".ljust(16) + bytes(32) + item(0x10, b"1.2.840.10008.3.1.1.1")
+    others = [b"1.2.840.10008.1.2.4.%d" % n for n in range(30)]
+    contexts = b"".join(proposed(2 * i + 1, PUSH, others + [(EXPLICIT, IMPLICIT)[i % 2], (IMPLICIT, EXPLICIT)[i % 2]]) for i in range(128))
+    user = item(0x51, struct.pack(">I", 16384)) + item(0x52, b"1.2.3")
+    fill = 129_691 - 6 - len(head) - len(contexts) - len(user) - 8
+    request = pdu(1, head + contexts + item(0x50, user + item(0x59, bytes(fill))))
+    assert len(request) == 129_691
+    done = run(program, request + RELEASE)
+    answer = done.stdout
+    wanted = b"".join(item(0x21, bytes([2 * i + 1, 0, 0, 0]) + item(0x40, (EXPLICIT, IMPLICIT)[i % 2])) for i in range(128))
+    assert done.returncode == 0 and answer[0] == 2 and wanted in answer and answer.endswith(pdu(6, bytes(4)))
+    print(f"a request of {len(request):,} bytes with 128 contexts: each is answered, by the first syntax that is known")
+
+
+def main():
+    program = sys.argv[1] if len(sys.argv) > 1 else "crates/upsd/out/upsd"
+    largest(program)
+    fuzz(program, int(sys.argv[2]) if len(sys.argv) > 2 else 10_000, int(sys.argv[3]) if len(sys.argv) > 3 else 1)
+
+
+if __name__ == "__main__":
+    main()

@@ -1,0 +1,107 @@
+-- One fragment after another (PS3.8 annex E, PS3.7 section 6.3.1).
+use Rattle.std.specs.Prelude.{◌≡◌, ◌≤◌, ◌<◌, ◌+◌, ℕ, Bool, true, false, List, [], ◌∷◌, ◌++◌, length, Option, None, Some, Result, Ok, Err, nat_le, not, ◌||◌, ◌⊎◌, ◌==◌, if◌then◌else◌}
+use Rattle.std.specs.Option.{option_map}
+use Rattle.ups_pdu.specs.declared.pdv.Pdv.{Pdv}
+use Rattle.ups_assoc.specs.declared.fault.AssocFault.{AssocFault}
+use Rattle.ups_assoc.specs.declared.fault.AssocFault.TheVariants as faults
+use Rattle.ups_assoc.specs.declared.message.RawMessage.{RawMessage}
+use Rattle.ups_assoc.specs.declared.assembling.Begun.{Begun}
+use Rattle.ups_assoc.specs.declared.assembling.Begun.TheVariants.{Nothing, Command, Body, Failed}
+use Rattle.ups_assoc.specs.declared.assembling.Taken.{Taken}
+use Rattle.ups_assoc.specs.declared.assembling.Taken.TheVariants.{More, Whole}
+use Rattle.ups_assoc.specs.Announcing.{data_follows}
+use Rattle.ups_assoc.specs.Messages.{limit, is_accepted}
+
+-- what a fragment makes of what has come of a message: more of it, the whole, or a fault
+pub data Fed (A : Type 0) : Type 0 where
+  more : Begun A → Fed A
+  whole : RawMessage A → Fed A
+  fault : AssocFault → Fed A
+
+-- as far as the message isn't too long
+abbrev pub sized : {A : Type 0} → ℕ → Fed A → Fed A
+sized len fed = if nat_le len limit then fed else fault faults.TooLong
+
+-- at the last fragment of a command the data set is due, where one is announced; else the message is whole
+abbrev pub command_end : {A : Type 0} → ℕ → List ℕ → Bool → Fed A
+command_end context bytes last =
+    if last then (if data_follows bytes then more (Body context bytes []) else whole (record { context = context; command = bytes; body = None }))
+    else more (Command context bytes)
+
+-- at the last fragment of a data set the message is whole
+abbrev pub body_end : {A : Type 0} → ℕ → List ℕ → List ℕ → Bool → Fed A
+body_end context command bytes last =
+    if last then whole (record { context = context; command = command; body = Some bytes })
+    else more (Body context command bytes)
+
+unfoldable pub with_command : {A : Type 0} → ℕ → List ℕ → Pdv A → Fed A
+with_command context bytes pdv = sized (length (bytes ++ pdv.bytes)) (command_end context (bytes ++ pdv.bytes) pdv.last)
+
+unfoldable pub with_data : {A : Type 0} → ℕ → List ℕ → List ℕ → Pdv A → Fed A
+with_data context command bytes pdv = sized (length command + length (bytes ++ pdv.bytes)) (body_end context command (bytes ++ pdv.bytes) pdv.last)
+
+-- what a fragment on an accepted context makes of it
+abbrev pub taken : {A : Type 0} → Begun A → Pdv A → Fed A
+taken Nothing pdv = if not pdv.command then fault faults.DataWithoutCommand else with_command pdv.context [] pdv
+taken (Command context bytes) pdv =
+    if not (pdv.context == context) then fault faults.MixedContext
+    else if not pdv.command then fault faults.DataWithoutCommand
+    else with_command context bytes pdv
+taken (Body context command bytes) pdv =
+    if not (pdv.context == context) || pdv.command then fault faults.MixedContext
+    else with_data context command bytes pdv
+taken Failed pdv = fault faults.Failed
+
+abbrev pub has_failed : {A : Type 0} → Begun A → Bool
+has_failed Nothing = false
+has_failed (Command context bytes) = false
+has_failed (Body context command bytes) = false
+has_failed Failed = true
+
+-- What a fragment makes of what has come of a message, where these are the ids of the accepted contexts.
+unfoldable pub fed : {A : Type 0} → List ℕ → Begun A → Pdv A → Fed A
+fed ids begun pdv =
+    if has_failed begun then fault faults.Failed
+    else if not (is_accepted ids pdv.context) then fault faults.UnknownContext
+    else taken begun pdv
+
+-- the message as it is then
+abbrev pub Ends : {A : Type 0} → Fed A → Taken A → Type 0
+Ends (more b) (More begun) = begun ≡ b
+Ends (more b) (Whole m) = ⊥
+Ends (whole w) (More begun) = ⊥
+Ends (whole w) (Whole m) = m ≡ w
+Ends (fault f) t = ⊥
+
+-- the same; or the fault, or want of memory where there is none
+abbrev pub Takes : {A : Type 0} → Fed A → Result (Taken A) AssocFault → Type 0
+Takes fed (Ok t) = Ends fed t
+Takes (more b) (Err e) = e ≡ faults.Memory
+Takes (whole w) (Err e) = e ≡ faults.Memory
+Takes (fault f) (Err e) = e ≡ f
+
+-- too long, or want of memory where it isn't
+abbrev pub IsRefused : AssocFault → ℕ → Type 0
+IsRefused e len = ((e ≡ faults.TooLong) × (limit < len)) ⊎ ((e ≡ faults.Memory) × (len ≤ limit))
+
+-- What an assembler answers, and what has come of the next message then. After a fault it has failed, and it has
+-- failed where memory ran out.
+abbrev pub Feeds : {A : Type 0} → Fed A → Begun A → Result (Option (RawMessage A)) AssocFault → Type 0
+Feeds (more b) new (Ok None) = new ≡ b
+Feeds (more b) new (Ok (Some m)) = ⊥
+Feeds (whole w) new (Ok None) = ⊥
+Feeds (whole w) new (Ok (Some m)) = (m ≡ w) × (new ≡ Nothing)
+Feeds (fault f) new (Ok m) = ⊥
+Feeds (fault f) new (Err e) = (e ≡ f) × (new ≡ Failed)
+Feeds (more b) new (Err e) = (e ≡ faults.Memory) × (new ≡ Failed)
+Feeds (whole w) new (Err e) = (e ≡ faults.Memory) × (new ≡ Failed)
+
+-- the messages that come of fragments, and what has come of the next one in the end; none where a fault comes
+abbrev pub onward : {A : Type 0} → (Begun A → Option (List (RawMessage A) × Begun A)) → Fed A → Option (List (RawMessage A) × Begun A)
+onward on (more b) = on b
+onward on (whole w) = option_map (λ r. (w ∷ r.0, r.1)) (on Nothing)
+onward on (fault f) = None
+
+abbrev pub feeds : {A : Type 0} → List ℕ → List (Pdv A) → Begun A → Option (List (RawMessage A) × Begun A)
+feeds ids [] begun = Some ([], begun)
+feeds ids (p ∷ ps) begun = onward (feeds ids ps) (fed ids begun p)

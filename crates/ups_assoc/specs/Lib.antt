@@ -1,0 +1,10 @@
+pub mod Announcing
+pub mod Assembly
+pub mod Classes
+pub mod Contexts
+pub mod Cutting
+pub mod Feeding
+pub mod Messages
+pub mod Negotiation
+pub mod Same
+pub mod Titles

@@ -1,0 +1,291 @@
+//! Putting messages together from the fragments that PDUs hold (PS3.8 annex E, PS3.7 section 6.3.1).
+
+ghost use Rattle.std.specs.Prelude.{◌≡◌, ◌↔◌, ◌+◌, ◌≤◌, ◌++◌, List, ℕ, Some, length, map, IsTrue, IfOk, IfErr};
+ghost use Rattle.ups_pdu.specs.declared.pdv.Pdv.{Pdv};
+ghost use Rattle.ups_assoc.specs.declared.fault.AssocFault.TheVariants.{Memory};
+ghost use Rattle.ups_assoc.specs.declared.message.RawMessage.{RawMessage};
+ghost use Rattle.ups_assoc.specs.declared.assembling.Begun.{Begun};
+ghost use Rattle.ups_assoc.specs.declared.assembling.Begun.TheVariants.{Nothing};
+ghost use Rattle.ups_assoc.specs.Messages.{limit, is_accepted, AreFragments};
+ghost use Rattle.ups_assoc.specs.Feeding.{IsRefused, has_failed, command_end, body_end, with_command, with_data, taken, fed, feeds, Ends, Takes, Feeds};
+
+use crate::fault::AssocFault;
+use crate::message::RawMessage;
+use crate::negotiating::AcceptedContext;
+use crate::walking::data_follows;
+use std::alloc::{AllocError, Allocator};
+use std::marker::Model;
+use std::mem;
+use ups_pdu::{Bytes, Pdv};
+
+/// The longest message, its command and its data set together, in bytes.
+const LONGEST_MESSAGE: usize = 1_048_576;
+
+/// What has come of a message.
+#[derive(Drop)]
+pub enum Begun<A: Allocator + Copy> {
+    /// None of its fragments.
+    Nothing,
+    /// Some of its command, on this presentation context.
+    Command {
+        context: u8,
+        bytes: Bytes<A>,
+    },
+    /// Its whole command, which announces a data set, and some of that.
+    Body {
+        context: u8,
+        command: Bytes<A>,
+        bytes: Bytes<A>,
+    },
+    /// A fragment was not taken: no more messages come.
+    Failed,
+}
+
+/// What a fragment makes of a message.
+#[derive(Drop)]
+enum Taken<A: Allocator + Copy> {
+    /// It is still not whole.
+    More(Begun<A>),
+    /// It is whole.
+    Whole(RawMessage<A>),
+}
+
+impl<A: Allocator + Copy> Begun<A> {
+    fn has_failed(&self) -> bool
+        ensures { result ≡ has_failed self.now }
+    {
+        matches!(self, Begun::Failed)
+    }
+}
+
+/// Whether three lengths together are no longer than a message may be.
+fn is_within(first: usize, second: usize, third: usize) -> bool
+    ensures { IsTrue result ↔ (first + second + third ≤ limit) }
+{
+    first <= LONGEST_MESSAGE
+        && second <= LONGEST_MESSAGE - first
+        && third <= LONGEST_MESSAGE - first - second
+}
+
+/// More bytes at the end of those of a message, of which this many stand elsewhere.
+///
+/// Errors: TooLong, Memory.
+fn appended<A: Allocator + Copy>(
+    bytes: Bytes<A>,
+    elsewhere: usize,
+    more: &[u8],
+) -> Result<Bytes<A>, AssocFault>
+    ensures appended { IfOk result (λ b. (b ≡ bytes ++ more.now) × (elsewhere + length (bytes ++ more.now) ≤ limit)) }
+    ensures fault { IfErr result (λ e. IsRefused e (elsewhere + length (bytes ++ more.now))) }
+{
+    if !is_within(elsewhere, bytes.len(), more.len()) {
+        return Err(AssocFault::TooLong);
+    }
+    let mut vec = bytes.into_vec();
+    vec.extend_from_slice(more)?;
+    Ok(Bytes::from_vec(vec))
+}
+
+/// What the bytes of a command make of a message, at the last fragment of the command or before.
+fn command_end<A: Allocator + Copy>(alloc: A, context: u8, bytes: Bytes<A>, last: bool) -> Taken<A>
+    ensures { Ends (command_end context bytes last) result }
+{
+    if !last {
+        return Taken::More(Begun::Command { context, bytes });
+    }
+    if data_follows(bytes.as_slice()) {
+        return Taken::More(Begun::Body {
+            context,
+            command: bytes,
+            bytes: Bytes::from_vec(Vec::new(alloc)),
+        });
+    }
+    Taken::Whole(RawMessage {
+        context,
+        command: bytes,
+        body: None,
+    })
+}
+
+/// What the bytes of a data set make of a message, at its last fragment or before.
+fn body_end<A: Allocator + Copy>(
+    context: u8,
+    command: Bytes<A>,
+    bytes: Bytes<A>,
+    last: bool,
+) -> Taken<A>
+    ensures { Ends (body_end context command bytes last) result }
+{
+    if !last {
+        return Taken::More(Begun::Body {
+            context,
+            command,
+            bytes,
+        });
+    }
+    Taken::Whole(RawMessage {
+        context,
+        command,
+        body: Some(bytes),
+    })
+}
+
+/// What a fragment of the command makes of a message.
+///
+/// Errors: TooLong, Memory.
+fn with_command<A: Allocator + Copy>(
+    alloc: A,
+    context: u8,
+    bytes: Bytes<A>,
+    pdv: &Pdv<A>,
+) -> Result<Taken<A>, AssocFault>
+    ensures { Takes (with_command context bytes pdv.now) result }
+{
+    let bytes = appended(bytes, 0, pdv.bytes.as_slice())?;
+    Ok(command_end(alloc, context, bytes, pdv.last))
+}
+
+/// What a fragment of the data set makes of a message.
+///
+/// Errors: TooLong, Memory.
+fn with_data<A: Allocator + Copy>(
+    context: u8,
+    command: Bytes<A>,
+    bytes: Bytes<A>,
+    pdv: &Pdv<A>,
+) -> Result<Taken<A>, AssocFault>
+    ensures { Takes (with_data context command bytes pdv.now) result }
+{
+    let elsewhere = command.len();
+    let bytes = appended(bytes, elsewhere, pdv.bytes.as_slice())?;
+    Ok(body_end(context, command, bytes, pdv.last))
+}
+
+/// What a fragment on an accepted context makes of what has come of a message.
+///
+/// Errors: MixedContext, DataWithoutCommand, TooLong, Memory; Failed where one came before.
+fn take_fragment<A: Allocator + Copy>(
+    alloc: A,
+    begun: Begun<A>,
+    pdv: &Pdv<A>,
+) -> Result<Taken<A>, AssocFault>
+    ensures { Takes (taken begun pdv.now) result }
+{
+    match begun {
+        Begun::Nothing => {
+            if !pdv.command {
+                return Err(AssocFault::DataWithoutCommand);
+            }
+            with_command(alloc, pdv.context, Bytes::from_vec(Vec::new(alloc)), pdv)
+        }
+        Begun::Command { context, bytes } => {
+            if pdv.context != context {
+                return Err(AssocFault::MixedContext);
+            }
+            if !pdv.command {
+                return Err(AssocFault::DataWithoutCommand);
+            }
+            with_command(alloc, context, bytes, pdv)
+        }
+        Begun::Body {
+            context,
+            command,
+            bytes,
+        } => {
+            if pdv.context != context || pdv.command {
+                return Err(AssocFault::MixedContext);
+            }
+            with_data(context, command, bytes, pdv)
+        }
+        Begun::Failed => Err(AssocFault::Failed),
+    }
+}
+
+/// The ids of presentation contexts.
+///
+/// Errors: want of memory.
+fn ids_of<A: Allocator + Copy>(
+    alloc: A,
+    contexts: &[AcceptedContext],
+) -> Result<Vec<u8, A>, AllocError>
+    ensures { IfOk result (λ v. v.items ≡ map (λ c. c.id) contexts.now) }
+{
+    let mut ids = Vec::new(alloc);
+    for context in contexts {
+        ids.push(context.id)?;
+    }
+    Ok(ids)
+}
+
+/// Puts messages together, fragment by fragment. A contract sees it as the ids of the accepted presentation
+/// contexts and what has come of the next message.
+#[derive(Drop)]
+pub struct Assembler<A: Allocator + Copy> {
+    alloc: A,
+    ids: Vec<u8, A>,
+    begun: Begun<A>,
+}
+
+impl<A: Allocator + Copy> Model for Assembler<A> {
+    ghost use Rattle.ups_assoc.specs.Assembly.{Assembly};
+
+    ghost Value = { Assembly A };
+
+    ghost view = { λ a. record { ids = a.ids.items; begun = a.begun } };
+}
+
+impl<A: Allocator + Copy> Assembler<A> {
+    /// An assembler of the messages on these presentation contexts, to which no fragment has come.
+    ///
+    /// Errors: Memory.
+    pub fn new(alloc: A, contexts: &[AcceptedContext]) -> Result<Assembler<A>, AssocFault>
+        ensures made { IfOk result (λ a. (a.ids ≡ map (λ c. c.id) contexts.now) × (a.begun ≡ Nothing)) }
+        ensures memory { IfErr result (λ e. e ≡ Memory) }
+    {
+        let ids = ids_of(alloc, contexts)?;
+        Ok(Assembler {
+            alloc,
+            ids,
+            begun: Begun::Nothing,
+        })
+    }
+
+    /// Takes the next fragment, and answers the message that it makes whole, if any.
+    ///
+    /// Errors, the first that applies: UnknownContext, MixedContext, DataWithoutCommand, TooLong, Memory. After an
+    /// error each later call answers Failed.
+    pub fn feed(&mut self, pdv: &Pdv<A>) -> Result<Option<RawMessage<A>>, AssocFault>
+        ensures ids { self.new.ids ≡ self.old.ids }
+        ensures feeds { Feeds (fed self.old.ids self.old.begun pdv.now) self.new.begun result }
+    {
+        let begun = mem::replace(&mut self.begun, Begun::Failed);
+        if begun.has_failed() {
+            return Err(AssocFault::Failed);
+        }
+        if !self.ids.as_slice().contains(&pdv.context) {
+            return Err(AssocFault::UnknownContext);
+        }
+        match take_fragment(self.alloc, begun, pdv)? {
+            Taken::More(begun) => {
+                self.begun = begun;
+                Ok(None)
+            }
+            Taken::Whole(message) => {
+                self.begun = Begun::Nothing;
+                Ok(Some(message))
+            }
+        }
+    }
+}
+
+/// However messages are cut into fragments, the fragments give just these messages, one by one.
+pub fn every_cut_gives_its_messages<A: Allocator + Copy>()
+    ensures { (ids : List ℕ) → (pdvs : List (Pdv A)) → (messages : List (RawMessage A)) → (begun : Begun A)
+        → AreFragments ids pdvs messages begun → feeds ids pdvs Nothing ≡ Some (messages, begun) }
+{}
+
+/// Where fragments give messages, one by one, these are the messages of which they are the fragments.
+pub fn every_message_is_of_its_fragments<A: Allocator + Copy>()
+    ensures { (ids : List ℕ) → (pdvs : List (Pdv A)) → (messages : List (RawMessage A)) → (begun : Begun A)
+        → feeds ids pdvs Nothing ≡ Some (messages, begun) → AreFragments ids pdvs messages begun }
+{}

@@ -1,0 +1,127 @@
+//! Cutting messages into fragments (PS3.8 annexes D.1 and E, PS3.7 section 6.3.1).
+
+ghost use Rattle.std.specs.Prelude.{◌≡◌, ◌≤◌, ◌<◌, ◌⊎◌, ◌+◌, ◌++◌, List, [], ◌∷◌, ℕ, Some, length, true, is_some, option_copied, unwrap_or, OnOk, IfOk, IfErr};
+ghost use Rattle.std.specs.List.{flat_map, AllByRecursion};
+ghost use Rattle.ups_pdu.specs.Fits.{Fits};
+ghost use Rattle.ups_assoc.specs.declared.fault.AssocFault.TheVariants.{Memory};
+ghost use Rattle.ups_assoc.specs.declared.message.RawMessage.{RawMessage};
+ghost use Rattle.ups_assoc.specs.declared.assembling.Begun.TheVariants.{Nothing};
+ghost use Rattle.ups_assoc.specs.Messages.{limit, is_accepted};
+ghost use Rattle.ups_assoc.specs.Announcing.{data_follows};
+ghost use Rattle.ups_assoc.specs.Feeding.{feeds};
+ghost use Rattle.ups_assoc.specs.Cutting.{room, fragment, run, body_run, pieces, pdvs_in};
+
+use crate::fault::AssocFault;
+use crate::negotiating::counted;
+use std::alloc::{AllocError, Allocator};
+use ups_pdu::{Bytes, Pdu, Pdv, Pdvs};
+
+/// How many bytes of a message stand in one PDU at most, where a peer announces this maximum length: the largest
+/// even number that leaves room for the length, the context id and the control header of the fragment.
+fn room(max: u32) -> usize
+    requires { (max ≡ 0) ⊎ (8 ≤ max) }
+    ensures room { result ≡ room max }
+    ensures some { 2 ≤ result }
+    ensures most { result ≤ 16378 }
+{
+    let len = counted(max) as usize - 6;
+    len / 2 * 2
+}
+
+/// One fragment, in a PDU of its own.
+///
+/// Errors: want of memory.
+fn fragment<A: Allocator + Copy>(
+    alloc: A,
+    context: u8,
+    command: bool,
+    last: bool,
+    bytes: &[u8],
+) -> Result<Pdu<A>, AllocError>
+    ensures { IfOk result (λ p. p ≡ fragment context command last bytes.now) }
+{
+    let bytes = Bytes::copy_of(alloc, bytes)?;
+    let mut pdvs = Vec::new(alloc);
+    pdvs.push(Pdv {
+        context,
+        command,
+        last,
+        bytes,
+    })?;
+    Ok(Pdu::Data(Pdvs::from_vec(pdvs)))
+}
+
+/// Puts the fragments of a command or of a data set at the end, each in a PDU of its own. All but the last have
+/// this many bytes.
+///
+/// Errors: want of memory.
+fn put_run<A: Allocator + Copy>(
+    alloc: A,
+    out: &mut Vec<Pdu<A>, A>,
+    size: usize,
+    context: u8,
+    command: bool,
+    bytes: &[u8],
+) -> Result<(), AllocError>
+    requires { 0 < size }
+    ensures { OnOk result (out.new.items ≡ out.old.items ++ run size context command bytes.now) }
+{
+    let mut rest = bytes;
+    while rest.len() > size {
+        let (front, after) = rest.split_at(size);
+        out.push(fragment(alloc, context, command, false, front)?)?;
+        rest = after;
+    }
+    out.push(fragment(alloc, context, command, true, rest)?)?;
+    Ok(())
+}
+
+/// Puts the fragments of a data set at the end, where there is one.
+///
+/// Errors: want of memory.
+fn put_body<A: Allocator + Copy>(
+    alloc: A,
+    out: &mut Vec<Pdu<A>, A>,
+    size: usize,
+    context: u8,
+    body: Option<&[u8]>,
+) -> Result<(), AllocError>
+    requires { 0 < size }
+    ensures { OnOk result (out.new.items ≡ out.old.items ++ body_run size context (option_copied body.entry)) }
+{
+    match body {
+        Some(body) => put_run(alloc, out, size, context, false, body),
+        None => Ok(()),
+    }
+}
+
+/// A message as PDUs, for a peer that announces this maximum length: the fragments of its command, then those of
+/// its data set where there is one, each in a PDU of its own.
+///
+/// Errors: Memory.
+pub fn cut<A: Allocator + Copy>(
+    alloc: A,
+    context: u8,
+    command: &[u8],
+    body: Option<&[u8]>,
+    max: u32,
+) -> Result<Vec<Pdu<A>, A>, AssocFault>
+    requires max { (max ≡ 0) ⊎ (8 ≤ max) }
+    ensures pieces { IfOk result (λ v. v.items ≡ pieces context command.now (option_copied body.entry) max) }
+    ensures fits { IfOk result (λ v. AllByRecursion (λ p. Fits p) v.items) }
+    ensures memory { IfErr result (λ e. e ≡ Memory) }
+{
+    let size = room(max);
+    let mut pdus = Vec::new(alloc);
+    put_run(alloc, &mut pdus, size, context, true, command)?;
+    put_body(alloc, &mut pdus, size, context, body)?;
+    Ok(pdus)
+}
+
+/// What a message is cut into gives that message, where its data set is there just as its command announces one, and
+/// it is no longer than a message may be.
+pub fn a_cut_message_is_whole_again<A: Allocator + Copy>()
+    ensures { (ids : List ℕ) → (max : ℕ) → (message : RawMessage A) → ((max ≡ 0) ⊎ (8 ≤ max)) → is_accepted ids message.context ≡ true
+        → is_some message.body ≡ data_follows message.command → length message.command + length (unwrap_or message.body []) ≤ limit
+        → feeds ids (flat_map pdvs_in (pieces message.context message.command message.body max)) Nothing ≡ Some (message ∷ [], Nothing) }
+{}

@@ -1,0 +1,24 @@
+//! Associations of DICOM (PS3.8): what is answered to an association request, how messages are put together
+//! from the fragments that PDUs hold, and how they are cut into such fragments.
+#![tactic(auto)]
+
+mod assembling;
+mod cutting;
+mod fault;
+mod message;
+mod negotiating;
+mod sop_class;
+mod walking;
+
+pub use assembling::{Assembler, every_cut_gives_its_messages, every_message_is_of_its_fragments};
+pub use cutting::{a_cut_message_is_whole_again, cut};
+pub use fault::AssocFault;
+pub use message::RawMessage;
+pub use negotiating::{
+    Acceptance, AcceptedContext, AcceptedContexts, Config, Outcome, Rejection, negotiate,
+};
+pub use sop_class::SopClass;
+pub use walking::{data_follows, the_first_data_set_type_decides};
+
+#[cfg(test)]
+mod tests;

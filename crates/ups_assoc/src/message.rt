@@ -1,0 +1,15 @@
+//! Messages as bytes.
+
+use std::alloc::Allocator;
+use ups_pdu::Bytes;
+
+/// A DIMSE message as the bytes of its command set and of its data set (PS3.7 section 6.3.1).
+#[derive(Drop)]
+pub struct RawMessage<A: Allocator + Copy> {
+    /// The presentation context id.
+    pub context: u8,
+    /// The bytes of the command set.
+    pub command: Bytes<A>,
+    /// The bytes of the data set, where the command announces one.
+    pub body: Option<Bytes<A>>,
+}

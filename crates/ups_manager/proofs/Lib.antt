@@ -1,0 +1,4 @@
+pub mod Alone
+pub mod Calling
+mod Entering
+mod Finding

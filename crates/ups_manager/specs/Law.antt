@@ -1,0 +1,62 @@
+-- The law of a service: what it answers by a history, what it enters there, and what others may enter between.
+-- Histories stand here as they are shown, oldest first.
+use Rattle.std.specs.Prelude.{◌≡◌, ◌≢◌, ◌≤◌, ◌⊎◌, ℕ, true, List, [], ◌∷◌, ◌++◌, length, All}
+use Rattle.ups_dataset.specs.declared.syntax.TransferSyntax.TheVariants.{Explicit}
+use Rattle.ups_dataset.specs.Data.{El}
+use Rattle.ups_dataset.specs.Written.{written}
+use Rattle.ups_life.specs.declared.request.Request.{Request}
+use Rattle.ups_life.specs.declared.request.Ask.{Ask}
+use Rattle.ups_life.specs.declared.request.Ask.TheVariants.{Do, Get}
+use Rattle.ups_life.specs.declared.request.Reply.{Reply}
+use Rattle.ups_life.specs.declared.request.Reply.TheVariants.{Status as Answered, Set as Shown}
+use Rattle.ups_life.specs.declared.entry.Entry.{Entry}
+use Rattle.ups_life.specs.declared.status.Status.TheVariants.{ResourceLimitation}
+use Rattle.ups_life.specs.Settings.{Settings}
+use Rattle.ups_life.specs.Steps.{past}
+use Rattle.ups_life.specs.History.{legal, status, got, entered as entered_by}
+
+-- each entry was accepted after those before it
+abbrev pub is_legal : {A : Type 0} → Settings → List (Entry A) → Type 0
+is_legal settings history = legal settings (past history) ≡ true
+
+-- what is asked, answered by a history (PS3.4 CC.2.5, CC.2.7)
+abbrev pub reply_to : {A : Type 0} → Settings → List (Entry A) → Ask A → Reply A
+reply_to settings history (Do request) = Answered (status settings (past history) request)
+reply_to settings history (Get step listed) = got (past history) step listed
+
+-- that answer; or memory ran out
+abbrev pub Answers : {A : Type 0} → Settings → List (Entry A) → Ask A → Reply A → Type 0
+Answers settings history ask reply = (reply ≡ reply_to settings history ask) ⊎ (reply ≡ Answered ResourceLimitation)
+
+-- a request as it is entered
+abbrev pub entry : {A : Type 0} → ℕ → List ℕ → ℕ → Request A → Entry A
+entry caller ae moment request = record { caller = caller; ae = ae; moment = moment; request = request }
+
+-- what a call enters: a request that was accepted
+abbrev pub entered : {A : Type 0} → ℕ → List ℕ → ℕ → Ask A → Reply A → List (Entry A)
+entered caller ae moment (Do request) (Answered status) = entered_by (entry caller ae moment request) status
+entered caller ae moment ask reply = []
+
+-- One call of a service that had seen a history: others made a legal history of it, the reply is given by that
+-- one, and it is seen afterwards, with the call's own request at its end where that was accepted.
+abbrev pub Serves : {A : Type 0} → Settings → ℕ → List (Entry A) → List ℕ → ℕ → Ask A → Reply A → List (Entry A) → Type 0
+Serves {A} settings caller seen ae moment ask reply after =
+    (others : List (Entry A)) × All (λ (e : Entry A). e.caller ≢ caller) others × is_legal settings (seen ++ others)
+    × Answers settings (seen ++ others) ask reply
+    × (after ≡ (seen ++ others) ++ entered caller ae moment ask reply)
+
+-- calls of one application entity, one after another: each ask at its moment has its reply
+abbrev pub Calls : {A : Type 0} → Settings → ℕ → List (Entry A) → List ℕ → List (Ask A) → List ℕ → List (Reply A) → List (Entry A) → Type 0
+Calls settings caller seen ae [] [] [] after = after ≡ seen
+Calls {A} settings caller seen ae (ask ∷ asks) (moment ∷ moments) (reply ∷ replies) after =
+    (then : List (Entry A)) × Serves settings caller seen ae moment ask reply then × Calls settings caller then ae asks moments replies after
+Calls settings caller seen ae asks moments replies after = ⊥
+
+-- no more bytes than a row may have
+abbrev pub IsSmall : List El → Type 0
+IsSmall set = length (written Explicit set) ≤ 1048576
+
+-- a set that is shown is no larger than a row
+abbrev pub SmallReply : {A : Type 0} → Reply A → Type 0
+SmallReply (Answered status) = Unit {0}
+SmallReply (Shown status set) = IsSmall set

@@ -1,0 +1,5 @@
+pub mod Held
+pub mod Kept
+pub mod Law
+pub mod Refusal
+pub mod State

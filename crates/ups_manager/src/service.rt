@@ -1,0 +1,73 @@
+//! What answers a session.
+
+ghost use Rattle.std.specs.Prelude.{◌≡◌, ℕ, true, is_some};
+ghost use Rattle.std.specs.Option.{IfSome};
+ghost use Rattle.ups_manager.specs.Law.{Serves, SmallReply};
+
+use crate::call::Call;
+use crate::manager::Manager;
+use std::alloc::Allocator;
+use ups_life::{Ask, Reply};
+use ups_pdu::Ae;
+
+/// What answers a session: the manager, or a pass to one that others share. It has what was fixed at the start,
+/// the number of the caller that it stands for, and the history that it has seen.
+pub trait Service<A: Allocator + Copy> {
+    ghost use Rattle.std.specs.Prelude.{◌≡◌, ℕ, List, true, is_some};
+    ghost use Rattle.std.specs.Option.{IfSome};
+    ghost use Rattle.ups_life.specs.declared.entry.Entry.{Entry};
+    ghost use Rattle.ups_life.specs.Settings.{Settings};
+    ghost use Rattle.ups_manager.specs.Law.{Serves, SmallReply};
+
+    ghost settings: { Self → Settings };
+
+    ghost caller: { Self → ℕ };
+
+    ghost seen: { Self → List (Entry A) };
+
+    /// Takes an ask from its place and answers it, as `call` does. The ask is not passed by value, since the
+    /// toolchain proves no impl yet whose method takes a value that is generic in its allocator.
+    fn answer(&mut self, ae: Ae, moment: u64, ask: &mut Option<Ask<A>>) -> Reply<A>
+        requires given { is_some ask.old ≡ true }
+        ensures same { (settings self.new ≡ settings self.old) × (caller self.new ≡ caller self.old) }
+        ensures serves { IfSome ask.old (λ asked. Serves (settings self.old) (caller self.old) (seen self.old) ae moment asked result (seen self.new)) }
+        ensures small { SmallReply result };
+
+    /// Answers what an application entity asks, and enters it where it is a request that is accepted. `moment`
+    /// is in seconds since 1970-01-01 UTC.
+    final fn call(&mut self, ae: Ae, moment: u64, ask: Ask<A>) -> Reply<A>
+        ensures same { (settings self.new ≡ settings self.old) × (caller self.new ≡ caller self.old) }
+        ensures serves { Serves (settings self.old) (caller self.old) (seen self.old) ae moment ask result (seen self.new) }
+        ensures small { SmallReply result }
+    {
+        self.answer(ae, moment, &mut Some(ask))
+    }
+}
+
+impl<A: Allocator + Copy> Service<A> for Manager<A> {
+    ghost settings = { λ m. m.settings };
+
+    ghost caller = { λ _. 0 };
+
+    ghost seen = { λ m. m.history };
+
+    fn answer(&mut self, ae: Ae, moment: u64, ask: &mut Option<Ask<A>>) -> Reply<A>
+        requires given { is_some ask.old ≡ true }
+        ensures same { (self.new.settings ≡ self.old.settings) × (◌≡◌ {A = ℕ} 0 0) }
+        ensures serves { IfSome ask.old (λ asked. Serves self.old.settings 0 self.old.history ae moment asked result self.new.history) }
+        ensures small { SmallReply result }
+    {
+        let Some(ask) = ask.take() else {
+            unreachable!();
+        };
+        match ask {
+            Ask::Do(request) => self.submit(Call {
+                caller: 0,
+                ae,
+                moment,
+                request,
+            }),
+            Ask::Get { step, attributes } => self.get(step, attributes.as_slice()),
+        }
+    }
+}

@@ -1,0 +1,13 @@
+pub mod Accepting
+pub mod Bodies
+pub mod Carrying
+pub mod Chains
+pub mod Coming
+pub mod Filling
+pub mod Going
+pub mod Headed
+pub mod Hearings
+pub mod Receiving
+pub mod Replying
+pub mod Spoken
+pub mod Telling

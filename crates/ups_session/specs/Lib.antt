@@ -1,0 +1,11 @@
+pub mod Acceptor
+pub mod Deeds
+pub mod Fold
+pub mod Responses
+pub mod Rules
+pub mod Session
+pub mod Takes
+pub mod Tells
+pub mod Turned
+pub mod Wire
+pub mod World

@@ -1,0 +1,37 @@
+-- What a request is answered (PS3.7 sections 9.3 and 10.3, PS3.8 section 9.3.5 and annex E).
+use Rattle.std.specs.Prelude.{ℕ, Bool, true, false, List, None, Some}
+use Rattle.std.specs.Option.{unwrap_or}
+use Rattle.ups_pdu.specs.declared.pdu.Pdu.{Pdu}
+use Rattle.ups_pdu.specs.declared.registered.RegisteredUid.TheVariants.{UpsPush}
+use Rattle.ups_pdu.specs.Registered.{text_of}
+use Rattle.ups_dataset.specs.Written as sets
+use Rattle.ups_dimse.specs.declared.command.Command.TheVariants.{Response}
+use Rattle.ups_dimse.specs.declared.command.RequestCommand.{RequestCommand}
+use Rattle.ups_dimse.specs.declared.command.ResponseCommand.{ResponseCommand}
+use Rattle.ups_dimse.specs.Commands.{result_of}
+use Rattle.ups_dimse.specs.Written as commands
+use Rattle.ups_assoc.specs.declared.negotiating.AcceptedContext.{AcceptedContext}
+use Rattle.ups_assoc.specs.Cutting.{pieces}
+use Rattle.ups_life.specs.declared.request.Reply.{Reply}
+use Rattle.ups_life.specs.declared.request.Reply.TheVariants.{Status as Answered, Set as Shown}
+use Rattle.ups_life.specs.Statuses.{code}
+
+-- the command of a response: of the request's SOP class, or of the Push class where it names none
+abbrev pub answer : {A : Type 0} → RequestCommand A → ℕ → Bool → ResponseCommand
+answer request status has_data_set = record {
+  sop_class = Some (unwrap_or request.sop_class (text_of UpsPush));
+  responded_to = request.message_id;
+  has_data_set = has_data_set;
+  status = status;
+  result = result_of request.operation;
+}
+
+-- the bytes of that command
+unfoldable pub answer_bytes : {A : Type 0} → RequestCommand A → ℕ → Bool → List ℕ
+answer_bytes {A} request status has_data_set = commands.written {A = A} (Response (answer request status has_data_set))
+
+-- a response in PDUs: its command, and its data set where it has one
+unfoldable pub response : {A : Type 0} → ℕ → AcceptedContext → RequestCommand A → Reply A → List (Pdu A)
+response max context request (Answered status) = pieces context.id (answer_bytes request (code status) false) None max
+response max context request (Shown status set) =
+    pieces context.id (answer_bytes request (code status) true) (Some (sets.written context.transfer_syntax set)) max

@@ -1,0 +1,85 @@
+-- What a session makes of its input (PS3.8 section 9.2).
+use Rattle.std.specs.Prelude.{◌≡◌, ◌≢◌, ◌⊎◌, ℕ, ◌≤◌, List, [], ◌∷◌, ◌++◌, length, Option, Result, Ok, Err}
+use Rattle.std.specs.Io.KnownBytes.{IsAtEnd}
+use Rattle.ups_pdu.specs.declared.fault.PduFault.TheVariants as faults
+use Rattle.ups_pdu.specs.Spelling.{SpellsPdu, IsFault}
+use Rattle.ups_session.specs.declared.fault.End.{End}
+use Rattle.ups_session.specs.declared.fault.SessionFault.{SessionFault}
+use Rattle.ups_session.specs.declared.fault.SessionFault.TheVariants.{Read, Turns}
+use Rattle.ups_session.specs.Takes.{IsBad, IsBegun}
+use Rattle.ups_session.specs.Fold.{Side, Happening, Arrival, pdu, bad, closed, brings, Happens, Takes, IsOpen}
+use Rattle.ups_session.specs.World.{World, Goes}
+
+-- these bytes are what comes
+abbrev pub Spells : {A : Type 0} → List ℕ → Arrival A → Type 0
+Spells bytes (pdu p) = SpellsPdu bytes p
+Spells {A} bytes (bad fault) = IsBad A bytes fault
+Spells bytes closed = bytes ≡ []
+
+-- one after the other
+abbrev pub SpellsAll : {A : Type 0} → List ℕ → List (Arrival A) → Type 0
+SpellsAll bytes [] = bytes ≡ []
+SpellsAll bytes (a ∷ arrivals) = (front : List ℕ) × (rest : List ℕ) × (bytes ≡ front ++ rest) × Spells front a × SpellsAll rest arrivals
+
+-- where the end of the input came last, the input is at its end
+abbrev pub AtEnd : {A : Type 0} → Option (List ℕ) → List (Arrival A) → Type 0
+AtEnd left [] = Unit {0}
+AtEnd left (closed ∷ []) = IsAtEnd left
+AtEnd left (a ∷ []) = Unit {0}
+AtEnd left (a ∷ b ∷ arrivals) = AtEnd left (b ∷ arrivals)
+
+-- What was read after all that came whole: nothing; a beginning of a PDU, with which the input ended, or after which a
+-- read failed, or memory ran out; or something of which not all has happened.
+pub data Tail (A : Type 0) : Type 0 where
+  none : Tail A
+  cut : Tail A
+  failed : Tail A
+  lost : Tail A
+  within : Arrival A → Tail A
+
+abbrev pub IsTail : {A : Type 0} → Option (List ℕ) → List ℕ → Tail A → Type 0
+IsTail left rest none = rest ≡ []
+IsTail {A} left rest cut = (rest ≢ []) × IsFault A rest faults.Short × IsAtEnd left
+IsTail {A} left rest failed = IsFault A rest faults.Short
+IsTail left rest lost = IsBegun rest
+IsTail left rest (within a) = Spells rest a × AtEnd left (a ∷ [])
+
+abbrev pub brought : {A : Type 0} → Tail A → List (Happening A)
+brought (within a) = brings a
+brought tail = []
+
+abbrev pub failing : SessionFault → Result (Unit {0}) SessionFault
+failing fault = Err fault
+
+-- what was read is read where the association is open alone
+abbrev pub IsRead : {A L W : Type 0} → Side A L W → L → Tail A → Type 0
+IsRead side live none = Unit {0}
+IsRead side live tail = IsOpen (side.state live)
+
+abbrev pub okay : Result (Unit {0}) SessionFault
+okay = Ok tt
+
+-- What came whole, and what it made of a session that starts so: `left` is what the input has afterwards, `rest` what
+-- was read behind it.
+pub record Came {A L W : Type 0} (side : Side A L W) (start after : L) (input rest : List ℕ) (arrivals : List (Arrival A)) (old new : World A) : Type 0 where
+  pub whole : List ℕ
+  pub parts : input ≡ whole ++ rest
+  pub spells : SpellsAll whole arrivals
+  pub goes : Goes (Takes side) arrivals start after old new okay
+
+-- A session. It ends where the association is over, and tells how; at a Read fault the input was cut inside a PDU, or
+-- a read failed; and as many things may come as there are turns. Until then all that is to be said was sent. Where a
+-- write failed, or memory ran out, a beginning of it was sent.
+abbrev pub IsSession : {A L W : Type 0} → Side A L W → (L → End) → L → ℕ → Option (List ℕ) → List ℕ → World A → World A → Result End SessionFault → Type 0
+IsSession {A} {L} side ending start turns left input old new (Ok end) =
+    (arrivals : List (Arrival A)) × (after : L) × Came side start after input [] arrivals old new × AtEnd left arrivals
+    × (length arrivals ≤ turns) × (IsOpen (side.state after) → ⊥) × (ending after ≡ end)
+IsSession {A} {L} side ending start turns left input old new (Err Read) =
+    (arrivals : List (Arrival A)) × (after : L) × (rest : List ℕ) × (tail : Tail A) × Came side start after input rest arrivals old new
+    × (length arrivals ≤ turns) × IsOpen (side.state after) × ((tail ≡ cut) ⊎ (tail ≡ failed)) × IsTail left rest tail
+IsSession {A} {L} side ending start turns left input old new (Err Turns) =
+    (arrivals : List (Arrival A)) × (after : L) × Came side start after input [] arrivals old new × (length arrivals ≡ turns) × IsOpen (side.state after)
+IsSession {A} {L} side ending start turns left input old new (Err fault) =
+    (arrivals : List (Arrival A)) × (after : L) × (rest : List ℕ) × (tail : Tail A) × (between : World A) × (last : L)
+    × Came side start after input rest arrivals old between × (length arrivals ≤ turns) × IsTail left rest tail × IsRead side after tail
+    × Goes (Happens side) (brought tail) after last between new (failing fault)

@@ -1,0 +1,122 @@
+//! What comes of a request before the service sees it.
+
+ghost use Rattle.std.specs.Prelude.{◌≡◌, ◌≢◌, List, [], Option, None, Some, MatchOption, IfOk, OnOk};
+ghost use Rattle.std.specs.Option.{option_copied};
+ghost use Rattle.ups_dataset.specs.Data.{El};
+ghost use Rattle.ups_dataset.specs.declared.fault.SetFault.TheVariants.{Memory};
+ghost use Rattle.ups_session.specs.Rules.{offers, takes, HasSet, decided, Decides};
+
+use std::alloc::{AllocError, Allocator};
+use ups_assoc::{AcceptedContext, SopClass};
+use ups_dataset::{DataSet, SetFault, TransferSyntax, read_set};
+use ups_dimse::{Operation, RequestCommand};
+use ups_life::{Ask, Status, read_request};
+use ups_pdu::{RegisteredUid, Uid};
+
+/// What comes of a request before the service sees it.
+#[derive(Drop)]
+pub(crate) enum Decision<A: Allocator + Copy> {
+    /// It is answered with this status.
+    Answer(Status),
+    /// It asks something of the service.
+    Question(Ask<A>),
+}
+
+/// Whether a SOP class has the service (PS3.4 section A.4, CC.2).
+fn offers<A: Allocator + Copy>(class: SopClass, operation: &Operation<A>) -> bool
+    ensures { result ≡ offers class operation.now }
+{
+    match (class, operation) {
+        (SopClass::Verification, Operation::Echo) => true,
+        (SopClass::UpsPush, Operation::Create { .. } | Operation::Get { .. }) => true,
+        (SopClass::UpsPull | SopClass::UpsWatch, Operation::Get { .. }) => true,
+        _ => false,
+    }
+}
+
+/// Whether a request may name this SOP class on a context: the context's own, or for a step the Push class.
+fn takes<A: Allocator + Copy>(class: SopClass, operation: &Operation<A>, named: Option<Uid>) -> bool
+    ensures { result ≡ takes class operation.now named }
+{
+    let Some(named) = named else {
+        return false;
+    };
+    match operation {
+        Operation::Echo => named == class.registered().uid(),
+        _ => named == class.registered().uid() || named == RegisteredUid::UpsPush.uid(),
+    }
+}
+
+/// What a fault in reading a data set makes of its message: it has none, unless memory ran out.
+fn no_set<A: Allocator + Copy>(fault: SetFault) -> Result<Option<DataSet<A>>, AllocError>
+    ensures none { IfOk result (λ found. (found ≡ None) × (fault ≢ Memory)) }
+{
+    match fault {
+        SetFault::Memory => Err(AllocError),
+        _ => Ok(None),
+    }
+}
+
+/// The data set of a message; None where its bytes spell none.
+///
+/// Errors: want of memory.
+fn set_of<A: Allocator + Copy>(
+    alloc: A,
+    syntax: TransferSyntax,
+    body: Option<&[u8]>,
+) -> Result<Option<DataSet<A>>, AllocError>
+    ensures { IfOk result (λ found. MatchOption found ((set : List El) → HasSet syntax (option_copied body.entry) set → ⊥) (HasSet syntax (option_copied body.entry))) }
+{
+    let Some(bytes) = body else {
+        return Ok(Some(DataSet::new(alloc)));
+    };
+    match read_set(alloc, syntax, bytes) {
+        Ok(set) => Ok(Some(set)),
+        Err(fault) => no_set(fault),
+    }
+}
+
+/// What a request with its data set comes to: a C-ECHO is answered at once.
+///
+/// Errors: want of memory.
+fn decided<A: Allocator + Copy>(
+    alloc: A,
+    operation: &Operation<A>,
+    set: DataSet<A>,
+) -> Result<Decision<A>, AllocError>
+    ensures { IfOk result (λ decision. decision ≡ decided operation.now set) }
+{
+    if let Operation::Echo = operation {
+        return Ok(Decision::Answer(Status::Success));
+    }
+    match read_request(alloc, operation, set) {
+        Ok(ask) => Ok(Decision::Question(ask)),
+        Err(Status::ResourceLimitation) => Err(AllocError),
+        Err(status) => Ok(Decision::Answer(status)),
+    }
+}
+
+/// What comes of a request with its data set on a presentation context. The first refusal that applies is its
+/// answer: 0211H where the service is none of the context's SOP class, 0118H where the request names another SOP
+/// class, 0110H where its data set can't be read.
+///
+/// Errors: want of memory.
+pub(crate) fn decide<A: Allocator + Copy>(
+    alloc: A,
+    context: &AcceptedContext,
+    request: &RequestCommand<A>,
+    body: Option<&[u8]>,
+) -> Result<Decision<A>, AllocError>
+    ensures { IfOk result (Decides context.now request.now (option_copied body.entry)) }
+{
+    if !offers(context.sop_class, &request.operation) {
+        return Ok(Decision::Answer(Status::UnrecognizedOperation));
+    }
+    if !takes(context.sop_class, &request.operation, request.sop_class) {
+        return Ok(Decision::Answer(Status::NoSuchSopClass));
+    }
+    let Some(set) = set_of(alloc, context.transfer_syntax, body)? else {
+        return Ok(Decision::Answer(Status::ProcessingFailure));
+    };
+    decided(alloc, &request.operation, set)
+}

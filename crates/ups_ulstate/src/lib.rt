@@ -1,0 +1,12 @@
+//! The state machine of the DICOM upper layer: its states, events and actions, and which action each event
+//! calls for in each state (PS3.8 section 9.2).
+#![tactic(auto)]
+
+mod state;
+mod table;
+
+pub use state::{UlAction, UlEvent, UlState};
+pub use table::next;
+
+#[cfg(test)]
+mod tests;

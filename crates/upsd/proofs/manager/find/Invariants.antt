@@ -1,7 +1,0 @@
-use Rattle.std.proofs.Common.{◌≡◌, map, drop}
-use Rattle.ups_life.specs.History.{row_at}
-use Rattle.upsd.specs.Kept.{row_of}
-use Rattle.upsd.proofs.manager.find.Given as goal
-
-abbrev pub invariant-loop-held : goal.invariant-loop-held
-invariant-loop-held g l = row_at l.step (map row_of l.rows) ≡ row_at l.step (map row_of (drop l.held-index l.rows))

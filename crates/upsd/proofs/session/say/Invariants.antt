@@ -1,7 +1,0 @@
-use Rattle.std.proofs.Common.{◌≡◌, ℕ, List, take}
-use Rattle.std.specs.Io.KnownBytes.{Appends}
-use Rattle.upsd.specs.Session.{spelled}
-use Rattle.upsd.proofs.session.say.Given as goal
-
-abbrev pub invariant-loop-pdu : goal.invariant-loop-pdu
-invariant-loop-pdu g l = (sent : List ℕ) × Appends (g.W.Write.contents l.initial.writer) (g.W.Write.contents l.writer) sent × (sent ≡ spelled (take l.pdu-index l.said))
