@@ -188,17 +188,17 @@ def nested(explicit, size):
 
 
 def large(program):
-    opening = associate([(PUSH, EXPLICIT)])
-    base, floor = best(program, opening + RELEASE)
-    for name, shape in (
-        ("one large value", lambda n: {(0x0074, 0x100A): (b"UN", bytes(n))}),
-        ("elements without value", lambda n: {(0x0009 + 2 * (i // 60000), 0x1001 + i % 60000): (b"UN", b"") for i in range(n // 12)}),
-        ("nested sequences", lambda n: {(0x0040, 0x4018): (b"SQ", nested(True, n))}),
+    for name, explicit, shape in (
+        ("one large value", True, lambda n: {(0x0074, 0x100A): (b"UN", bytes(n))}),
+        ("elements without value", False, lambda n: {(0x0009 + 2 * (i // 60000), 0x1001 + i % 60000): (b"UN", b"") for i in range(n // 8)}),
+        ("nested sequences", True, lambda n: {(0x0040, 0x4018): (b"SQ", nested(True, n))}),
     ):
+        opening = associate([(PUSH, EXPLICIT if explicit else IMPLICIT)])
+        base, floor = best(program, opening + RELEASE, 25)
         for size in (262_144, 524_288, 1_000_000):
-            row = step(True, shape(size))
+            row = step(explicit, shape(size))
             stdin = opening + create(1, 1, b"1.2.3.1", row) + RELEASE
-            took, peak = best(program, stdin)
+            took, peak = best(program, stdin, 25)
             print(f"| one data set of {len(row):,} bytes, {name} | {len(row) / max(took - base, 1e-6) / 1e6:,.1f} MB a second | {(took - base) * 1e3:.1f} ms | {(peak - floor) / len(row):.1f} bytes a byte |")
 
 

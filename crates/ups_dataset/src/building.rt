@@ -1,6 +1,6 @@
 //! Building a set from bytes that spell one.
 
-ghost use Rattle.std.specs.Prelude.{◌≡◌, ◌<◌, ◌≤◌, false, length, map, OnOk, IfErr};
+ghost use Rattle.std.specs.Prelude.{◌≡◌, ◌<◌, ◌≤◌, ◌++◌, ◌∷◌, [], false, length, map, OnOk, IfErr};
 ghost use Rattle.ups_dataset.specs.declared.fault.SetFault.TheVariants.{Memory};
 ghost use Rattle.ups_dataset.specs.Head.{IsLength, is_sequence};
 ghost use Rattle.ups_dataset.specs.View.{element_view, value_view};
@@ -14,6 +14,7 @@ use crate::passing::{inside, opened, rest_behind};
 use crate::set::{DataSet, Element, Value};
 use crate::syntax::TransferSyntax;
 use crate::tag::{ITEM_DELIMITATION, SEQUENCE_DELIMITATION, Tag};
+use crate::trimming::trim;
 use crate::vr::Vr;
 use std::alloc::Allocator;
 use ups_pdu::Bytes;
@@ -50,7 +51,7 @@ fn value_of<A: Allocator + Copy>(
     ))
 }
 
-/// Adds an element, unless it is a group length.
+/// Adds an element, unless it is a group length. The first one takes the room of one: many items hold no more.
 fn keep<A: Allocator + Copy>(
     elements: &mut Vec<Element<A>, A>,
     tag: Tag,
@@ -63,7 +64,25 @@ fn keep<A: Allocator + Copy>(
     if tag.is_group_length() {
         return Ok(());
     }
+    if elements.is_empty() {
+        elements.reserve_exact(1)?;
+    }
     elements.push(Element { tag, vr, value })?;
+    Ok(())
+}
+
+/// Adds an item. The first one takes the room of one: many sequences hold no more.
+fn keep_item<A: Allocator + Copy>(
+    sets: &mut Vec<DataSet<A>, A>,
+    set: DataSet<A>,
+) -> Result<(), SetFault>
+    ensures kept { OnOk result (sets.new.items ≡ sets.old.items ++ set ∷ []) }
+    ensures memory { IfErr result (λ e. e ≡ Memory) }
+{
+    if sets.is_empty() {
+        sets.reserve_exact(1)?;
+    }
+    sets.push(set)?;
     Ok(())
 }
 
@@ -84,6 +103,7 @@ pub(crate) fn set_of<A: Allocator + Copy>(
     let mut rest = text;
     loop {
         if let Some(end) = end_at(ITEM_DELIMITATION, reach, rest) {
+            trim(&mut elements)?;
             return Ok((DataSet::from_vec(elements), end));
         }
         let (tag, vr, len, after) = known_at(syntax, from, rest)?;
@@ -110,12 +130,13 @@ fn items_of<A: Allocator + Copy>(
     let mut rest = text;
     loop {
         if let Some(end) = end_at(SEQUENCE_DELIMITATION, reach, rest) {
+            trim(&mut sets)?;
             return Ok((sets, end));
         }
         let (len, after) = item_at(level, rest)?;
         let (within, inner, behind) = opened(len, after);
         let built = set_of(alloc, syntax, level + 1, within, inner)?;
         rest = rest_behind(within, built.1, behind);
-        sets.push(built.0)?;
+        keep_item(&mut sets, built.0)?;
     }
 }

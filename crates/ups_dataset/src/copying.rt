@@ -15,7 +15,7 @@ pub(crate) fn copy_set<A: Allocator + Copy>(
 ) -> Result<DataSet<A>, AllocError>
     ensures { IfOk result (λ s. s ≡ set.now) }
 {
-    let mut elements = Vec::new(alloc);
+    let mut elements = Vec::with_capacity(alloc, set.elements.len())?;
     for element in &set.elements {
         elements.push(copy_element(alloc, element)?)?;
     }
@@ -49,7 +49,7 @@ pub(crate) fn copy_value<A: Allocator + Copy>(
     match value {
         Value::Bytes(bytes) => Ok(Value::Bytes(Bytes::copy_of(alloc, bytes.as_slice())?)),
         Value::Items(sets) => {
-            let mut copies = Vec::new(alloc);
+            let mut copies = Vec::with_capacity(alloc, sets.len())?;
             for set in sets {
                 copies.push(copy_set(alloc, set)?)?;
             }

@@ -17,6 +17,7 @@ mod reading;
 mod set;
 mod syntax;
 mod tag;
+mod trimming;
 mod vr;
 mod writing;
 

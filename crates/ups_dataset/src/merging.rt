@@ -8,6 +8,7 @@ ghost use Rattle.ups_dataset.specs.View.{element_view};
 
 use crate::copying::copy_element;
 use crate::set::Element;
+use crate::trimming::trim;
 use std::alloc::{AllocError, Allocator};
 
 /// The element with the lowest tag, the upper one where both have it, and what is left of the two.
@@ -56,5 +57,6 @@ pub(crate) fn merged<A: Allocator + Copy>(
         upper = upper_left;
         lower = lower_left;
     }
+    trim(&mut elements)?;
     Ok(elements)
 }

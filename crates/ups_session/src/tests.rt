@@ -365,6 +365,9 @@ fn an_open_association_is_aborted_for_what_does_not_fit(rt: HostRuntime) -> Resu
         ([ACCEPTED, RELEASE], UNEXPECTED_ABORT),
         ([RELEASED, RELEASE], UNEXPECTED_ABORT),
         (["04 00 00000004 00000010", RELEASE], INVALID_ABORT),
+        (["04 00 00004001", RELEASE], INVALID_ABORT),
+        (["04 00 00000000", RELEASE], INVALID_ABORT),
+        (["05 00 00000005 00*5", RELEASE], INVALID_ABORT),
         (["04 00 00000006 00000002 03 03", RELEASE], ABORT),
         (["04 00 00000006 00000002 01 02", RELEASE], ABORT),
         ([CREATE, "04 00 00000006 00000002 01 03"], ABORT),
@@ -378,6 +381,73 @@ fn an_open_association_is_aborted_for_what_does_not_fit(rt: HostRuntime) -> Resu
             &[ACCEPTED, answered],
             0,
         )?;
+    }
+    Ok(())
+}
+
+/// Commands that can't be read: bytes that are no list of elements, no Command Field, one of four bytes, one of no
+/// known message, no message ID, and one of four bytes.
+const UNREADABLE: [&str; 6] = [
+    "04 00 0000000f 0000000b 01 03 00000001 02000000 40",
+    "04 00 00000010 0000000c 01 03 00001001 02000000 0100",
+    "04 00 00000012 0000000e 01 03 00000001 04000000 40010000",
+    "04 00 00000010 0000000c 01 03 00000001 02000000 4101",
+    "04 00 00000010 0000000c 01 03 00000001 02000000 1001",
+    "04 00 0000001c 00000018 01 03 00000001 02000000 1001 00001001 04000000 02000000",
+];
+
+#[test]
+fn an_association_is_aborted_for_a_command_that_cannot_be_read(
+    rt: HostRuntime,
+) -> Result<(), Fail> {
+    for asked in UNREADABLE {
+        answers(
+            &rt,
+            &[REQUEST, asked, RELEASE],
+            Ok(End::AbortSent),
+            &[ACCEPTED, ABORT],
+            0,
+        )?;
+    }
+    Ok(())
+}
+
+/// An association whose message has a command of 92 bytes and a data set of 1,048,192 bytes, and this many more.
+fn long_message(rt: &impl AllocGlobal, more: u16) -> Result<Vec<u8>, Fail> {
+    let mut input = bytes_of(rt, &[REQUEST, CREATE])?;
+    let zeros = [0; 16_378];
+    for _ in 0..64 {
+        input.extend_from_slice(&[4, 0, 0, 0, 0x40, 0, 0, 0, 0x3f, 0xfc, 1, 0])?;
+        input.extend_from_slice(&zeros)?;
+    }
+    input.extend_from_slice(&[4, 0, 0, 0])?;
+    input.extend_from_slice(&more.saturating_add(6).to_be_bytes())?;
+    input.extend_from_slice(&[0, 0])?;
+    input.extend_from_slice(&more.saturating_add(2).to_be_bytes())?;
+    input.extend_from_slice(&[1, 2])?;
+    let last = zeros.get(..usize::from(more)).ok_or("as many zeros")?;
+    input.extend_from_slice(last)?;
+    input.extend_from_slice(&[5, 0, 0, 0, 0, 4, 0, 0, 0, 0])?;
+    Ok(input)
+}
+
+#[test]
+fn an_association_is_aborted_for_a_message_of_more_than_1048576_bytes(
+    rt: HostRuntime,
+) -> Result<(), Fail> {
+    let released = [ACCEPTED, NOT_PROCESSED, RELEASED];
+    for (more, ended, answered) in [
+        (292, End::Released, released.as_slice()),
+        (293, End::AbortSent, &[ACCEPTED, ABORT]),
+    ] {
+        let input = long_message(&rt, more)?;
+        let reader = CutReader::new(&input, false);
+        let mut writer = CutWriter::new(rt.alloc(), usize::MAX);
+        let mut manager = a_manager(rt.alloc(), MANY)?;
+        let found = session(rt.alloc(), reader, &mut writer, &mut manager, MANY)?;
+        assert_eq!(rt; found, Ok(ended));
+        assert_eq!(rt; writer.written(), bytes_of(&rt, answered)?.as_slice());
+        assert_eq!(rt; manager.history().len(), 0);
     }
     Ok(())
 }

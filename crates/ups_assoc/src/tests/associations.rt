@@ -361,6 +361,79 @@ fn as_many_contexts_as_there_are_ids_are_answered(rt: HostRuntime) -> Result<(),
     Ok(())
 }
 
+/// Puts an item of this type (PS3.8 section 9.3.2).
+fn put_item(bytes: &mut Vec<u8>, kind: u8, content: &[u8]) -> Result<(), Fail> {
+    bytes.extend_from_slice(&[kind, 0])?;
+    bytes.extend_from_slice(&u16::try_from(content.len())?.to_be_bytes())?;
+    bytes.extend_from_slice(content)?;
+    Ok(())
+}
+
+/// A context of Push: thirty transfer syntaxes that nobody knows here, and then these.
+fn long_context(rt: &impl AllocGlobal, id: u8, known: &str) -> Result<Vec<u8>, Fail> {
+    let mut content = Vec::new(rt.alloc());
+    content.extend_from_slice(&[id, 0, 0, 0])?;
+    put_all(rt, &mut content, "30 00 001a PUSH")?;
+    for number in 0..30u8 {
+        let unknown = format!(in rt.alloc(); "1.2.840.10008.1.2.4.{number}")?;
+        put_item(&mut content, 0x40, unknown.as_bytes())?;
+    }
+    put_all(rt, &mut content, known)?;
+    Ok(content)
+}
+
+/// A request of 128 such contexts, in turn with Explicit first and with Implicit first, and a
+/// sub-item that nobody knows.
+fn long_request(rt: &impl AllocGlobal) -> Result<Vec<u8>, Fail> {
+    let explicit = "40 00 0013 \"1.2.840.10008.1.2.1\" 40 00 0011 \"1.2.840.10008.1.2\"";
+    let implicit = "40 00 0011 \"1.2.840.10008.1.2\" 40 00 0013 \"1.2.840.10008.1.2.1\"";
+    let mut bytes = bytes_of(
+        rt,
+        "01 00 0001fa95 0001 0000 \"UPSD\" 20*12 \"SCHED1\" 20*10 00*32 10 00 0015",
+    )?;
+    put_all(rt, &mut bytes, DICOM)?;
+    for half in 0..128u8 {
+        let known = if half % 2 == 0 { explicit } else { implicit };
+        let context = long_context(rt, half * 2 + 1, known)?;
+        put_item(&mut bytes, 0x20, &context)?;
+    }
+    let mut user = bytes_of(rt, "51 00 0004 00004000")?;
+    put_item(&mut user, 0x59, &[0; 20_520])?;
+    put_item(&mut bytes, 0x50, &user)?;
+    Ok(bytes)
+}
+
+#[test]
+fn each_context_of_a_request_of_129691_bytes_has_the_first_known_syntax(
+    rt: HostRuntime,
+) -> Result<(), Fail> {
+    let bytes = long_request(&rt)?;
+    assert_eq!(rt; bytes.len(), 129_691);
+    let Pdu::AssociateRq(request) = read_pdu(rt.alloc(), &bytes)?.0 else {
+        return Err("no request".into());
+    };
+    let Outcome::Accept(accepted) = negotiate(rt.alloc(), &this_server()?, &request)? else {
+        return Err("rejected".into());
+    };
+    let mut expected = Vec::new(rt.alloc());
+    for half in 0..128u8 {
+        expected.push(AcceptedContext {
+            id: half * 2 + 1,
+            sop_class: SopClass::UpsPush,
+            transfer_syntax: if half % 2 == 0 {
+                TransferSyntax::Explicit
+            } else {
+                TransferSyntax::Implicit
+            },
+        })?;
+    }
+    assert_eq!(rt; accepted.contexts.as_slice(), expected.as_slice());
+    // 68 bytes before the items, the application context, the contexts, the user information.
+    let answer = answer_bytes(&rt, &bytes)?;
+    assert_eq!(rt; answer.len(), 6 + 68 + 25 + 64 * 31 + 64 * 29 + 35);
+    Ok(())
+}
+
 #[test]
 fn each_sop_class_is_of_its_uid(rt: HostRuntime) -> Result<(), Fail> {
     for (text, class) in [

@@ -166,10 +166,13 @@ fn fragments_of_one_byte_give_the_message(rt: HostRuntime) -> Result<(), Fail> {
 #[test]
 fn after_a_fault_nothing_is_taken(rt: HostRuntime) -> Result<(), Fail> {
     let command = bytes_of(&rt, CREATED)?;
-    for (context_id, control) in [(3, 3), (1, 2)] {
+    for (context_id, control, fault) in [
+        (3, 3, AssocFault::UnknownContext),
+        (1, 2, AssocFault::DataWithoutCommand),
+    ] {
         let mut assembler = Assembler::new(rt.alloc(), &context(1))?;
         let bad = pdv(rt.alloc(), context_id, control, &command)?;
-        assert!(rt; assembler.feed(&bad).is_err());
+        assert_eq!(rt; assembler.feed(&bad).err(), Some(fault));
         let good = pdv(rt.alloc(), 1, 3, &command)?;
         assert_eq!(rt; assembler.feed(&good).err(), Some(AssocFault::Failed));
         assert_eq!(rt; assembler.feed(&bad).err(), Some(AssocFault::Failed));

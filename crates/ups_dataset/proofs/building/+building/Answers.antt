@@ -12,11 +12,11 @@ use Rattle.ups_dataset.proofs.Whole.{or_memory, surely}
 use Rattle.ups_dataset.proofs.building.+building.Goals as goal
 
 pub items_of-returns-in-Some : goal.items_of-returns-in-Some
-items_of-returns-in-Some g t c = grown_items _ _ _ _ _ _ _ c.in-Some.ensures c.loop-end.invariant
+items_of-returns-in-Some g t c = rw c.trim.ensures.same (grown_items _ _ _ _ _ _ _ c.in-Some.ensures c.loop-end.invariant)
 
 pub items_of-returns-in_err-len : goal.items_of-returns-in_err-len
 items_of-returns-in_err-len g t c =
-    let p = err_from_is_err_and c.from_residual.result c.from_residual.ensures.1 in
+    let p = err_from_is_err_and c.from_residual-in_err-len.result c.from_residual-in_err-len.ensures.1 in
     rw (p.1, p.2) (surely (ItemsFail c.args.syntax c.args.level c.args.reach c.args.text.now) _ (c.loop-end.invariant.fails _ (at_item _ _ _ _ _ c.in_default.ensures c.in_err-len.ensures)))
 
 pub items_of-returns-in_err-built : goal.items_of-returns-in_err-built
@@ -35,19 +35,19 @@ items_of-loop-end-smaller g t c = rw c.rest_behind-rest.ensures (omega (
 ))
 
 pub items_of-loop-end-preserved : goal.items_of-loop-end-preserved
-items_of-loop-end-preserved g t c = rw (c.rest_behind-rest.ensures, c.in_ok-push.ensures.items)
+items_of-loop-end-preserved g t c = rw (c.rest_behind-rest.ensures, c.in_ok-keep_item.ensures.kept)
     (grow_item c.args.syntax c.args.level c.args.reach c.args.text.now c.loop-end.rest.now c.loop-end.sets.items c.in_ok-len.len c.in_ok-len.after.now c.opened-within.result.0 c.opened-within.result.1.now c.in_ok-built.built.1.now (rest_behind c.opened-within.result.0 c.in_ok-built.built.1.now c.opened-within.result.2.now) c.in_ok-built.built.0
     c.in_default.ensures c.in_ok-len.ensures (c.opened-within.ensures.spans c.in_ok-built.built.1.now (elements_left c.args.syntax (c.args.level + 1) c.opened-within.result.0 0 c.opened-within.result.1.now c.in_ok-built.ensures.all c.in_ok-built.built.1.now c.in_ok-built.ensures.spelled)) c.in_ok-built.ensures c.loop-end.invariant)
 
 pub set_of-from_vec-requires : goal.set_of-from_vec-requires
-set_of-from_vec-requires g t c = grown_set c.args.syntax c.args.level c.args.reach c.args.text.now c.loop-end.from c.loop-end.rest.now (map element_view c.loop-end.elements.items) c.in-Some.end.now c.requires c.in-Some.ensures c.loop-end.invariant
+set_of-from_vec-requires g t c = rw c.trim.ensures.same (grown_set c.args.syntax c.args.level c.args.reach c.args.text.now c.loop-end.from c.loop-end.rest.now (map element_view c.loop-end.elements.items) c.in-Some.end.now c.requires c.in-Some.ensures c.loop-end.invariant)
 
 pub set_of-returns-in-Some : goal.set_of-returns-in-Some
-set_of-returns-in-Some g t c = rw c.from_vec.ensures (grown _ _ _ _ _ _ _ _ c.in-Some.ensures c.loop-end.invariant)
+set_of-returns-in-Some g t c = rw (c.from_vec.ensures, c.trim.ensures.same) (grown _ _ _ _ _ _ _ _ c.in-Some.ensures c.loop-end.invariant)
 
 pub set_of-returns-in_err-tag : goal.set_of-returns-in_err-tag
 set_of-returns-in_err-tag g t c =
-    let p = err_from_is_err_and c.from_residual.result c.from_residual.ensures.1 in
+    let p = err_from_is_err_and c.from_residual-in_err-tag.result c.from_residual-in_err-tag.ensures.1 in
     rw (p.1, p.2) (surely (ElementsFail c.args.syntax c.args.level c.args.reach 0 c.args.text.now) _ (c.loop-end.invariant.fails _ (at_head _ _ _ _ _ _ c.in_default.ensures c.in_err-tag.ensures)))
 
 pub set_of-value_of-requires : goal.set_of-value_of-requires
