@@ -14,7 +14,27 @@ import subprocess
 import sys
 
 sys.path.insert(0, __file__.rsplit("/", 1)[0])
-from pipe import EXPLICIT, IMPLICIT, PUSH, RELEASE, VERIFICATION, associate, create, echo, get, item, pdu, step
+from pipe import EXPLICIT, IMPLICIT, PULL, PUSH, RELEASE, VERIFICATION, act, associate, create, data, echo, get, item, items, pdu, set_attributes, step
+
+
+def life(explicit):
+    """A step that is claimed, set and completed, and one that is canceled by request: a push context 1, a pull context 3."""
+    uid = data(explicit, 0x0008, 0x1195, b"UI", b"2.1\0")
+    times = data(explicit, 0x0040, 0x4050, b"DT", b"20240229120100") + data(explicit, 0x0040, 0x4051, b"DT", b"20240229120200")
+    performed = data(explicit, 0x0074, 0x1216, b"SQ", items([times]))
+
+    def to(state):
+        return uid + data(explicit, 0x0074, 0x1000, b"CS", state)
+
+    return b"".join((
+        create(1, 1, b"1.2.3.1", step(explicit)),
+        act(3, 2, b"1.2.3.1", 1, to(b"IN PROGRESS ")),
+        set_attributes(3, 3, b"1.2.3.1", uid + performed),
+        act(3, 4, b"1.2.3.1", 1, to(b"COMPLETED ")),
+        create(1, 5, b"1.2.3.2", step(explicit)),
+        act(1, 6, b"1.2.3.2", 2, data(explicit, 0x0074, 0x1238, b"LT", b"stop")),
+        get(1, 7, b"1.2.3.2"),
+    ))
 
 
 def seeds():
@@ -24,6 +44,7 @@ def seeds():
         steps = b"".join(create(1, i, b"1.2.3.%d" % i, step(explicit)) + get(1, 10 + i, b"1.2.3.%d" % i) for i in (1, 2))
         yield associate([(PUSH, syntax)]) + steps + RELEASE
         yield associate([(PUSH, syntax), (VERIFICATION, syntax)]) + steps[: len(steps) // 2] + RELEASE
+        yield associate([(PUSH, syntax), (PULL, syntax)]) + life(explicit) + RELEASE
 
 
 def mutated(chance, seed):

@@ -12,6 +12,7 @@ import tempfile
 import time
 
 PUSH = b"1.2.840.10008.5.1.4.34.6.1"
+PULL = b"1.2.840.10008.5.1.4.34.6.3"
 VERIFICATION = b"1.2.840.10008.1.1"
 IMPLICIT = b"1.2.840.10008.1.2"
 EXPLICIT = b"1.2.840.10008.1.2.1"
@@ -85,6 +86,18 @@ def create(context, number, instance, data_set):
 def get(context, number, instance):
     elements = [(0x0003, even(PUSH)), (0x0100, us(0x0110)), (0x0110, us(number)), (0x0800, us(0x0101)), (0x1001, even(instance))]
     return message(context, command(elements))
+
+
+def set_attributes(context, number, instance, data_set):
+    """An N-SET."""
+    elements = [(0x0003, even(PUSH)), (0x0100, us(0x0120)), (0x0110, us(number)), (0x0800, us(1)), (0x1001, even(instance))]
+    return message(context, command(elements), data_set)
+
+
+def act(context, number, instance, action, data_set):
+    """An N-ACTION of a type."""
+    elements = [(0x0003, even(PUSH)), (0x0100, us(0x0130)), (0x0110, us(number)), (0x0800, us(1)), (0x1001, even(instance)), (0x1008, us(action))]
+    return message(context, command(elements), data_set)
 
 
 LONG = {b"OB", b"SQ", b"UN"}

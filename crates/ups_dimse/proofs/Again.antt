@@ -18,7 +18,7 @@ use Rattle.ups_dimse.specs.declared.command.Operation.TheVariants as operations
 use Rattle.ups_dimse.specs.declared.command.OperationResult.{OperationResult}
 use Rattle.ups_dimse.specs.declared.command.OperationResult.TheVariants as results
 use Rattle.ups_dimse.specs.declared.message.Message.{Message}
-use Rattle.ups_dimse.specs.declared.message.Message.TheVariants.{GetRequest, GetResponse, CreateRequest, CreateResponse, EchoRequest, EchoResponse}
+use Rattle.ups_dimse.specs.declared.message.Message.TheVariants.{GetRequest, GetResponse, SetRequest, SetResponse, ActionRequest, ActionResponse, CreateRequest, CreateResponse, EchoRequest, EchoResponse}
 use Rattle.ups_dimse.specs.Elements.{CommandElement, IsElement, SpellsElements, value_in}
 use Rattle.ups_dimse.specs.Messages.{field_of}
 use Rattle.ups_dimse.specs.Values.{HasUid, HasDataSet, IsTagAt}
@@ -67,16 +67,22 @@ good_only_uid from n (Some u) small l h = (record { in_group = small; defined = 
 good_operation : {A : Type 0} (o : Operation A) → 4 * length (tags_of o) < 2 ^ 32 - 256 → IsHeldOperation o → AreGood 0x0801 (operation_elements o)
 good_operation (operations.Create i) short h = good_only_uid 0x0801 0x1000 i (omega arith) (omega arith) h
 good_operation (operations.Get i ts) short h = good_uid 0x0801 0x1001 i (tags_element 0x1005 ts) (omega arith) (omega arith) h.0 (good_tags 0x1002 0x1005 ts (omega arith) (omega arith) short)
+good_operation (operations.Set i) short h = good_only_uid 0x0801 0x1001 i (omega arith) (omega arith) h
+good_operation (operations.Action i a) short h = good_uid 0x0801 0x1001 i (us_element 0x1008 a ∷ []) (omega arith) (omega arith) h.0 (good_us 0x1002 0x1008 a [] (omega arith) (omega arith) tt)
 good_operation operations.Echo short h = tt
 
 good_result : (o : OperationResult) → IsHeldResult o → AreGood 0x0901 (result_elements o)
 good_result (results.Create i) h = good_only_uid 0x0901 0x1000 i (omega arith) (omega arith) h
 good_result (results.Get i) h = good_only_uid 0x0901 0x1000 i (omega arith) (omega arith) h
+good_result (results.Set i) h = good_only_uid 0x0901 0x1000 i (omega arith) (omega arith) h
+good_result (results.Action i a) h = good_uid 0x0901 0x1000 i (us_element 0x1008 a ∷ []) (omega arith) (omega arith) h.0 (good_us 0x1001 0x1008 a [] (omega arith) (omega arith) tt)
 good_result results.Echo h = tt
 
 class_low : {A : Type 0} (o : Operation A) → (1 ≤ class_element o) × (class_element o + 1 ≤ 0x0100)
 class_low (operations.Create i) = (omega arith, omega arith)
 class_low (operations.Get i ts) = (omega arith, omega arith)
+class_low (operations.Set i) = (omega arith, omega arith)
+class_low (operations.Action i a) = (omega arith, omega arith)
 class_low operations.Echo = (omega arith, omega arith)
 
 good_command : {A : Type 0} (c : Command A) → Fits c → IsHeld c → AreGood 1 (command_elements c)
@@ -148,26 +154,36 @@ data_set_again es false e = (0x0101, record { fits = omega arith; is = e }, refl
 field_small : (m : Message) → field_of m < 2 ^ 16
 field_small GetRequest = omega arith
 field_small GetResponse = omega arith
+field_small SetRequest = omega arith
+field_small SetResponse = omega arith
+field_small ActionRequest = omega arith
+field_small ActionResponse = omega arith
 field_small CreateRequest = omega arith
 field_small CreateResponse = omega arith
 field_small EchoRequest = omega arith
 field_small EchoResponse = omega arith
+
+-- an element does not hide one of another number behind it
+skip : (n k : ℕ) (v : List ℕ) (es : List CommandElement) → eqb k n ≡ false → value_in n (record { number = k; value = v } ∷ es) ≡ value_in n es
+skip n k v es e = ap (λ (b : Bool). cond b (Some v) (value_in n es)) e
 
 -- the elements that are an operation's own, by a number that they may have
 own_none : {A : Type 0} (n : ℕ) (o : Operation A) → n < 0x1000 → value_in n (operation_elements o) ≡ None
 own_none n (operations.Create i) l = not_uid n 0x1000 i (ne_eqb 0x1000 n (λ e. omega (arith, l, e)))
 own_none n (operations.Get i ts) l =
     past n 0x1001 i (tags_element 0x1005 ts) (ne_eqb 0x1001 n (λ e. omega (arith, l, e))) ∙ not_tags n 0x1005 ts (ne_eqb 0x1005 n (λ e. omega (arith, l, e)))
+own_none n (operations.Set i) l = not_uid n 0x1001 i (ne_eqb 0x1001 n (λ e. omega (arith, l, e)))
+own_none n (operations.Action i a) l =
+    past n 0x1001 i (us_element 0x1008 a ∷ []) (ne_eqb 0x1001 n (λ e. omega (arith, l, e))) ∙ skip n 0x1008 (to_le_bytes w16 a) [] (ne_eqb 0x1008 n (λ e. omega (arith, l, e)))
 own_none n operations.Echo l = refl
 
 own_result_none : (n : ℕ) (o : OperationResult) → n < 0x1000 → value_in n (result_elements o) ≡ None
 own_result_none n (results.Create i) l = not_uid n 0x1000 i (ne_eqb 0x1000 n (λ e. omega (arith, l, e)))
 own_result_none n (results.Get i) l = not_uid n 0x1000 i (ne_eqb 0x1000 n (λ e. omega (arith, l, e)))
+own_result_none n (results.Set i) l = not_uid n 0x1000 i (ne_eqb 0x1000 n (λ e. omega (arith, l, e)))
+own_result_none n (results.Action i a) l =
+    past n 0x1000 i (us_element 0x1008 a ∷ []) (ne_eqb 0x1000 n (λ e. omega (arith, l, e))) ∙ skip n 0x1008 (to_le_bytes w16 a) [] (ne_eqb 0x1008 n (λ e. omega (arith, l, e)))
 own_result_none n results.Echo l = refl
-
--- the elements before them hide none of theirs
-skip : (n k : ℕ) (v : List ℕ) (es : List CommandElement) → eqb k n ≡ false → value_in n (record { number = k; value = v } ∷ es) ≡ value_in n es
-skip n k v es e = ap (λ (b : Bool). cond b (Some v) (value_in n es)) e
 
 -- the numbers behind the class
 after_class : {A : Type 0} (r : RequestCommand A) (n : ℕ) → 0x0100 ≤ n → value_in n (grouped (request_elements r)) ≡ value_in n (us_element 0x0100 (field_of (request_of r.operation)) ∷ us_element 0x0110 r.message_id ∷ data_set_element r.has_data_set ∷ operation_elements r.operation)
@@ -210,11 +226,21 @@ operation_again es (operations.Get i ts) same h = (
   uid_by es 0x1001 i h.0 (same 0x1001 (omega arith) ∙ here 0x1001 i (tags_element 0x1005 ts) refl (not_tags 0x1001 0x1005 ts refl)),
   subst (λ (l : List ℕ). Each IsTagAt l ts) (sym (ap (λ (o : Option (List ℕ)). unwrap_or o []) (same 0x1005 (omega arith) ∙ past 0x1005 0x1001 i (tags_element 0x1005 ts) refl) ∙ tags_value 0x1005 ts refl)) (tags_again ts h.1),
 )
+operation_again es (operations.Set i) same h = uid_by es 0x1001 i h (same 0x1001 (omega arith) ∙ only_here 0x1001 i refl)
+operation_again es (operations.Action i a) same h = (
+  uid_by es 0x1001 i h.0 (same 0x1001 (omega arith) ∙ here 0x1001 i (us_element 0x1008 a ∷ []) refl refl),
+  record { fits = h.1; is = same 0x1008 (omega arith) ∙ past 0x1008 0x1001 i (us_element 0x1008 a ∷ []) refl },
+)
 operation_again es operations.Echo same h = tt
 
 result_again : (es : List CommandElement) (o : OperationResult) → ((n : ℕ) → 0x1000 ≤ n → value_in n es ≡ value_in n (result_elements o)) → IsHeldResult o → HasResult es o
 result_again es (results.Create i) same h = uid_by es 0x1000 i h (same 0x1000 (omega arith) ∙ only_here 0x1000 i refl)
 result_again es (results.Get i) same h = uid_by es 0x1000 i h (same 0x1000 (omega arith) ∙ only_here 0x1000 i refl)
+result_again es (results.Set i) same h = uid_by es 0x1000 i h (same 0x1000 (omega arith) ∙ only_here 0x1000 i refl)
+result_again es (results.Action i a) same h = (
+  uid_by es 0x1000 i h.0 (same 0x1000 (omega arith) ∙ here 0x1000 i (us_element 0x1008 a ∷ []) refl refl),
+  record { fits = h.1; is = same 0x1008 (omega arith) ∙ past 0x1008 0x1000 i (us_element 0x1008 a ∷ []) refl },
+)
 result_again es results.Echo same h = tt
 
 -- the class of a request stands first, and nowhere else
@@ -224,6 +250,10 @@ class_by_operation sop_class id there (operations.Create i) =
     here 0x0002 sop_class (us_element 0x0100 0x0140 ∷ us_element 0x0110 id ∷ data_set_element there ∷ uid_element 0x1000 i) refl (own_none {A = ℕ} 0x0002 (operations.Create i) (omega arith))
 class_by_operation sop_class id there (operations.Get i ts) =
     here 0x0003 sop_class (us_element 0x0100 0x0110 ∷ us_element 0x0110 id ∷ data_set_element there ∷ (uid_element 0x1001 i ++ tags_element 0x1005 ts)) refl (own_none {A = ℕ} 0x0003 (operations.Get i ts) (omega arith))
+class_by_operation sop_class id there (operations.Set i) =
+    here 0x0003 sop_class (us_element 0x0100 0x0120 ∷ us_element 0x0110 id ∷ data_set_element there ∷ uid_element 0x1001 i) refl (own_none {A = ℕ} 0x0003 (operations.Set i) (omega arith))
+class_by_operation sop_class id there (operations.Action i a) =
+    here 0x0003 sop_class (us_element 0x0100 0x0130 ∷ us_element 0x0110 id ∷ data_set_element there ∷ (uid_element 0x1001 i ++ us_element 0x1008 a ∷ [])) refl (own_none {A = ℕ} 0x0003 (operations.Action i a) (omega arith))
 class_by_operation sop_class id there operations.Echo =
     here 0x0002 sop_class (us_element 0x0100 0x0030 ∷ us_element 0x0110 id ∷ data_set_element there ∷ []) refl (own_none {A = ℕ} 0x0002 operations.Echo (omega arith))
 

@@ -18,7 +18,7 @@ use Rattle.ups_dimse.specs.declared.message.Message.TheVariants.{GetRequest}
 use Rattle.ups_dimse.specs.Elements.{CommandElement, SpellsElements}
 use Rattle.ups_dimse.specs.Messages.{Need, has_us, may_have_at, field_of, needs}
 use Rattle.ups_dimse.specs.Values.{HasUs, UsFails, HasUid, HasDataSet, HasTags, TagsFail}
-use Rattle.ups_dimse.specs.Commands.{request_of, response_of, IsRequest, IsCommand, SpellsCommand, HasOperation}
+use Rattle.ups_dimse.specs.Commands.{request_of, response_of, IsRequest, IsCommand, SpellsCommand, HasOperation, HasResult}
 use Rattle.ups_dimse.specs.Faults.{Holds, Fails, FirstFails, ElementsFail, IsFault, Gives}
 use Rattle.ups_dimse.proofs.AttributeTags.{tags_fours}
 use Rattle.ups_dimse.proofs.Unique.{one_us, one_message, one_command}
@@ -52,16 +52,20 @@ message_of (Response r) = response_of r.result
 operation_holds : {A : Type 0} (es : List CommandElement) (o : Operation A) (id : ℕ) (there : Rattle.std.proofs.Common.Bool) → HasUs es 0x0110 id → HasDataSet es there → HasOperation es o → AllHold es (needs (request_of o))
 operation_holds es (operations.Create i) id there h d k = ((id, h), ((d.0, d.1), tt))
 operation_holds es (operations.Get i ts) id there h d k = ((id, h), ((d.0, d.1), ((ts, k.1), tt)))
+operation_holds es (operations.Set i) id there h d k = ((id, h), ((d.0, d.1), tt))
+operation_holds es (operations.Action i a) id there h d k = ((id, h), ((d.0, d.1), ((a, k.1), tt)))
 operation_holds es operations.Echo id there h d k = ((id, h), ((d.0, d.1), tt))
 
-result_holds : (es : List CommandElement) (o : OperationResult) (id status : ℕ) (there : Rattle.std.proofs.Common.Bool) → HasUs es 0x0120 id → HasDataSet es there → HasUs es 0x0900 status → AllHold es (needs (response_of o))
-result_holds es (results.Create i) id status there h d s = ((id, h), ((d.0, d.1), ((status, s), tt)))
-result_holds es (results.Get i) id status there h d s = ((id, h), ((d.0, d.1), ((status, s), tt)))
-result_holds es results.Echo id status there h d s = ((id, h), ((d.0, d.1), ((status, s), tt)))
+result_holds : (es : List CommandElement) (o : OperationResult) (id status : ℕ) (there : Rattle.std.proofs.Common.Bool) → HasUs es 0x0120 id → HasDataSet es there → HasUs es 0x0900 status → HasResult es o → AllHold es (needs (response_of o))
+result_holds es (results.Create i) id status there h d s k = ((id, h), ((d.0, d.1), ((status, s), tt)))
+result_holds es (results.Get i) id status there h d s k = ((id, h), ((d.0, d.1), ((status, s), tt)))
+result_holds es (results.Set i) id status there h d s k = ((id, h), ((d.0, d.1), ((status, s), tt)))
+result_holds es (results.Action i a) id status there h d s k = ((id, h), ((d.0, d.1), ((status, s), ((a, k.1), tt))))
+result_holds es results.Echo id status there h d s k = ((id, h), ((d.0, d.1), ((status, s), tt)))
 
 command_holds : {A : Type 0} (es : List CommandElement) (c : Command A) → IsCommand es c → AllHold es (needs (message_of c))
 command_holds es (Request r) p = operation_holds es r.operation r.message_id r.has_data_set p.message_id p.data_set p.operation
-command_holds es (Response r) p = result_holds es r.result r.responded_to r.status r.has_data_set p.responded_to p.data_set p.status
+command_holds es (Response r) p = result_holds es r.result r.responded_to r.status r.has_data_set p.responded_to p.data_set p.status p.operation
 
 command_field : {A : Type 0} (es : List CommandElement) (c : Command A) → IsCommand es c → HasUs es 0x0100 (field_of (message_of c))
 command_field es (Request r) p = p.field

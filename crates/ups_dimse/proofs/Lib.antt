@@ -5,3 +5,4 @@ pub mod Sizes
 pub mod UidText
 pub mod Unique
 pub mod Walk
+mod Worked

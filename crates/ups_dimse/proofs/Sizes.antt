@@ -17,7 +17,7 @@ use Rattle.ups_dimse.specs.declared.command.OperationResult.TheVariants as resul
 use Rattle.ups_dimse.specs.Elements.{CommandElement, command_tag}
 use Rattle.ups_dimse.specs.Commands.{class_element}
 use Rattle.ups_dimse.specs.Held.{IsHeldTag, IsHeldOperation, IsHeldResult, IsHeld}
-use Rattle.ups_dimse.specs.Written.{written_element, uid_element, tags_element, operation_elements, result_elements, command_elements, tags_of, Fits}
+use Rattle.ups_dimse.specs.Written.{written_element, us_element, uid_element, tags_element, operation_elements, result_elements, command_elements, tags_of, Fits}
 use Rattle.ups_dimse.proofs.UidText.{padded_short}
 
 pub length-tags : (ts : List Tag) → length (flat_map tag_bytes ts) ≡ 4 * length ts
@@ -64,14 +64,21 @@ tags_size : (n : ℕ) (ts : List Tag) → length (flat_map written_element (tags
 tags_size n [] = omega arith
 tags_size n (t ∷ ts) = omega (arith, length-tags (t ∷ ts), length-append (written_element (record { number = n; value = flat_map tag_bytes (t ∷ ts) })) [])
 
-operation_size : {A : Type 0} (o : Operation A) → IsHeldOperation o → length (flat_map written_element (operation_elements o)) ≤ 81 + 4 * length (tags_of o)
+uid_us_size : (n m : ℕ) (o : Option (List ℕ)) (v : ℕ) → IfSome o IsUid → length (flat_map written_element (uid_element n o ++ us_element m v ∷ [])) ≤ 83
+uid_us_size n m o v h = rw (flat_map-append written_element (uid_element n o) (us_element m v ∷ [])) (omega (arith, uid_size n o h, length-append (flat_map written_element (uid_element n o)) (flat_map written_element (us_element m v ∷ []))))
+
+operation_size : {A : Type 0} (o : Operation A) → IsHeldOperation o → length (flat_map written_element (operation_elements o)) ≤ 83 + 4 * length (tags_of o)
 operation_size (operations.Create i) h = omega (arith, uid_size 0x1000 i h)
 operation_size (operations.Get i ts) h = rw (flat_map-append written_element (uid_element 0x1001 i) (tags_element 0x1005 ts)) (omega (arith, uid_size 0x1001 i h.0, tags_size 0x1005 ts, length-append (flat_map written_element (uid_element 0x1001 i)) (flat_map written_element (tags_element 0x1005 ts))))
+operation_size (operations.Set i) h = omega (arith, uid_size 0x1001 i h)
+operation_size (operations.Action i a) h = uid_us_size 0x1001 0x1008 i a h.0
 operation_size operations.Echo h = omega arith
 
-result_size : (o : OperationResult) → IsHeldResult o → length (flat_map written_element (result_elements o)) ≤ 73
-result_size (results.Create i) h = uid_size 0x1000 i h
-result_size (results.Get i) h = uid_size 0x1000 i h
+result_size : (o : OperationResult) → IsHeldResult o → length (flat_map written_element (result_elements o)) ≤ 83
+result_size (results.Create i) h = omega (arith, uid_size 0x1000 i h)
+result_size (results.Get i) h = omega (arith, uid_size 0x1000 i h)
+result_size (results.Set i) h = omega (arith, uid_size 0x1000 i h)
+result_size (results.Action i a) h = uid_us_size 0x1000 0x1008 i a h.0
 result_size results.Echo h = omega arith
 
 pub command_short : {A : Type 0} (c : Command A) → Fits c → IsHeld c → length (flat_map written_element (command_elements c)) < 2 ^ 32

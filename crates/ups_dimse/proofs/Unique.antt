@@ -13,7 +13,7 @@ use Rattle.ups_dimse.specs.declared.command.Operation.TheVariants as operations
 use Rattle.ups_dimse.specs.declared.command.OperationResult.{OperationResult}
 use Rattle.ups_dimse.specs.declared.command.OperationResult.TheVariants as results
 use Rattle.ups_dimse.specs.declared.message.Message.{Message}
-use Rattle.ups_dimse.specs.declared.message.Message.TheVariants.{GetRequest, GetResponse, CreateRequest, CreateResponse, EchoRequest, EchoResponse}
+use Rattle.ups_dimse.specs.declared.message.Message.TheVariants.{GetRequest, GetResponse, SetRequest, SetResponse, ActionRequest, ActionResponse, CreateRequest, CreateResponse, EchoRequest, EchoResponse}
 use Rattle.ups_dimse.specs.Elements.{CommandElement}
 use Rattle.ups_dimse.specs.Messages.{field_of}
 use Rattle.ups_dimse.specs.Values.{HasUs, HasUid, HasDataSet}
@@ -23,11 +23,15 @@ use Rattle.ups_dimse.proofs.Walk.{one_list}
 
 -- a message back from its field
 abbrev message_at : ℕ → Option Message
-message_at field = cond (eqb field 0x0110) (Some GetRequest) (cond (eqb field 0x8110) (Some GetResponse) (cond (eqb field 0x0140) (Some CreateRequest) (cond (eqb field 0x8140) (Some CreateResponse) (cond (eqb field 0x0030) (Some EchoRequest) (Some EchoResponse)))))
+message_at field = cond (eqb field 0x0110) (Some GetRequest) (cond (eqb field 0x8110) (Some GetResponse) (cond (eqb field 0x0120) (Some SetRequest) (cond (eqb field 0x8120) (Some SetResponse) (cond (eqb field 0x0130) (Some ActionRequest) (cond (eqb field 0x8130) (Some ActionResponse) (cond (eqb field 0x0140) (Some CreateRequest) (cond (eqb field 0x8140) (Some CreateResponse) (cond (eqb field 0x0030) (Some EchoRequest) (Some EchoResponse)))))))))
 
 message_again : (m : Message) → message_at (field_of m) ≡ Some m
 message_again GetRequest = refl
 message_again GetResponse = refl
+message_again SetRequest = refl
+message_again SetResponse = refl
+message_again ActionRequest = refl
+message_again ActionResponse = refl
 message_again CreateRequest = refl
 message_again CreateResponse = refl
 message_again EchoRequest = refl
@@ -57,24 +61,62 @@ one_operation es (operations.Get i ts) (operations.Get j bs) e h k =
     let same = one_uid es 0x1001 i j h.0 k.0 in
     let tags = one_tags _ ts bs h.1 k.1 in
     λ t. operations.Get (same t) (tags t)
-one_operation es (operations.Create i) (operations.Get j bs) e h k = cc
-one_operation es (operations.Get i ts) (operations.Create j) e h k = cc
+one_operation es (operations.Set i) (operations.Set j) e h k = let same = one_uid es 0x1001 i j h k in λ t. operations.Set (same t)
+one_operation es (operations.Action i a) (operations.Action j b) e h k =
+    let same = one_uid es 0x1001 i j h.0 k.0 in
+    let action = one_us es 0x1008 a b h.1 k.1 in
+    λ t. operations.Action (same t) (action t)
 one_operation es operations.Echo operations.Echo e h k = refl
+one_operation es (operations.Create i) (operations.Get j bs) e h k = cc
+one_operation es (operations.Create i) (operations.Set j) e h k = cc
+one_operation es (operations.Create i) (operations.Action j b) e h k = cc
+one_operation es (operations.Create i) operations.Echo e h k = cc
+one_operation es (operations.Get i ts) (operations.Create j) e h k = cc
+one_operation es (operations.Get i ts) (operations.Set j) e h k = cc
+one_operation es (operations.Get i ts) (operations.Action j b) e h k = cc
+one_operation es (operations.Get i ts) operations.Echo e h k = cc
+one_operation es (operations.Set i) (operations.Create j) e h k = cc
+one_operation es (operations.Set i) (operations.Get j bs) e h k = cc
+one_operation es (operations.Set i) (operations.Action j b) e h k = cc
+one_operation es (operations.Set i) operations.Echo e h k = cc
+one_operation es (operations.Action i a) (operations.Create j) e h k = cc
+one_operation es (operations.Action i a) (operations.Get j bs) e h k = cc
+one_operation es (operations.Action i a) (operations.Set j) e h k = cc
+one_operation es (operations.Action i a) operations.Echo e h k = cc
 one_operation es operations.Echo (operations.Create j) e h k = cc
 one_operation es operations.Echo (operations.Get j bs) e h k = cc
-one_operation es (operations.Create i) operations.Echo e h k = cc
-one_operation es (operations.Get i ts) operations.Echo e h k = cc
+one_operation es operations.Echo (operations.Set j) e h k = cc
+one_operation es operations.Echo (operations.Action j b) e h k = cc
 
 one_result : (es : List CommandElement) (o p : OperationResult) → response_of o ≡ response_of p → HasResult es o → HasResult es p → o ≡ p
 one_result es (results.Create i) (results.Create j) e h k = let same = one_uid es 0x1000 i j h k in λ t. results.Create (same t)
 one_result es (results.Get i) (results.Get j) e h k = let same = one_uid es 0x1000 i j h k in λ t. results.Get (same t)
-one_result es (results.Create i) (results.Get j) e h k = cc
-one_result es (results.Get i) (results.Create j) e h k = cc
+one_result es (results.Set i) (results.Set j) e h k = let same = one_uid es 0x1000 i j h k in λ t. results.Set (same t)
+one_result es (results.Action i a) (results.Action j b) e h k =
+    let same = one_uid es 0x1000 i j h.0 k.0 in
+    let action = one_us es 0x1008 a b h.1 k.1 in
+    λ t. results.Action (same t) (action t)
 one_result es results.Echo results.Echo e h k = refl
+one_result es (results.Create i) (results.Get j) e h k = cc
+one_result es (results.Create i) (results.Set j) e h k = cc
+one_result es (results.Create i) (results.Action j b) e h k = cc
+one_result es (results.Create i) results.Echo e h k = cc
+one_result es (results.Get i) (results.Create j) e h k = cc
+one_result es (results.Get i) (results.Set j) e h k = cc
+one_result es (results.Get i) (results.Action j b) e h k = cc
+one_result es (results.Get i) results.Echo e h k = cc
+one_result es (results.Set i) (results.Create j) e h k = cc
+one_result es (results.Set i) (results.Get j) e h k = cc
+one_result es (results.Set i) (results.Action j b) e h k = cc
+one_result es (results.Set i) results.Echo e h k = cc
+one_result es (results.Action i a) (results.Create j) e h k = cc
+one_result es (results.Action i a) (results.Get j) e h k = cc
+one_result es (results.Action i a) (results.Set j) e h k = cc
+one_result es (results.Action i a) results.Echo e h k = cc
 one_result es results.Echo (results.Create j) e h k = cc
 one_result es results.Echo (results.Get j) e h k = cc
-one_result es (results.Create i) results.Echo e h k = cc
-one_result es (results.Get i) results.Echo e h k = cc
+one_result es results.Echo (results.Set j) e h k = cc
+one_result es results.Echo (results.Action j b) e h k = cc
 
 one_request : {A : Type 0} (es : List CommandElement) (r s : RequestCommand A) → IsRequest es r → IsRequest es s → r ≡ s
 one_request es r s p q =
@@ -103,12 +145,28 @@ request_response es r s p q =
     not_both : {A : Type 0} (o : Operation A) (p : OperationResult) → request_of o ≡ response_of p → ⊥
     not_both (operations.Create i) (results.Create j) e = cc
     not_both (operations.Create i) (results.Get j) e = cc
+    not_both (operations.Create i) (results.Set j) e = cc
+    not_both (operations.Create i) (results.Action j b) e = cc
+    not_both (operations.Create i) results.Echo e = cc
     not_both (operations.Get i ts) (results.Create j) e = cc
     not_both (operations.Get i ts) (results.Get j) e = cc
-    not_both (operations.Create i) results.Echo e = cc
+    not_both (operations.Get i ts) (results.Set j) e = cc
+    not_both (operations.Get i ts) (results.Action j b) e = cc
     not_both (operations.Get i ts) results.Echo e = cc
+    not_both (operations.Set i) (results.Create j) e = cc
+    not_both (operations.Set i) (results.Get j) e = cc
+    not_both (operations.Set i) (results.Set j) e = cc
+    not_both (operations.Set i) (results.Action j b) e = cc
+    not_both (operations.Set i) results.Echo e = cc
+    not_both (operations.Action i a) (results.Create j) e = cc
+    not_both (operations.Action i a) (results.Get j) e = cc
+    not_both (operations.Action i a) (results.Set j) e = cc
+    not_both (operations.Action i a) (results.Action j b) e = cc
+    not_both (operations.Action i a) results.Echo e = cc
     not_both operations.Echo (results.Create j) e = cc
     not_both operations.Echo (results.Get j) e = cc
+    not_both operations.Echo (results.Set j) e = cc
+    not_both operations.Echo (results.Action j b) e = cc
     not_both operations.Echo results.Echo e = cc
 
 one_of_elements : {A : Type 0} (es : List CommandElement) (c d : Command A) → IsCommand es c → IsCommand es d → c ≡ d

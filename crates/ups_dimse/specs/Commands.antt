@@ -9,7 +9,7 @@ use Rattle.ups_dimse.specs.declared.command.Operation.TheVariants as operations
 use Rattle.ups_dimse.specs.declared.command.OperationResult.{OperationResult}
 use Rattle.ups_dimse.specs.declared.command.OperationResult.TheVariants as results
 use Rattle.ups_dimse.specs.declared.message.Message.{Message}
-use Rattle.ups_dimse.specs.declared.message.Message.TheVariants.{GetRequest, GetResponse, CreateRequest, CreateResponse, EchoRequest, EchoResponse}
+use Rattle.ups_dimse.specs.declared.message.Message.TheVariants.{GetRequest, GetResponse, SetRequest, SetResponse, ActionRequest, ActionResponse, CreateRequest, CreateResponse, EchoRequest, EchoResponse}
 use Rattle.ups_dimse.specs.Elements.{CommandElement, SpellsElements}
 use Rattle.ups_dimse.specs.Messages.{field_of}
 use Rattle.ups_dimse.specs.Values.{HasUs, HasUid, HasDataSet, HasTags}
@@ -18,32 +18,42 @@ use Rattle.ups_dimse.specs.Values.{HasUs, HasUid, HasDataSet, HasTags}
 abbrev pub request_of : {A : Type 0} → Operation A → Message
 request_of (operations.Create instance) = CreateRequest
 request_of (operations.Get instance attributes) = GetRequest
+request_of (operations.Set instance) = SetRequest
+request_of (operations.Action instance action) = ActionRequest
 request_of operations.Echo = EchoRequest
 
 -- the message that responds with a result
 abbrev pub response_of : OperationResult → Message
 response_of (results.Create instance) = CreateResponse
 response_of (results.Get instance) = GetResponse
+response_of (results.Set instance) = SetResponse
+response_of (results.Action instance action) = ActionResponse
 response_of results.Echo = EchoResponse
 
 -- the element that names the SOP class of a request: Affected (0002) or Requested (0003) SOP Class UID
 abbrev pub class_element : {A : Type 0} → Operation A → ℕ
 class_element (operations.Create instance) = 0x0002
 class_element (operations.Get instance attributes) = 0x0003
+class_element (operations.Set instance) = 0x0003
+class_element (operations.Action instance action) = 0x0003
 class_element operations.Echo = 0x0002
 
 -- the elements of a request that are its operation's own: Affected (1000) or Requested (1001) SOP Instance UID,
--- Attribute Identifier List (1005). A C-ECHO has none (PS3.7 section 9.3.5.1).
+-- Attribute Identifier List (1005), Action Type ID (1008). A C-ECHO has none (PS3.7 section 9.3.5.1).
 abbrev pub HasOperation : {A : Type 0} → List CommandElement → Operation A → Type 0
 HasOperation elements (operations.Create instance) = HasUid elements 0x1000 instance
 HasOperation elements (operations.Get instance attributes) = HasUid elements 0x1001 instance × HasTags elements 0x1005 attributes
+HasOperation elements (operations.Set instance) = HasUid elements 0x1001 instance
+HasOperation elements (operations.Action instance action) = HasUid elements 0x1001 instance × HasUs elements 0x1008 action
 HasOperation elements operations.Echo = Unit {0}
 
--- the elements of a response that are its operation's own: Affected SOP Instance UID (1000). A C-ECHO has none
--- (PS3.7 section 9.3.5.2).
+-- the elements of a response that are its operation's own: Affected SOP Instance UID (1000), Action Type ID (1008). A
+-- C-ECHO has none (PS3.7 section 9.3.5.2).
 abbrev pub HasResult : List CommandElement → OperationResult → Type 0
 HasResult elements (results.Create instance) = HasUid elements 0x1000 instance
 HasResult elements (results.Get instance) = HasUid elements 0x1000 instance
+HasResult elements (results.Set instance) = HasUid elements 0x1000 instance
+HasResult elements (results.Action instance action) = HasUid elements 0x1000 instance × HasUs elements 0x1008 action
 HasResult elements results.Echo = Unit {0}
 
 -- a request: its SOP class, Command Field (0100), Message ID (0110), Command Data Set Type (0800), and its operation's
@@ -80,4 +90,6 @@ pub record SpellsCommand {A : Type 0} (bytes : List ℕ) (command : Command A) :
 abbrev pub result_of : {A : Type 0} → Operation A → OperationResult
 result_of (operations.Create instance) = results.Create instance
 result_of (operations.Get instance attributes) = results.Get instance
+result_of (operations.Set instance) = results.Set instance
+result_of (operations.Action instance action) = results.Action instance action
 result_of operations.Echo = results.Echo

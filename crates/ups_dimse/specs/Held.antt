@@ -25,12 +25,16 @@ AreHeldTags tags = All IsHeldTag tags
 abbrev pub IsHeldOperation : {A : Type 0} → Operation A → Type 0
 IsHeldOperation (operations.Create instance) = IfSome instance IsUid
 IsHeldOperation (operations.Get instance attributes) = IfSome instance IsUid × AreHeldTags attributes
+IsHeldOperation (operations.Set instance) = IfSome instance IsUid
+IsHeldOperation (operations.Action instance action) = IfSome instance IsUid × (action < 2 ^ 16)
 IsHeldOperation operations.Echo = Unit {0}
 
 -- what is a result's own
 abbrev pub IsHeldResult : OperationResult → Type 0
 IsHeldResult (results.Create instance) = IfSome instance IsUid
 IsHeldResult (results.Get instance) = IfSome instance IsUid
+IsHeldResult (results.Set instance) = IfSome instance IsUid
+IsHeldResult (results.Action instance action) = IfSome instance IsUid × (action < 2 ^ 16)
 IsHeldResult results.Echo = Unit {0}
 
 -- a request

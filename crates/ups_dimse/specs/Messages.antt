@@ -2,12 +2,16 @@
 -- and 10.3).
 use Rattle.std.specs.Prelude.{ℕ, List, [], ◌∷◌}
 use Rattle.ups_dimse.specs.declared.message.Message.{Message}
-use Rattle.ups_dimse.specs.declared.message.Message.TheVariants.{GetRequest, GetResponse, CreateRequest, CreateResponse, EchoRequest, EchoResponse}
+use Rattle.ups_dimse.specs.declared.message.Message.TheVariants.{GetRequest, GetResponse, SetRequest, SetResponse, ActionRequest, ActionResponse, CreateRequest, CreateResponse, EchoRequest, EchoResponse}
 
 -- Command Field (0000,0100). That of a response has its highest bit set.
 abbrev pub field_of : Message → ℕ
 field_of GetRequest = 0x0110
 field_of GetResponse = 0x8110
+field_of SetRequest = 0x0120
+field_of SetResponse = 0x8120
+field_of ActionRequest = 0x0130
+field_of ActionResponse = 0x8130
 field_of CreateRequest = 0x0140
 field_of CreateResponse = 0x8140
 field_of EchoRequest = 0x0030
@@ -19,10 +23,14 @@ pub data Need : Type 0 where
   may_have_at : ℕ → Need
 
 -- the elements of a message that can be at fault, by rising numbers: Message ID (0110), Message ID Being Responded To
--- (0120), Command Data Set Type (0800), Status (0900), Attribute Identifier List (1005)
+-- (0120), Command Data Set Type (0800), Status (0900), Attribute Identifier List (1005), Action Type ID (1008)
 abbrev pub needs : Message → List Need
 needs GetRequest = has_us 0x0110 ∷ has_us 0x0800 ∷ may_have_at 0x1005 ∷ []
 needs GetResponse = has_us 0x0120 ∷ has_us 0x0800 ∷ has_us 0x0900 ∷ []
+needs SetRequest = has_us 0x0110 ∷ has_us 0x0800 ∷ []
+needs SetResponse = has_us 0x0120 ∷ has_us 0x0800 ∷ has_us 0x0900 ∷ []
+needs ActionRequest = has_us 0x0110 ∷ has_us 0x0800 ∷ has_us 0x1008 ∷ []
+needs ActionResponse = has_us 0x0120 ∷ has_us 0x0800 ∷ has_us 0x0900 ∷ has_us 0x1008 ∷ []
 needs CreateRequest = has_us 0x0110 ∷ has_us 0x0800 ∷ []
 needs CreateResponse = has_us 0x0120 ∷ has_us 0x0800 ∷ has_us 0x0900 ∷ []
 needs EchoRequest = has_us 0x0110 ∷ has_us 0x0800 ∷ []

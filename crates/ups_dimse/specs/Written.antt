@@ -42,16 +42,20 @@ tags_element number (tag ∷ tags) = record { number = number; value = flat_map 
 abbrev pub data_set_element : Bool → CommandElement
 data_set_element there = us_element 0x0800 (if there then 0x0001 else 0x0101)
 
--- the elements that are an operation's own (PS3.7 sections 9.3.5.1, 10.3.2.1 and 10.3.5.1)
+-- the elements that are an operation's own (PS3.7 sections 9.3.5.1, 10.3.2.1, 10.3.3.1, 10.3.4.1 and 10.3.5.1)
 abbrev pub operation_elements : {A : Type 0} → Operation A → List CommandElement
 operation_elements (operations.Create instance) = uid_element 0x1000 instance
 operation_elements (operations.Get instance attributes) = uid_element 0x1001 instance ++ tags_element 0x1005 attributes
+operation_elements (operations.Set instance) = uid_element 0x1001 instance
+operation_elements (operations.Action instance action) = uid_element 0x1001 instance ++ us_element 0x1008 action ∷ []
 operation_elements operations.Echo = []
 
--- the elements that are a result's own (PS3.7 sections 9.3.5.2, 10.3.2.2 and 10.3.5.2)
+-- the elements that are a result's own (PS3.7 sections 9.3.5.2, 10.3.2.2, 10.3.3.2, 10.3.4.2 and 10.3.5.2)
 abbrev pub result_elements : OperationResult → List CommandElement
 result_elements (results.Create instance) = uid_element 0x1000 instance
 result_elements (results.Get instance) = uid_element 0x1000 instance
+result_elements (results.Set instance) = uid_element 0x1000 instance
+result_elements (results.Action instance action) = uid_element 0x1000 instance ++ us_element 0x1008 action ∷ []
 result_elements results.Echo = []
 
 -- the elements of a request, by rising numbers
@@ -81,6 +85,8 @@ written command = flat_map written_element (grouped (command_elements command))
 abbrev pub tags_of : {A : Type 0} → Operation A → List Tag
 tags_of (operations.Create instance) = []
 tags_of (operations.Get instance attributes) = attributes
+tags_of (operations.Set instance) = []
+tags_of (operations.Action instance action) = []
 tags_of operations.Echo = []
 
 -- The length of the elements fits the four bytes of Command Group Length, with 256 bytes left for those other than the

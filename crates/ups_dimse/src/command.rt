@@ -43,6 +43,18 @@ pub enum Operation<A: Allocator + Copy> {
         /// Attribute Identifier List (0000,1005); no tags where it is absent.
         attributes: Tags<A>,
     },
+    /// N-SET (PS3.7 section 10.3.3).
+    Set {
+        /// Requested SOP Instance UID (0000,1001); None where it is absent or malformed.
+        instance: Option<Uid>,
+    },
+    /// N-ACTION (PS3.7 section 10.3.4).
+    Action {
+        /// Requested SOP Instance UID (0000,1001); None where it is absent or malformed.
+        instance: Option<Uid>,
+        /// Action Type ID (0000,1008).
+        action: u16,
+    },
     /// C-ECHO (PS3.7 section 9.3.5): whether the other side answers. It has no instance.
     Echo,
 }
@@ -74,6 +86,18 @@ pub enum OperationResult {
     Get {
         /// Affected SOP Instance UID (0000,1000); None where it is absent or malformed.
         instance: Option<Uid>,
+    },
+    /// N-SET (PS3.7 section 10.3.3.2).
+    Set {
+        /// Affected SOP Instance UID (0000,1000); None where it is absent or malformed.
+        instance: Option<Uid>,
+    },
+    /// N-ACTION (PS3.7 section 10.3.4.2).
+    Action {
+        /// Affected SOP Instance UID (0000,1000); None where it is absent or malformed.
+        instance: Option<Uid>,
+        /// Action Type ID (0000,1008).
+        action: u16,
     },
     /// C-ECHO (PS3.7 section 9.3.5.2).
     Echo,
@@ -107,6 +131,8 @@ impl<A: Allocator + Copy> Operation<A> {
         match self {
             Operation::Create { .. } => Message::CreateRequest,
             Operation::Get { .. } => Message::GetRequest,
+            Operation::Set { .. } => Message::SetRequest,
+            Operation::Action { .. } => Message::ActionRequest,
             Operation::Echo => Message::EchoRequest,
         }
     }
@@ -117,7 +143,9 @@ impl<A: Allocator + Copy> Operation<A> {
     {
         match self {
             Operation::Create { .. } | Operation::Echo => AFFECTED_CLASS,
-            Operation::Get { .. } => REQUESTED_CLASS,
+            Operation::Get { .. } | Operation::Set { .. } | Operation::Action { .. } => {
+                REQUESTED_CLASS
+            }
         }
     }
 
@@ -126,8 +154,8 @@ impl<A: Allocator + Copy> Operation<A> {
         ensures { result ≡ length (tags_of self.now) }
     {
         match self {
-            Operation::Create { .. } | Operation::Echo => 0,
             Operation::Get { attributes, .. } => attributes.as_slice().len(),
+            _ => 0,
         }
     }
 }
@@ -143,6 +171,8 @@ impl OperationResult {
         match self {
             OperationResult::Create { .. } => Message::CreateResponse,
             OperationResult::Get { .. } => Message::GetResponse,
+            OperationResult::Set { .. } => Message::SetResponse,
+            OperationResult::Action { .. } => Message::ActionResponse,
             OperationResult::Echo => Message::EchoResponse,
         }
     }
@@ -154,7 +184,7 @@ impl<A: Allocator + Copy> RequestCommand<A> {
     ghost use Rattle.ups_dimse.specs.Commands.{result_of};
 
     /// The response to this request: of its SOP class, or of the one that is given where it names none; with its
-    /// message ID, its operation and its instance.
+    /// message ID, its operation, its instance and its action type.
     pub fn answered(&self, sop_class: Uid, status: u16, has_data_set: bool) -> ResponseCommand
         ensures class { result.sop_class ≡ Some (unwrap_or self.now.sop_class sop_class) }
         ensures responded_to { result.responded_to ≡ self.now.message_id }
@@ -168,6 +198,13 @@ impl<A: Allocator + Copy> RequestCommand<A> {
             },
             Operation::Get { instance, .. } => OperationResult::Get {
                 instance: *instance,
+            },
+            Operation::Set { instance } => OperationResult::Set {
+                instance: *instance,
+            },
+            Operation::Action { instance, action } => OperationResult::Action {
+                instance: *instance,
+                action: *action,
             },
             Operation::Echo => OperationResult::Echo,
         };

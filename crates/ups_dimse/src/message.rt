@@ -11,6 +11,14 @@ pub(crate) enum Message {
     GetRequest,
     /// N-GET-RSP (PS3.7 section 10.3.2.2).
     GetResponse,
+    /// N-SET-RQ (PS3.7 section 10.3.3.1).
+    SetRequest,
+    /// N-SET-RSP (PS3.7 section 10.3.3.2).
+    SetResponse,
+    /// N-ACTION-RQ (PS3.7 section 10.3.4.1).
+    ActionRequest,
+    /// N-ACTION-RSP (PS3.7 section 10.3.4.2).
+    ActionResponse,
     /// N-CREATE-RQ (PS3.7 section 10.3.5.1).
     CreateRequest,
     /// N-CREATE-RSP (PS3.7 section 10.3.5.2).
@@ -26,6 +34,14 @@ mod field {
     pub(super) const GET_REQUEST: u16 = 0x0110;
 
     pub(super) const GET_RESPONSE: u16 = 0x8110;
+
+    pub(super) const SET_REQUEST: u16 = 0x0120;
+
+    pub(super) const SET_RESPONSE: u16 = 0x8120;
+
+    pub(super) const ACTION_REQUEST: u16 = 0x0130;
+
+    pub(super) const ACTION_RESPONSE: u16 = 0x8130;
 
     pub(super) const CREATE_REQUEST: u16 = 0x0140;
 
@@ -44,6 +60,10 @@ impl Message {
         match self {
             Message::GetRequest => field::GET_REQUEST,
             Message::GetResponse => field::GET_RESPONSE,
+            Message::SetRequest => field::SET_REQUEST,
+            Message::SetResponse => field::SET_RESPONSE,
+            Message::ActionRequest => field::ACTION_REQUEST,
+            Message::ActionResponse => field::ACTION_RESPONSE,
             Message::CreateRequest => field::CREATE_REQUEST,
             Message::CreateResponse => field::CREATE_RESPONSE,
             Message::EchoRequest => field::ECHO_REQUEST,
@@ -58,6 +78,10 @@ impl Message {
         match field {
             field::GET_REQUEST => Some(Message::GetRequest),
             field::GET_RESPONSE => Some(Message::GetResponse),
+            field::SET_REQUEST => Some(Message::SetRequest),
+            field::SET_RESPONSE => Some(Message::SetResponse),
+            field::ACTION_REQUEST => Some(Message::ActionRequest),
+            field::ACTION_RESPONSE => Some(Message::ActionResponse),
             field::CREATE_REQUEST => Some(Message::CreateRequest),
             field::CREATE_RESPONSE => Some(Message::CreateResponse),
             field::ECHO_REQUEST => Some(Message::EchoRequest),

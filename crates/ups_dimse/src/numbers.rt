@@ -27,6 +27,8 @@ pub(crate) const AFFECTED_INSTANCE: u16 = 0x1000;
 pub(crate) const REQUESTED_INSTANCE: u16 = 0x1001;
 /// Attribute Identifier List, AT.
 pub(crate) const ATTRIBUTES: u16 = 0x1005;
+/// Action Type ID, US.
+pub(crate) const ACTION_TYPE: u16 = 0x1008;
 
 /// The tag of an element of a command set.
 pub(crate) fn command_tag(number: u16) -> Tag

@@ -7,34 +7,19 @@ ghost use Rattle.ups_dimse.specs.declared.fault.DimseFault.TheVariants.{Memory};
 ghost use Rattle.ups_dimse.specs.Elements.{CommandElement, SpellsElements};
 ghost use Rattle.ups_dimse.specs.Messages.{field_of, needs};
 ghost use Rattle.ups_dimse.specs.Values.{HasUs};
-ghost use Rattle.ups_dimse.specs.Commands.{HasResult, IsRequest, IsResponse, IsCommand, SpellsCommand, response_of};
+ghost use Rattle.ups_dimse.specs.Commands.{HasOperation, HasResult, IsRequest, IsResponse, IsCommand, SpellsCommand, request_of, response_of};
 ghost use Rattle.ups_dimse.specs.Faults.{FirstFails, Gives, IsFault};
-ghost use Rattle.ups_dimse.specs.declared.message.Message.TheVariants.{GetRequest, CreateRequest, EchoRequest};
+ghost use Rattle.ups_dimse.specs.declared.message.Message.TheVariants.{GetRequest, ActionRequest, ActionResponse};
 
 use crate::command::{Command, Operation, OperationResult, RequestCommand, ResponseCommand};
 use crate::elements::{are_elements, has_data_set, tags_of, uid_of, us_of};
 use crate::fault::DimseFault;
 use crate::message::Message;
 use crate::numbers::{
-    AFFECTED_CLASS, AFFECTED_INSTANCE, ATTRIBUTES, COMMAND_FIELD, GROUP_LENGTH, MESSAGE_ID,
-    REQUESTED_CLASS, REQUESTED_INSTANCE, RESPONDED_TO, STATUS, command_tag,
+    ACTION_TYPE, AFFECTED_CLASS, AFFECTED_INSTANCE, ATTRIBUTES, COMMAND_FIELD, GROUP_LENGTH,
+    MESSAGE_ID, REQUESTED_CLASS, REQUESTED_INSTANCE, RESPONDED_TO, STATUS, command_tag,
 };
 use std::alloc::Allocator;
-
-/// N-CREATE-RQ (PS3.7 section 10.3.5.1).
-fn create_request<A: Allocator + Copy>(bytes: &[u8]) -> Result<RequestCommand<A>, DimseFault>
-    ensures { (elements : List CommandElement) → SpellsElements 0 bytes.now elements [] → HasUs elements 0x0100 (field_of CreateRequest)
-        → MatchResult result (IsRequest elements) (FirstFails elements (needs CreateRequest)) }
-{
-    Ok(RequestCommand {
-        sop_class: uid_of(bytes, AFFECTED_CLASS),
-        message_id: us_of(bytes, MESSAGE_ID)?,
-        has_data_set: has_data_set(bytes)?,
-        operation: Operation::Create {
-            instance: uid_of(bytes, AFFECTED_INSTANCE),
-        },
-    })
-}
 
 /// N-GET-RQ (PS3.7 section 10.3.2.1).
 fn get_request<A: Allocator + Copy>(alloc: A, bytes: &[u8]) -> Result<RequestCommand<A>, DimseFault>
@@ -52,20 +37,56 @@ fn get_request<A: Allocator + Copy>(alloc: A, bytes: &[u8]) -> Result<RequestCom
     })
 }
 
-/// C-ECHO-RQ (PS3.7 section 9.3.5.1).
-fn echo_request<A: Allocator + Copy>(bytes: &[u8]) -> Result<RequestCommand<A>, DimseFault>
-    ensures { (elements : List CommandElement) → SpellsElements 0 bytes.now elements [] → HasUs elements 0x0100 (field_of EchoRequest)
-        → MatchResult result (IsRequest elements) (FirstFails elements (needs EchoRequest)) }
+/// N-ACTION-RQ (PS3.7 section 10.3.4.1).
+fn action_request<A: Allocator + Copy>(bytes: &[u8]) -> Result<RequestCommand<A>, DimseFault>
+    ensures { (elements : List CommandElement) → SpellsElements 0 bytes.now elements [] → HasUs elements 0x0100 (field_of ActionRequest)
+        → MatchResult result (IsRequest elements) (FirstFails elements (needs ActionRequest)) }
 {
     Ok(RequestCommand {
-        sop_class: uid_of(bytes, AFFECTED_CLASS),
+        sop_class: uid_of(bytes, REQUESTED_CLASS),
         message_id: us_of(bytes, MESSAGE_ID)?,
         has_data_set: has_data_set(bytes)?,
-        operation: Operation::Echo,
+        operation: Operation::Action {
+            instance: uid_of(bytes, REQUESTED_INSTANCE),
+            action: us_of(bytes, ACTION_TYPE)?,
+        },
     })
 }
 
-/// The response with this result (PS3.7 sections 9.3 and 10.3).
+/// The request for this operation, whose own elements were read (PS3.7 sections 9.3 and 10.3).
+fn request<A: Allocator + Copy>(
+    bytes: &[u8],
+    operation: Operation<A>,
+) -> Result<RequestCommand<A>, DimseFault>
+    ensures { (elements : List CommandElement) → SpellsElements 0 bytes.now elements [] → HasUs elements 0x0100 (field_of (request_of operation))
+        → HasOperation elements operation → MatchResult result (λ r. IsRequest elements r × (r.operation ≡ operation)) (FirstFails elements (needs (request_of operation))) }
+{
+    Ok(RequestCommand {
+        sop_class: uid_of(bytes, operation.class_element()),
+        message_id: us_of(bytes, MESSAGE_ID)?,
+        has_data_set: has_data_set(bytes)?,
+        operation,
+    })
+}
+
+/// N-ACTION-RSP (PS3.7 section 10.3.4.2).
+fn action_response(bytes: &[u8]) -> Result<ResponseCommand, DimseFault>
+    ensures { (elements : List CommandElement) → SpellsElements 0 bytes.now elements [] → HasUs elements 0x0100 (field_of ActionResponse)
+        → MatchResult result (IsResponse elements) (FirstFails elements (needs ActionResponse)) }
+{
+    Ok(ResponseCommand {
+        sop_class: uid_of(bytes, AFFECTED_CLASS),
+        responded_to: us_of(bytes, RESPONDED_TO)?,
+        has_data_set: has_data_set(bytes)?,
+        status: us_of(bytes, STATUS)?,
+        result: OperationResult::Action {
+            instance: uid_of(bytes, AFFECTED_INSTANCE),
+            action: us_of(bytes, ACTION_TYPE)?,
+        },
+    })
+}
+
+/// The response with this result, whose own elements were read (PS3.7 sections 9.3 and 10.3).
 fn response(bytes: &[u8], outcome: OperationResult) -> Result<ResponseCommand, DimseFault>
     ensures { (elements : List CommandElement) → SpellsElements 0 bytes.now elements [] → HasUs elements 0x0100 (field_of (response_of outcome))
         → HasResult elements outcome → MatchResult result (λ r. IsResponse elements r × (r.result ≡ outcome)) (FirstFails elements (needs (response_of outcome))) }
@@ -90,18 +111,34 @@ fn command_of<A: Allocator + Copy>(
 {
     match message {
         Message::GetRequest => Ok(Command::Request(get_request(alloc, bytes)?)),
-        Message::CreateRequest => Ok(Command::Request(create_request(bytes)?)),
-        Message::EchoRequest => Ok(Command::Request(echo_request(bytes)?)),
         Message::GetResponse => {
             let instance = uid_of(bytes, AFFECTED_INSTANCE);
             let outcome = OperationResult::Get { instance };
             Ok(Command::Response(response(bytes, outcome)?))
+        }
+        Message::SetRequest => {
+            let instance = uid_of(bytes, REQUESTED_INSTANCE);
+            let operation = Operation::Set { instance };
+            Ok(Command::Request(request(bytes, operation)?))
+        }
+        Message::SetResponse => {
+            let instance = uid_of(bytes, AFFECTED_INSTANCE);
+            let outcome = OperationResult::Set { instance };
+            Ok(Command::Response(response(bytes, outcome)?))
+        }
+        Message::ActionRequest => Ok(Command::Request(action_request(bytes)?)),
+        Message::ActionResponse => Ok(Command::Response(action_response(bytes)?)),
+        Message::CreateRequest => {
+            let instance = uid_of(bytes, AFFECTED_INSTANCE);
+            let operation = Operation::Create { instance };
+            Ok(Command::Request(request(bytes, operation)?))
         }
         Message::CreateResponse => {
             let instance = uid_of(bytes, AFFECTED_INSTANCE);
             let outcome = OperationResult::Create { instance };
             Ok(Command::Response(response(bytes, outcome)?))
         }
+        Message::EchoRequest => Ok(Command::Request(request(bytes, Operation::Echo)?)),
         Message::EchoResponse => Ok(Command::Response(response(bytes, OperationResult::Echo)?)),
     }
 }

@@ -36,6 +36,11 @@ const ATTRIBUTES: Tag = Tag {
     element: 0x1005,
 };
 
+const ACTION_TYPE: Tag = Tag {
+    group: 0,
+    element: 0x1008,
+};
+
 const CREATE_REQUEST: &str =
     "00000000 04000000 50000000 00000200 1a000000 PUSH 00000001 02000000 4001 00001001 02000000 0100 00000008 02000000 0100 00000010 08000000 INST";
 
@@ -47,6 +52,18 @@ const GET_REQUEST: &str =
 
 const GET_RESPONSE: &str =
     "00000000 04000000 5a000000 00000200 1a000000 PUSH 00000001 02000000 1081 00002001 02000000 0200 00000008 02000000 0100 00000009 02000000 0000 00000010 08000000 INST";
+
+const SET_REQUEST: &str =
+    "00000000 04000000 50000000 00000300 1a000000 PUSH 00000001 02000000 2001 00001001 02000000 0300 00000008 02000000 0100 00000110 08000000 INST";
+
+const SET_RESPONSE: &str =
+    "00000000 04000000 5a000000 00000200 1a000000 PUSH 00000001 02000000 2081 00002001 02000000 0300 00000008 02000000 0101 00000009 02000000 0000 00000010 08000000 INST";
+
+const ACTION_REQUEST: &str =
+    "00000000 04000000 5a000000 00000300 1a000000 PUSH 00000001 02000000 3001 00001001 02000000 0400 00000008 02000000 0100 00000110 08000000 INST 00000810 02000000 0301";
+
+const ACTION_RESPONSE: &str =
+    "00000000 04000000 64000000 00000200 1a000000 PUSH 00000001 02000000 3081 00002001 02000000 0400 00000008 02000000 0101 00000009 02000000 02c3 00000010 08000000 INST 00000810 02000000 0301";
 
 const ECHO_REQUEST: &str =
     "00000000 04000000 38000000 00000200 12000000 VERIFICATION 00000001 02000000 3000 00001001 02000000 0700 00000008 02000000 0101";
@@ -148,6 +165,72 @@ fn a_get_request_is_read_and_written(rt: HostRuntime) -> Result<(), Fail> {
 }
 
 #[test]
+fn a_set_request_is_read_and_written(rt: HostRuntime) -> Result<(), Fail> {
+    let read = request(&rt, SET_REQUEST)?;
+    assert!(rt; read.sop_class == push());
+    assert_eq!(rt; read.message_id, 3);
+    assert!(rt; read.has_data_set);
+    match &read.operation {
+        Operation::Set { instance: found } => assert!(rt; *found == instance()),
+        _ => return Err("another operation".into()),
+    }
+    assert_written(&rt, &Command::Request(read), SET_REQUEST)
+}
+
+#[test]
+fn a_set_response_is_read_and_written(rt: HostRuntime) -> Result<(), Fail> {
+    let read = response(&rt, SET_RESPONSE)?;
+    assert!(rt; read.sop_class == push());
+    assert_eq!(rt; read.responded_to, 3);
+    assert!(rt; !read.has_data_set);
+    assert_eq!(rt; read.status, 0);
+    match &read.result {
+        OperationResult::Set { instance: found } => assert!(rt; *found == instance()),
+        _ => return Err("another result".into()),
+    }
+    assert_written(&rt, &Command::Response(read), SET_RESPONSE)
+}
+
+#[test]
+fn an_action_request_is_read_and_written(rt: HostRuntime) -> Result<(), Fail> {
+    let read = request(&rt, ACTION_REQUEST)?;
+    assert!(rt; read.sop_class == push());
+    assert_eq!(rt; read.message_id, 4);
+    assert!(rt; read.has_data_set);
+    match &read.operation {
+        Operation::Action {
+            instance: found,
+            action,
+        } => {
+            assert!(rt; *found == instance());
+            assert_eq!(rt; *action, 0x0103);
+        }
+        _ => return Err("another operation".into()),
+    }
+    assert_written(&rt, &Command::Request(read), ACTION_REQUEST)
+}
+
+#[test]
+fn an_action_response_is_read_and_written(rt: HostRuntime) -> Result<(), Fail> {
+    let read = response(&rt, ACTION_RESPONSE)?;
+    assert!(rt; read.sop_class == push());
+    assert_eq!(rt; read.responded_to, 4);
+    assert!(rt; !read.has_data_set);
+    assert_eq!(rt; read.status, 0xc302);
+    match &read.result {
+        OperationResult::Action {
+            instance: found,
+            action,
+        } => {
+            assert!(rt; *found == instance());
+            assert_eq!(rt; *action, 0x0103);
+        }
+        _ => return Err("another result".into()),
+    }
+    assert_written(&rt, &Command::Response(read), ACTION_RESPONSE)
+}
+
+#[test]
 fn an_echo_request_is_read_and_written(rt: HostRuntime) -> Result<(), Fail> {
     let read = request(&rt, ECHO_REQUEST)?;
     assert!(rt; read.sop_class == Uid::of(b"1.2.840.10008.1.1"));
@@ -175,6 +258,10 @@ fn requests_are_answered(rt: HostRuntime) -> Result<(), Fail> {
     assert_written(&rt, &Command::Response(created), CREATE_RESPONSE)?;
     let got = request(&rt, GET_REQUEST)?.answered(other, 0, true);
     assert_written(&rt, &Command::Response(got), GET_RESPONSE)?;
+    let set = request(&rt, SET_REQUEST)?.answered(other, 0, false);
+    assert_written(&rt, &Command::Response(set), SET_RESPONSE)?;
+    let acted = request(&rt, ACTION_REQUEST)?.answered(other, 0xc302, false);
+    assert_written(&rt, &Command::Response(acted), ACTION_RESPONSE)?;
     let echoed = request(&rt, ECHO_REQUEST)?.answered(other, 0, false);
     assert_written(&rt, &Command::Response(echoed), ECHO_RESPONSE)?;
     let unnamed = "00000001 02000000 4001 00001001 02000000 0700 00000008 02000000 0101";
@@ -261,6 +348,44 @@ fn a_malformed_uid_is_read_as_none(rt: HostRuntime) -> Result<(), Fail> {
 }
 
 #[test]
+fn a_malformed_or_absent_instance_of_a_set_or_an_action_is_none(
+    rt: HostRuntime,
+) -> Result<(), Fail> {
+    for digits in [
+        "00000001 02000000 2001 00001001 02000000 0300 00000008 02000000 0100 00000110 04000000 61626364",
+        "00000001 02000000 2001 00001001 02000000 0300 00000008 02000000 0100",
+    ] {
+        let read = request(&rt, digits)?;
+        match &read.operation {
+            Operation::Set { instance: found } => assert!(rt; found.is_none(), "at {digits}"),
+            _ => return Err("another operation".into()),
+        }
+    }
+    for digits in [
+        "00000001 02000000 3001 00001001 02000000 0400 00000008 02000000 0101 00000110 04000000 312e2e32 00000810 02000000 0500",
+        "00000001 02000000 3001 00001001 02000000 0400 00000008 02000000 0101 00000810 02000000 0500",
+    ] {
+        let read = request(&rt, digits)?;
+        match &read.operation {
+            Operation::Action {
+                instance: found,
+                action,
+            } => {
+                assert!(rt; found.is_none(), "at {digits}");
+                assert_eq!(rt; *action, 5, "at {digits}");
+            }
+            _ => return Err("another operation".into()),
+        }
+        assert_written(
+            &rt,
+            &Command::Request(read),
+            "00000000 04000000 28000000 00000001 02000000 3001 00001001 02000000 0400 00000008 02000000 0101 00000810 02000000 0500",
+        )?;
+    }
+    Ok(())
+}
+
+#[test]
 fn what_is_no_list_of_elements_is_refused(rt: HostRuntime) -> Result<(), Fail> {
     for digits in [
         // falling and repeated tags
@@ -321,6 +446,54 @@ fn the_first_fault_is_answered(rt: HostRuntime) -> Result<(), Fail> {
             "00000001 02000000 1001 00001001 02000000 0200 00000008 02000000 0101 00000510 06000000 740000100800",
             DimseFault::BadValue(ATTRIBUTES),
         ),
+        (
+            "00000001 02000000 2001 00001001 02000000 0300 00000110 08000000 INST",
+            DimseFault::Missing(DATA_SET_TYPE),
+        ),
+        (
+            "00000001 02000000 2081 00002001 02000000 0300 00000008 02000000 0101 00000010 08000000 INST",
+            DimseFault::Missing(STATUS),
+        ),
+    ] {
+        assert_eq!(rt; fault(&rt, digits)?, Some(first), "at {digits}");
+    }
+    Ok(())
+}
+
+#[test]
+fn the_first_fault_of_an_action_is_answered(rt: HostRuntime) -> Result<(), Fail> {
+    for (digits, first) in [
+        // the action type is missing, and so is what stands before it
+        (
+            "00000001 02000000 3001 00000008 02000000 0101",
+            DimseFault::Missing(MESSAGE_ID),
+        ),
+        (
+            "00000001 02000000 3001 00001001 02000000 0400",
+            DimseFault::Missing(DATA_SET_TYPE),
+        ),
+        (
+            "00000001 02000000 3081 00002001 02000000 0400 00000008 02000000 0101",
+            DimseFault::Missing(STATUS),
+        ),
+        // it alone is missing
+        (
+            "00000001 02000000 3001 00001001 02000000 0400 00000008 02000000 0101",
+            DimseFault::Missing(ACTION_TYPE),
+        ),
+        (
+            "00000001 02000000 3081 00002001 02000000 0400 00000008 02000000 0101 00000009 02000000 0000",
+            DimseFault::Missing(ACTION_TYPE),
+        ),
+        // it has four bytes
+        (
+            "00000001 02000000 3001 00001001 02000000 0400 00000008 02000000 0101 00000810 04000000 03000000",
+            DimseFault::BadValue(ACTION_TYPE),
+        ),
+        (
+            "00000001 02000000 3081 00002001 02000000 0400 00000008 02000000 0101 00000009 02000000 0000 00000810 04000000 03000000",
+            DimseFault::BadValue(ACTION_TYPE),
+        ),
     ] {
         assert_eq!(rt; fault(&rt, digits)?, Some(first), "at {digits}");
     }
@@ -373,5 +546,19 @@ fn a_refused_growth_is_want_of_memory(rt: HostRuntime) -> Result<(), Fail> {
     let (written, refused) = write_in_turn(&heap, &command)?;
     assert!(rt; refused > 1);
     assert_eq!(rt; written.as_slice(), bytes.as_slice());
+    Ok(())
+}
+
+#[test]
+fn a_refused_growth_of_a_set_or_an_action_is_want_of_memory(rt: HostRuntime) -> Result<(), Fail> {
+    for digits in [SET_REQUEST, SET_RESPONSE, ACTION_REQUEST, ACTION_RESPONSE] {
+        let bytes = bytes_of(&rt, digits)?;
+        let heap = Refusing::new(rt.alloc());
+        let (command, refused) = read_in_turn(&rt, &heap, bytes.as_slice())?;
+        assert_eq!(rt; refused, 0, "at {digits}");
+        let (written, refused) = write_in_turn(&heap, &command)?;
+        assert!(rt; refused > 1, "at {digits}");
+        assert_eq!(rt; written.as_slice(), bytes.as_slice());
+    }
     Ok(())
 }

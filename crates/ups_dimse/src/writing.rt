@@ -12,8 +12,8 @@ ghost use Rattle.ups_dimse.specs.Held.{IsHeldTag, AreHeldTags, IsHeldOperation, 
 
 use crate::command::{Command, Operation, OperationResult, RequestCommand, ResponseCommand};
 use crate::numbers::{
-    AFFECTED_CLASS, AFFECTED_INSTANCE, ATTRIBUTES, COMMAND_FIELD, DATA_SET_TYPE, GROUP_LENGTH,
-    MESSAGE_ID, REQUESTED_INSTANCE, RESPONDED_TO, STATUS, command_tag,
+    ACTION_TYPE, AFFECTED_CLASS, AFFECTED_INSTANCE, ATTRIBUTES, COMMAND_FIELD, DATA_SET_TYPE,
+    GROUP_LENGTH, MESSAGE_ID, REQUESTED_INSTANCE, RESPONDED_TO, STATUS, command_tag,
 };
 use std::alloc::{AllocError, Allocator};
 use ups_dataset::Tag;
@@ -125,6 +125,11 @@ fn put_operation<A: Allocator + Copy>(
             put_uid(out, REQUESTED_INSTANCE, *instance)?;
             put_tags(out, ATTRIBUTES, attributes.as_slice())?;
         }
+        Operation::Set { instance } => put_uid(out, REQUESTED_INSTANCE, *instance)?,
+        Operation::Action { instance, action } => {
+            put_uid(out, REQUESTED_INSTANCE, *instance)?;
+            put_us(out, ACTION_TYPE, *action)?;
+        }
         Operation::Echo => (),
     }
     Ok(())
@@ -159,6 +164,11 @@ fn put_result<A: Allocator + Copy>(
     match outcome {
         OperationResult::Create { instance } => put_uid(out, AFFECTED_INSTANCE, *instance)?,
         OperationResult::Get { instance } => put_uid(out, AFFECTED_INSTANCE, *instance)?,
+        OperationResult::Set { instance } => put_uid(out, AFFECTED_INSTANCE, *instance)?,
+        OperationResult::Action { instance, action } => {
+            put_uid(out, AFFECTED_INSTANCE, *instance)?;
+            put_us(out, ACTION_TYPE, *action)?;
+        }
         OperationResult::Echo => (),
     }
     Ok(())

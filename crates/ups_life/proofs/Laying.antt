@@ -3,8 +3,6 @@ use Rattle.std.proofs.Common.{◌≡◌, ℕ, ◌<◌, ◌≤◌, ◌+◌, Bool,
 use Rattle.std.specs.Prelude.{nat_lt, ◌==◌}
 use Rattle.std.specs.List.{AllByRecursion}
 use Rattle.std.proofs.lemmas.Bool.Decides.{nat_tests}
-use Rattle.ups_life.specs.declared.request.Request.{Request}
-use Rattle.ups_life.specs.Steps.{given}
 use Rattle.ups_dataset.specs.declared.tag.Tag.{Tag}
 use Rattle.ups_dataset.specs.Data.{El, elements_of, put, laid_over}
 use Rattle.ups_dataset.specs.Tag.{number, is_tag}
@@ -53,8 +51,5 @@ laid_behind low (x ∷ xs) ys h b =
     let later = all_push (number x.tag + 1) ys x (all_below (number x.tag) (number x.tag + 1) ys (omega arith) below) (omega arith) in
     ap (λ l. laid_over xs l) last ∙ laid_behind (number x.tag + 1) xs (ys ++ x ∷ []) h.4 later ∙ append_assoc ys (x ∷ []) xs
 
-pub laid_over-nil : (xs : List El) → IsDataSet xs → laid_over xs [] ≡ xs
-laid_over-nil xs h = laid_behind 0 xs [] h tt
-
-pub laid_alone : {A : Type 0} (row : List El) (request : Request A) → row ≡ given request → IsDataSet row → row ≡ laid_over (given request) []
-laid_alone row request e h = sym (laid_over-nil row h) ∙ ap (λ l. laid_over l []) e
+pub laid_over_nothing : (xs : List El) → IsDataSet xs → laid_over xs [] ≡ xs
+laid_over_nothing xs h = laid_behind 0 xs [] h tt

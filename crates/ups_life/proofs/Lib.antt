@@ -1,6 +1,9 @@
-pub mod HeldRows
+pub mod Accepted
+pub mod Cancels
+pub mod HeldOnce
+pub mod Items
 pub mod Laying
+pub mod OneHolder
 pub mod Past
-pub mod RowAt
 pub mod Texts
 mod Worked

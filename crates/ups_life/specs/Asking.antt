@@ -1,28 +1,82 @@
--- What a message asks (PS3.4 CC.2.5, CC.2.7).
-use Rattle.std.specs.Prelude.{ℕ, Bool, ◌||◌, List, Option, None, Some, Result, Ok, Err, if◌then◌else◌}
+-- What a message asks (PS3.4 CC.2.1, CC.2.2, CC.2.5 to CC.2.7).
+use Rattle.std.specs.Prelude.{ℕ, Bool, false, ◌||◌, ◌&&◌, ◌==◌, nat_lt, nat_le, List, [], length, Option, None, Some, Result, Ok, Err, if◌then◌else◌}
+use Rattle.std.specs.List.{list_all, slice_split}
 use Rattle.std.specs.Str.{bytes_eq}
 use Rattle.ups_pdu.specs.declared.registered.RegisteredUid.TheVariants.{GlobalSubscription, FilteredGlobalSubscription}
 use Rattle.ups_pdu.specs.Registered.{text_of}
-use Rattle.ups_dataset.specs.Data.{El}
+use Rattle.ups_pdu.specs.Padding.{without_padding}
+use Rattle.ups_pdu.specs.Identifier.{is_component, is_dot}
+use Rattle.ups_dataset.specs.declared.dictionary.TheConstants.{PROCEDURE_STEP_STATE, TRANSACTION_UID}
+use Rattle.ups_dataset.specs.Data.{Data, bytes, items, El, element_at}
 use Rattle.ups_dimse.specs.declared.command.Operation.{Operation}
 use Rattle.ups_dimse.specs.declared.command.Operation.TheVariants as operations
-use Rattle.ups_life.specs.declared.request.Request.TheVariants.{Create}
+use Rattle.ups_life.specs.declared.state.StepState.{StepState}
+use Rattle.ups_life.specs.declared.request.Transaction.{Transaction}
+use Rattle.ups_life.specs.declared.request.Transaction.TheVariants.{Absent, Malformed, Proper}
+use Rattle.ups_life.specs.declared.request.Request.TheVariants.{Create, Change, AskCancel, Set}
 use Rattle.ups_life.specs.declared.request.Ask.{Ask}
 use Rattle.ups_life.specs.declared.request.Ask.TheVariants.{Do, Get}
 use Rattle.ups_life.specs.declared.status.Status.{Status}
-use Rattle.ups_life.specs.declared.status.Status.TheVariants.{InvalidObjectInstance, UnrecognizedOperation}
+use Rattle.ups_life.specs.declared.status.Status.TheVariants.{InvalidArgumentValue, InvalidObjectInstance, NoSuchActionType, UnrecognizedOperation, ActionNotAppropriate}
+use Rattle.ups_life.specs.States.{state_of}
 
 -- the instances that stand for global subscriptions, and are no steps (PS3.4 CC.2.3)
 abbrev pub is_well_known : List ℕ → Bool
 is_well_known uid = bytes_eq uid (text_of GlobalSubscription) || bytes_eq uid (text_of FilteredGlobalSubscription)
+
+abbrev pub is_subscription : Option (List ℕ) → Bool
+is_subscription None = false
+is_subscription (Some uid) = is_well_known uid
+
+-- digits and dots, 1 to 64 (PS3.5 section 9.1)
+abbrev pub is_uid : List ℕ → Bool
+is_uid text = nat_lt 0 (length text) && nat_le (length text) 64 && list_all is_component (slice_split is_dot text)
+
+-- the Transaction UID of a text, and of a value, of which padding is no part
+abbrev pub transaction_in : List ℕ → Transaction
+transaction_in text = if length text == 0 then Absent else (if is_uid text then Proper text else Malformed)
+
+abbrev pub transaction_value : Data → Transaction
+transaction_value (bytes b) = transaction_in (without_padding b)
+transaction_value (items is) = Malformed
+
+abbrev pub transaction_of : Option El → Transaction
+transaction_of None = Absent
+transaction_of (Some e) = transaction_value e.value
+
+-- the state that an attribute names
+abbrev pub state_value : Data → Option StepState
+state_value (bytes b) = state_of b
+state_value (items is) = None
+
+abbrev pub named_state : Option El → Option StepState
+named_state None = None
+named_state (Some e) = state_value e.value
 
 -- a step is created under a UID of its own
 abbrev pub created : {A : Type 0} → Option (List ℕ) → List El → Result (Ask A) Status
 created None attributes = Err InvalidObjectInstance
 created (Some step) attributes = if is_well_known step then Err InvalidObjectInstance else Ok (Do (Create step attributes))
 
+abbrev pub changed_to : {A : Type 0} → Option (List ℕ) → Option StepState → Transaction → Result (Ask A) Status
+changed_to step None transaction = Err InvalidArgumentValue
+changed_to step (Some state) transaction = Ok (Do (Change step state transaction))
+
+-- an action is on a step, and no subscription; a change names one of the four states (PS3.4 table CC.2.1-1)
+abbrev pub changed : {A : Type 0} → Option (List ℕ) → List El → Result (Ask A) Status
+changed step attributes = if is_subscription step then Err ActionNotAppropriate else changed_to step (named_state (element_at PROCEDURE_STEP_STATE attributes)) (transaction_of (element_at TRANSACTION_UID attributes))
+
+abbrev pub canceled : {A : Type 0} → Option (List ℕ) → List El → Result (Ask A) Status
+canceled step attributes = if is_subscription step then Err ActionNotAppropriate else Ok (Do (AskCancel step attributes))
+
+-- action types 1, Change UPS State, and 2, Request UPS Cancel (PS3.4 table CC.2-1); there are no others yet
+abbrev pub acted : {A : Type 0} → Option (List ℕ) → ℕ → List El → Result (Ask A) Status
+acted step action attributes = if action == 1 then changed step attributes else (if action == 2 then canceled step attributes else Err NoSuchActionType)
+
 -- what a message asks. A C-ECHO is none of the services of the UPS SOP classes: it asks nothing of a step.
 abbrev pub asked : {A : Type 0} → Operation A → List El → Result (Ask A) Status
 asked (operations.Create instance) attributes = created instance attributes
 asked (operations.Get instance listed) attributes = Ok (Get instance listed)
+asked (operations.Set instance) attributes = Ok (Do (Set instance (transaction_of (element_at TRANSACTION_UID attributes)) attributes))
+asked (operations.Action instance action) attributes = acted instance action attributes
 asked operations.Echo attributes = Err UnrecognizedOperation

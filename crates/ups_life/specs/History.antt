@@ -1,59 +1,70 @@
 -- The answer to each call after a history, and which histories are legal.
-use Rattle.std.specs.Prelude.{ℕ, Bool, true, false, not, ◌&&◌, nat_lt, map, List, [], ◌∷◌, length, filter, Option, None, Some, is_some, if◌then◌else◌}
-use Rattle.std.specs.List.{list_all, list_any}
-use Rattle.std.specs.Str.{bytes_eq}
+use Rattle.std.specs.Prelude.{ℕ, Bool, true, false, not, ◌&&◌, nat_lt, List, [], ◌∷◌, length, filter, Option, None, Some, is_some, if◌then◌else◌}
+use Rattle.std.specs.List.{list_all}
+use Rattle.std.specs.Option.{unwrap_or}
 use Rattle.ups_dataset.specs.declared.tag.Tag.{Tag}
 use Rattle.ups_dataset.specs.declared.syntax.TransferSyntax.TheVariants.{Explicit}
-use Rattle.ups_dataset.specs.Data.{El, element_at, laid_over, is_listed}
+use Rattle.ups_dataset.specs.declared.limits.TheConstants.{MAX_DEPTH}
+use Rattle.ups_dataset.specs.Data.{El, element_at, elements_of, is_listed}
+use Rattle.ups_dataset.specs.Valid.{depth_elements}
 use Rattle.ups_dataset.specs.Written.{written}
 use Rattle.ups_life.specs.declared.request.Request.{Request}
-use Rattle.ups_life.specs.declared.request.Request.TheVariants.{Create}
+use Rattle.ups_life.specs.declared.request.Request.TheVariants.{Create, Change, AskCancel, Set}
 use Rattle.ups_life.specs.declared.request.Reply.{Reply}
 use Rattle.ups_life.specs.declared.request.Reply.TheVariants.{Status as Answered, Set as Shown}
 use Rattle.ups_life.specs.declared.entry.Entry.{Entry}
+use Rattle.ups_life.specs.declared.row.Row.{Row}
 use Rattle.ups_life.specs.declared.status.Status.{Status}
 use Rattle.ups_life.specs.declared.status.Status.TheVariants.{Success, AttributesNotSupported, ResourceLimitation, UnknownInstance}
 use Rattle.ups_life.specs.Settings.{Settings}
 use Rattle.ups_life.specs.Verdict.{verdict}
-use Rattle.ups_life.specs.Steps.{used, given, row, held}
+use Rattle.ups_life.specs.Steps.{used, step_of, row, row_after, nothing, known, is_held}
 
 -- the request is accepted
 abbrev pub accepts : Status → Bool
 accepts Success = true
 accepts status = false
 
--- the step that a request is on
-abbrev pub step_of : {A : Type 0} → Request A → List ℕ
-step_of (Create step attributes) = step
+-- what would be held of the step of a request at this moment
+abbrev pub row_then : {A : Type 0} → Settings → List (Entry A) → ℕ → Request A → Row A
+row_then s es moment request = row_after s.offset moment (unwrap_or (known s.offset es (step_of request)) nothing) request
 
--- what the attributes of its step would be
-abbrev pub row_then : {A : Type 0} → List (Entry A) → Request A → List El
-row_then es request = laid_over (given request) (row es (step_of request))
+-- a row has at most 1,048,576 bytes, and its items nest at most 8 deep
+abbrev pub fits : List El → Bool
+fits set = not (nat_lt 1048576 (length (written Explicit set))) && not (nat_lt MAX_DEPTH (depth_elements (elements_of set)))
 
--- no request makes a row of more than 1,048,576 bytes
-abbrev pub sized : List El → Status → Status
-sized set status = if accepts status && nat_lt 1048576 (length (written Explicit set)) then ResourceLimitation else status
+-- of which requests the row has to fit
+abbrev pub is_sized : {A : Type 0} → Request A → Bool
+is_sized (Create step attributes) = true
+is_sized (Change step state transaction) = false
+is_sized (AskCancel step reasons) = true
+is_sized (Set step transaction attributes) = true
 
--- nor is one entered where the history is full
+abbrev pub sized : {A : Type 0} → Request A → List El → Status → Status
+sized request set status = if accepts status && is_sized request && not (fits set) then ResourceLimitation else status
+
+-- no request is entered where the history is full
 abbrev pub in_room : {A : Type 0} → Settings → List (Entry A) → Status → Status
 in_room s es status = if accepts status && not (nat_lt (length es) s.limit) then ResourceLimitation else status
 
--- the status of a request after these entries
-abbrev pub status : {A : Type 0} → Settings → List (Entry A) → Request A → Status
-status s es request = in_room s es (sized (row_then es request) (verdict (used es (step_of request)) request))
+-- the request creates a step under a UID that is used
+abbrev pub repeats : {A : Type 0} → List (Entry A) → Request A → Bool
+repeats es (Create step attributes) = used es step
+repeats es request = false
+
+-- the status of a request at a moment after these entries
+abbrev pub status : {A : Type 0} → Settings → List (Entry A) → ℕ → Request A → Status
+status s es moment request =
+    in_room s es (sized request (row_then s es moment request).attributes (verdict (known s.offset es (step_of request)) (repeats es request) request))
 
 -- each entry was accepted after those before it
 abbrev pub legal : {A : Type 0} → Settings → List (Entry A) → Bool
 legal s [] = true
-legal s (e ∷ es) = accepts (status s es e.request) && legal s es
+legal s (e ∷ es) = accepts (status s es e.moment e.request) && legal s es
 
 -- what a call enters: its request, where it was accepted
 abbrev pub entered : {A : Type 0} → Entry A → Status → List (Entry A)
 entered e status = if accepts status then e ∷ [] else []
-
--- the step is held
-abbrev pub is_held : {A : Type 0} → List (Entry A) → List ℕ → Bool
-is_held es u = list_any (λ v. bytes_eq v u) (held es)
 
 -- all of these tags have a value in the row
 abbrev pub has_all : List El → List Tag → Bool
@@ -64,16 +75,10 @@ abbrev pub shown : {A : Type 0} → List El → List Tag → Reply A
 shown set [] = Shown Success set
 shown set (t ∷ ts) = Shown (if has_all set (t ∷ ts) then Success else AttributesNotSupported) (filter (λ e. is_listed e.tag (t ∷ ts)) set)
 
+abbrev pub shown_of : {A : Type 0} → Option (Row A) → List Tag → Reply A
+shown_of None tags = Answered UnknownInstance
+shown_of (Some r) tags = shown r.attributes tags
+
 -- the reply to an N-GET
-abbrev pub got : {A : Type 0} → List (Entry A) → Option (List ℕ) → List Tag → Reply A
-got es None tags = Answered UnknownInstance
-got es (Some u) tags = if is_held es u then shown (row es u) tags else Answered UnknownInstance
-
--- the rows of the steps held, each under its UID, in order of creation
-abbrev pub rows_of : {A : Type 0} → List (Entry A) → List (List ℕ × List El)
-rows_of es = map (λ u. (u, row es u)) (held es)
-
--- the row of a step in a list of rows, each under its UID
-abbrev pub row_at : List ℕ → List (List ℕ × List El) → Option (List El)
-row_at u [] = None
-row_at u (r ∷ rs) = if bytes_eq r.0 u then Some r.1 else row_at u rs
+abbrev pub got : {A : Type 0} → Settings → List (Entry A) → Option (List ℕ) → List Tag → Reply A
+got s es step tags = shown_of (known s.offset es step) tags

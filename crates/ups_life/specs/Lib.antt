@@ -1,6 +1,10 @@
 pub mod Asking
+pub mod Claims
+pub mod Deep
+pub mod Distinct
 pub mod History
 pub mod Settings
+pub mod States
 pub mod Statuses
 pub mod Steps
 pub mod Values

@@ -1,5 +1,7 @@
 -- What is fixed at the start.
-use Rattle.std.specs.Prelude.{ℕ, ℤ, List}
+use Rattle.std.specs.Prelude.{ℕ, ◌≤◌, ℤ, List}
+pub use Rattle.ups_match.specs.Moments.{IsOffset}
+use Rattle.ups_life.specs.declared.limits.TheConstants.{MAX_MOMENT}
 use Rattle.ups_life.specs.declared.entry.Peer.{Peer}
 
 -- the peers, how long a finished step is kept (seconds), the offset of the local time from UTC (minutes, east of it
@@ -9,3 +11,7 @@ pub record Settings : Type 0 where
   pub keep : ℕ
   pub offset : ℤ
   pub limit : ℕ
+
+-- a moment of which each offset makes a date of the years to 9999
+abbrev pub IsMoment : ℕ → Type 0
+IsMoment moment = moment ≤ MAX_MOMENT

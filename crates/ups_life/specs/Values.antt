@@ -1,17 +1,34 @@
 -- What the values of attributes say, and which of them are checked.
-use Rattle.std.specs.Prelude.{ℕ, Bool, true, false, ◌||◌, List, [], ◌∷◌, Option, None, Some, codes, if◌then◌else◌}
+use Rattle.std.specs.Prelude.{ℕ, pos, ◌%◌, ◌==◌, Bool, true, false, not, ◌||◌, List, [], ◌∷◌, ◌++◌, length, Option, None, Some, is_some, codes, if◌then◌else◌}
+use Rattle.std.specs.List.{list_all}
 use Rattle.std.specs.Str.{bytes_eq}
 use Rattle.ups_pdu.specs.Padding.{without_padding}
-use Rattle.ups_dataset.specs.Data.{Data, bytes, items, El, element_at}
+use Rattle.ups_dataset.specs.declared.tag.Tag.{Tag}
+use Rattle.ups_dataset.specs.Tag.{is_tag}
+use Rattle.ups_dataset.specs.Data.{Data, bytes, items, Items, no_items, item, Elements, no_elements, element, El, element_at}
+use Rattle.ups_match.specs.Moments.{moment}
 use Rattle.ups_life.specs.declared.status.Status.{Status}
 use Rattle.ups_life.specs.declared.status.Status.TheVariants.{Success, InvalidAttributeValue, MissingAttribute, MissingAttributeValue}
 use Rattle.ups_life.specs.declared.checks.ValueRule.{ValueRule}
-use Rattle.ups_life.specs.declared.checks.ValueRule.TheVariants.{AnyText, Readiness, Priority}
+use Rattle.ups_life.specs.declared.checks.ValueRule.TheVariants.{AnyText, DateTime, Readiness, Priority}
 use Rattle.ups_life.specs.declared.checks.Checked.{Checked}
 
--- which texts an attribute may have (PS3.3 C.30.2)
+-- a text as a value, which has an even length (PS3.5 section 6.2): a UID with a NUL behind it where its length is odd,
+-- any other text with a space
+abbrev pub padded : ℕ → List ℕ → List ℕ
+padded pad text = if (length text % 2) == 0 then text else text ++ pad ∷ []
+
+abbrev pub uid_value : List ℕ → List ℕ
+uid_value uid = padded 0 uid
+
+abbrev pub text_value : List ℕ → List ℕ
+text_value text = padded 32 text
+
+-- which texts an attribute may have (PS3.3 C.30.2); whether one is a DT (PS3.5 section 6.2) is the same whatever the
+-- offset
 abbrev pub allows : ValueRule → List ℕ → Bool
 allows AnyText text = true
+allows DateTime text = is_some (moment text (pos 0) false)
 allows Readiness text = bytes_eq text (codes "INCOMPLETE") || bytes_eq text (codes "UNAVAILABLE") || bytes_eq text (codes "READY")
 allows Priority text = bytes_eq text (codes "HIGH") || bytes_eq text (codes "MEDIUM") || bytes_eq text (codes "LOW")
 
@@ -41,6 +58,16 @@ abbrev pub first_fault : List Checked → List El → Status
 first_fault [] set = Success
 first_fault (c ∷ cs) set = unless_fault (attribute_status c set) (first_fault cs set)
 
+-- as the status of an attribute that need not be there
+abbrev pub given_status : ValueRule → Option El → Status
+given_status rule None = Success
+given_status rule (Some e) = value_status rule e.value
+
+-- the first fault of the attributes of a table that are given, in its order
+abbrev pub first_given_fault : List Checked → List El → Status
+first_given_fault [] set = Success
+first_given_fault (c ∷ cs) set = unless_fault (given_status c.rule (element_at c.tag set)) (first_given_fault cs set)
+
 -- the value has only padding
 abbrev pub is_blank_value : Data → Bool
 is_blank_value (bytes b) = bytes_eq (without_padding b) []
@@ -60,3 +87,27 @@ is_text text (items is) = false
 abbrev pub says : List ℕ → Option El → Bool
 says text None = false
 says text (Some e) = is_text text e.value
+
+-- the value is a text that is not empty
+abbrev pub has_text : Data → Bool
+has_text (bytes b) = not (bytes_eq (without_padding b) [])
+has_text (items is) = false
+
+-- the attribute is there, with a text that is not empty
+abbrev pub is_said : Option El → Bool
+is_said None = false
+is_said (Some e) = has_text e.value
+
+-- the same of an attribute of an item
+abbrev pub is_said_in : Elements → Tag → Bool
+is_said_in no_elements tag = false
+is_said_in (element t vr d more) tag = if is_tag t tag then has_text d else is_said_in more tag
+
+-- a sequence of exactly one item, which says each of these
+abbrev pub one_item_says : List Tag → Data → Bool
+one_item_says tags (items (item es no_items)) = list_all (is_said_in es) tags
+one_item_says tags d = false
+
+abbrev pub has_item_with : List Tag → Option El → Bool
+has_item_with tags None = false
+has_item_with tags (Some e) = one_item_says tags e.value

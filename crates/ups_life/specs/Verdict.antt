@@ -1,20 +1,123 @@
--- What is decided of a request, by what is known of its step (PS3.4 CC.2.1, CC.2.5).
-use Rattle.std.specs.Prelude.{Bool, List, codes, if◌then◌else◌}
+-- What is decided of a request, by what is known of its step: the life cycle of a step (PS3.4 CC.1.1, CC.2.1, CC.2.2,
+-- CC.2.5, CC.2.6).
+use Rattle.std.specs.Prelude.{Bool, true, false, ◌||◌, ◌&&◌, List, [], ◌∷◌, ℕ, Option, None, Some, codes, is_some, if◌then◌else◌}
+use Rattle.std.specs.Str.{bytes_eq}
+use Rattle.ups_dataset.specs.declared.tag.Tag.{Tag}
 use Rattle.ups_dataset.specs.Data.{El, element_at}
-use Rattle.ups_dataset.specs.declared.dictionary.TheConstants.{PROCEDURE_STEP_STATE, TRANSACTION_UID}
+use Rattle.ups_dataset.specs.declared.dictionary.TheConstants.{SOP_CLASS_UID, SOP_INSTANCE_UID, PROCEDURE_STEP_STATE, TRANSACTION_UID, UNIFIED_PROCEDURE_STEP_PERFORMED_PROCEDURE_SEQUENCE, PROCEDURE_STEP_PROGRESS_INFORMATION_SEQUENCE, PERFORMED_PROCEDURE_STEP_START_DATE_TIME, PERFORMED_PROCEDURE_STEP_END_DATE_TIME, PROCEDURE_STEP_CANCELLATION_DATE_TIME}
 use Rattle.ups_life.specs.declared.checks.TheConstants.{CHECKED}
 use Rattle.ups_life.specs.declared.status.Status.{Status}
-use Rattle.ups_life.specs.declared.status.Status.TheVariants.{InvalidAttributeValue, DuplicateSopInstance, NotScheduled}
+use Rattle.ups_life.specs.declared.status.Status.TheVariants.{Success, InvalidAttributeValue, DuplicateSopInstance, UnknownInstance, NotScheduled, NoLongerUpdatable, WrongTransactionUid, AlreadyInProgress, ScheduledByCreateAlone, FinalStateNotMet, NotInProgress, TooLateToCancel, AlreadyCanceled, AlreadyCompleted}
+use Rattle.ups_life.specs.declared.state.StepState.{StepState}
+use Rattle.ups_life.specs.declared.state.StepState.TheVariants.{Scheduled, InProgress, Completed, Canceled}
+use Rattle.ups_life.specs.declared.request.Transaction.{Transaction}
+use Rattle.ups_life.specs.declared.request.Transaction.TheVariants.{Absent, Malformed, Proper}
 use Rattle.ups_life.specs.declared.request.Request.{Request}
-use Rattle.ups_life.specs.declared.request.Request.TheVariants.{Create}
-use Rattle.ups_life.specs.Values.{says, is_blank, first_fault}
+use Rattle.ups_life.specs.declared.request.Request.TheVariants.{Create, Change, AskCancel, Set}
+use Rattle.ups_life.specs.declared.row.Row.{Row}
+use Rattle.ups_life.specs.Values.{says, is_blank, first_fault, first_given_fault, unless_fault, has_item_with}
 
 -- the attributes of a new step: SCHEDULED, without a Transaction UID, then the checked attributes by rising tag
+-- (PS3.4 CC.2.5)
 abbrev pub create_status : List El → Status
 create_status set =
     if says (codes "SCHEDULED") (element_at PROCEDURE_STEP_STATE set) then (
     if is_blank (element_at TRANSACTION_UID set) then first_fault CHECKED set else InvalidAttributeValue) else NotScheduled
 
--- `used`: a step with this UID was created before
-abbrev pub verdict : {A : Type 0} → Bool → Request A → Status
-verdict used (Create step attributes) = if used then DuplicateSopInstance else create_status attributes
+-- THE LIFE CYCLE (PS3.4 CC.1.1, CC.2.1, CC.2.2): each function is a row of its table, each line a cell.
+
+-- to IN PROGRESS, with a proper Transaction UID
+abbrev pub claim_status : StepState → Status
+claim_status Scheduled = Success
+claim_status InProgress = AlreadyInProgress
+claim_status Completed = NoLongerUpdatable
+claim_status Canceled = NoLongerUpdatable
+
+-- to COMPLETED, with the right Transaction UID; `met`: what COMPLETED needs is there. No UID is right for a step that
+-- is SCHEDULED.
+abbrev pub complete_status : Bool → StepState → Status
+complete_status met Scheduled = NotInProgress
+complete_status met InProgress = if met then Success else FinalStateNotMet
+complete_status met Completed = AlreadyCompleted
+complete_status met Canceled = NoLongerUpdatable
+
+-- to CANCELED, with the right Transaction UID; `met`: what CANCELED needs is there
+abbrev pub discontinue_status : Bool → StepState → Status
+discontinue_status met Scheduled = NotInProgress
+discontinue_status met InProgress = if met then Success else FinalStateNotMet
+discontinue_status met Completed = NoLongerUpdatable
+discontinue_status met Canceled = AlreadyCanceled
+
+-- to a final state, with another Transaction UID or none; `proper`: it is a UID
+abbrev pub wrong_status : Bool → StepState → Status
+wrong_status proper Scheduled = if proper then NotInProgress else WrongTransactionUid
+wrong_status proper InProgress = WrongTransactionUid
+wrong_status proper Completed = WrongTransactionUid
+wrong_status proper Canceled = WrongTransactionUid
+
+-- a request to cancel
+abbrev pub cancel_status : StepState → Status
+cancel_status Scheduled = Success
+cancel_status InProgress = Success
+cancel_status Completed = TooLateToCancel
+cancel_status Canceled = AlreadyCanceled
+
+-- an N-SET, by its Transaction UID; `right`: it is that of the claim, `given`: there is one
+abbrev pub set_status : Bool → Bool → StepState → Status
+set_status right given Scheduled = if given then NotInProgress else Success
+set_status right given InProgress = if right then Success else WrongTransactionUid
+set_status right given Completed = NoLongerUpdatable
+set_status right given Canceled = NoLongerUpdatable
+
+abbrev pub is_proper : Transaction → Bool
+is_proper Absent = false
+is_proper Malformed = false
+is_proper (Proper uid) = true
+
+abbrev pub is_given : Transaction → Bool
+is_given Absent = false
+is_given Malformed = true
+is_given (Proper uid) = true
+
+-- the Transaction UID is that of the claim
+abbrev pub is_right : Option (List ℕ) → Transaction → Bool
+is_right (Some right) (Proper uid) = bytes_eq uid right
+is_right right transaction = false
+
+-- what COMPLETED needs: one performed procedure, with its start and its end (PS3.4 CC.2.5, table CC.2.5-3)
+abbrev pub is_performed : List El → Bool
+is_performed set = has_item_with (PERFORMED_PROCEDURE_STEP_START_DATE_TIME ∷ PERFORMED_PROCEDURE_STEP_END_DATE_TIME ∷ []) (element_at UNIFIED_PROCEDURE_STEP_PERFORMED_PROCEDURE_SEQUENCE set)
+
+-- what CANCELED needs: one item of progress information, with the time of the cancellation (PS3.4 table CC.2.5-3)
+abbrev pub is_discontinued : List El → Bool
+is_discontinued set = has_item_with (PROCEDURE_STEP_CANCELLATION_DATE_TIME ∷ []) (element_at PROCEDURE_STEP_PROGRESS_INFORMATION_SEQUENCE set)
+
+-- a change of a step to a state (PS3.4 CC.2.1)
+abbrev pub change_status : {A : Type 0} → Row A → StepState → Transaction → Status
+change_status r Scheduled t = ScheduledByCreateAlone
+change_status r InProgress t = if is_proper t then claim_status r.state else WrongTransactionUid
+change_status r Completed t = if is_right r.transaction t then complete_status (is_performed r.attributes) r.state else wrong_status (is_proper t) r.state
+change_status r Canceled t = if is_right r.transaction t then discontinue_status (is_discontinued r.attributes) r.state else wrong_status (is_proper t) r.state
+
+-- no N-SET gives which step it is, or its state (PS3.4 CC.2.6)
+abbrev pub gives_fixed : List El → Bool
+gives_fixed set = is_some (element_at SOP_CLASS_UID set) || is_some (element_at SOP_INSTANCE_UID set) || is_some (element_at PROCEDURE_STEP_STATE set)
+
+abbrev pub set_attributes_status : List El → Status
+set_attributes_status set = if gives_fixed set then InvalidAttributeValue else first_given_fault CHECKED set
+
+-- an N-SET on a step (PS3.4 CC.2.6)
+abbrev pub update_status : {A : Type 0} → Row A → Transaction → List El → Status
+update_status r t set = unless_fault (set_status (is_right r.transaction t) (is_given t) r.state) (set_attributes_status set)
+
+-- what is decided of a step that is held; any other is unknown
+abbrev pub if_held : {A : Type 0} → Option (Row A) → (Row A → Status) → Status
+if_held None decide = UnknownInstance
+if_held (Some r) decide = decide r
+
+-- `row`: what is held of the step; `used`: a step with this UID was created before
+abbrev pub verdict : {A : Type 0} → Option (Row A) → Bool → Request A → Status
+verdict row used (Create step attributes) = if used then DuplicateSopInstance else create_status attributes
+verdict row used (Change step state transaction) = if_held row (λ r. change_status r state transaction)
+verdict row used (AskCancel step reasons) = if_held row (λ r. cancel_status r.state)
+verdict row used (Set step transaction attributes) = if_held row (λ r. update_status r transaction attributes)

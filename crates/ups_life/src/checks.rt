@@ -1,7 +1,7 @@
 //! The attributes whose values are checked.
 
 ghost use Rattle.std.specs.Prelude.{◌≡◌, ℕ, List};
-ghost use Rattle.ups_life.specs.Values.{allows, text_status, value_status, attribute_status, first_fault};
+ghost use Rattle.ups_life.specs.Values.{allows, text_status, value_status, attribute_status, first_fault, given_status, first_given_fault};
 ghost use Rattle.ups_dataset.specs.Data.{element_at};
 ghost use Rattle.ups_dataset.specs.View.{value_view};
 
@@ -12,6 +12,7 @@ use ups_dataset::dictionary::{
     SCHEDULED_PROCEDURE_STEP_START_DATE_TIME,
 };
 use ups_dataset::{DataSet, Tag, Value};
+use ups_match::read_dt;
 use ups_pdu::without_padding;
 
 /// Which texts an attribute may have.
@@ -19,13 +20,15 @@ use ups_pdu::without_padding;
 pub enum ValueRule {
     /// Any text but an empty one.
     AnyText,
+    /// A date and time (PS3.5 section 6.2, DT).
+    DateTime,
     /// INCOMPLETE, UNAVAILABLE or READY (PS3.3 C.30.2).
     Readiness,
     /// HIGH, MEDIUM or LOW (PS3.3 C.30.2).
     Priority,
 }
 
-/// An attribute that a Create has to give, and the rule for its text.
+/// An attribute that a Create has to give and a Set may give, and the rule for its text.
 #[derive(Clone, Copy, Debug, PartialEq, Eq)]
 pub struct Checked {
     /// Which attribute.
@@ -38,7 +41,7 @@ pub struct Checked {
 pub const CHECKED: [Checked; 4] = [
     Checked {
         tag: SCHEDULED_PROCEDURE_STEP_START_DATE_TIME,
-        rule: ValueRule::AnyText,
+        rule: ValueRule::DateTime,
     },
     Checked {
         tag: INPUT_READINESS_STATE,
@@ -61,6 +64,7 @@ impl ValueRule {
     {
         match self {
             ValueRule::AnyText => true,
+            ValueRule::DateTime => read_dt(text, 0, false).is_some(),
             ValueRule::Readiness => {
                 text == b"INCOMPLETE".as_slice()
                     || text == b"UNAVAILABLE".as_slice()
@@ -111,6 +115,28 @@ pub(crate) fn first_fault<A: Allocator + Copy>(table: &[Checked], set: &DataSet<
 {
     for checked in table {
         let status = attribute_status(*checked, set);
+        if status != Status::Success {
+            return status;
+        }
+    }
+    Status::Success
+}
+
+fn given_status<A: Allocator + Copy>(checked: Checked, set: &DataSet<A>) -> Status
+    ensures { result ≡ given_status checked.rule (element_at checked.tag set.now) }
+{
+    match set.get(checked.tag) {
+        Some(element) => value_status(checked.rule, &element.value),
+        None => Status::Success,
+    }
+}
+
+/// The first fault of the attributes of a table that are given, or Success.
+pub(crate) fn first_given_fault<A: Allocator + Copy>(table: &[Checked], set: &DataSet<A>) -> Status
+    ensures { result ≡ first_given_fault table.now set.now }
+{
+    for checked in table {
+        let status = given_status(*checked, set);
         if status != Status::Success {
             return status;
         }

@@ -1,17 +1,24 @@
-//! What is decided of a request.
+//! What is decided of a request: the life cycle of a step.
 
 ghost use Rattle.std.specs.Prelude.{◌≡◌, Option, codes};
+ghost use Rattle.std.specs.Option.{option_copied};
+ghost use Rattle.ups_dataset.specs.Data.{element_at};
 ghost use Rattle.ups_dataset.specs.View.{value_view};
-ghost use Rattle.ups_life.specs.Values.{is_text, is_blank_value};
-ghost use Rattle.ups_life.specs.Verdict.{create_status, verdict};
+ghost use Rattle.ups_life.specs.Values.{is_text, is_blank_value, says, is_blank};
+ghost use Rattle.ups_life.specs.Verdict.{create_status, claim_status, complete_status, discontinue_status, wrong_status, cancel_status, set_status, is_proper, is_given, is_right, change_status, gives_fixed, set_attributes_status, update_status, verdict};
 
-use crate::checks::{CHECKED, first_fault};
-use crate::request::Request;
+use crate::checks::{CHECKED, first_fault, first_given_fault};
+use crate::request::{Request, Transaction};
+use crate::row::Row;
+use crate::state::StepState;
 use crate::status::Status;
+use crate::values::{is_discontinued, is_performed};
 use std::alloc::Allocator;
-use ups_dataset::dictionary::{PROCEDURE_STEP_STATE, TRANSACTION_UID};
+use ups_dataset::dictionary::{
+    PROCEDURE_STEP_STATE, SOP_CLASS_UID, SOP_INSTANCE_UID, TRANSACTION_UID,
+};
 use ups_dataset::{DataSet, Value};
-use ups_pdu::without_padding;
+use ups_pdu::{Uid, without_padding};
 
 fn is_text<A: Allocator + Copy>(value: &Value<A>, text: &[u8]) -> bool
     ensures { result ≡ is_text text.now (value_view value.now) }
@@ -53,17 +60,204 @@ fn create_status<A: Allocator + Copy>(attributes: &DataSet<A>) -> Status
     first_fault(&CHECKED, attributes)
 }
 
-/// What is decided of a request by what is known of its step: whether its UID was ever used
-/// (PS3.4 CC.2.1, CC.2.5). The room that is left is not looked at here.
-pub fn verdict<A: Allocator + Copy>(used: bool, request: &Request<A>) -> Status
-    ensures { result ≡ verdict used request.now }
+// THE LIFE CYCLE (PS3.4 CC.1.1, CC.2.1, CC.2.2): each function is a row of its table, each arm a cell.
+
+/// To IN PROGRESS, with a proper Transaction UID.
+fn claim_status(state: StepState) -> Status
+    ensures { result ≡ claim_status state }
 {
-    match request {
-        Request::Create { attributes, .. } => {
-            if used {
-                return Status::DuplicateSopInstance;
-            }
-            create_status(attributes)
+    match state {
+        StepState::Scheduled => Status::Success,
+        StepState::InProgress => Status::AlreadyInProgress,
+        StepState::Completed => Status::NoLongerUpdatable,
+        StepState::Canceled => Status::NoLongerUpdatable,
+    }
+}
+
+/// To COMPLETED, with the right Transaction UID; `met`: what COMPLETED needs is there.
+fn complete_status(met: bool, state: StepState) -> Status
+    ensures { result ≡ complete_status met state }
+{
+    match state {
+        StepState::Scheduled => Status::NotInProgress,
+        StepState::InProgress if met => Status::Success,
+        StepState::InProgress => Status::FinalStateNotMet,
+        StepState::Completed => Status::AlreadyCompleted,
+        StepState::Canceled => Status::NoLongerUpdatable,
+    }
+}
+
+/// To CANCELED, with the right Transaction UID; `met`: what CANCELED needs is there.
+fn discontinue_status(met: bool, state: StepState) -> Status
+    ensures { result ≡ discontinue_status met state }
+{
+    match state {
+        StepState::Scheduled => Status::NotInProgress,
+        StepState::InProgress if met => Status::Success,
+        StepState::InProgress => Status::FinalStateNotMet,
+        StepState::Completed => Status::NoLongerUpdatable,
+        StepState::Canceled => Status::AlreadyCanceled,
+    }
+}
+
+/// To a final state, with another Transaction UID or none; `proper`: it is a UID.
+fn wrong_status(proper: bool, state: StepState) -> Status
+    ensures { result ≡ wrong_status proper state }
+{
+    match state {
+        StepState::Scheduled if proper => Status::NotInProgress,
+        StepState::Scheduled => Status::WrongTransactionUid,
+        StepState::InProgress => Status::WrongTransactionUid,
+        StepState::Completed => Status::WrongTransactionUid,
+        StepState::Canceled => Status::WrongTransactionUid,
+    }
+}
+
+/// A request to cancel.
+fn cancel_status(state: StepState) -> Status
+    ensures { result ≡ cancel_status state }
+{
+    match state {
+        StepState::Scheduled => Status::Success,
+        StepState::InProgress => Status::Success,
+        StepState::Completed => Status::TooLateToCancel,
+        StepState::Canceled => Status::AlreadyCanceled,
+    }
+}
+
+/// An N-SET, by its Transaction UID: whether it is that of the claim, and whether there is one.
+fn set_status(right: bool, given: bool, state: StepState) -> Status
+    ensures { result ≡ set_status right given state }
+{
+    match state {
+        StepState::Scheduled if given => Status::NotInProgress,
+        StepState::Scheduled => Status::Success,
+        StepState::InProgress if right => Status::Success,
+        StepState::InProgress => Status::WrongTransactionUid,
+        StepState::Completed => Status::NoLongerUpdatable,
+        StepState::Canceled => Status::NoLongerUpdatable,
+    }
+}
+
+impl Transaction {
+    /// Whether it is a UID.
+    fn is_proper(&self) -> bool
+        ensures { result ≡ is_proper self.now }
+    {
+        match self {
+            Transaction::Absent | Transaction::Malformed => false,
+            Transaction::Proper(_) => true,
         }
+    }
+
+    /// Whether there is one, be it a UID or not.
+    fn is_given(&self) -> bool
+        ensures { result ≡ is_given self.now }
+    {
+        match self {
+            Transaction::Absent => false,
+            Transaction::Malformed | Transaction::Proper(_) => true,
+        }
+    }
+
+    /// Whether it is that of the claim.
+    fn is_right(&self, claimed: &Option<Uid>) -> bool
+        ensures { result ≡ is_right claimed.now self.now }
+    {
+        match (claimed, self) {
+            (Some(right), Transaction::Proper(uid)) => uid.as_bytes() == right.as_bytes(),
+            _ => false,
+        }
+    }
+}
+
+/// A change of a step to a state (PS3.4 CC.2.1).
+fn change_status<A: Allocator + Copy>(
+    row: &Row<A>,
+    state: StepState,
+    transaction: &Transaction,
+) -> Status
+    ensures { result ≡ change_status row.now state transaction.now }
+{
+    let proper = transaction.is_proper();
+    let right = transaction.is_right(&row.transaction);
+    match state {
+        StepState::Scheduled => Status::ScheduledByCreateAlone,
+        StepState::InProgress if proper => claim_status(row.state),
+        StepState::InProgress => Status::WrongTransactionUid,
+        StepState::Completed if right => {
+            complete_status(is_performed(&row.attributes), row.state)
+        }
+        StepState::Canceled if right => {
+            discontinue_status(is_discontinued(&row.attributes), row.state)
+        }
+        StepState::Completed | StepState::Canceled => wrong_status(proper, row.state),
+    }
+}
+
+/// Whether an N-SET gives which step it is, or its state.
+fn gives_fixed<A: Allocator + Copy>(attributes: &DataSet<A>) -> bool
+    ensures { result ≡ gives_fixed attributes.now }
+{
+    attributes.get(SOP_CLASS_UID).is_some()
+        || attributes.get(SOP_INSTANCE_UID).is_some()
+        || attributes.get(PROCEDURE_STEP_STATE).is_some()
+}
+
+/// What is decided of the attributes of an N-SET (PS3.4 CC.2.6).
+fn set_attributes_status<A: Allocator + Copy>(attributes: &DataSet<A>) -> Status
+    ensures { result ≡ set_attributes_status attributes.now }
+{
+    if gives_fixed(attributes) {
+        return Status::InvalidAttributeValue;
+    }
+    first_given_fault(&CHECKED, attributes)
+}
+
+/// An N-SET on a step (PS3.4 CC.2.6).
+fn update_status<A: Allocator + Copy>(
+    row: &Row<A>,
+    transaction: &Transaction,
+    attributes: &DataSet<A>,
+) -> Status
+    ensures { result ≡ update_status row.now transaction.now attributes.now }
+{
+    let right = transaction.is_right(&row.transaction);
+    match set_status(right, transaction.is_given(), row.state) {
+        Status::Success => set_attributes_status(attributes),
+        status => status,
+    }
+}
+
+/// What is decided of a request by what is known of its step: what is held of it, and whether its UID was ever
+/// used (PS3.4 CC.2.1, CC.2.2, CC.2.5, CC.2.6). The room that is left is not looked at here.
+pub fn verdict<A: Allocator + Copy>(
+    row: Option<&Row<A>>,
+    used: bool,
+    request: &Request<A>,
+) -> Status
+    ensures { result ≡ verdict (option_copied row.entry) used request.now }
+{
+    match (request, row) {
+        (Request::Create { .. }, _) if used => Status::DuplicateSopInstance,
+        (Request::Create { attributes, .. }, _) => create_status(attributes),
+        (_, None) => Status::UnknownInstance,
+        (
+            Request::Change {
+                state,
+                transaction,
+                ..
+            },
+            Some(row),
+        ) => { change_status(row, *state, transaction) }
+        (Request::AskCancel { .. }, Some(row)) => cancel_status(row.state),
+        (
+            Request::Set {
+                transaction,
+                attributes,
+                ..
+            },
+            Some(row),
+        ) => update_status(row, transaction, attributes),
     }
 }

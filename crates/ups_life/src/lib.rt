@@ -2,28 +2,36 @@
 //! what a history of accepted requests makes of each step.
 #![tactic(auto)]
 
+mod actions;
 mod changing;
 mod checks;
 mod configuration;
 mod deciding;
 mod entry;
+pub mod laws;
+mod limits;
 mod plain;
 mod reading;
 mod request;
 mod row;
 mod showing;
+mod state;
 mod status;
+mod values;
 
-pub use changing::change;
+pub use actions::{CHANGE_STATE, REQUEST_CANCEL};
+pub use changing::{ChangeFault, change};
 pub use checks::{CHECKED, Checked, ValueRule};
 pub use configuration::Configuration;
 pub use deciding::verdict;
 pub use entry::{Entry, Peer};
-pub use plain::used;
+pub use limits::MAX_MOMENT;
+pub use plain::{repeats, used};
 pub use reading::read_request;
-pub use request::{Ask, Reply, Request};
-pub use row::Row;
+pub use request::{Ask, Reply, Request, Transaction};
+pub use row::{Holder, Row};
 pub use showing::shown;
+pub use state::StepState;
 pub use status::Status;
 
 #[cfg(test)]

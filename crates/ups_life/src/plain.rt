@@ -2,6 +2,7 @@
 
 ghost use Rattle.std.specs.Prelude.{◌≡◌};
 ghost use Rattle.ups_life.specs.Steps.{past, creates, used};
+ghost use Rattle.ups_life.specs.History.{repeats};
 
 use crate::entry::Entry;
 use crate::request::Request;
@@ -13,6 +14,7 @@ fn creates<A: Allocator + Copy>(uid: Uid, request: &Request<A>) -> bool
 {
     match request {
         Request::Create { step, .. } => step.as_bytes() == uid.as_bytes(),
+        _ => false,
     }
 }
 
@@ -25,4 +27,14 @@ pub fn used<A: Allocator + Copy>(history: &[Entry<A>], uid: Uid) -> bool
         found = creates(uid, &entry.request) || found;
     }
     found
+}
+
+/// Whether a request creates a step under a UID that is used.
+pub fn repeats<A: Allocator + Copy>(history: &[Entry<A>], request: &Request<A>) -> bool
+    ensures { result ≡ repeats (past history.now) request.now }
+{
+    match request {
+        Request::Create { step, .. } => used(history, *step),
+        _ => false,
+    }
 }

@@ -2,18 +2,22 @@
 
 ghost use Rattle.std.specs.Prelude.{◌≡◌, ◌⊎◌, List, Option, Ok, Err, IfErr, MatchResult};
 ghost use Rattle.std.specs.Str.{bytes_eq};
-ghost use Rattle.ups_dataset.specs.Data.{El};
+ghost use Rattle.ups_dataset.specs.Data.{El, element_at};
+ghost use Rattle.ups_dataset.specs.View.{value_view};
 ghost use Rattle.ups_dimse.specs.declared.command.Operation.{Operation};
 ghost use Rattle.ups_life.specs.declared.request.Ask.{Ask};
-ghost use Rattle.ups_life.specs.Asking.{is_well_known, asked};
+ghost use Rattle.ups_life.specs.Asking.{is_well_known, is_subscription, transaction_value, transaction_of, named_state, changed, canceled, acted, asked};
 ghost use Rattle.ups_life.specs.declared.status.Status.TheVariants.{ResourceLimitation};
 
-use crate::request::{Ask, Request};
+use crate::actions::{CHANGE_STATE, REQUEST_CANCEL};
+use crate::request::{Ask, Request, Transaction};
+use crate::state::StepState;
 use crate::status::Status;
 use std::alloc::Allocator;
-use ups_dataset::DataSet;
+use ups_dataset::dictionary::{PROCEDURE_STEP_STATE, TRANSACTION_UID};
+use ups_dataset::{DataSet, Value};
 use ups_dimse::{Operation, Tags};
-use ups_pdu::{RegisteredUid, Uid};
+use ups_pdu::{RegisteredUid, Uid, without_padding};
 
 /// Whether a UID is that of an instance that is no step (PS3.4 CC.2.3).
 fn is_well_known(uid: Uid) -> bool
@@ -23,10 +27,109 @@ fn is_well_known(uid: Uid) -> bool
         || uid.as_bytes() == RegisteredUid::FilteredGlobalSubscription.text()
 }
 
+/// Whether an instance is none but that of a global subscription.
+fn is_subscription(instance: &Option<Uid>) -> bool
+    ensures { result ≡ is_subscription instance.now }
+{
+    match instance {
+        Some(uid) => is_well_known(*uid),
+        None => false,
+    }
+}
+
+/// The Transaction UID that a value is.
+fn transaction_value<A: Allocator + Copy>(value: &Value<A>) -> Transaction
+    ensures { result ≡ transaction_value (value_view value.now) }
+{
+    let Value::Bytes(bytes) = value else {
+        return Transaction::Malformed;
+    };
+    if without_padding(bytes.as_slice()).is_empty() {
+        return Transaction::Absent;
+    }
+    match Uid::of(bytes.as_slice()) {
+        Some(uid) => Transaction::Proper(uid),
+        None => Transaction::Malformed,
+    }
+}
+
+/// The Transaction UID (0008,1195) of a data set.
+fn transaction_of<A: Allocator + Copy>(attributes: &DataSet<A>) -> Transaction
+    ensures { result ≡ transaction_of (element_at TRANSACTION_UID attributes.now) }
+{
+    match attributes.get(TRANSACTION_UID) {
+        Some(element) => transaction_value(&element.value),
+        None => Transaction::Absent,
+    }
+}
+
+/// The state that a data set names; None where it names none.
+fn named_state<A: Allocator + Copy>(attributes: &DataSet<A>) -> Option<StepState>
+    ensures { result ≡ named_state (element_at PROCEDURE_STEP_STATE attributes.now) }
+{
+    match &attributes.get(PROCEDURE_STEP_STATE)?.value {
+        Value::Bytes(bytes) => StepState::of(bytes.as_slice()),
+        Value::Items(_) => None,
+    }
+}
+
+/// What a Change UPS State asks (PS3.4 CC.2.1).
+///
+/// Errors: C314H for a global subscription, which is no step; 0115H where no state is named.
+fn changed<A: Allocator + Copy>(
+    step: &Option<Uid>,
+    attributes: &DataSet<A>,
+) -> Result<Ask<A>, Status>
+    ensures { result ≡ changed step.now attributes.now }
+{
+    if is_subscription(step) {
+        return Err(Status::ActionNotAppropriate);
+    }
+    let Some(state) = named_state(attributes) else {
+        return Err(Status::InvalidArgumentValue);
+    };
+    Ok(Ask::Do(Request::Change {
+        step: *step,
+        state,
+        transaction: transaction_of(attributes),
+    }))
+}
+
+/// What a Request UPS Cancel asks (PS3.4 CC.2.2).
+///
+/// Errors: C314H for a global subscription, which is no step.
+fn canceled<A: Allocator + Copy>(step: &Option<Uid>, reasons: DataSet<A>) -> Result<Ask<A>, Status>
+    ensures { result ≡ canceled step.now reasons }
+{
+    if is_subscription(step) {
+        return Err(Status::ActionNotAppropriate);
+    }
+    Ok(Ask::Do(Request::AskCancel {
+        step: *step,
+        reasons,
+    }))
+}
+
+/// What an N-ACTION asks. Errors: 0123H for another type than these two, and theirs.
+fn acted<A: Allocator + Copy>(
+    step: &Option<Uid>,
+    action: u16,
+    attributes: DataSet<A>,
+) -> Result<Ask<A>, Status>
+    ensures { result ≡ acted step.now action attributes }
+{
+    match action {
+        CHANGE_STATE => changed(step, &attributes),
+        REQUEST_CANCEL => canceled(step, attributes),
+        _ => Err(Status::NoSuchActionType),
+    }
+}
+
 /// What a message asks: its operation, with the data set that came with it, or an empty one.
 ///
-/// Errors: 0117H where a step is to be created whose UID is absent, malformed or well known; 0211H for a
-/// C-ECHO, which asks nothing of a step (PS3.4 annex A); 0213H where memory runs out, and only for a message
+/// Errors: 0117H where a step is to be created whose UID is absent, malformed or well known; those of an N-ACTION
+/// (PS3.4 CC.2.1, CC.2.2): 0123H for another type than 1 and 2, C314H for a global subscription, which is no step,
+/// 0115H where a change names no state; 0211H for a C-ECHO, which asks nothing of a step (PS3.4 annex A); 0213H where memory runs out, and only for a message
 /// that asks something.
 pub fn read_request<A: Allocator + Copy>(
     alloc: A,
@@ -57,6 +160,12 @@ pub fn read_request<A: Allocator + Copy>(
                 attributes: Tags::from_vec(listed),
             })
         }
+        Operation::Set { instance } => Ok(Ask::Do(Request::Set {
+            step: *instance,
+            transaction: transaction_of(&attributes),
+            attributes,
+        })),
+        Operation::Action { instance, action } => acted(instance, *action, attributes),
         Operation::Echo => Err(Status::UnrecognizedOperation),
     }
 }

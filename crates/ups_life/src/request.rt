@@ -1,10 +1,23 @@
 //! What may be asked of the service, and what it answers.
 
+use crate::state::StepState;
 use crate::status::Status;
 use std::alloc::Allocator;
 use ups_dataset::DataSet;
 use ups_dimse::Tags;
 use ups_pdu::Uid;
+
+/// The Transaction UID (0008,1195) that a request gives. Who knows that of a step's claim is its performer
+/// (PS3.4 CC.1.1).
+#[derive(Clone, Copy)]
+pub enum Transaction {
+    /// It is absent, or has no value.
+    Absent,
+    /// It is no UID.
+    Malformed,
+    /// It is this one.
+    Proper(Uid),
+}
 
 /// A request that changes what the service holds, well formed.
 #[derive(Drop)]
@@ -16,18 +29,46 @@ pub enum Request<A: Allocator + Copy> {
         /// The attributes as they were sent.
         attributes: DataSet<A>,
     },
+    /// Changes the state of a step (N-ACTION type 1, PS3.4 CC.2.1).
+    Change {
+        /// The instance UID of the step; None where it is absent or malformed.
+        step: Option<Uid>,
+        /// The state that it is to have.
+        state: StepState,
+        /// The Transaction UID that was sent with it.
+        transaction: Transaction,
+    },
+    /// Asks that a step be canceled (N-ACTION type 2, PS3.4 CC.2.2).
+    AskCancel {
+        /// The instance UID of the step; None where it is absent or malformed.
+        step: Option<Uid>,
+        /// The attributes as they were sent: why, and who is to be asked.
+        reasons: DataSet<A>,
+    },
+    /// Sets attributes of a step (N-SET, PS3.4 CC.2.6).
+    Set {
+        /// The instance UID of the step; None where it is absent or malformed.
+        step: Option<Uid>,
+        /// The Transaction UID that was sent with it.
+        transaction: Transaction,
+        /// The attributes as they were sent.
+        attributes: DataSet<A>,
+    },
 }
 
 impl<A: Allocator + Copy> Request<A> {
     ghost use Rattle.std.specs.Prelude.{◌≡◌};
-    ghost use Rattle.ups_life.specs.History.{step_of};
+    ghost use Rattle.ups_life.specs.Steps.{step_of};
 
-    /// The instance UID of the step that the request is on.
-    pub fn step(&self) -> Uid
+    /// The instance UID of the step that the request is on; None where it is absent or malformed.
+    pub fn step(&self) -> Option<Uid>
         ensures { result ≡ step_of self.now }
     {
         match self {
-            Request::Create { step, .. } => *step,
+            Request::Create { step, .. } => Some(*step),
+            Request::Change { step, .. }
+            | Request::AskCancel { step, .. }
+            | Request::Set { step, .. } => *step,
         }
     }
 }

@@ -16,6 +16,8 @@ pub enum Status {
     ProcessingFailure,
     /// 0111H: a step with this instance UID was created before.
     DuplicateSopInstance,
+    /// 0115H: an argument has a value that it may not have.
+    InvalidArgumentValue,
     /// 0117H: the instance UID is absent, malformed, or has another meaning.
     InvalidObjectInstance,
     /// 0118H: the SOP class is not one that may be named here.
@@ -24,14 +26,36 @@ pub enum Status {
     MissingAttribute,
     /// 0121H: a required attribute has no value.
     MissingAttributeValue,
+    /// 0123H: the type of the action isn't one of the SOP class.
+    NoSuchActionType,
     /// 0211H: the service isn't one of the SOP class.
     UnrecognizedOperation,
     /// 0213H: there is no room.
     ResourceLimitation,
+    /// B304H: the step is CANCELED already, as was asked.
+    AlreadyCanceled,
+    /// B306H: the step is COMPLETED already, as was asked.
+    AlreadyCompleted,
+    /// C300H: the step may no longer be updated.
+    NoLongerUpdatable,
+    /// C301H: the correct Transaction UID was not given.
+    WrongTransactionUid,
+    /// C302H: the step is IN PROGRESS already.
+    AlreadyInProgress,
+    /// C303H: a step becomes SCHEDULED by its creation alone.
+    ScheduledByCreateAlone,
+    /// C304H: what the final state needs is not there.
+    FinalStateNotMet,
     /// C307H: no step with this instance UID is held.
     UnknownInstance,
     /// C309H: a step has to be created as SCHEDULED.
     NotScheduled,
+    /// C310H: the step is not yet IN PROGRESS.
+    NotInProgress,
+    /// C311H: the step is COMPLETED, and can't be canceled any more.
+    TooLateToCancel,
+    /// C314H: the action does not go with this instance.
+    ActionNotAppropriate,
 }
 
 impl Status {
@@ -45,14 +69,26 @@ impl Status {
             Status::InvalidAttributeValue => 0x0106,
             Status::ProcessingFailure => 0x0110,
             Status::DuplicateSopInstance => 0x0111,
+            Status::InvalidArgumentValue => 0x0115,
             Status::InvalidObjectInstance => 0x0117,
             Status::NoSuchSopClass => 0x0118,
             Status::MissingAttribute => 0x0120,
             Status::MissingAttributeValue => 0x0121,
+            Status::NoSuchActionType => 0x0123,
             Status::UnrecognizedOperation => 0x0211,
             Status::ResourceLimitation => 0x0213,
+            Status::AlreadyCanceled => 0xb304,
+            Status::AlreadyCompleted => 0xb306,
+            Status::NoLongerUpdatable => 0xc300,
+            Status::WrongTransactionUid => 0xc301,
+            Status::AlreadyInProgress => 0xc302,
+            Status::ScheduledByCreateAlone => 0xc303,
+            Status::FinalStateNotMet => 0xc304,
             Status::UnknownInstance => 0xc307,
             Status::NotScheduled => 0xc309,
+            Status::NotInProgress => 0xc310,
+            Status::TooLateToCancel => 0xc311,
+            Status::ActionNotAppropriate => 0xc314,
         }
     }
 }

@@ -1,84 +1,127 @@
 -- A request that is entered was accepted, and what a manager keeps stays so.
-use Rattle.std.proofs.Common.{◌≡◌, ℕ, ◌<◌, ◌≤◌, Bool, true, false, cond, ◌&&◌, List, [], ◌∷◌, ◌++◌, length, map, refl, sym, ap, subst, ◌∙◌, arith}
+use Rattle.std.proofs.Common.{◌≡◌, ◌⊎◌, inl, inr, ℕ, ℤ, ◌<◌, Bool, true, false, cond, ◌&&◌, List, [], ◌∷◌, ◌++◌, length, Option, Some, refl, sym, ap, subst, ◌∙◌, arith}
 use Rattle.std.specs.Prelude.{nat_lt, not}
+use Rattle.std.specs.Option.{option_or, unwrap_or}
 use Rattle.std.specs.List.{AllByRecursion}
 use Rattle.std.proofs.lemmas.Bool.Decides.{nat_tests}
-use Rattle.ups_dataset.specs.declared.syntax.TransferSyntax.TheVariants.{Explicit}
-use Rattle.ups_dataset.specs.Data.{El, laid_over}
-use Rattle.ups_dataset.specs.Written.{written}
+use Rattle.ups_dataset.specs.Data.{El}
 use Rattle.ups_life.specs.declared.request.Request.{Request}
-use Rattle.ups_life.specs.declared.request.Request.TheVariants.{Create}
 use Rattle.ups_life.specs.declared.entry.Entry.{Entry}
+use Rattle.ups_life.specs.declared.request.Ask.TheVariants.{Do}
+use Rattle.ups_life.specs.declared.request.Reply.TheVariants.{Status as Answered}
 use Rattle.ups_life.specs.declared.status.Status.{Status}
-use Rattle.ups_life.specs.declared.status.Status.TheVariants.{Success, DuplicateSopInstance, ResourceLimitation}
+use Rattle.ups_life.specs.declared.status.Status.TheVariants.{Success, ResourceLimitation}
 use Rattle.ups_life.specs.Settings.{Settings}
-use Rattle.ups_life.specs.Steps.{past, used, given}
-use Rattle.ups_life.specs.Verdict.{verdict, create_status}
-use Rattle.ups_life.specs.History.{accepts, legal, status, sized, in_room, step_of, row_then, rows_of}
-use Rattle.ups_life.proofs.HeldRows.{row-unused, rows_of-create}
+use Rattle.ups_life.specs.Steps.{past, step_of, row_after, nothing, known}
+use Rattle.ups_life.specs.Verdict.{verdict}
+use Rattle.ups_life.specs.History.{accepts, legal, status, sized, in_room, is_sized, fits, repeats, row_then}
 use Rattle.ups_life.proofs.Past.{past-push, length-past}
+use Rattle.ups_manager.specs.declared.call.Call.{Call}
 use Rattle.ups_manager.specs.declared.rows.HeldStep.{HeldStep}
-use Rattle.ups_manager.specs.Held.{row_of, HasSmallRow}
-use Rattle.ups_manager.specs.Law.{is_legal, IsSmall}
+use Rattle.ups_manager.specs.Held.{held_steps, step_at, row_in, row_of_step, holder_in, claimed_by, put_step, IsSmallStep}
+use Rattle.ups_manager.specs.Law.{Answers, is_legal, entry}
+use Rattle.ups_manager.proofs.Holding.{row_in-held_steps, row_of_step-held_steps, held_steps-after}
+use Rattle.ups_manager.proofs.Small.{small_after, small_put}
 
-duplicate : (b : Bool) (s : Status) → cond b DuplicateSopInstance s ≡ Success → b ≡ false
-duplicate true s e = absurd cc
-duplicate false s e = refl
-
--- only a step that was never created is accepted
-fresh : {A : Type 0} (b : Bool) (r : Request A) → verdict b r ≡ Success → b ≡ false
-fresh b (Create step attributes) e = duplicate b (create_status attributes) e
-
-not_over : (n m : ℕ) → n ≤ m → nat_lt m n ≡ false
-not_over n m h = grind (arith, nat_tests)
+-- what is held of the step of a call that is accepted after a history
+pub record Accepted {A : Type 0} (s : Settings) (history : List (Entry A)) (hs : List (HeldStep A)) (call : Call A) (x : HeldStep A) : Type 0 where
+  pub step : step_of call.request ≡ Some x.step
+  pub allowed : verdict (row_in x.step hs) (repeats (past history) call.request) call.request ≡ Success
+  pub row : x.row ≡ row_after s.offset call.moment (unwrap_or (row_in x.step hs) nothing) call.request
+  pub holder : x.holder ≡ option_or (claimed_by call) (holder_in (step_at x.step hs))
+  pub fits : is_sized call.request ≡ true → fits x.row.attributes ≡ true
+  pub room : length history < s.limit
 
 within : (n m : ℕ) → n < m → nat_lt n m ≡ true
 within n m h = grind (arith, nat_tests)
 
--- what the row of a new step would be
-row_then-new : {A : Type 0} (es : List (Entry A)) (r : Request A) → used es (step_of r) ≡ false → row_then es r ≡ laid_over (given r) []
-row_then-new es r h = ap (λ l. laid_over (given r) l) (row-unused es (step_of r) h)
+unless_too_large : (sized fit : Bool) → (sized ≡ true → fit ≡ true) → cond (sized && not fit) ResourceLimitation Success ≡ Success
+unless_too_large true true h = refl
+unless_too_large true false h = absurd (no (h refl))
+  where
+    no : false ≡ true → ⊥
+    no e = absurd cc
+unless_too_large false fit h = refl
 
--- a request that is accepted after a history, and the row that it makes
-pub record Accepted {A : Type 0} (s : Settings) (history : List (Entry A)) (r : Request A) (set : List El) : Type 0 where
-  pub allowed : verdict (used (past history) (step_of r)) r ≡ Success
-  pub row : set ≡ laid_over (given r) []
-  pub small : IsSmall set
-  pub room : length history < s.limit
-
-pub succeeds : {A : Type 0} (s : Settings) (history : List (Entry A)) (r : Request A) (set : List El) → Accepted s history r set → status s (past history) r ≡ Success
-succeeds s history r set a =
+pub succeeds : {A : Type 0} (s : Settings) (history : List (Entry A)) (hs : List (HeldStep A)) (call : Call A) (x : HeldStep A) → hs ≡ held_steps s.offset (past history) → Accepted s history hs call x
+    → status s (past history) call.moment call.request ≡ Success
+succeeds {A} s history hs call x kept a =
     let es = past history in
-    let is : row_then es r ≡ set = row_then-new es r (fresh (used es (step_of r)) r a.allowed) ∙ sym a.row in
+    let r = call.request in
+    let known_is : known s.offset es (step_of r) ≡ row_in x.step hs =
+    ap (known s.offset es) a.step ∙ sym (row_in-held_steps s.offset es x.step) ∙ ap (row_in x.step) (sym kept) in
+    let allowed : verdict (known s.offset es (step_of r)) (repeats es r) r ≡ Success = ap (λ k. verdict k (repeats es r) r) known_is ∙ a.allowed in
+    let row_is : row_then s es call.moment r ≡ x.row = ap (λ k. row_after s.offset call.moment (unwrap_or k nothing) r) known_is ∙ sym a.row in
     let left : length es < s.limit = omega (arith, a.room, length-past history) in
-    ap (λ x. in_room s es (sized (row_then es r) x)) a.allowed
-    ∙ ap (λ l. in_room s es (sized l Success)) is
-    ∙ ap (λ b. in_room s es (cond b ResourceLimitation Success)) (not_over (length (written Explicit set)) 1048576 a.small)
+    ap (λ v. in_room s es (sized r (row_then s es call.moment r).attributes v)) allowed
+    ∙ ap (λ k. in_room s es (sized r k.attributes Success)) row_is
+    ∙ ap (in_room s es) (unless_too_large (is_sized r) (fits x.row.attributes) a.fits)
     ∙ ap (λ b. cond (not b) ResourceLimitation Success) (within (length es) s.limit left)
 
-legal_push : {A : Type 0} (s : Settings) (history : List (Entry A)) (e : Entry A) → is_legal s history → status s (past history) e.request ≡ Success → is_legal s (history ++ e ∷ [])
-legal_push s history e so accepted = ap (λ l. legal s l) (past-push history e) ∙ ap (λ x. accepts x && legal s (past history)) accepted ∙ so
+legal_push : {A : Type 0} (s : Settings) (history : List (Entry A)) (e : Entry A) → is_legal s history → status s (past history) e.moment e.request ≡ Success → is_legal s (history ++ e ∷ [])
+legal_push s history e so accepted = ap (legal s) (past-push history e) ∙ ap (λ x. accepts x && legal s (past history)) accepted ∙ so
 
--- the history stays legal; `same` is the history after room was made
-pub legal_after : {A : Type 0} (s : Settings) (old same new : List (Entry A)) (e : Entry A) (set : List El) → is_legal s old → same ≡ old → new ≡ same ++ e ∷ [] → Accepted s old e.request set → is_legal s new
-legal_after s old same new e set so made pushed a =
-    ap (λ l. legal s (past l)) (pushed ∙ ap (λ l. l ++ e ∷ []) made) ∙ legal_push s old e so (succeeds s old e.request set a)
+-- the history stays legal
+pub legal_after : {A : Type 0} (s : Settings) (history new : List (Entry A)) (hs : List (HeldStep A)) (call : Call A) (x : HeldStep A) → is_legal s history → hs ≡ held_steps s.offset (past history)
+    → new ≡ history ++ entry call.caller call.ae call.moment call.request ∷ [] → Accepted s history hs call x → is_legal s new
+legal_after s history new hs call x so kept is a =
+    ap (λ l. legal s (past l)) is ∙ legal_push s history (entry call.caller call.ae call.moment call.request) so (succeeds s history hs call x kept a)
 
--- and the rows stay those of the steps held; `same` are the rows after room was made
-pub rows_after : {A : Type 0} (old same new : List (Entry A)) (rows room held : List (HeldStep A)) (s : Settings) (e : Entry A) (set : List El) → same ≡ old → new ≡ same ++ e ∷ [] → room ≡ rows → map row_of rows ≡ rows_of (past old)
-    → map row_of held ≡ map row_of room ++ (step_of e.request, set) ∷ [] → Accepted s old e.request set → map row_of held ≡ rows_of (past new)
-rows_after old same new rows room held s e set made pushed room_made kept added a =
-    let es = past old in
-    let u = fresh (used es (step_of e.request)) e.request a.allowed in
-    let now : past new ≡ e ∷ es = ap past (pushed ∙ ap (λ l. l ++ e ∷ []) made) ∙ past-push old e in
-    added ∙ ap (λ l. map row_of l ++ (step_of e.request, set) ∷ []) room_made ∙ ap (λ l. l ++ (step_of e.request, set) ∷ []) kept
-    ∙ ap (λ (x : List El). rows_of es ++ (step_of e.request, x) ∷ []) (a.row ∙ sym (row_then-new es e.request u))
-    ∙ sym (rows_of-create es e u) ∙ ap (λ l. rows_of l) (sym now)
+-- and the steps stay those that it holds
+pub steps_after : {A : Type 0} (s : Settings) (history new : List (Entry A)) (hs held : List (HeldStep A)) (call : Call A) (x : HeldStep A) → is_legal s history → hs ≡ held_steps s.offset (past history)
+    → new ≡ history ++ entry call.caller call.ae call.moment call.request ∷ [] → held ≡ put_step x hs → Accepted s history hs call x → held ≡ held_steps s.offset (past new)
+steps_after {A} s history new hs held call x so kept is put a =
+    let e : Entry A = entry call.caller call.ae call.moment call.request in
+    let es = past history in
+    let now : past new ≡ e ∷ es = ap past is ∙ past-push history e in
+    put ∙ ap (put_step x) kept
+    ∙ sym (held_steps-after s e es x so a.step
+    (ap (λ l. verdict (row_in x.step l) (repeats es call.request) call.request) (sym kept) ∙ a.allowed)
+    (a.row ∙ ap (λ l. row_after s.offset call.moment (unwrap_or (row_in x.step l) nothing) call.request) kept)
+    (a.holder ∙ ap (λ l. option_or (claimed_by call) (holder_in (step_at x.step l))) kept))
+    ∙ ap (held_steps s.offset) (sym now)
 
-pub small_after : {A : Type 0} (rows room held : List (HeldStep A)) (set : List El) → room ≡ rows → AllByRecursion HasSmallRow rows → IsSmall set → (IsSmall set → AllByRecursion HasSmallRow room → AllByRecursion HasSmallRow held)
-    → AllByRecursion HasSmallRow held
-small_after rows room held set made kept small added = added small (subst (λ l. AllByRecursion HasSmallRow l) (sym made) kept)
+-- a refusal is the status by the history
+not_accepted : (b : Bool) (status : Status) → accepts status ≡ false → cond (accepts status && b) ResourceLimitation status ≡ status
+not_accepted b status n = ap (λ a. cond (a && b) ResourceLimitation status) n
 
--- what is decided by a slice is decided by the history that it shows
-pub decided : {A : Type 0} (slice history : List (Entry A)) (r : Request A) → slice ≡ history → verdict (used (past slice) (step_of r)) r ≡ Success → verdict (used (past history) (step_of r)) r ≡ Success
-decided slice history r same v = ap (λ h. verdict (used (past h) (step_of r)) r) (sym same) ∙ v
+not_sized : (p q : Bool) (status : Status) → accepts status ≡ false → cond (accepts status && p && q) ResourceLimitation status ≡ status
+not_sized p q status n = ap (λ a. cond (a && p && q) ResourceLimitation status) n
+
+pub refused : {A : Type 0} (s : Settings) (history : List (Entry A)) (hs : List (HeldStep A)) (call : Call A) (x : Status) → hs ≡ held_steps s.offset (past history) → accepts x ≡ false
+    → x ≡ verdict (row_of_step (step_of call.request) hs) (repeats (past history) call.request) call.request → x ≡ status s (past history) call.moment call.request
+refused s history hs call x kept n is =
+    let es = past history in
+    let r = call.request in
+    let said : verdict (known s.offset es (step_of r)) (repeats es r) r ≡ x =
+    ap (λ k. verdict k (repeats es r) r) (sym (row_of_step-held_steps s.offset es (step_of r)) ∙ ap (row_of_step (step_of r)) (sym kept)) ∙ sym is in
+    sym (ap (λ v. in_room s es (sized r (row_then s es call.moment r).attributes v)) said
+    ∙ ap (in_room s es) (not_sized (is_sized r) (not (fits (row_then s es call.moment r).attributes)) x n)
+    ∙ not_accepted (not (nat_lt (length es) s.limit)) x n)
+
+-- the same of slices of what is kept
+pub answers_refusal : {A : Type 0} (s : Settings) (history slice : List (Entry A)) (hs steps : List (HeldStep A)) (call : Call A) (x : Status) → slice ≡ history → steps ≡ hs → hs ≡ held_steps s.offset (past history) → accepts x ≡ false
+    → (x ≡ verdict (row_of_step (step_of call.request) steps) (repeats (past slice) call.request) call.request) ⊎ (x ≡ ResourceLimitation) → Answers s history call.moment (Do call.request) (Answered x)
+answers_refusal s history slice hs steps call x whole all kept n (inl e) =
+    inl (ap Answered (refused s history hs call x kept n (e ∙ ap (λ l. verdict (row_of_step (step_of call.request) l) (repeats (past slice) call.request) call.request) all
+    ∙ ap (λ l. verdict (row_of_step (step_of call.request) hs) (repeats (past l) call.request) call.request) whole)))
+answers_refusal s history slice hs steps call x whole all kept n (inr e) = inr (ap Answered e)
+
+pub accepted : {A : Type 0} (s : Settings) (history slice : List (Entry A)) (hs steps : List (HeldStep A)) (call : Call A) (x : HeldStep A) (offset : ℤ) → slice ≡ history → steps ≡ hs → offset ≡ s.offset
+    → step_of call.request ≡ Some x.step → verdict (row_in x.step steps) (repeats (past slice) call.request) call.request ≡ Success
+    → x.row ≡ row_after offset call.moment (unwrap_or (row_in x.step steps) nothing) call.request → x.holder ≡ option_or (claimed_by call) (holder_in (step_at x.step steps))
+    → (is_sized call.request ≡ true → fits x.row.attributes ≡ true) → length history < s.limit → Accepted s history hs call x
+accepted s history slice hs steps call x offset whole all zone step allowed row holder fits room = record {
+  step = step;
+  allowed = ap (λ l. verdict (row_in x.step hs) (repeats (past l) call.request) call.request) (sym whole) ∙ ap (λ l. verdict (row_in x.step l) (repeats (past slice) call.request) call.request) (sym all) ∙ allowed;
+  row = row ∙ ap (λ z. row_after z call.moment (unwrap_or (row_in x.step steps) nothing) call.request) zone ∙ ap (λ l. row_after s.offset call.moment (unwrap_or (row_in x.step l) nothing) call.request) all;
+  holder = holder ∙ ap (λ l. option_or (claimed_by call) (holder_in (step_at x.step l))) all;
+  fits = fits;
+  room = room;
+}
+
+pub small_kept : {A : Type 0} (s : Settings) (history : List (Entry A)) (hs room held : List (HeldStep A)) (call : Call A) (x : HeldStep A) → AllByRecursion IsSmallStep hs → room ≡ hs → held ≡ put_step x room → Accepted s history hs call x
+    → AllByRecursion IsSmallStep held
+small_kept {A} s history hs room held call x all same put a =
+    subst (λ (l : List (HeldStep A)). AllByRecursion IsSmallStep l) (sym (put ∙ ap (put_step x) same))
+    (small_put x hs (small_after s call.moment hs x (repeats (past history) call.request) call.request all a.allowed a.row a.fits) all)

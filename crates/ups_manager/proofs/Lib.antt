@@ -2,3 +2,8 @@ pub mod Alone
 pub mod Calling
 mod Entering
 mod Finding
+mod Fitting
+pub mod Holding
+mod Offsets
+mod Putting
+mod Small

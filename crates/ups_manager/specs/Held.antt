@@ -1,12 +1,71 @@
--- A step that is held, as the definitions see it.
-use Rattle.std.specs.Prelude.{ℕ, List}
-use Rattle.ups_dataset.specs.Data.{El}
+-- The steps that are held, as the definitions see them.
+use Rattle.std.specs.Prelude.{◌≡◌, ◌≤◌, ◌+◌, ℕ, ℤ, Bool, true, zero, suc, List, [], ◌∷◌, length, map, Option, None, Some, if◌then◌else◌}
+use Rattle.std.specs.Option.{option_map}
+use Rattle.std.specs.Str.{bytes_eq}
+use Rattle.ups_dataset.specs.declared.syntax.TransferSyntax.TheVariants.{Explicit}
+use Rattle.ups_dataset.specs.Written.{written}
+use Rattle.ups_life.specs.declared.entry.Entry.{Entry}
+use Rattle.ups_life.specs.declared.row.Row.{Row}
+use Rattle.ups_life.specs.declared.state.StepState.{StepState}
+use Rattle.ups_life.specs.declared.state.StepState.TheVariants.{Scheduled, InProgress, Completed, Canceled}
+use Rattle.ups_life.specs.declared.row.Holder.{Holder}
+use Rattle.ups_life.specs.Steps.{taken, held, is_held, holder, row_of}
+use Rattle.ups_manager.specs.declared.call.Call.{Call}
 use Rattle.ups_manager.specs.declared.rows.HeldStep.{HeldStep}
-use Rattle.ups_manager.specs.Law.{IsSmall}
 
--- its UID and its attributes
-abbrev pub row_of : {A : Type 0} → HeldStep A → List ℕ × List El
-row_of held = (held.step, held.row.attributes)
+-- what is held of u, and who holds it
+abbrev pub held_step : {A : Type 0} → ℤ → List (Entry A) → List ℕ → HeldStep A
+held_step offset es u = record { step = u; row = row_of offset es u; holder = holder es u }
 
-abbrev pub HasSmallRow : {A : Type 0} → HeldStep A → Type 0
-HasSmallRow held = IsSmall held.row.attributes
+-- the steps held, in order of creation
+abbrev pub held_steps : {A : Type 0} → ℤ → List (Entry A) → List (HeldStep A)
+held_steps offset es = map (held_step offset es) (held es)
+
+-- the step with this UID
+abbrev pub step_at : {A : Type 0} → List ℕ → List (HeldStep A) → Option (HeldStep A)
+step_at u [] = None
+step_at u (h ∷ hs) = if bytes_eq h.step u then Some h else step_at u hs
+
+-- how many steps stand before it; all of them where there is none
+abbrev pub place_in : {A : Type 0} → List ℕ → List (HeldStep A) → ℕ
+place_in u [] = 0
+place_in u (h ∷ hs) = if bytes_eq h.step u then 0 else suc (place_in u hs)
+
+-- a step in the place of the one with its UID, or else behind the others
+abbrev pub put_step : {A : Type 0} → HeldStep A → List (HeldStep A) → List (HeldStep A)
+put_step x [] = x ∷ []
+put_step x (h ∷ hs) = if bytes_eq h.step x.step then x ∷ hs else h ∷ put_step x hs
+
+-- the row of a step
+abbrev pub row_in : {A : Type 0} → List ℕ → List (HeldStep A) → Option (Row A)
+row_in {A} u hs = option_map (λ (h : HeldStep A). h.row) (step_at u hs)
+
+abbrev pub row_of_step : {A : Type 0} → Option (List ℕ) → List (HeldStep A) → Option (Row A)
+row_of_step None hs = None
+row_of_step (Some u) hs = row_in u hs
+
+-- who holds a step that is held
+abbrev pub holder_in : {A : Type 0} → Option (HeldStep A) → Option Holder
+holder_in None = None
+holder_in (Some h) = h.holder
+
+-- who claims a step by a call
+abbrev pub claimed_by : {A : Type 0} → Call A → Option Holder
+claimed_by call = option_map (λ uid. record { caller = call.caller; ae = call.ae }) (taken call.request)
+
+-- who holds u after a history; nobody holds what is not held
+abbrev pub holder_of : {A : Type 0} → List (Entry A) → List ℕ → Option Holder
+holder_of es u = if is_held es u then holder es u else None
+
+-- By how many bytes a row may pass 1,048,576: a change of state takes 20 bytes at most, and isn't refused for them.
+abbrev pub slack : StepState → ℕ
+slack Scheduled = 0
+slack InProgress = 20
+slack Completed = 40
+slack Canceled = 40
+
+abbrev pub HasSmallRow : {A : Type 0} → Row A → Type 0
+HasSmallRow row = length (written Explicit row.attributes) ≤ 1048576 + slack row.state
+
+abbrev pub IsSmallStep : {A : Type 0} → HeldStep A → Type 0
+IsSmallStep h = HasSmallRow h.row

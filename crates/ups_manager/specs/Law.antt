@@ -19,14 +19,14 @@ use Rattle.ups_life.specs.History.{legal, status, got, entered as entered_by}
 abbrev pub is_legal : {A : Type 0} → Settings → List (Entry A) → Type 0
 is_legal settings history = legal settings (past history) ≡ true
 
--- what is asked, answered by a history (PS3.4 CC.2.5, CC.2.7)
-abbrev pub reply_to : {A : Type 0} → Settings → List (Entry A) → Ask A → Reply A
-reply_to settings history (Do request) = Answered (status settings (past history) request)
-reply_to settings history (Get step listed) = got (past history) step listed
+-- what is asked at a moment, answered by a history (PS3.4 CC.2.1, CC.2.2, CC.2.5 to CC.2.7)
+abbrev pub reply_to : {A : Type 0} → Settings → List (Entry A) → ℕ → Ask A → Reply A
+reply_to settings history moment (Do request) = Answered (status settings (past history) moment request)
+reply_to settings history moment (Get step listed) = got settings (past history) step listed
 
 -- that answer; or memory ran out
-abbrev pub Answers : {A : Type 0} → Settings → List (Entry A) → Ask A → Reply A → Type 0
-Answers settings history ask reply = (reply ≡ reply_to settings history ask) ⊎ (reply ≡ Answered ResourceLimitation)
+abbrev pub Answers : {A : Type 0} → Settings → List (Entry A) → ℕ → Ask A → Reply A → Type 0
+Answers settings history moment ask reply = (reply ≡ reply_to settings history moment ask) ⊎ (reply ≡ Answered ResourceLimitation)
 
 -- a request as it is entered
 abbrev pub entry : {A : Type 0} → ℕ → List ℕ → ℕ → Request A → Entry A
@@ -42,7 +42,7 @@ entered caller ae moment ask reply = []
 abbrev pub Serves : {A : Type 0} → Settings → ℕ → List (Entry A) → List ℕ → ℕ → Ask A → Reply A → List (Entry A) → Type 0
 Serves {A} settings caller seen ae moment ask reply after =
     (others : List (Entry A)) × All (λ (e : Entry A). e.caller ≢ caller) others × is_legal settings (seen ++ others)
-    × Answers settings (seen ++ others) ask reply
+    × Answers settings (seen ++ others) moment ask reply
     × (after ≡ (seen ++ others) ++ entered caller ae moment ask reply)
 
 -- calls of one application entity, one after another: each ask at its moment has its reply
@@ -52,9 +52,10 @@ Calls {A} settings caller seen ae (ask ∷ asks) (moment ∷ moments) (reply ∷
     (then : List (Entry A)) × Serves settings caller seen ae moment ask reply then × Calls settings caller then ae asks moments replies after
 Calls settings caller seen ae asks moments replies after = ⊥
 
--- no more bytes than a row may have
+-- no more bytes than a row may have: what is created, set or canceled leaves at most 1,048,576, and each of two changes
+-- of state adds 20 at most
 abbrev pub IsSmall : List El → Type 0
-IsSmall set = length (written Explicit set) ≤ 1048576
+IsSmall set = length (written Explicit set) ≤ 1048616
 
 -- a set that is shown is no larger than a row
 abbrev pub SmallReply : {A : Type 0} → Reply A → Type 0

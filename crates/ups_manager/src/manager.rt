@@ -1,43 +1,43 @@
-//! What the service holds: the history of accepted requests, and a row for each step.
+//! What the service holds: the history of accepted requests, and the steps.
 
-ghost use Rattle.std.specs.Prelude.{[], ◌≡◌, ◌≤◌, ◌<◌, ◌⊎◌, ◌∷◌, ◌++◌, None, false, length, map, IfOk, IfErr, OnOk, vec_len, vec_capacity};
-ghost use Rattle.std.specs.Option.{unwrap_or};
-ghost use Rattle.std.specs.List.{AllByRecursion};
-ghost use Rattle.ups_dataset.specs.Data.{laid_over};
+ghost use Rattle.std.specs.Prelude.{[], ◌≡◌, ◌≤◌, ◌<◌, ◌⊎◌, ◌++◌, None, Some, true, false, length, IfOk, IfErr, OnOk, vec_len, vec_capacity};
+ghost use Rattle.std.specs.Option.{unwrap_or, option_or, option_copied};
 ghost use Rattle.ups_life.specs.declared.request.Ask.TheVariants.{Do};
 ghost use Rattle.ups_life.specs.declared.request.Reply.TheVariants.{Status as Answered};
 ghost use Rattle.ups_life.specs.declared.status.Status.TheVariants.{Success, ResourceLimitation};
-ghost use Rattle.ups_life.specs.Steps.{past, used, given};
+ghost use Rattle.ups_life.specs.Settings.{IsMoment, IsOffset};
+ghost use Rattle.ups_life.specs.Steps.{past, step_of, row_after, nothing};
 ghost use Rattle.ups_life.specs.Verdict.{verdict};
-ghost use Rattle.ups_life.specs.History.{accepts, got, step_of};
+ghost use Rattle.ups_life.specs.History.{accepts, is_sized, fits, repeats, got};
 ghost use Rattle.ups_manager.specs.declared.fault.ManagerFault.TheVariants.{Memory};
-ghost use Rattle.ups_manager.specs.Held.{row_of, HasSmallRow};
-ghost use Rattle.ups_manager.specs.Law.{Answers, IsSmall, SmallReply, entered, is_legal};
+ghost use Rattle.ups_manager.specs.Held.{step_at, row_in, row_of_step, holder_in, claimed_by, holder_of};
+ghost use Rattle.ups_manager.specs.Law.{Answers, SmallReply, entered, is_legal};
 ghost use Rattle.ups_manager.specs.Refusal.{refusal};
 
 use crate::call::Call;
 use crate::fault::ManagerFault;
-use crate::rows::{HeldStep, find};
+use crate::rows::{HeldStep, find, put, row_of};
 use crate::starting::refusal;
 use std::alloc::Allocator;
 use std::marker::Model;
 use ups_dataset::Tag;
 use ups_life::{
-    Configuration, Entry, Peer, Reply, Request, Row, Status, change, shown, used, verdict,
+    Configuration, Entry, Holder, Peer, Reply, Request, Row, Status, StepState, Transaction,
+    change, repeats, shown, verdict,
 };
 use ups_pdu::Uid;
 
 /// How many bytes a row may have at most, in Explicit VR Little Endian.
 const ROW_LIMIT: u64 = 1_048_576;
 
-/// The manager: the history of accepted requests, and a row for each step that is held. A contract sees it
+/// The manager: the history of accepted requests, and the steps that are held. A contract sees it
 /// as what was fixed at the start and the history, oldest first.
 #[derive(Drop)]
 pub struct Manager<A: Allocator + Copy> {
     alloc: A,
     configuration: Configuration<A>,
     history: Vec<Entry<A>, A>,
-    rows: Vec<HeldStep<A>, A>,
+    steps: Vec<HeldStep<A>, A>,
 }
 
 impl<A: Allocator + Copy> Model for Manager<A> {
@@ -57,72 +57,131 @@ impl<A: Allocator + Copy> Model for Manager<A> {
     ghost invariant = { IsKept };
 }
 
-/// Looks whether the history allows a request, where there is room (PS3.4 CC.2.1, CC.2.5).
+/// Looks whether a request is allowed, by what is held of its step and by the history, where there is room
+/// (PS3.4 CC.2.1, CC.2.2, CC.2.5, CC.2.6).
 ///
 /// Errors: the status with which it is refused.
-fn decide<A: Allocator + Copy>(history: &[Entry<A>], request: &Request<A>) -> Result<(), Status>
-    ensures allowed { OnOk result (verdict (used (past history.now) (step_of request.now)) request.now ≡ Success) }
-    ensures refused { IfErr result (λ status. status ≡ verdict (used (past history.now) (step_of request.now)) request.now) }
+fn decide<A: Allocator + Copy>(
+    row: Option<&Row<A>>,
+    history: &[Entry<A>],
+    request: &Request<A>,
+) -> Result<(), Status>
+    ensures allowed { OnOk result (verdict (option_copied row.entry) (repeats (past history.now) request.now) request.now ≡ Success) }
+    ensures refused { IfErr result (λ status. status ≡ verdict (option_copied row.entry) (repeats (past history.now) request.now) request.now) }
     ensures error { IfErr result (λ status. accepts status ≡ false) }
 {
-    match verdict(used(history, request.step()), request) {
+    match verdict(row, repeats(history, request), request) {
         Status::Success => Ok(()),
         status => Err(status),
     }
 }
 
-/// The row that a request makes of its step.
-///
-/// Errors: 0213H where the row would be too large, or memory runs out.
-fn row_for<A: Allocator + Copy>(alloc: A, request: &Request<A>) -> Result<Row<A>, Status>
-    ensures row { IfOk result (λ row. row.attributes ≡ laid_over (given request.now) []) }
-    ensures small { IfOk result (λ row. IsSmall row.attributes) }
-    ensures error { IfErr result (λ e. e ≡ ResourceLimitation) }
+/// Whether a row has to fit after a request: any but a change of state.
+fn is_sized<A: Allocator + Copy>(request: &Request<A>) -> bool
+    ensures { result ≡ is_sized request.now }
 {
-    let Ok(row) = change(alloc, request) else {
-        return Err(Status::ResourceLimitation);
-    };
-    if row.attributes.size() > ROW_LIMIT {
-        return Err(Status::ResourceLimitation);
+    match request {
+        Request::Create { .. } | Request::AskCancel { .. } | Request::Set { .. } => true,
+        Request::Change { .. } => false,
     }
-    Ok(row)
 }
 
-/// Makes room for one more request and one more row.
+/// The row that a request at a moment makes of its step.
+///
+/// Errors: 0213H where the row would be too large, its items would nest too deep, or memory runs out.
+fn row_for<A: Allocator + Copy>(
+    alloc: A,
+    row: Option<&Row<A>>,
+    request: &Request<A>,
+    moment: u64,
+    offset: i16,
+) -> Result<Row<A>, Status>
+    requires moment { IsMoment moment }
+    requires offset { IsOffset offset }
+    ensures row { IfOk result (λ after. after ≡ row_after offset moment (unwrap_or (option_copied row.entry) nothing) request.now) }
+    ensures fits { IfOk result (λ after. is_sized request.now ≡ true → fits after.attributes ≡ true) }
+    ensures error { IfErr result (λ e. e ≡ ResourceLimitation) }
+{
+    let Ok(after) = change(alloc, row, request, moment, offset) else {
+        return Err(Status::ResourceLimitation);
+    };
+    if !is_sized(request) {
+        return Ok(after);
+    }
+    if after.attributes.size() > ROW_LIMIT {
+        return Err(Status::ResourceLimitation);
+    }
+    after.attributes.is_a_data_set();
+    Ok(after)
+}
+
+/// Who holds a step after a call on it that was accepted.
+fn holder_after<A: Allocator + Copy>(before: Option<&HeldStep<A>>, call: &Call<A>) -> Option<Holder>
+    ensures { result ≡ option_or (claimed_by call.now) (holder_in (option_copied before.entry)) }
+{
+    if let Request::Change {
+        state: StepState::InProgress,
+        transaction: Transaction::Proper(_),
+        ..
+    } = &call.request
+    {
+        return Some(Holder {
+            caller: call.caller,
+            ae: call.ae,
+        });
+    }
+    before?.holder
+}
+
+/// What is held of the step of a call after it.
+///
+/// Errors: the status with which it is refused; 0213H also where memory runs out.
+fn step_for<A: Allocator + Copy>(
+    alloc: A,
+    offset: i16,
+    history: &[Entry<A>],
+    steps: &[HeldStep<A>],
+    call: &Call<A>,
+) -> Result<HeldStep<A>, Status>
+    requires moment { IsMoment call.now.moment }
+    requires offset { IsOffset offset }
+    ensures step { IfOk result (λ h. step_of call.now.request ≡ Some h.step) }
+    ensures allowed { IfOk result (λ h. verdict (row_in h.step steps.now) (repeats (past history.now) call.now.request) call.now.request ≡ Success) }
+    ensures row { IfOk result (λ h. h.row ≡ row_after offset call.now.moment (unwrap_or (row_in h.step steps.now) nothing) call.now.request) }
+    ensures holder { IfOk result (λ h. h.holder ≡ option_or (claimed_by call.now) (holder_in (step_at h.step steps.now))) }
+    ensures fits { IfOk result (λ h. is_sized call.now.request ≡ true → fits h.row.attributes ≡ true) }
+    ensures refused { IfErr result (λ status. (status ≡ verdict (row_of_step (step_of call.now.request) steps.now) (repeats (past history.now) call.now.request) call.now.request) ⊎ (status ≡ ResourceLimitation)) }
+    ensures error { IfErr result (λ status. accepts status ≡ false) }
+{
+    let Some(step) = call.request.step() else {
+        return Err(Status::UnknownInstance);
+    };
+    let held = find(steps, step);
+    let row = row_of(held);
+    decide(row, history, &call.request)?;
+    let row = row_for(alloc, row, &call.request, call.moment, offset)?;
+    let holder = holder_after(held, call);
+    Ok(HeldStep { step, row, holder })
+}
+
+/// Makes room for one more request and one more step.
 ///
 /// Errors: 0213H where the history is full, or memory runs out.
 fn make_room<A: Allocator + Copy>(
     limit: u64,
     history: &mut Vec<Entry<A>, A>,
-    rows: &mut Vec<HeldStep<A>, A>,
+    steps: &mut Vec<HeldStep<A>, A>,
 ) -> Result<(), Status>
     ensures limit { OnOk result (length history.old.items < limit) }
-    ensures room { OnOk result ((vec_len history.new < vec_capacity history.new) × (vec_len rows.new < vec_capacity rows.new)) }
+    ensures room { OnOk result ((vec_len history.new < vec_capacity history.new) × (vec_len steps.new < vec_capacity steps.new)) }
     ensures error { IfErr result (λ e. e ≡ ResourceLimitation) }
     ensures history { history.new.items ≡ history.old.items }
-    ensures rows { rows.new.items ≡ rows.old.items }
+    ensures steps { steps.new.items ≡ steps.old.items }
 {
-    if history.len() as u64 >= limit || history.reserve(1).is_err() || rows.reserve(1).is_err() {
+    if history.len() as u64 >= limit || history.reserve(1).is_err() || steps.reserve(1).is_err() {
         return Err(Status::ResourceLimitation);
     }
     Ok(())
-}
-
-/// Enters a request, and keeps the row of its step.
-fn enter<A: Allocator + Copy>(
-    history: &mut Vec<Entry<A>, A>,
-    rows: &mut Vec<HeldStep<A>, A>,
-    entry: Entry<A>,
-    row: Row<A>,
-)
-    requires room { (vec_len history.old < vec_capacity history.old) × (vec_len rows.old < vec_capacity rows.old) }
-    ensures history { history.new.items ≡ history.old.items ++ entry ∷ [] }
-    ensures rows { map row_of rows.new.items ≡ map row_of rows.old.items ++ (step_of entry.request, row.attributes) ∷ [] }
-    ensures small { IsSmall row.attributes → AllByRecursion HasSmallRow rows.old.items → AllByRecursion HasSmallRow rows.new.items }
-{
-    let step = entry.request.step();
-    history.push_reserved(entry);
-    rows.push_reserved(HeldStep { step, row });
 }
 
 impl<A: Allocator + Copy> Manager<A> {
@@ -156,7 +215,7 @@ impl<A: Allocator + Copy> Manager<A> {
             alloc,
             configuration: Configuration::new(named, keep, offset, limit),
             history: Vec::new(alloc),
-            rows: Vec::new(alloc),
+            steps: Vec::new(alloc),
         })
     }
 
@@ -199,27 +258,39 @@ impl<A: Allocator + Copy> Manager<A> {
     /// What an N-GET is answered (PS3.4 CC.2.7): C307H for a step that is not held, 0213H where memory runs
     /// out.
     pub fn get(&self, step: Option<Uid>, attributes: &[Tag]) -> Reply<A>
-        ensures answer { (result ≡ got (past self.now.history) step attributes.now) ⊎ (result ≡ Answered ResourceLimitation) }
+        ensures answer { (result ≡ got self.now.settings (past self.now.history) step attributes.now) ⊎ (result ≡ Answered ResourceLimitation) }
         ensures small { SmallReply result }
         ensures legal { is_legal self.now.settings self.now.history }
     {
-        let rows = self.rows.as_slice();
+        let steps = self.steps.as_slice();
         let Some(step) = step else {
             return Reply::Status(Status::UnknownInstance);
         };
-        let Some(row) = find(rows, step) else {
+        let Some(held) = find(steps, step) else {
             return Reply::Status(Status::UnknownInstance);
         };
-        match shown(&row.attributes, attributes) {
+        match shown(&held.row.attributes, attributes) {
             Ok(reply) => reply,
             Err(_) => Reply::Status(Status::ResourceLimitation),
+        }
+    }
+
+    /// Who holds a step: the caller that has claimed it, and its application entity (PS3.4 CC.1.1). None where
+    /// nobody has claimed it, or it is not held.
+    pub fn holder(&self, step: Uid) -> Option<Holder>
+        ensures holder { result ≡ holder_of (past self.now.history) step }
+    {
+        match find(self.steps.as_slice(), step) {
+            Some(held) => held.holder,
+            None => None,
         }
     }
 
     /// Answers a request by the history, and enters it where it is accepted. After 0213H, which also tells
     /// that memory ran out, and after any other refusal nothing has changed.
     pub fn submit(&mut self, call: Call<A>) -> Reply<A>
-        ensures answer { Answers self.old.settings self.old.history (Do call.request) result }
+        requires moment { IsMoment call.moment }
+        ensures answer { Answers self.old.settings self.old.history call.moment (Do call.request) result }
         ensures history { self.new.history ≡ self.old.history ++ entered call.caller call.ae call.moment (Do call.request) result }
         ensures settings { self.new.settings ≡ self.old.settings }
         ensures small { SmallReply result }
@@ -230,19 +301,18 @@ impl<A: Allocator + Copy> Manager<A> {
             alloc,
             configuration,
             history,
-            rows,
+            steps,
         } = self;
-        if let Err(status) = decide(history.as_slice(), &call.request) {
-            return Reply::Status(status);
-        }
-        let row = match row_for(*alloc, &call.request) {
-            Ok(row) => row,
+        let offset = configuration.offset();
+        let held = match step_for(*alloc, offset, history.as_slice(), steps.as_slice(), &call) {
+            Ok(held) => held,
             Err(status) => return Reply::Status(status),
         };
-        if let Err(status) = make_room(configuration.limit(), history, rows) {
+        if let Err(status) = make_room(configuration.limit(), history, steps) {
             return Reply::Status(status);
         }
-        enter(history, rows, call.into_entry(), row);
+        history.push_reserved(call.into_entry());
+        put(steps, held);
         Reply::Status(Status::Success)
     }
 }

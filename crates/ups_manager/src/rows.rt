@@ -1,12 +1,11 @@
-//! The rows of the steps that are held.
+//! The steps that are held.
 
-ghost use Rattle.std.specs.Prelude.{◌≡◌, map};
-ghost use Rattle.std.specs.Option.{option_map};
-ghost use Rattle.ups_life.specs.History.{row_at};
-ghost use Rattle.ups_manager.specs.Held.{row_of};
+ghost use Rattle.std.specs.Prelude.{◌≡◌, ◌<◌, vec_len, vec_capacity};
+ghost use Rattle.std.specs.Option.{option_copied, option_map};
+ghost use Rattle.ups_manager.specs.Held.{step_at, place_in, put_step};
 
 use std::alloc::Allocator;
-use ups_life::Row;
+use ups_life::{Holder, Row};
 use ups_pdu::Uid;
 
 /// A step that is held.
@@ -14,16 +13,53 @@ use ups_pdu::Uid;
 pub(crate) struct HeldStep<A: Allocator + Copy> {
     pub step: Uid,
     pub row: Row<A>,
+    /// Who has claimed it.
+    pub holder: Option<Holder>,
 }
 
-/// The row of a step; None where it is not held.
-pub(crate) fn find<A: Allocator + Copy>(rows: &[HeldStep<A>], step: Uid) -> Option<&Row<A>>
-    ensures { option_map (λ r. r.now.attributes) result ≡ row_at step (map row_of rows.now) }
+/// How many steps stand before this one; all of them where it is not held.
+fn place_of<A: Allocator + Copy>(steps: &[HeldStep<A>], step: Uid) -> usize
+    ensures { result ≡ place_in step steps.now }
 {
-    for held in rows {
+    for (place, held) in steps.iter().enumerate() {
         if held.step == step {
-            return Some(&held.row);
+            return place;
+        }
+    }
+    steps.len()
+}
+
+/// What is held of a step; None where it is not held.
+pub(crate) fn find<A: Allocator + Copy>(steps: &[HeldStep<A>], step: Uid) -> Option<&HeldStep<A>>
+    ensures { option_copied result ≡ step_at step steps.now }
+{
+    for held in steps {
+        if held.step == step {
+            return Some(held);
         }
     }
     None
+}
+
+/// What is held of a step, without who holds it.
+pub(crate) fn row_of<A: Allocator + Copy>(held: Option<&HeldStep<A>>) -> Option<&Row<A>>
+    ensures { option_copied result ≡ option_map (λ h. h.row) (option_copied held.entry) }
+{
+    match held {
+        Some(held) => Some(&held.row),
+        None => None,
+    }
+}
+
+/// Puts a step in the place of the one with its UID, or else behind the others.
+pub(crate) fn put<A: Allocator + Copy>(steps: &mut Vec<HeldStep<A>, A>, held: HeldStep<A>)
+    requires { vec_len steps.old < vec_capacity steps.old }
+    ensures { steps.new.items ≡ put_step held steps.old.items }
+{
+    let place = place_of(steps, held.step);
+    if place < steps.len() {
+        steps[place] = held;
+    } else {
+        steps.push_reserved(held);
+    }
 }

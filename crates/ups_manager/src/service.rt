@@ -2,6 +2,7 @@
 
 ghost use Rattle.std.specs.Prelude.{◌≡◌, ℕ, true, is_some};
 ghost use Rattle.std.specs.Option.{IfSome};
+ghost use Rattle.ups_life.specs.Settings.{IsMoment};
 ghost use Rattle.ups_manager.specs.Law.{Serves, SmallReply};
 
 use crate::call::Call;
@@ -16,7 +17,7 @@ pub trait Service<A: Allocator + Copy> {
     ghost use Rattle.std.specs.Prelude.{◌≡◌, ℕ, List, true, is_some};
     ghost use Rattle.std.specs.Option.{IfSome};
     ghost use Rattle.ups_life.specs.declared.entry.Entry.{Entry};
-    ghost use Rattle.ups_life.specs.Settings.{Settings};
+    ghost use Rattle.ups_life.specs.Settings.{Settings, IsMoment};
     ghost use Rattle.ups_manager.specs.Law.{Serves, SmallReply};
 
     ghost settings: { Self → Settings };
@@ -29,6 +30,7 @@ pub trait Service<A: Allocator + Copy> {
     /// toolchain proves no impl yet whose method takes a value that is generic in its allocator.
     fn answer(&mut self, ae: Ae, moment: u64, ask: &mut Option<Ask<A>>) -> Reply<A>
         requires given { is_some ask.old ≡ true }
+        requires moment { IsMoment moment }
         ensures same { (settings self.new ≡ settings self.old) × (caller self.new ≡ caller self.old) }
         ensures serves { IfSome ask.old (λ asked. Serves (settings self.old) (caller self.old) (seen self.old) ae moment asked result (seen self.new)) }
         ensures small { SmallReply result };
@@ -36,6 +38,7 @@ pub trait Service<A: Allocator + Copy> {
     /// Answers what an application entity asks, and enters it where it is a request that is accepted. `moment`
     /// is in seconds since 1970-01-01 UTC.
     final fn call(&mut self, ae: Ae, moment: u64, ask: Ask<A>) -> Reply<A>
+        requires moment { IsMoment moment }
         ensures same { (settings self.new ≡ settings self.old) × (caller self.new ≡ caller self.old) }
         ensures serves { Serves (settings self.old) (caller self.old) (seen self.old) ae moment ask result (seen self.new) }
         ensures small { SmallReply result }
@@ -53,6 +56,7 @@ impl<A: Allocator + Copy> Service<A> for Manager<A> {
 
     fn answer(&mut self, ae: Ae, moment: u64, ask: &mut Option<Ask<A>>) -> Reply<A>
         requires given { is_some ask.old ≡ true }
+        requires moment { IsMoment moment }
         ensures same { (self.new.settings ≡ self.old.settings) × (◌≡◌ {A = ℕ} 0 0) }
         ensures serves { IfSome ask.old (λ asked. Serves self.old.settings 0 self.old.history ae moment asked result self.new.history) }
         ensures small { SmallReply result }

@@ -1,16 +1,24 @@
 ghost use Rattle.std.specs.Prelude.{[], ◌∷◌};
+ghost use Rattle.ups_life.specs.Settings.{IsMoment};
 ghost use Rattle.ups_manager.specs.Law.{Calls};
 
 use super::*;
-use refusing::Refusing;
-use std::alloc::{Allocator, Global};
+use std::alloc::Allocator;
 use std::process::Abort;
 use std::test::Fail;
 use ups_dataset::dictionary::*;
-use ups_dataset::{DataSet, Element, MAX_SHORT_LENGTH, Tag, Value, Vr, vr_of};
-use ups_dimse::Tags;
-use ups_life::{Ask, Peer, Reply, Request};
+use ups_dataset::{DataSet, Element, MAX_DEPTH, MAX_SHORT_LENGTH, Tag, Value, Vr, vr_of};
+use ups_life::{Ask, Entry, MAX_MOMENT, Peer, Reply, Request, StepState, Transaction};
 use ups_pdu::{Ae, Bytes, Uid};
+
+mod entries;
+mod life_cycle;
+mod limits;
+mod memory;
+mod starting;
+
+/// The steps that the tests create.
+pub(crate) const STEPS: [&str; 3] = ["1.2.3.1", "1.2.3.2", "1.2.3.3"];
 
 /// A step that is to begin at noon: ready, scheduled, of medium priority.
 const STEP: [(Tag, &str); 5] = [
@@ -23,35 +31,128 @@ const STEP: [(Tag, &str); 5] = [
 
 /// What is shown of the step 1.2.3.1 with these attributes. Its row takes 134 bytes in Explicit VR Little
 /// Endian: 26, 8, 14, 6, 10, 6 and 8 bytes of values, each with 8 bytes before it.
-const ROW: &str =
+pub(crate) const ROW: &str =
     "00080016=1.2.840.10008.5.1.4.34.6.1 00080018=1.2.3.1_ 00404005=20240229120000 00404041=READY_ 00741000=SCHEDULED_ 00741200=MEDIUM 00741204=CT_READ_ ";
 
-/// How many bytes of value an element with a long value representation, which has 12 bytes before them, adds
-/// to that row where the whole is to take 1,048,576 bytes.
-const LARGEST_VALUE: usize = 1_048_430;
+/// What is shown of it once it is claimed.
+pub(crate) const CLAIMED: &str =
+    "00080016=1.2.840.10008.5.1.4.34.6.1 00080018=1.2.3.1_ 00404005=20240229120000 00404041=READY_ 00741000=IN_PROGRESS_ 00741200=MEDIUM 00741204=CT_READ_ ";
 
-/// A private attribute, of which the dictionary says nothing.
-const PRIVATE: Tag = Tag {
-    group: 0x0075,
-    element: 0x1001,
+/// The moment at which steps are created: 2024-02-29 12:00:00 UTC.
+pub(crate) const NOON: u64 = 1_709_208_000;
+
+/// Who asks, and when.
+#[derive(Clone, Copy)]
+pub(crate) struct Asker {
+    pub caller: u32,
+    pub ae: &'static str,
+    pub moment: u64,
+}
+
+/// Who schedules steps.
+pub(crate) const SCHEDULER: Asker = Asker {
+    caller: 0,
+    ae: "SCHED1",
+    moment: NOON,
 };
 
-/// The moment of most calls: 2024-02-29 12:00:00 UTC.
-const NOON: u64 = 1_709_208_000;
+/// Who performs them.
+pub(crate) const PERFORMER: Asker = Asker {
+    caller: 0,
+    ae: "PERFORM1",
+    moment: NOON + 60,
+};
 
-/// The greatest number of growths that a test refuses in turn.
-const GROWTHS: u64 = 100;
+/// Who would perform them too, by another pass to the service.
+pub(crate) const RIVAL: Asker = Asker {
+    caller: 9,
+    ae: "PERFORM2",
+    moment: NOON + 120,
+};
 
-fn uid(text: &str) -> Result<Uid, Fail> {
+/// What is sent with a request.
+#[derive(Clone, Copy)]
+pub(crate) enum Sent {
+    /// No attribute.
+    Nothing,
+    /// An attribute with a text.
+    Text(Tag, &'static str),
+    /// All but this attribute.
+    Without(Tag),
+    /// What COMPLETED needs: the start and the end of what was performed.
+    Performed,
+    /// What CANCELED needs: when the step was given up.
+    GivenUp,
+    /// How far the step has come, of which patient, and a Transaction UID.
+    HalfDone,
+    /// Why a step is to be canceled, and whom to ask.
+    Stop,
+}
+
+/// Progress information.
+const PROGRESS: Tag = PROCEDURE_STEP_PROGRESS_INFORMATION_SEQUENCE;
+
+/// The texts of what was performed.
+const PERFORMED: [(Tag, &str); 2] = [
+    (PERFORMED_PROCEDURE_STEP_START_DATE_TIME, "20240229120100"),
+    (PERFORMED_PROCEDURE_STEP_END_DATE_TIME, "20240229120200"),
+];
+
+/// The text of a step that was given up.
+const GIVEN_UP: [(Tag, &str); 1] = [(PROCEDURE_STEP_CANCELLATION_DATE_TIME, "20240229120300")];
+
+/// The texts of a step that is half done.
+const HALF_DONE: [(Tag, &str); 2] = [
+    (PROCEDURE_STEP_PROGRESS, "50"),
+    (PROCEDURE_STEP_PROGRESS_DESCRIPTION, "half done "),
+];
+
+/// The texts of a patient, with a Transaction UID.
+const PATIENT: [(Tag, &str); 2] = [(PATIENT_NAME, "DOE^JANE"), (TRANSACTION_UID, "2.1\0")];
+
+/// The texts of a cancel request.
+const STOP: [(Tag, &str); 3] = [
+    (CONTACT_DISPLAY_NAME, "NOBODY"),
+    (PROCEDURE_STEP_LABEL, "X "),
+    (REASON_FOR_CANCELLATION, "stop"),
+];
+
+/// What is asked of the step with a UID.
+#[derive(Clone, Copy)]
+pub(crate) enum Asked {
+    /// To create it: as the usual step, with what is sent over its own
+    /// attributes.
+    Create(&'static str, Sent),
+    /// To change its state, with a Transaction UID.
+    Change(&'static str, StepState, &'static str),
+    /// To cancel it, for these reasons.
+    Cancel(&'static str, Sent),
+    /// To set attributes, with a Transaction UID.
+    Set(&'static str, &'static str, Sent),
+}
+
+/// What is asked by whom, and the number of the status that answers it.
+pub(crate) type Line = (Asker, Asked, u16);
+
+pub(crate) fn uid(text: &str) -> Result<Uid, Fail> {
     Ok(Uid::of(text.as_bytes()).ok_or("a UID")?)
 }
 
-fn title(text: &str) -> Result<Ae, Fail> {
+pub(crate) fn title(text: &str) -> Result<Ae, Fail> {
     Ok(Ae::of(text.as_bytes()).ok_or("a title")?)
 }
 
+/// The Transaction UID that a text is.
+fn transaction(text: &str) -> Transaction {
+    match Uid::of(text.as_bytes()) {
+        Some(uid) => Transaction::Proper(uid),
+        None if text.is_empty() => Transaction::Absent,
+        None => Transaction::Malformed,
+    }
+}
+
 /// Puts bytes over the element of a tag that may stand in a set with such a value.
-fn put_bytes<A: Allocator + Copy>(
+pub(crate) fn put_bytes<A: Allocator + Copy>(
     alloc: A,
     set: &mut DataSet<A>,
     tag: Tag,
@@ -71,69 +172,97 @@ fn put_bytes<A: Allocator + Copy>(
     Ok(())
 }
 
-/// The attributes of a step.
-fn a_step<A: Allocator + Copy>(alloc: A) -> Result<DataSet<A>, Fail> {
+/// Puts a set as the only item of a sequence that may stand in a set.
+pub(crate) fn put_item<A: Allocator + Copy>(
+    alloc: A,
+    set: &mut DataSet<A>,
+    tag: Tag,
+    item: DataSet<A>,
+) -> Result<(), Fail> {
+    let mut items = Vec::new(alloc);
+    items.push(item)?;
+    let element = Element::of_items(tag, items);
+    if tag.is_mark() || tag.is_group_length() || element.value.depth() > MAX_DEPTH {
+        return Err("no element of a set".into());
+    }
+    set.replace(element)?;
+    Ok(())
+}
+
+/// Puts texts over the elements of their tags.
+fn put_texts<A: Allocator + Copy>(
+    alloc: A,
+    set: &mut DataSet<A>,
+    texts: &[(Tag, &str)],
+) -> Result<(), Fail> {
+    for (tag, text) in texts {
+        put_bytes(alloc, set, *tag, vr_of(*tag), text.as_bytes())?;
+    }
+    Ok(())
+}
+
+/// A set of these texts.
+fn set_of<A: Allocator + Copy>(alloc: A, texts: &[(Tag, &str)]) -> Result<DataSet<A>, Fail> {
     let mut set = DataSet::new(alloc);
-    for (tag, text) in STEP {
-        put_bytes(alloc, &mut set, tag, vr_of(tag), text.as_bytes())?;
+    put_texts(alloc, &mut set, texts)?;
+    Ok(set)
+}
+
+/// The attributes of a step.
+pub(crate) fn a_step<A: Allocator + Copy>(alloc: A) -> Result<DataSet<A>, Fail> {
+    set_of(alloc, &STEP)
+}
+
+/// A set with what is sent over its own attributes.
+fn with<A: Allocator + Copy>(
+    alloc: A,
+    mut set: DataSet<A>,
+    sent: Sent,
+) -> Result<DataSet<A>, Fail> {
+    match sent {
+        Sent::Nothing => {}
+        Sent::Text(tag, text) => put_bytes(alloc, &mut set, tag, vr_of(tag), text.as_bytes())?,
+        Sent::Without(tag) => set = set.without(tag)?,
+        Sent::Performed => {
+            let tag = UNIFIED_PROCEDURE_STEP_PERFORMED_PROCEDURE_SEQUENCE;
+            put_item(alloc, &mut set, tag, set_of(alloc, &PERFORMED)?)?;
+        }
+        Sent::GivenUp => put_item(alloc, &mut set, PROGRESS, set_of(alloc, &GIVEN_UP)?)?,
+        Sent::HalfDone => {
+            put_item(alloc, &mut set, PROGRESS, set_of(alloc, &HALF_DONE)?)?;
+            put_texts(alloc, &mut set, &PATIENT)?;
+        }
+        Sent::Stop => put_texts(alloc, &mut set, &STOP)?,
     }
     Ok(set)
 }
 
-/// The attributes of a step with this label.
-fn labelled<A: Allocator + Copy>(alloc: A, label: &str) -> Result<DataSet<A>, Fail> {
-    let mut set = a_step(alloc)?;
-    put_bytes(
-        alloc,
-        &mut set,
-        PROCEDURE_STEP_LABEL,
-        Vr::Lo,
-        label.as_bytes(),
-    )?;
-    Ok(set)
-}
-
-/// The attributes of a step with a private value of so many bytes.
-fn with_value_of<A: Allocator + Copy>(alloc: A, length: usize) -> Result<DataSet<A>, Fail> {
-    let mut value = Vec::new(alloc);
-    value.resize(length, 0)?;
-    let mut set = a_step(alloc)?;
-    put_bytes(alloc, &mut set, PRIVATE, Vr::Un, value.as_slice())?;
-    Ok(set)
-}
-
-/// A request that creates a step with these attributes.
-fn create<A: Allocator + Copy>(step: &str, attributes: DataSet<A>) -> Result<Request<A>, Fail> {
-    Ok(Request::Create {
-        step: uid(step)?,
-        attributes,
+/// The request that is asked.
+pub(crate) fn request_of<A: Allocator + Copy>(alloc: A, asked: Asked) -> Result<Request<A>, Fail> {
+    Ok(match asked {
+        Asked::Create(step, sent) => Request::Create {
+            step: uid(step)?,
+            attributes: with(alloc, a_step(alloc)?, sent)?,
+        },
+        Asked::Change(step, state, text) => Request::Change {
+            step: Uid::of(step.as_bytes()),
+            state,
+            transaction: transaction(text),
+        },
+        Asked::Cancel(step, sent) => Request::AskCancel {
+            step: Uid::of(step.as_bytes()),
+            reasons: with(alloc, DataSet::new(alloc), sent)?,
+        },
+        Asked::Set(step, text, sent) => Request::Set {
+            step: Uid::of(step.as_bytes()),
+            transaction: transaction(text),
+            attributes: with(alloc, DataSet::new(alloc), sent)?,
+        },
     })
-}
-
-/// That request, as it is called by SCHED1 at noon.
-fn call_of<A: Allocator + Copy>(step: &str, attributes: DataSet<A>) -> Result<Call<A>, Fail> {
-    Ok(Call {
-        caller: 0,
-        ae: title("SCHED1")?,
-        moment: NOON,
-        request: create(step, attributes)?,
-    })
-}
-
-/// These peers, none of which may lock.
-fn peers_of<A: Allocator + Copy>(alloc: A, titles: &[&str]) -> Result<Vec<Peer, A>, Fail> {
-    let mut peers = Vec::new(alloc);
-    for text in titles {
-        peers.push(Peer {
-            ae: title(text)?,
-            lock: false,
-        })?;
-    }
-    Ok(peers)
 }
 
 /// A manager with these peers, or why there is none.
-fn start<A: Allocator + Copy>(
+pub(crate) fn start<A: Allocator + Copy>(
     alloc: A,
     peers: &[Peer],
     offset: i16,
@@ -146,411 +275,265 @@ fn start<A: Allocator + Copy>(
 }
 
 /// A manager without peers.
-fn a_manager<A: Allocator + Copy>(alloc: A, limit: u64) -> Result<Manager<A>, Fail> {
+pub(crate) fn a_manager<A: Allocator + Copy>(alloc: A, limit: u64) -> Result<Manager<A>, Fail> {
     Ok(start(alloc, &[], 0, limit)??)
 }
 
 /// A manager that holds the step 1.2.3.1.
-fn with_a_step<A: Allocator + Copy>(alloc: A) -> Result<Manager<A>, Fail> {
+pub(crate) fn with_a_step<A: Allocator + Copy>(alloc: A) -> Result<Manager<A>, Fail> {
     let mut manager = a_manager(alloc, 1_000)?;
-    manager.submit(call_of("1.2.3.1", a_step(alloc)?)?);
+    submit(
+        &mut manager,
+        SCHEDULER,
+        request_of(alloc, Asked::Create(STEPS[0], Sent::Nothing))?,
+    )?;
     Ok(manager)
 }
 
 /// The number of the status of a reply.
-fn status_of<A: Allocator + Copy>(reply: &Reply<A>) -> u16 {
+pub(crate) fn status_of<A: Allocator + Copy>(reply: &Reply<A>) -> u16 {
     match reply {
         Reply::Status(status) => status.code(),
         Reply::Set(status, _) => status.code(),
     }
 }
 
-/// The tags of a set with their texts, in which a low line stands for a space or a NUL.
-fn described<A: Allocator + Copy>(set: &DataSet<A>, rt: &impl AllocGlobal) -> Result<String, Fail> {
-    let mut text = String::new(rt.alloc());
-    for element in set.elements() {
-        let Value::Bytes(bytes) = &element.value else {
-            return Err("items".into());
-        };
-        let part = format!(in rt.alloc(); "{:08x}=", element.tag.number())?;
-        text.push_str(part.as_str())?;
-        for byte in bytes.as_slice() {
-            let is_blank = *byte == 0 || *byte == b' ';
-            text.push(if is_blank { '_' } else { char::from(*byte) })?;
-        }
-        text.push(' ')?;
+/// Submits a request: the number of the status that answers it.
+pub(crate) fn submit<A: Allocator + Copy>(
+    manager: &mut Manager<A>,
+    asker: Asker,
+    request: Request<A>,
+) -> Result<u16, Fail> {
+    if asker.moment > MAX_MOMENT {
+        return Err("no moment".into());
     }
-    Ok(text)
-}
-
-/// The number of the status of what is shown, and the attributes that are.
-fn told<A: Allocator + Copy>(
-    reply: &Reply<A>,
-    rt: &impl AllocGlobal,
-) -> Result<(u16, String), Fail> {
-    match reply {
-        Reply::Set(status, set) => Ok((status.code(), described(set, rt)?)),
-        Reply::Status(_) => Err("a status alone".into()),
-    }
+    let reply = manager.submit(Call {
+        caller: asker.caller,
+        ae: title(asker.ae)?,
+        moment: asker.moment,
+        request,
+    });
+    Ok(status_of(&reply))
 }
 
 /// Asks any service.
-fn ask_of<A: Allocator + Copy, S: Service<A>>(
+pub(crate) fn ask_of<A: Allocator + Copy, S: Service<A>>(
+    service: &mut S,
+    asker: Asker,
+    ask: Ask<A>,
+) -> Result<Reply<A>, Fail> {
+    if asker.moment > MAX_MOMENT {
+        return Err("no moment".into());
+    }
+    Ok(asked_of(service, title(asker.ae)?, asker.moment, ask))
+}
+
+/// That, with what a service says of itself.
+fn asked_of<A: Allocator + Copy, S: Service<A>>(
     service: &mut S,
     ae: Ae,
     moment: u64,
     ask: Ask<A>,
 ) -> Reply<A>
+    requires { IsMoment moment }
     ensures { Calls (S.settings service.old) (S.caller service.old) (S.seen service.old) ae (ask ∷ []) (moment ∷ []) (result ∷ []) (S.seen service.new) }
 {
     service.call(ae, moment, ask)
 }
 
-#[test]
-fn a_manager_has_the_settings_that_it_was_given(rt: HostRuntime) -> Result<(), Fail> {
-    let peers = peers_of(rt.alloc(), &["WATCH1", "WATCH2"])?;
-    let manager = start(rt.alloc(), peers.as_slice(), -300, 10)??;
-    assert_eq!(rt; manager.peers().len(), 2);
-    for (peer, text) in manager.peers().iter().zip(["WATCH1", "WATCH2"]) {
-        assert!(rt; peer.ae.as_bytes() == text.as_bytes(), "at {text}");
+/// Adds bytes as text, in which a low line stands for a space or a NUL.
+fn add_bytes(text: &mut String, bytes: &[u8]) -> Result<(), Fail> {
+    for byte in bytes {
+        let is_blank = *byte == 0 || *byte == b' ';
+        text.push(if is_blank { '_' } else { char::from(*byte) })?;
     }
-    assert_eq!(rt; manager.keep(), 60);
-    assert_eq!(rt; manager.offset(), -300);
-    assert_eq!(rt; manager.limit(), 10);
-    assert!(rt; manager.history().is_empty());
     Ok(())
 }
 
-#[test]
-fn no_peer_is_named_twice(rt: HostRuntime) -> Result<(), Fail> {
-    for titles in [
-        ["WATCH1", "WATCH1", "WATCH2"],
-        ["WATCH1", "WATCH2", "WATCH1"],
-        ["WATCH2", "WATCH1", "WATCH1"],
-    ] {
-        let peers = peers_of(rt.alloc(), titles.as_slice())?;
-        for (offset, limit) in [(0, 10), (0, 0), (900, 10), (900, 0)] {
-            let fault = start(rt.alloc(), peers.as_slice(), offset, limit)?.err();
-            assert_eq!(rt; fault, Some(ManagerFault::TwicePeer));
+/// Adds the tags of an item with their texts; `*` stands for items.
+fn add_item<A: Allocator + Copy>(
+    text: &mut String,
+    item: &DataSet<A>,
+    rt: &impl AllocGlobal,
+) -> Result<(), Fail> {
+    text.push('[')?;
+    for element in item.elements() {
+        let part = format!(in rt.alloc(); "{:08x}=", element.tag.number())?;
+        text.push_str(part.as_str())?;
+        match &element.value {
+            Value::Bytes(bytes) => add_bytes(text, bytes.as_slice())?,
+            Value::Items(_) => text.push('*')?,
         }
+        text.push(' ')?;
     }
-    let peers = peers_of(rt.alloc(), &["WATCH1", "WATCH2", "WATCH11"])?;
-    assert_eq!(rt; start(rt.alloc(), peers.as_slice(), 0, 10)?.err(), None);
+    text.push(']')?;
     Ok(())
 }
 
-#[test]
-fn the_limit_is_from_one_to_a_million(rt: HostRuntime) -> Result<(), Fail> {
-    for (limit, offset, fault) in [
-        (0, 0, Some(ManagerFault::BadLimit)),
-        (0, 900, Some(ManagerFault::BadLimit)),
-        (1, 0, None),
-        (1_000_000, 0, None),
-        (1_000_001, 0, Some(ManagerFault::BadLimit)),
-        (1_000_001, -721, Some(ManagerFault::BadLimit)),
-        (u64::MAX, 0, Some(ManagerFault::BadLimit)),
-    ] {
-        assert_eq!(rt;
-            start(rt.alloc(), &[], offset, limit)?.err(),
-            fault,
-            "at {limit}"
-        );
-    }
-    Ok(())
-}
-
-#[test]
-fn the_offset_is_from_twelve_hours_west_to_fourteen_east(rt: HostRuntime) -> Result<(), Fail> {
-    for (offset, fault) in [
-        (i16::MIN, Some(ManagerFault::BadOffset)),
-        (-721, Some(ManagerFault::BadOffset)),
-        (-720, None),
-        (0, None),
-        (840, None),
-        (841, Some(ManagerFault::BadOffset)),
-        (900, Some(ManagerFault::BadOffset)),
-        (i16::MAX, Some(ManagerFault::BadOffset)),
-    ] {
-        assert_eq!(rt;
-            start(rt.alloc(), &[], offset, 10)?.err(),
-            fault,
-            "at {offset}"
-        );
+/// Adds the tags of a set with their texts; items stand in brackets.
+fn add_set<A: Allocator + Copy>(
+    text: &mut String,
+    set: &DataSet<A>,
+    rt: &impl AllocGlobal,
+) -> Result<(), Fail> {
+    for element in set.elements() {
+        let part = format!(in rt.alloc(); "{:08x}=", element.tag.number())?;
+        text.push_str(part.as_str())?;
+        match &element.value {
+            Value::Bytes(bytes) => add_bytes(text, bytes.as_slice())?,
+            Value::Items(items) => {
+                for item in items {
+                    add_item(text, item, rt)?;
+                }
+            }
+        }
+        text.push(' ')?;
     }
     Ok(())
 }
 
-#[test]
-fn a_full_history_takes_no_more(rt: HostRuntime) -> Result<(), Fail> {
-    let mut manager = a_manager(rt.alloc(), 2)?;
-    for (step, status) in [
-        ("1.2.3.1", 0x0000),
-        ("1.2.3.2", 0x0000),
-        ("1.2.3.3", 0x0213),
-    ] {
-        let reply = manager.submit(call_of(step, a_step(rt.alloc())?)?);
-        assert_eq!(rt; status_of(&reply), status, "at {step}");
+/// The number of the status of what is shown, and the attributes that are.
+pub(crate) fn told<A: Allocator + Copy>(
+    reply: &Reply<A>,
+    rt: &impl AllocGlobal,
+) -> Result<(u16, String), Fail> {
+    let mut text = String::new(rt.alloc());
+    if let Reply::Set(_, set) = reply {
+        add_set(&mut text, set, rt)?;
     }
-    assert_eq!(rt; manager.history().len(), 2);
-    assert_eq!(rt; status_of(&manager.get(Some(uid("1.2.3.2")?), &[])), 0x0000);
-    assert_eq!(rt; status_of(&manager.get(Some(uid("1.2.3.3")?), &[])), 0xc307);
-    Ok(())
+    Ok((status_of(reply), text))
 }
 
-#[test]
-fn a_step_is_created_once(rt: HostRuntime) -> Result<(), Fail> {
-    let mut manager = with_a_step(rt.alloc())?;
-    let reply = manager.submit(call_of("1.2.3.1", labelled(rt.alloc(), "MR READ ")?)?);
-    assert_eq!(rt; status_of(&reply), 0x0111);
-    assert_eq!(rt; manager.history().len(), 1);
-    let (status, text) = told(&manager.get(Some(uid("1.2.3.1")?), &[]), &rt)?;
-    assert_eq!(rt; status, 0x0000);
-    assert_eq!(rt; text.as_str(), ROW);
-    Ok(())
-}
-
-#[test]
-fn a_refused_request_is_not_entered(rt: HostRuntime) -> Result<(), Fail> {
-    let mut manager = a_manager(rt.alloc(), 10)?;
-    let reply = manager.submit(call_of("1.2.3.1", DataSet::new(rt.alloc()))?);
-    assert_eq!(rt; status_of(&reply), 0xc309);
-    assert!(rt; manager.history().is_empty());
-    let reply = manager.submit(call_of("1.2.3.1", a_step(rt.alloc())?)?);
-    assert_eq!(rt; status_of(&reply), 0x0000);
-    assert_eq!(rt; manager.history().len(), 1);
-    Ok(())
-}
-
-#[test]
-fn each_step_is_shown_as_it_was_created(rt: HostRuntime) -> Result<(), Fail> {
-    let mut manager = with_a_step(rt.alloc())?;
-    manager.submit(call_of("1.2.3.2", labelled(rt.alloc(), "MR READ ")?)?);
-    let (status, text) = told(&manager.get(Some(uid("1.2.3.1")?), &[]), &rt)?;
-    assert_eq!(rt; status, 0x0000);
-    assert_eq!(rt; text.as_str(), ROW);
-    let listed = [PROCEDURE_STEP_LABEL];
-    let (status, text) = told(&manager.get(Some(uid("1.2.3.2")?), &listed), &rt)?;
-    assert_eq!(rt; status, 0x0000);
-    assert_eq!(rt; text.as_str(), "00741204=MR_READ_ ");
-    let listed = [PATIENT_NAME, PROCEDURE_STEP_LABEL];
-    let (status, text) = told(&manager.get(Some(uid("1.2.3.2")?), &listed), &rt)?;
-    assert_eq!(rt; status, 0x0001);
-    assert_eq!(rt; text.as_str(), "00741204=MR_READ_ ");
-    Ok(())
-}
-
-#[test]
-fn an_unknown_step_is_not_shown(rt: HostRuntime) -> Result<(), Fail> {
-    let manager = with_a_step(rt.alloc())?;
-    assert_eq!(rt; status_of(&manager.get(None, &[])), 0xc307);
-    for step in ["1.2.3", "1.2.3.2", "1.2.3.11"] {
-        let listed = [PROCEDURE_STEP_STATE];
-        assert_eq!(rt;
-            status_of(&manager.get(Some(uid(step)?), &[])),
-            0xc307,
-            "at {step}"
-        );
-        assert_eq!(rt;
-            status_of(&manager.get(Some(uid(step)?), &listed)),
-            0xc307,
-            "at {step}"
-        );
-    }
-    Ok(())
-}
-
-#[test]
-fn a_row_over_the_limit_is_refused(rt: HostRuntime) -> Result<(), Fail> {
-    let mut manager = a_manager(rt.alloc(), 10)?;
-    let larger = with_value_of(rt.alloc(), LARGEST_VALUE + 2)?;
-    assert_eq!(rt;
-        status_of(&manager.submit(call_of("1.2.3.1", larger)?)),
-        0x0213
-    );
-    assert!(rt; manager.history().is_empty());
-    assert_eq!(rt; status_of(&manager.get(Some(uid("1.2.3.1")?), &[])), 0xc307);
-    let largest = with_value_of(rt.alloc(), LARGEST_VALUE)?;
-    assert_eq!(rt;
-        status_of(&manager.submit(call_of("1.2.3.1", largest)?)),
-        0x0000
-    );
-    let Reply::Set(status, set) = manager.get(Some(uid("1.2.3.1")?), &[]) else {
-        return Err("a status alone".into());
-    };
-    assert_eq!(rt; status.code(), 0x0000);
-    assert_eq!(rt; set.size(), 1_048_576);
-    Ok(())
-}
-
-#[test]
-fn an_entry_says_who_asked_and_when(rt: HostRuntime) -> Result<(), Fail> {
-    let mut manager = a_manager(rt.alloc(), 10)?;
-    let calls = [
-        (7, "SCHED1", NOON, "1.2.3.1"),
-        (0, "SCHED2", NOON + 1, "1.2.3.2"),
-        (u32::MAX, "SCHED1", 0, "1.2.3.3"),
-    ];
-    for (caller, ae, moment, step) in calls {
-        let reply = manager.submit(Call {
-            caller,
-            ae: title(ae)?,
-            moment,
-            request: create(step, a_step(rt.alloc())?)?,
-        });
-        assert_eq!(rt; status_of(&reply), 0x0000, "at {step}");
-    }
-    assert_eq!(rt; manager.history().len(), 3);
-    for (entry, (caller, ae, moment, step)) in manager.history().iter().zip(calls) {
-        assert_eq!(rt; entry.caller, caller, "at {step}");
-        assert!(rt; entry.ae.as_bytes() == ae.as_bytes(), "at {step}");
-        assert_eq!(rt; entry.moment, moment, "at {step}");
-        assert!(rt;
-            entry.request.step().as_bytes() == step.as_bytes(),
-            "at {step}"
-        );
-    }
-    Ok(())
-}
-
-#[test]
-fn a_service_answers_and_enters_as_caller_0(rt: HostRuntime) -> Result<(), Fail> {
-    let mut manager = a_manager(rt.alloc(), 10)?;
-    let ae = title("SCHED1")?;
-    let ask = Ask::Do(create("1.2.3.1", a_step(rt.alloc())?)?);
-    assert_eq!(rt; status_of(&ask_of(&mut manager, ae, NOON, ask)), 0x0000);
-    let ask = Ask::Do(create("1.2.3.1", a_step(rt.alloc())?)?);
-    assert_eq!(rt; status_of(&ask_of(&mut manager, ae, NOON, ask)), 0x0111);
-    let ask = Ask::Get {
-        step: Uid::of(b"1.2.3.1"),
-        attributes: Tags::new(rt.alloc()),
-    };
-    let (status, text) = told(&ask_of(&mut manager, ae, NOON, ask), &rt)?;
-    assert_eq!(rt; status, 0x0000);
-    assert_eq!(rt; text.as_str(), ROW);
-    assert_eq!(rt; manager.history().len(), 1);
-    for entry in manager.history() {
-        assert_eq!(rt; entry.caller, 0);
-        assert!(rt; entry.ae == ae);
-        assert_eq!(rt; entry.moment, NOON);
-    }
-    Ok(())
-}
-
-#[test]
-fn there_is_no_manager_where_a_growth_is_refused(rt: HostRuntime) -> Result<(), Fail> {
-    let heap = Refusing::new(rt.alloc());
-    let twice = peers_of(&heap, &["WATCH1", "WATCH1"])?;
-    let peers = peers_of(&heap, &["WATCH1", "WATCH2"])?;
-    heap.refuse(1);
-    assert_eq!(rt;
-        start(&heap, twice.as_slice(), 0, 10)?.err(),
-        Some(ManagerFault::TwicePeer)
-    );
-    assert_eq!(rt;
-        start(&heap, &[], 0, 0)?.err(),
-        Some(ManagerFault::BadLimit)
-    );
-    assert_eq!(rt;
-        start(&heap, &[], 900, 10)?.err(),
-        Some(ManagerFault::BadOffset)
-    );
-    assert!(rt; heap.is_armed());
-    assert_eq!(rt;
-        start(&heap, peers.as_slice(), 0, 10)?.err(),
-        Some(ManagerFault::Memory)
-    );
-    assert!(rt; !heap.is_armed());
-    heap.refuse(2);
-    let manager = start(&heap, peers.as_slice(), 0, 10)??;
-    assert!(rt; heap.is_armed());
-    assert_eq!(rt; manager.peers().len(), 2);
-    Ok(())
-}
-
-/// Creates a step with each growth refused in turn, as one asks the manager itself or a service: how many were
-/// refused until it was accepted. After each refusal the manager is as before.
-fn create_in_turn<'a>(
-    rt: &impl Abort,
-    heap: &'a Refusing<Global>,
-    manager: &mut Manager<&'a Refusing<Global>>,
+/// All that is shown of a step.
+pub(crate) fn shown_of<A: Allocator + Copy>(
+    manager: &Manager<A>,
     step: &str,
-    as_service: bool,
-) -> Result<u64, Fail> {
-    let entries = manager.history().len();
-    for growth in 1..GROWTHS {
-        let call = call_of(step, a_step(heap)?)?;
-        heap.refuse(growth);
-        let reply = if as_service {
-            ask_of(manager, call.ae, call.moment, Ask::Do(call.request))
-        } else {
-            manager.submit(call)
-        };
-        heap.refuse(0);
-        if status_of(&reply) == 0x0000 {
-            assert_eq!(rt; manager.history().len(), entries + 1);
-            return Ok(growth - 1);
-        }
-        assert_eq!(rt; status_of(&reply), 0x0213);
-        assert_eq!(rt; manager.history().len(), entries);
-        assert_eq!(rt; status_of(&manager.get(Some(uid(step)?), &[])), 0xc307);
-    }
-    Err("never accepted".into())
+    rt: &impl AllocGlobal,
+) -> Result<String, Fail> {
+    let (_, text) = told(&manager.get(Some(uid(step)?), &[]), rt)?;
+    Ok(text)
 }
 
-#[test]
-fn nothing_is_entered_where_a_growth_is_refused(rt: HostRuntime) -> Result<(), Fail> {
-    for as_service in [false, true] {
-        let heap = Refusing::new(rt.alloc());
-        let mut manager = a_manager(&heap, 10)?;
-        let refused = create_in_turn(&rt, &heap, &mut manager, "1.2.3.1", as_service)?;
-        assert!(rt; refused > 7);
-        let refused = create_in_turn(&rt, &heap, &mut manager, "1.2.3.2", as_service)?;
-        assert!(rt; refused > 5);
-        let (status, text) = told(&manager.get(Some(uid("1.2.3.1")?), &[]), &rt)?;
-        assert_eq!(rt; status, 0x0000);
-        assert_eq!(rt; text.as_str(), ROW);
+/// Adds a Transaction UID.
+fn add_transaction(text: &mut String, transaction: &Transaction) -> Result<(), Fail> {
+    match transaction {
+        Transaction::Absent => text.push_str("without UID")?,
+        Transaction::Malformed => text.push_str("with no UID")?,
+        Transaction::Proper(uid) => {
+            text.push_str("with ")?;
+            add_bytes(text, uid.as_bytes())?;
+        }
     }
+    text.push(' ')?;
     Ok(())
 }
 
-/// Shows the step 1.2.3.1 with each growth refused in turn, as one asks the manager itself or a service: the
-/// reply, and how many were refused.
-fn get_in_turn<'a>(
-    rt: &impl Abort,
-    heap: &'a Refusing<Global>,
-    manager: &mut Manager<&'a Refusing<Global>>,
-    as_service: bool,
-) -> Result<(Reply<&'a Refusing<Global>>, u64), Fail> {
-    let ae = title("SCHED1")?;
-    for growth in 1..GROWTHS {
-        let step = Uid::of(b"1.2.3.1");
-        heap.refuse(growth);
-        let reply = if as_service {
-            let attributes = Tags::new(heap);
-            ask_of(manager, ae, NOON, Ask::Get { step, attributes })
-        } else {
-            manager.get(step, &[])
-        };
-        heap.refuse(0);
-        if status_of(&reply) == 0x0000 {
-            return Ok((reply, growth - 1));
+/// Adds what a request asks.
+fn add_request<A: Allocator + Copy>(
+    text: &mut String,
+    request: &Request<A>,
+    rt: &impl AllocGlobal,
+) -> Result<(), Fail> {
+    match request {
+        Request::Create { attributes, .. } => {
+            text.push_str("create ")?;
+            add_set(text, attributes, rt)
         }
-        assert_eq!(rt; status_of(&reply), 0x0213);
+        Request::Change {
+            state,
+            transaction,
+            ..
+        } => {
+            text.push_str("change to ")?;
+            add_bytes(text, state.text())?;
+            text.push(' ')?;
+            add_transaction(text, transaction)
+        }
+        Request::AskCancel { reasons, .. } => {
+            text.push_str("cancel ")?;
+            add_set(text, reasons, rt)
+        }
+        Request::Set {
+            transaction,
+            attributes,
+            ..
+        } => {
+            text.push_str("set ")?;
+            add_transaction(text, transaction)?;
+            add_set(text, attributes, rt)
+        }
     }
-    Err("never shown".into())
 }
 
-#[test]
-fn nothing_is_shown_where_a_growth_is_refused(rt: HostRuntime) -> Result<(), Fail> {
-    for as_service in [false, true] {
-        let heap = Refusing::new(rt.alloc());
-        let mut manager = with_a_step(&heap)?;
-        let (reply, refused) = get_in_turn(&rt, &heap, &mut manager, as_service)?;
-        assert!(rt; refused > 6);
-        let (status, text) = told(&reply, &rt)?;
-        assert_eq!(rt; status, 0x0000);
-        assert_eq!(rt; text.as_str(), ROW);
-        assert_eq!(rt; manager.history().len(), 1);
+/// An entry as a text: who asked, when, of which step, and what.
+pub(crate) fn entry_of<A: Allocator + Copy>(
+    entry: &Entry<A>,
+    rt: &impl AllocGlobal,
+) -> Result<String, Fail> {
+    let mut text = format!(in rt.alloc(); "{} ", entry.caller)?;
+    add_bytes(&mut text, entry.ae.as_bytes())?;
+    text.push_str(format!(in rt.alloc(); " {} ", entry.moment)?.as_str())?;
+    if let Some(step) = entry.request.step() {
+        add_bytes(&mut text, step.as_bytes())?;
+        text.push(' ')?;
+    }
+    add_request(&mut text, &entry.request, rt)?;
+    Ok(text)
+}
+
+/// Who holds a step: the number of the caller and its title, or a dash.
+pub(crate) fn holder_of<A: Allocator + Copy>(
+    manager: &Manager<A>,
+    step: &str,
+    rt: &impl AllocGlobal,
+) -> Result<String, Fail> {
+    match manager.holder(uid(step)?) {
+        Some(holder) => {
+            let mut text = format!(in rt.alloc(); "{} ", holder.caller)?;
+            add_bytes(&mut text, holder.ae.as_bytes())?;
+            Ok(text)
+        }
+        None => Ok(format!(in rt.alloc(); "-")?),
+    }
+}
+
+/// All that a manager tells: its history, and what is shown of each step, and who holds it.
+pub(crate) fn picture<A: Allocator + Copy>(
+    manager: &Manager<A>,
+    rt: &impl AllocGlobal,
+) -> Result<String, Fail> {
+    let mut text = String::new(rt.alloc());
+    for entry in manager.history() {
+        text.push_str(entry_of(entry, rt)?.as_str())?;
+        text.push('\n')?;
+    }
+    for step in STEPS {
+        text.push_str(shown_of(manager, step, rt)?.as_str())?;
+        text.push_str(holder_of(manager, step, rt)?.as_str())?;
+        text.push('\n')?;
+    }
+    Ok(text)
+}
+
+/// Asks what the lines say, one after another. After a refusal the manager tells what it told before; what is
+/// accepted is one entry more.
+pub(crate) fn run<A: Allocator + Copy, R: Abort + AllocGlobal>(
+    rt: &R,
+    alloc: A,
+    manager: &mut Manager<A>,
+    lines: &[Line],
+) -> Result<(), Fail> {
+    for (place, (asker, asked, number)) in lines.iter().enumerate() {
+        let before = picture(manager, rt)?;
+        let entries = manager.history().len();
+        let status = submit(manager, *asker, request_of(alloc, *asked)?)?;
+        assert_eq!(rt; status, *number, "at line {place}");
+        if status == 0x0000 {
+            assert_eq!(rt; manager.history().len() - entries, 1, "at line {place}");
+        } else {
+            let after = picture(manager, rt)?;
+            assert_eq!(rt; after.as_str(), before.as_str(), "at line {place}");
+        }
     }
     Ok(())
 }

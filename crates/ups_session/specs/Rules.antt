@@ -1,5 +1,5 @@
 -- Which requests a presentation context takes, and what they ask (PS3.4 CC.2, PS3.7 sections 9 and 10).
-use Rattle.std.specs.Prelude.{◌≡◌, ◌⊎◌, ℕ, Bool, true, false, ◌||◌, List, [], Option, None, Some, Result, Ok, Err, MatchBool}
+use Rattle.std.specs.Prelude.{◌≡◌, ◌⊎◌, ◌==◌, ℕ, Bool, true, false, ◌||◌, List, [], Option, None, Some, Result, Ok, Err, MatchBool}
 use Rattle.std.specs.Str.{bytes_eq}
 use Rattle.ups_pdu.specs.declared.registered.RegisteredUid.TheVariants as registered
 use Rattle.ups_pdu.specs.Registered.{text_of}
@@ -10,12 +10,12 @@ use Rattle.ups_dimse.specs.declared.command.RequestCommand.{RequestCommand}
 use Rattle.ups_dimse.specs.declared.command.Operation.{Operation}
 use Rattle.ups_dimse.specs.declared.command.Operation.TheVariants as operations
 use Rattle.ups_assoc.specs.declared.sop_class.SopClass.{SopClass}
-use Rattle.ups_assoc.specs.declared.sop_class.SopClass.TheVariants.{Verification, UpsPush, UpsPull, UpsWatch}
+use Rattle.ups_assoc.specs.declared.sop_class.SopClass.TheVariants.{Verification, UpsPush, UpsPull, UpsWatch, UpsEvent}
 use Rattle.ups_assoc.specs.declared.negotiating.AcceptedContext.{AcceptedContext}
 use Rattle.ups_assoc.specs.Classes.{uid_of}
 use Rattle.ups_life.specs.declared.request.Ask.{Ask}
 use Rattle.ups_life.specs.declared.status.Status.{Status}
-use Rattle.ups_life.specs.declared.status.Status.TheVariants.{Success, UnrecognizedOperation, NoSuchSopClass, ProcessingFailure}
+use Rattle.ups_life.specs.declared.status.Status.TheVariants.{Success, UnrecognizedOperation, NoSuchSopClass, NoSuchActionType, ProcessingFailure}
 use Rattle.ups_life.specs.Asking.{asked}
 use Rattle.ups_session.specs.declared.deciding.Decision.{Decision}
 use Rattle.ups_session.specs.declared.deciding.Decision.TheVariants.{Answer, Question}
@@ -25,9 +25,26 @@ abbrev pub offers : {A : Type 0} → SopClass → Operation A → Bool
 offers Verification operations.Echo = true
 offers UpsPush (operations.Create instance) = true
 offers UpsPush (operations.Get instance attributes) = true
+offers UpsPush (operations.Action instance action) = true
 offers UpsPull (operations.Get instance attributes) = true
+offers UpsPull (operations.Set instance) = true
+offers UpsPull (operations.Action instance action) = true
 offers UpsWatch (operations.Get instance attributes) = true
+offers UpsWatch (operations.Action instance action) = true
 offers class operation = false
+
+-- the action types of each SOP class (PS3.4 table CC.2-1): 1 is Change UPS State, 2 is Request UPS Cancel
+abbrev pub has_type : SopClass → ℕ → Bool
+has_type Verification action = false
+has_type UpsPush action = action == 2
+has_type UpsPull action = action == 1
+has_type UpsWatch action = action == 2
+has_type UpsEvent action = false
+
+-- an N-ACTION is of a type that the class has
+abbrev pub acts : {A : Type 0} → SopClass → Operation A → Bool
+acts class (operations.Action instance action) = has_type class action
+acts class operation = true
 
 abbrev pub is_uid : List ℕ → Option (List ℕ) → Bool
 is_uid uid None = false
@@ -54,13 +71,15 @@ decided operations.Echo set = Answer Success
 decided operation set = question (asked operation set)
 
 -- What comes of a request with its data set on a context. It is refused, in this order, where its service is none of
--- the context's SOP class (0211H), where it names another SOP class (0118H), and where its data set can't be read
--- (0110H).
+-- the context's SOP class (0211H), where it names another SOP class (0118H), where it is an N-ACTION of a type that the
+-- class doesn't have (0123H), and where its data set can't be read (0110H).
 abbrev pub Decides : {A : Type 0} → AcceptedContext → RequestCommand A → Option (List ℕ) → Decision A → Type 0
 Decides context request body decision =
     MatchBool (offers context.sop_class request.operation) (
     MatchBool (takes context.sop_class request.operation request.sop_class) (
+    MatchBool (acts context.sop_class request.operation) (
     ((set : List El) × HasSet context.transfer_syntax body set × (decision ≡ decided request.operation set))
     ⊎ (((set : List El) → HasSet context.transfer_syntax body set → ⊥) × (decision ≡ Answer ProcessingFailure)))
+    (decision ≡ Answer NoSuchActionType))
     (decision ≡ Answer NoSuchSopClass))
     (decision ≡ Answer UnrecognizedOperation)

@@ -4,13 +4,13 @@ ghost use Rattle.std.specs.Prelude.{◌≡◌, ◌≢◌, List, [], Option, None
 ghost use Rattle.std.specs.Option.{option_copied};
 ghost use Rattle.ups_dataset.specs.Data.{El};
 ghost use Rattle.ups_dataset.specs.declared.fault.SetFault.TheVariants.{Memory};
-ghost use Rattle.ups_session.specs.Rules.{offers, takes, HasSet, decided, Decides};
+ghost use Rattle.ups_session.specs.Rules.{offers, takes, has_type, acts, HasSet, decided, Decides};
 
 use std::alloc::{AllocError, Allocator};
 use ups_assoc::{AcceptedContext, SopClass};
 use ups_dataset::{DataSet, SetFault, TransferSyntax, read_set};
 use ups_dimse::{Operation, RequestCommand};
-use ups_life::{Ask, Status, read_request};
+use ups_life::{Ask, CHANGE_STATE, REQUEST_CANCEL, Status, read_request};
 use ups_pdu::{RegisteredUid, Uid};
 
 /// What comes of a request before the service sees it.
@@ -28,9 +28,37 @@ fn offers<A: Allocator + Copy>(class: SopClass, operation: &Operation<A>) -> boo
 {
     match (class, operation) {
         (SopClass::Verification, Operation::Echo) => true,
-        (SopClass::UpsPush, Operation::Create { .. } | Operation::Get { .. }) => true,
-        (SopClass::UpsPull | SopClass::UpsWatch, Operation::Get { .. }) => true,
+        (
+            SopClass::UpsPush,
+            Operation::Create { .. } | Operation::Get { .. } | Operation::Action { .. },
+        ) => true,
+        (
+            SopClass::UpsPull,
+            Operation::Get { .. } | Operation::Set { .. } | Operation::Action { .. },
+        ) => true,
+        (SopClass::UpsWatch, Operation::Get { .. } | Operation::Action { .. }) => true,
         _ => false,
+    }
+}
+
+/// Whether a SOP class has this type of N-ACTION (PS3.4 table CC.2-1).
+fn has_type(class: SopClass, action: u16) -> bool
+    ensures { result ≡ has_type class action }
+{
+    match class {
+        SopClass::UpsPull => action == CHANGE_STATE,
+        SopClass::UpsPush | SopClass::UpsWatch => action == REQUEST_CANCEL,
+        SopClass::Verification | SopClass::UpsEvent => false,
+    }
+}
+
+/// Whether a request, if it is an N-ACTION, is of a type that the class has.
+fn acts<A: Allocator + Copy>(class: SopClass, operation: &Operation<A>) -> bool
+    ensures { result ≡ acts class operation.now }
+{
+    match operation {
+        Operation::Action { action, .. } => has_type(class, *action),
+        _ => true,
     }
 }
 
@@ -98,7 +126,8 @@ fn decided<A: Allocator + Copy>(
 
 /// What comes of a request with its data set on a presentation context. The first refusal that applies is its
 /// answer: 0211H where the service is none of the context's SOP class, 0118H where the request names another SOP
-/// class, 0110H where its data set can't be read.
+/// class, 0123H where it is an N-ACTION of a type that the class does not have, 0110H where its data set can't be
+/// read.
 ///
 /// Errors: want of memory.
 pub(crate) fn decide<A: Allocator + Copy>(
@@ -114,6 +143,9 @@ pub(crate) fn decide<A: Allocator + Copy>(
     }
     if !takes(context.sop_class, &request.operation, request.sop_class) {
         return Ok(Decision::Answer(Status::NoSuchSopClass));
+    }
+    if !acts(context.sop_class, &request.operation) {
+        return Ok(Decision::Answer(Status::NoSuchActionType));
     }
     let Some(set) = set_of(alloc, context.transfer_syntax, body)? else {
         return Ok(Decision::Answer(Status::ProcessingFailure));

@@ -6,6 +6,7 @@ use crate::gate::Gate;
 use std::alloc::Allocator;
 use std::io;
 use std::io::{Error, ErrorKind, Read, Write};
+use ups_life::MAX_MOMENT;
 
 /// Gives its bytes, and then ends or fails.
 #[derive(Drop)]
@@ -17,7 +18,8 @@ pub struct CutReader<'a> {
 impl<'a> CutReader<'a> {
     /// A reader of these bytes, which fails after them or ends.
     pub fn new(rest: &'a [u8], fails: bool) -> CutReader<'a>
-        ensures { result.rest.now ≡ rest.now }
+        ensures rest { result.rest.now ≡ rest.now }
+        ensures fails { result.fails ≡ fails }
     {
         CutReader { rest, fails }
     }
@@ -46,7 +48,8 @@ pub struct CutWriter<A: Allocator + Copy> {
 impl<A: Allocator + Copy> CutWriter<A> {
     /// A writer that takes so many bytes.
     pub fn new(alloc: A, room: usize) -> CutWriter<A>
-        ensures { result.written.items ≡ [] }
+        ensures written { result.written.items ≡ [] }
+        ensures room { result.room ≡ room }
     {
         CutWriter {
             written: Vec::new(alloc),
@@ -105,9 +108,6 @@ impl<'a> ListGate<'a> {
     }
 }
 
-/// The last second of the year 9999, at any offset: seconds since 1970-01-01 UTC.
-const LAST_MOMENT: u64 = 253_402_250_399;
-
 impl<'a> Gate for ListGate<'a> {
     ghost use Rattle.std.specs.Prelude.{Some, None, take, if◌then◌else◌};
 
@@ -116,7 +116,7 @@ impl<'a> Gate for ListGate<'a> {
     fn now(&mut self) -> u64 {
         if self.given < self.moments.len() {
             let moment = self.moments[self.given];
-            if moment <= LAST_MOMENT {
+            if moment <= MAX_MOMENT {
                 self.given += 1;
                 return moment;
             }

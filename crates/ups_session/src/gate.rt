@@ -3,7 +3,8 @@
 /// A gate gives the moments at which requests are made, and is told of each PDU that is written. It may tell which
 /// moments it gave; it may stop telling, and then it never tells again.
 pub trait Gate {
-    ghost use Rattle.std.specs.Prelude.{ℕ, ◌≤◌, List, [], ◌∷◌, Option, None};
+    ghost use Rattle.ups_life.specs.Settings.{IsMoment};
+    ghost use Rattle.std.specs.Prelude.{ℕ, List, [], ◌∷◌, Option, None};
     ghost use Rattle.ups_session.specs.Tells.{Tells};
 
     ghost moments: { Self → Option (List ℕ) } = { λ _. None };
@@ -11,7 +12,7 @@ pub trait Gate {
     /// The present moment: seconds since 1970-01-01 UTC, up to the end of the year 9999.
     fn now(&mut self) -> u64
         ensures told { Tells (moments self.old) (moments self.new) (result ∷ []) }
-        ensures within { result ≤ 253402250399 };
+        ensures within { IsMoment result };
 
     /// A PDU is about to be written.
     fn before_write(&mut self)

@@ -7,6 +7,8 @@ use ups_assoc::Config;
 use ups_manager::Manager;
 use ups_pdu::Ae;
 
+mod actions;
+
 const PUSH: &str = "312e322e3834302e31303030382e352e312e342e33342e362e31";
 
 const PULL: &str = "312e322e3834302e31303030382e352e312e342e33342e362e33";

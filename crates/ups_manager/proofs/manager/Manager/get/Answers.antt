@@ -5,14 +5,16 @@ use Rattle.ups_manager.proofs.manager.Manager.get.Goals as goal
 
 pub returns-in_default-find-clause-answer : goal.returns-in_default-find-clause-answer
 returns-in_default-find-clause-answer g c =
-    rw (← c.self.view_is) (inl (unknown_is_got (past c.self.inside.history.items) c.args.step c.in-Some.step c.args.attributes.now _ _ c.in-Some.is c.self.invariant.rows c.as_slice-rows.ensures.value c.in_default-find.ensures))
+    let m = c.self.inside in
+    rw (← c.self.view_is) (inl (unknown_is_got m.configuration (past m.history.items) c.args.step c.in-Some.step c.args.attributes.now _ _ c.in-Some.is c.self.invariant.steps c.as_slice-steps.ensures.value c.in_default-find.ensures))
 
 pub returns-in-Ok-clause-answer : goal.returns-in-Ok-clause-answer
 returns-in-Ok-clause-answer g c =
+    let m = c.self.inside in
     rw (← c.self.view_is) (inl
-    (shown_is_got c.in-Ok.reply (past c.self.inside.history.items) c.args.step c.in-Some.step c.args.attributes.now _ _ _ c.in-Some.is c.self.invariant.rows c.as_slice-rows.ensures.value c.in-Some-find.ensures
+    (shown_is_got c.in-Ok.reply m.configuration (past m.history.items) c.args.step c.in-Some.step c.args.attributes.now c.in-Some-find.held.now _ _ c.in-Some.is c.self.invariant.steps c.as_slice-steps.ensures.value c.in-Some-find.ensures
     c.in-Ok.ensures))
 
 pub returns-in-Ok-clause-small : goal.returns-in-Ok-clause-small
 returns-in-Ok-clause-small g c =
-    shown_is_small c.in-Ok.reply c.in-Some.step c.args.attributes.now _ _ _ c.self.invariant.small c.as_slice-rows.ensures.value c.in-Some-find.ensures c.in-Ok.ensures
+    shown_is_small c.in-Ok.reply c.in-Some.step c.args.attributes.now c.in-Some-find.held.now _ _ c.self.invariant.small c.as_slice-steps.ensures.value c.in-Some-find.ensures c.in-Ok.ensures

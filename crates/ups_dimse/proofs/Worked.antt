@@ -1,0 +1,92 @@
+-- Worked rows: what the definitions say of small commands, computed by the check.
+use Rattle.std.proofs.Common.{◌≡◌, ℕ, ◌+◌, true, false, None, Some, inl, inr, List, [], ◌∷◌, ◌++◌, refl, arith}
+use Rattle.std.specs.Prelude.{codes}
+use Rattle.ups_dimse.specs.declared.fault.DimseFault.TheVariants.{Missing, BadValue}
+use Rattle.ups_dimse.specs.declared.command.Command.{Command}
+use Rattle.ups_dimse.specs.declared.command.Command.TheVariants.{Request, Response}
+use Rattle.ups_dimse.specs.declared.command.Operation.{Operation}
+use Rattle.ups_dimse.specs.declared.command.Operation.TheVariants as operations
+use Rattle.ups_dimse.specs.declared.command.OperationResult.{OperationResult}
+use Rattle.ups_dimse.specs.declared.command.OperationResult.TheVariants as results
+use Rattle.ups_dimse.specs.declared.message.Message.TheVariants.{ActionRequest, ActionResponse}
+use Rattle.ups_dimse.specs.Elements.{CommandElement, command_tag}
+use Rattle.ups_dimse.specs.Messages.{field_of, needs}
+use Rattle.ups_dimse.specs.Commands.{request_of, response_of, result_of}
+use Rattle.ups_dimse.specs.Faults.{FirstFails}
+use Rattle.ups_dimse.specs.Written.{us_element, command_elements, written}
+
+abbrev element : ℕ → List ℕ → CommandElement
+element number value = record { number = number; value = value }
+
+abbrev class_uid : List ℕ
+class_uid = codes "1.2"
+
+abbrev step : List ℕ
+step = codes "1.2.3.4"
+
+abbrev padded_step : List ℕ
+padded_step = codes "1.2.3.4" ++ 0x00 ∷ []
+
+-- no allocator is looked at
+abbrev request_for : ℕ → Operation (Unit {0}) → Command (Unit {0})
+request_for id operation = Request (record { sop_class = Some class_uid; message_id = id; has_data_set = true; operation = operation })
+
+abbrev answer_with : ℕ → ℕ → OperationResult → Command (Unit {0})
+answer_with id status result = Response (record { sop_class = Some class_uid; responded_to = id; has_data_set = false; status = status; result = result })
+
+-- the Command Field of a response is that of its request with the highest bit set (PS3.7 annex E.1)
+answered_field : {A : Type 0} (o : Operation A) → field_of (response_of (result_of o)) ≡ field_of (request_of o) + 0x8000
+answered_field (operations.Create instance) = refl
+answered_field (operations.Get instance attributes) = refl
+answered_field (operations.Set instance) = refl
+answered_field (operations.Action instance action) = refl
+answered_field operations.Echo = refl
+
+-- an N-SET names its class and its instance as requested ones (PS3.7 section 10.3.3.1)
+set_request : command_elements (request_for 3 (operations.Set (Some step)))
+    ≡ element 0x0003 (codes "1.2" ++ 0x00 ∷ []) ∷ element 0x0100 (0x20 ∷ 0x01 ∷ []) ∷ element 0x0110 (0x03 ∷ 0x00 ∷ []) ∷ element 0x0800 (0x01 ∷ 0x00 ∷ []) ∷ element 0x1001 padded_step ∷ []
+set_request = refl
+
+-- and its response as affected ones (PS3.7 section 10.3.3.2)
+set_response : command_elements (answer_with 3 0x0000 (results.Set (Some step)))
+    ≡ element 0x0002 (codes "1.2" ++ 0x00 ∷ []) ∷ element 0x0100 (0x20 ∷ 0x81 ∷ []) ∷ element 0x0120 (0x03 ∷ 0x00 ∷ []) ∷ element 0x0800 (0x01 ∷ 0x01 ∷ []) ∷ element 0x0900 (0x00 ∷ 0x00 ∷ []) ∷ element 0x1000 padded_step ∷ []
+set_response = refl
+
+-- an N-ACTION has its action type behind its instance (PS3.7 section 10.3.4.1)
+action_request : command_elements (request_for 4 (operations.Action (Some step) 0x0103))
+    ≡ element 0x0003 (codes "1.2" ++ 0x00 ∷ []) ∷ element 0x0100 (0x30 ∷ 0x01 ∷ []) ∷ element 0x0110 (0x04 ∷ 0x00 ∷ []) ∷ element 0x0800 (0x01 ∷ 0x00 ∷ []) ∷ element 0x1001 padded_step ∷ element 0x1008 (0x03 ∷ 0x01 ∷ []) ∷ []
+action_request = refl
+
+-- and so has its response (PS3.7 section 10.3.4.2)
+action_response : command_elements (answer_with 4 0xc302 (results.Action (Some step) 0x0103))
+    ≡ element 0x0002 (codes "1.2" ++ 0x00 ∷ []) ∷ element 0x0100 (0x30 ∷ 0x81 ∷ []) ∷ element 0x0120 (0x04 ∷ 0x00 ∷ []) ∷ element 0x0800 (0x01 ∷ 0x01 ∷ []) ∷ element 0x0900 (0x02 ∷ 0xc3 ∷ []) ∷ element 0x1000 padded_step ∷ element 0x1008 (0x03 ∷ 0x01 ∷ []) ∷ []
+action_response = refl
+
+-- an N-ACTION without a class and an instance, in bytes
+bare_action : written {A = Unit {0}} (Request (record { sop_class = None; message_id = 4; has_data_set = false; operation = operations.Action None 5 }))
+    ≡ (0x00 ∷ 0x00 ∷ 0x00 ∷ 0x00 ∷ 0x04 ∷ 0x00 ∷ 0x00 ∷ 0x00 ∷ 0x28 ∷ 0x00 ∷ 0x00 ∷ 0x00 ∷ [])
+    ++ ((0x00 ∷ 0x00 ∷ 0x00 ∷ 0x01 ∷ 0x02 ∷ 0x00 ∷ 0x00 ∷ 0x00 ∷ 0x30 ∷ 0x01 ∷ [])
+    ++ ((0x00 ∷ 0x00 ∷ 0x10 ∷ 0x01 ∷ 0x02 ∷ 0x00 ∷ 0x00 ∷ 0x00 ∷ 0x04 ∷ 0x00 ∷ [])
+    ++ ((0x00 ∷ 0x00 ∷ 0x00 ∷ 0x08 ∷ 0x02 ∷ 0x00 ∷ 0x00 ∷ 0x00 ∷ 0x01 ∷ 0x01 ∷ [])
+    ++ (0x00 ∷ 0x00 ∷ 0x08 ∷ 0x10 ∷ 0x02 ∷ 0x00 ∷ 0x00 ∷ 0x00 ∷ 0x05 ∷ 0x00 ∷ []))))
+bare_action = refl
+
+-- an N-ACTION without a message ID and without an action type fails by the first of the two
+no_message_id : FirstFails (us_element 0x0100 0x0130 ∷ us_element 0x0800 0x0101 ∷ []) (needs ActionRequest) (Missing (command_tag 0x0110))
+no_message_id = inl (refl, refl)
+
+-- one with a message ID and an announcement that no data set follows
+abbrev head : List CommandElement
+head = us_element 0x0100 0x0130 ∷ us_element 0x0110 4 ∷ us_element 0x0800 0x0101 ∷ []
+
+-- fails where the action type is missing
+no_action_type : FirstFails head (needs ActionRequest) (Missing (command_tag 0x1008))
+no_action_type = inr ((4, record { fits = omega arith; is = refl }), inr ((0x0101, record { fits = omega arith; is = refl }), inl (refl, refl)))
+
+-- and where it has four bytes
+long_action_type : FirstFails (head ++ element 0x1008 (0x05 ∷ 0x00 ∷ 0x00 ∷ 0x00 ∷ []) ∷ []) (needs ActionRequest) (BadValue (command_tag 0x1008))
+long_action_type = inr ((4, record { fits = omega arith; is = refl }), inr ((0x0101, record { fits = omega arith; is = refl }), inl (refl, 0x05 ∷ 0x00 ∷ 0x00 ∷ 0x00 ∷ [], refl, λ e. omega (arith, e))))
+
+-- a response to an N-ACTION whose status is missing, and its action type too, fails by the status
+no_status : FirstFails (us_element 0x0100 0x8130 ∷ us_element 0x0120 4 ∷ us_element 0x0800 0x0101 ∷ []) (needs ActionResponse) (Missing (command_tag 0x0900))
+no_status = inr ((4, record { fits = omega arith; is = refl }), inr ((0x0101, record { fits = omega arith; is = refl }), inl (refl, refl)))

@@ -1,0 +1,81 @@
+-- The steps held: each was created, and none stands twice.
+use Rattle.std.proofs.Common.{◌≡◌, ℕ, ℤ, Bool, true, false, ◌||◌, cond, List, [], ◌∷◌, ◌++◌, refl, sym, ap, ◌∙◌}
+use Rattle.std.specs.Str.{bytes_eq}
+use Rattle.std.specs.List.{list_any, AllByRecursion}
+use Rattle.ups_life.specs.declared.request.Request.{Request}
+use Rattle.ups_life.specs.declared.request.Request.TheVariants.{Create, Change, AskCancel, Set}
+use Rattle.ups_life.specs.declared.entry.Entry.{Entry}
+use Rattle.ups_life.specs.declared.status.Status.TheVariants.{Success}
+use Rattle.ups_life.specs.Settings.{Settings}
+use Rattle.ups_life.specs.Verdict.{verdict}
+use Rattle.ups_life.specs.Distinct.{Distinct}
+use Rattle.ups_life.specs.Steps.{used, creates, step_of, known, held, held_after, is_held}
+use Rattle.ups_life.specs.History.{repeats, legal}
+use Rattle.ups_life.proofs.Texts.{same_text, text_is_itself}
+use Rattle.ups_life.proofs.Accepted.{decided, legal_tail, created_fresh, neither, differ}
+
+or_true : (b : Bool) → b || true ≡ true
+or_true true = refl
+or_true false = refl
+
+more_used : {A : Type 0} (es : List (Entry A)) (r : Request A) (us : List (List ℕ)) → AllByRecursion (λ u. used es u ≡ true) us → AllByRecursion (λ u. (creates u r || used es u) ≡ true) us
+more_used es r [] h = tt
+more_used es r (u ∷ us) (h, more) = (ap (λ b. creates u r || b) h ∙ or_true (creates u r), more_used es r us more)
+
+each_push : {X : Type 0} (P : X → Type 0) (us : List X) (u : X) → AllByRecursion P us → P u → AllByRecursion P (us ++ u ∷ [])
+each_push P [] u h p = (p, tt)
+each_push P (v ∷ vs) u (q, more) p = (q, each_push P vs u more p)
+
+used_after : {A : Type 0} (es : List (Entry A)) (r : Request A) → AllByRecursion (λ u. used es u ≡ true) (held es) → AllByRecursion (λ u. (creates u r || used es u) ≡ true) (held_after (held es) r)
+used_after {A} es (Create step attributes) h =
+    let r : Request A = Create step attributes in
+    each_push (λ u. (bytes_eq step u || used es u) ≡ true) (held es) step (more_used es r (held es) h) (ap (λ b. b || used es step) (text_is_itself step))
+used_after es (Change step state transaction) h = h
+used_after es (AskCancel step reasons) h = h
+used_after es (Set step transaction attributes) h = h
+
+-- each step that is held was created
+pub held_used : {A : Type 0} (es : List (Entry A)) → AllByRecursion (λ u. used es u ≡ true) (held es)
+held_used [] = tt
+held_used (e ∷ es) = used_after es e.request (held_used es)
+
+among_used : {A : Type 0} (es : List (Entry A)) (u : List ℕ) (vs : List (List ℕ)) → AllByRecursion (λ v. used es v ≡ true) vs → list_any (λ v. bytes_eq v u) vs ≡ true → used es u ≡ true
+among_used es u [] h any = absurd cc
+among_used es u (v ∷ vs) (h, more) any = here (bytes_eq v u) (list_any (λ w. bytes_eq w u) vs) (λ e. ap (used es) (sym (same_text v u e)) ∙ h) (among_used es u vs more) any
+  where
+    here : {P : Type 0} (b more : Bool) → (b ≡ true → P) → (more ≡ true → P) → b || more ≡ true → P
+    here true more now later e = now refl
+    here false more now later e = later e
+
+pub is_held_used : {A : Type 0} (es : List (Entry A)) (u : List ℕ) → is_held es u ≡ true → used es u ≡ true
+is_held_used es u h = among_used es u (held es) (held_used es) h
+
+-- what was created isn't what was not
+all_other : {A : Type 0} (es : List (Entry A)) (step : List ℕ) (vs : List (List ℕ)) → used es step ≡ false → AllByRecursion (λ v. used es v ≡ true) vs → AllByRecursion (λ v. bytes_eq step v ≡ false) vs
+all_other es step [] fresh h = tt
+all_other es step (v ∷ vs) fresh (h, more) = (is_false (bytes_eq step v) (λ e. differ (used es step) fresh (ap (used es) (same_text step v e) ∙ h)), all_other es step vs fresh more)
+  where
+    is_false : (b : Bool) → (b ≡ true → ⊥) → b ≡ false
+    is_false true n = absurd (n refl)
+    is_false false n = refl
+
+not_among_more : (u step : List ℕ) (us : List (List ℕ)) → list_any (λ v. bytes_eq v u) us ≡ false → bytes_eq step u ≡ false → list_any (λ v. bytes_eq v u) (us ++ step ∷ []) ≡ false
+not_among_more u step [] h n = ap (λ b. b || false) n
+not_among_more u step (v ∷ vs) h n =
+    let none = neither (bytes_eq v u) (list_any (λ w. bytes_eq w u) vs) h in
+    ap (λ b. b || list_any (λ w. bytes_eq w u) (vs ++ step ∷ [])) none.0 ∙ not_among_more u step vs none.1 n
+
+distinct_push : (us : List (List ℕ)) (step : List ℕ) → Distinct us → AllByRecursion (λ v. bytes_eq step v ≡ false) us → Distinct (us ++ step ∷ [])
+distinct_push [] step d others = (refl, tt)
+distinct_push (u ∷ us) step (d, more) (n, others) = (not_among_more u step us d n, distinct_push us step more others)
+
+once_after : {A : Type 0} (offset : ℤ) (es : List (Entry A)) (r : Request A) → verdict (known offset es (step_of r)) (repeats es r) r ≡ Success → Distinct (held es) → Distinct (held_after (held es) r)
+once_after offset es (Create step attributes) d once = distinct_push (held es) step once (all_other es step (held es) (created_fresh offset es step attributes d) (held_used es))
+once_after offset es (Change step state transaction) d once = once
+once_after offset es (AskCancel step reasons) d once = once
+once_after offset es (Set step transaction attributes) d once = once
+
+-- no step is held twice
+pub held_once : {A : Type 0} (s : Settings) (es : List (Entry A)) → legal s es ≡ true → Distinct (held es)
+held_once s [] h = tt
+held_once s (e ∷ es) h = once_after s.offset es e.request (decided s e es h) (held_once s es (legal_tail s e es h))

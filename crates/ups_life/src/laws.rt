@@ -1,0 +1,41 @@
+//! What the life cycle of a step owes (PS3.4 CC.1.1): laws, each the contract of a function that does nothing.
+
+ghost use Rattle.std.specs.Prelude.{◌≡◌, ◌≤◌, ℕ, List, ◌∷◌, length, true, Some};
+ghost use Rattle.ups_dataset.specs.Data.{El};
+ghost use Rattle.ups_life.specs.declared.entry.Entry.{Entry};
+ghost use Rattle.ups_life.specs.declared.request.Request.TheVariants.{Change, Set};
+ghost use Rattle.ups_life.specs.declared.request.Transaction.{Transaction};
+ghost use Rattle.ups_life.specs.declared.request.Transaction.TheVariants.{Proper};
+ghost use Rattle.ups_life.specs.declared.state.StepState.{StepState};
+ghost use Rattle.ups_life.specs.declared.state.StepState.TheVariants.{InProgress};
+ghost use Rattle.ups_life.specs.Settings.{Settings};
+ghost use Rattle.ups_life.specs.States.{is_final};
+ghost use Rattle.ups_life.specs.Steps.{Claim, past, state, claim, right};
+ghost use Rattle.ups_life.specs.Claims.{claims};
+ghost use Rattle.ups_life.specs.History.{legal};
+
+use std::alloc::Allocator;
+
+/// In a history of accepted requests a step is claimed at most once.
+pub fn a_step_is_claimed_once<A: Allocator + Copy>()
+    ensures newest_first { (s : Settings) → (es : List (Entry A)) → (u : List ℕ) → legal s es ≡ true → length (claims es u) ≤ 1 }
+    ensures oldest_first { (s : Settings) → (history : List (Entry A)) → (u : List ℕ) → legal s (past history) ≡ true → length (claims (past history) u) ≤ 1 }
+{}
+
+/// The claim of a step is still its claim after each request that is accepted.
+pub fn a_claim_stays<A: Allocator + Copy>()
+    ensures { (s : Settings) → (e : Entry A) → (es : List (Entry A)) → (u : List ℕ) → (c : Claim) → legal s (e ∷ es) ≡ true
+        → claim es u ≡ Some c → claim (e ∷ es) u ≡ Some c }
+{}
+
+/// Attributes of a step that is IN PROGRESS are set with the Transaction UID of its claim alone (PS3.4 CC.2.6).
+pub fn only_the_holder_sets<A: Allocator + Copy>()
+    ensures { (s : Settings) → (e : Entry A) → (es : List (Entry A)) → (u : List ℕ) → (t : Transaction) → (attributes : List El) → legal s (e ∷ es) ≡ true
+        → e.request ≡ Set (Some u) t attributes → state es u ≡ InProgress → (uid : List ℕ) × (t ≡ Proper uid) × (right es u ≡ Some uid) }
+{}
+
+/// A step is changed to COMPLETED or CANCELED with the Transaction UID of its claim alone (PS3.4 CC.2.1).
+pub fn only_the_holder_finishes<A: Allocator + Copy>()
+    ensures { (s : Settings) → (e : Entry A) → (es : List (Entry A)) → (u : List ℕ) → (to : StepState) → (t : Transaction) → legal s (e ∷ es) ≡ true
+        → e.request ≡ Change (Some u) to t → is_final to ≡ true → (uid : List ℕ) × (t ≡ Proper uid) × (right es u ≡ Some uid) }
+{}

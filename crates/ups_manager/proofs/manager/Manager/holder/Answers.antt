@@ -1,0 +1,15 @@
+use Rattle.std.proofs.Common.{◌≡◌, ap, ◌∙◌, sym}
+use Rattle.ups_life.specs.Steps.{past}
+use Rattle.ups_manager.specs.Held.{step_at, holder_in}
+use Rattle.ups_manager.proofs.Holding.{holder_in-held_steps}
+use Rattle.ups_manager.proofs.manager.Manager.holder.Goals as goal
+
+pub returns-in-Some : goal.returns-in-Some
+returns-in-Some g c =
+    let m = c.self.inside in
+    rw (← c.self.view_is) (record { holder = ap holder_in (c.in-Some.ensures ∙ ap (step_at c.args.step) (c.as_slice.ensures.value ∙ c.self.invariant.steps)) ∙ holder_in-held_steps m.configuration.offset (past m.history.items) c.args.step })
+
+pub returns-in-None : goal.returns-in-None
+returns-in-None g c =
+    let m = c.self.inside in
+    rw (← c.self.view_is) (record { holder = ap holder_in (c.in-None.ensures ∙ ap (step_at c.args.step) (c.as_slice.ensures.value ∙ c.self.invariant.steps)) ∙ holder_in-held_steps m.configuration.offset (past m.history.items) c.args.step })

@@ -1,0 +1,10 @@
+mod Worked
+pub mod Begun
+pub mod Calendar
+pub mod Combining
+pub mod Days
+pub mod Existing
+pub mod Fields
+pub mod Joining
+pub mod Offsets
+pub mod ReadingBack
