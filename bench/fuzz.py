@@ -119,9 +119,21 @@ def largest(program):
     print(f"a request of {len(request):,} bytes with 128 contexts: each is answered, by the first syntax that is known")
 
 
+def padded(program):
+    """Values of a million bytes of padding: nothing may be lost, or recursed into."""
+    for value in (b" " * 1_000_000, bytes(1_000_000), b"X" + b" " * 999_999):
+        texts = [(0x0040, 0x4005, b"DT", b"20240229120000"), (0x0040, 0x4041, b"CS", b"READY "), (0x0074, 0x1000, b"CS", b"SCHEDULED "), (0x0074, 0x1200, b"CS", b"MEDIUM"), (0x0074, 0x1204, b"LO", value)]
+        made = create(1, 1, b"1.2.3.1", b"".join(data(False, *text) for text in texts))
+        done = run(program, associate([(PUSH, IMPLICIT)]) + made + RELEASE)
+        status = done.stdout.partition(b"\x00\x00\x00\x09\x02\x00\x00\x00")[2][:2]
+        assert done.returncode == 0 and status == (b"\x00\x00" if value.startswith(b"X") else b"\x21\x01"), (done.returncode, status)
+    print("a label of a million bytes of padding: it is empty, or one letter")
+
+
 def main():
     program = sys.argv[1] if len(sys.argv) > 1 else "crates/upsd/out/upsd"
     largest(program)
+    padded(program)
     fuzz(program, int(sys.argv[2]) if len(sys.argv) > 2 else 10_000, int(sys.argv[3]) if len(sys.argv) > 3 else 1)
 
 

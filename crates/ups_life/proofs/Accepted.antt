@@ -1,8 +1,6 @@
 -- What it means that an entry was accepted: it was decided so, of a step that is held or is new.
-use Rattle.std.proofs.Common.{◌≡◌, ℕ, ℤ, ◌⊎◌, inl, inr, Bool, true, false, ◌&&◌, ◌||◌, not, cond, List, [], ◌∷◌, ◌++◌, Option, None, Some, refl, sym, ap, ◌∙◌, subst}
+use Rattle.std.proofs.Common.{◌≡◌, ℕ, ℤ, Bool, true, false, ◌&&◌, ◌||◌, not, cond, List, ◌∷◌, None, Some, refl, sym, ap, ◌∙◌, subst}
 use Rattle.std.specs.Prelude.{nat_lt, length}
-use Rattle.std.specs.Str.{bytes_eq}
-use Rattle.std.specs.List.{list_any, AllByRecursion}
 use Rattle.ups_dataset.specs.Data.{El}
 use Rattle.ups_life.specs.declared.entry.Entry.{Entry}
 use Rattle.ups_life.specs.declared.request.Request.{Request}
@@ -12,9 +10,9 @@ use Rattle.ups_life.specs.declared.status.Status.{Status}
 use Rattle.ups_life.specs.declared.status.Status.TheVariants.{Success, DuplicateSopInstance, ResourceLimitation}
 use Rattle.ups_life.specs.Settings.{Settings}
 use Rattle.ups_life.specs.Verdict.{verdict, if_held, create_status, change_status, cancel_status, update_status}
-use Rattle.ups_life.specs.Steps.{step_of, is_step, is_on, creates, used, held, held_after, is_held, known, row_of}
-use Rattle.ups_life.specs.History.{accepts, fits, is_sized, sized, in_room, repeats, row_then, status, legal}
-use Rattle.ups_life.proofs.Texts.{same_text, text_is_itself}
+use Rattle.ups_life.specs.Steps.{step_of, is_on, creates, used, is_held, known, row_of}
+use Rattle.ups_life.specs.History.{accepts, fits, is_sized, sized, repeats, row_then, status, legal}
+use Rattle.ups_life.proofs.Texts.{same_text}
 
 pub accepted_is_success : (x : Status) → accepts x ≡ true → x ≡ Success
 accepted_is_success Success h = refl

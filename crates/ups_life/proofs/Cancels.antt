@@ -1,5 +1,5 @@
 -- What a cancel request gives.
-use Rattle.std.proofs.Common.{◌≡◌, ℕ, ◌<◌, ◌≤◌, ℤ, List, [], ◌∷◌, refl, arith}
+use Rattle.std.proofs.Common.{ℕ, ◌<◌, ◌≤◌, ℤ, List, refl, arith}
 use Rattle.std.specs.Prelude.{max}
 use Rattle.ups_dataset.specs.declared.limits.TheConstants.{MAX_DEPTH}
 use Rattle.ups_dataset.specs.Data.{El}

@@ -2,7 +2,6 @@
 -- knows.
 use Rattle.std.proofs.Common.{◌≡◌, ℕ, ℤ, ◌≤◌, ◌⊎◌, inl, inr, Bool, true, false, cond, List, [], ◌∷◌, ◌++◌, length, Option, None, Some, refl, sym, ap, ◌∙◌, subst, arith}
 use Rattle.std.specs.Option.{option_or, option_map}
-use Rattle.std.specs.Str.{bytes_eq}
 use Rattle.ups_dataset.specs.Data.{El}
 use Rattle.ups_life.specs.declared.request.Request.{Request}
 use Rattle.ups_life.specs.declared.request.Request.TheVariants.{Create, Change, AskCancel, Set}
@@ -10,7 +9,6 @@ use Rattle.ups_life.specs.declared.request.Transaction.{Transaction}
 use Rattle.ups_life.specs.declared.request.Transaction.TheVariants.{Absent, Malformed, Proper}
 use Rattle.ups_life.specs.declared.state.StepState.{StepState}
 use Rattle.ups_life.specs.declared.state.StepState.TheVariants.{Scheduled, InProgress, Completed, Canceled}
-use Rattle.ups_life.specs.declared.row.Holder.{Holder}
 use Rattle.ups_life.specs.declared.row.Row.{Row}
 use Rattle.ups_life.specs.declared.entry.Entry.{Entry}
 use Rattle.ups_life.specs.declared.status.Status.{Status}
@@ -19,7 +17,7 @@ use Rattle.ups_life.specs.Settings.{Settings}
 use Rattle.ups_life.specs.States.{is_final}
 use Rattle.ups_life.specs.Values.{unless_fault}
 use Rattle.ups_life.specs.Verdict.{verdict, is_right, is_given, is_proper, claim_status, complete_status, discontinue_status, wrong_status, set_status, set_attributes_status, change_status, update_status, is_performed, is_discontinued}
-use Rattle.ups_life.specs.Steps.{Claim, step_of, is_on, creates, used, canceled, state, state_then, taken, claimed, claim, right, held, is_held, known, row_of}
+use Rattle.ups_life.specs.Steps.{Claim, step_of, is_on, creates, used, canceled, state, state_then, taken, claimed, claim, right, is_held, known, row_of}
 use Rattle.ups_life.specs.History.{repeats, legal}
 use Rattle.ups_life.specs.Claims.{listed, claims}
 use Rattle.ups_life.proofs.Texts.{same_text}

@@ -529,7 +529,7 @@ pub(crate) fn run<A: Allocator + Copy, R: Abort + AllocGlobal>(
         let status = submit(manager, *asker, request_of(alloc, *asked)?)?;
         assert_eq!(rt; status, *number, "at line {place}");
         if status == 0x0000 {
-            assert_eq!(rt; manager.history().len() - entries, 1, "at line {place}");
+            assert_eq!(rt; manager.history().len(), entries + 1, "at line {place}");
         } else {
             let after = picture(manager, rt)?;
             assert_eq!(rt; after.as_str(), before.as_str(), "at line {place}");

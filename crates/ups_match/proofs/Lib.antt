@@ -1,4 +1,5 @@
 mod Worked
+mod WorkedMatches
 pub mod Begun
 pub mod Calendar
 pub mod Combining
@@ -6,5 +7,7 @@ pub mod Days
 pub mod Existing
 pub mod Fields
 pub mod Joining
+pub mod KeyWalks
 pub mod Offsets
+pub mod PatternRuns
 pub mod ReadingBack

@@ -1,1 +1,7 @@
+pub mod KeyCode
+pub mod Likeness
+pub mod Matching
 pub mod Moments
+pub mod Ranges
+pub mod Runs
+pub mod Values

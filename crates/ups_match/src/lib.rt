@@ -1,10 +1,25 @@
-//! Moments as text: what the value representation DT names, read and written (PS3.5 section 6.2).
+//! Keys and what matches them (PS3.4 section C.2.2.2); and moments as text: what the value representation DT names, read
+//! and written (PS3.5 section 6.2).
 #![tactic(auto)]
 
 mod digits;
+mod fault;
+mod faults;
+mod keys;
+mod likeness;
+mod matcher;
+mod matching;
 mod moments;
+mod ranges;
+mod rule;
 mod stamps;
+mod texts;
+mod universal;
 
+pub use fault::KeyFault;
+pub use keys::Keys;
+pub use likeness::likes;
+pub use matcher::{Matcher, Probe};
 pub use moments::read_dt;
 pub use stamps::{stamps_are_read_back, write_dt};
 

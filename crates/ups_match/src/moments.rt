@@ -139,7 +139,7 @@ fn microsecond_of(digits: &[u8], upper: bool) -> u32
 
 /// The minutes east of UTC that a suffix says, or the configured ones.
 #[tactic(auto, using(crate::proofs::Offsets::offset_bare, crate::proofs::Offsets::offset_other, crate::proofs::Offsets::offset_written))]
-fn offset_of(suffix: &[u8], is_whole: bool, configured: i16) -> Option<i16>
+pub(crate) fn offset_of(suffix: &[u8], is_whole: bool, configured: i16) -> Option<i16>
     ensures { result ≡ offset_of is_whole configured suffix.now }
 {
     let Some((sign, digits)) = suffix.split_first() else {

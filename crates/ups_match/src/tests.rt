@@ -1,3 +1,6 @@
+mod likeness;
+mod matching;
+
 use crate::{read_dt, write_dt};
 use std::test::Fail;
 

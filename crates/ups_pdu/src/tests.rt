@@ -33,6 +33,19 @@ fn padding_is_no_part_of_a_uid_or_title(rt: HostRuntime) -> Result<(), Fail> {
     Ok(())
 }
 
+#[test]
+fn a_million_bytes_of_padding_are_dropped(rt: HostRuntime) -> Result<(), Fail> {
+    let mut bytes = Vec::new(rt.alloc());
+    bytes.push(b'X')?;
+    for place in 0..1_000_000_u32 {
+        bytes.push(if place % 2 == 0 { b' ' } else { 0 })?;
+    }
+    assert_eq!(rt; without_padding(&bytes), b"X".as_slice());
+    bytes[0] = 0;
+    assert_eq!(rt; without_padding(&bytes), b"".as_slice());
+    Ok(())
+}
+
 mod associations;
 mod faults;
 mod memory;

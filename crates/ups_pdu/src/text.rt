@@ -15,12 +15,12 @@ pub fn is_padding(byte: u8) -> bool
 pub fn without_padding(bytes: &[u8]) -> &[u8]
     ensures { result.now ≡ without_padding bytes.now }
 {
-    let Some((last, front)) = bytes.split_last() else {
-        return bytes;
-    };
-    if is_padding(*last) {
-        without_padding(front)
-    } else {
-        bytes
+    let mut rest = bytes;
+    while let Some((last, front)) = rest.split_last() {
+        if !is_padding(*last) {
+            return rest;
+        }
+        rest = front;
     }
+    rest
 }

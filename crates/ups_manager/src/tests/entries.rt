@@ -1,13 +1,15 @@
+use super::Asked::{Cancel, Change, Create, Set};
+use super::Sent::{Nothing, Performed, Text};
 use super::{
-    Asked, NOON, PERFORMER, RIVAL, ROW, SCHEDULER, STEPS, Sent, a_manager, ask_of, entry_of,
-    holder_of, request_of, run, shown_of, status_of, told, uid, with_a_step,
+    Asker, NOON, PERFORMER, RIVAL, ROW, SCHEDULER, STEPS, a_manager, ask_of, entry_of, holder_of,
+    request_of, run, shown_of, status_of, told, uid, with_a_step,
 };
-use crate::tests::Asker;
 use crate::*;
 use std::test::Fail;
 use ups_dataset::dictionary::*;
 use ups_dimse::Tags;
-use ups_life::{Ask, StepState};
+use ups_life::Ask;
+use ups_life::StepState::{Completed, InProgress};
 use ups_pdu::Uid;
 
 #[test]
@@ -23,41 +25,25 @@ fn an_entry_says_who_asked_and_when_and_what(rt: HostRuntime) -> Result<(), Fail
         ae: "PERFORM1",
         moment: 253_402_250_399,
     };
-    run(
-        &rt,
-        rt.alloc(),
-        &mut manager,
-        &[
-            (first, Asked::Create("1.2.3.1", Sent::Nothing), 0x0000),
-            (
-                SCHEDULER,
-                Asked::Create("1.2.3.22", Sent::Text(PATIENT_ID, "4711")),
-                0x0000,
-            ),
-            (RIVAL, Asked::Create("1.2.3.1", Sent::Nothing), 0x0111),
-            (
-                RIVAL,
-                Asked::Set("1.2.3.1", "", Sent::Text(PATIENT_ID, "4712")),
-                0x0000,
-            ),
-            (
-                PERFORMER,
-                Asked::Change("1.2.3.1", StepState::InProgress, "2.1"),
-                0x0000,
-            ),
-            (
-                first,
-                Asked::Cancel("1.2.3.1", Sent::Text(REASON_FOR_CANCELLATION, "stop")),
-                0x0000,
-            ),
-            (last, Asked::Set("1.2.3.1", "2.1", Sent::Performed), 0x0000),
-            (
-                PERFORMER,
-                Asked::Change("1.2.3.1", StepState::Completed, "2.1"),
-                0x0000,
-            ),
-        ],
-    )?;
+    let lines = [
+        (first, Create("1.2.3.1", Nothing), 0x0000),
+        (
+            SCHEDULER,
+            Create("1.2.3.22", Text(PATIENT_ID, "4711")),
+            0x0000,
+        ),
+        (RIVAL, Create("1.2.3.1", Nothing), 0x0111),
+        (RIVAL, Set("1.2.3.1", "", Text(PATIENT_ID, "4712")), 0x0000),
+        (PERFORMER, Change("1.2.3.1", InProgress, "2.1"), 0x0000),
+        (
+            first,
+            Cancel("1.2.3.1", Text(REASON_FOR_CANCELLATION, "stop")),
+            0x0000,
+        ),
+        (last, Set("1.2.3.1", "2.1", Performed), 0x0000),
+        (PERFORMER, Change("1.2.3.1", Completed, "2.1"), 0x0000),
+    ];
+    run(&rt, rt.alloc(), &mut manager, &lines)?;
     let expected = [
         "7 SCHED2 0 1.2.3.1 create 00404005=20240229120000 00404041=READY_ 00741000=SCHEDULED_ 00741200=MEDIUM 00741204=CT_READ_ ",
         "0 SCHED1 1709208000 1.2.3.22 create 00100020=4711 00404005=20240229120000 00404041=READY_ 00741000=SCHEDULED_ 00741200=MEDIUM 00741204=CT_READ_ ",
@@ -77,16 +63,12 @@ fn an_entry_says_who_asked_and_when_and_what(rt: HostRuntime) -> Result<(), Fail
 #[test]
 fn each_step_is_shown_as_it_was_created(rt: HostRuntime) -> Result<(), Fail> {
     let mut manager = with_a_step(rt.alloc())?;
-    run(
-        &rt,
-        rt.alloc(),
-        &mut manager,
-        &[(
-            SCHEDULER,
-            Asked::Create("1.2.3.2", Sent::Text(PROCEDURE_STEP_LABEL, "MR READ ")),
-            0x0000,
-        )],
-    )?;
+    let lines = [(
+        SCHEDULER,
+        Create("1.2.3.2", Text(PROCEDURE_STEP_LABEL, "MR READ ")),
+        0x0000,
+    )];
+    run(&rt, rt.alloc(), &mut manager, &lines)?;
     assert_eq!(rt; shown_of(&manager, "1.2.3.1", &rt)?.as_str(), ROW);
     for (listed, number) in [
         ([PROCEDURE_STEP_LABEL].as_slice(), 0x0000),
@@ -117,15 +99,11 @@ fn an_unknown_step_is_not_shown(rt: HostRuntime) -> Result<(), Fail> {
 fn a_service_answers_and_enters_as_caller_0(rt: HostRuntime) -> Result<(), Fail> {
     let mut manager = a_manager(rt.alloc(), 10)?;
     for (asker, asked, number) in [
-        (SCHEDULER, Asked::Create("1.2.3.1", Sent::Nothing), 0x0000),
-        (RIVAL, Asked::Create("1.2.3.1", Sent::Nothing), 0x0111),
-        (
-            RIVAL,
-            Asked::Change("1.2.3.1", StepState::InProgress, "2.1"),
-            0x0000,
-        ),
-        (RIVAL, Asked::Cancel("1.2.3.1", Sent::Nothing), 0x0000),
-        (RIVAL, Asked::Set("1.2.3.1", "2.2", Sent::Performed), 0xc301),
+        (SCHEDULER, Create("1.2.3.1", Nothing), 0x0000),
+        (RIVAL, Create("1.2.3.1", Nothing), 0x0111),
+        (RIVAL, Change("1.2.3.1", InProgress, "2.1"), 0x0000),
+        (RIVAL, Cancel("1.2.3.1", Nothing), 0x0000),
+        (RIVAL, Set("1.2.3.1", "2.2", Performed), 0xc301),
     ] {
         let ask = Ask::Do(request_of(rt.alloc(), asked)?);
         assert_eq!(rt; status_of(&ask_of(&mut manager, asker, ask)?), number);

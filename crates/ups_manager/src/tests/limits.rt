@@ -1,13 +1,16 @@
+use super::Asked::{Cancel, Change, Create, Set};
+use super::Sent::{GivenUp, Nothing, Text};
 use super::{
-    Asked, PERFORMER, RIVAL, ROW, SCHEDULER, Sent, a_manager, a_step, holder_of, put_bytes,
-    put_item, request_of, run, shown_of, status_of, submit, uid, with_a_step,
+    PERFORMER, RIVAL, ROW, SCHEDULER, a_manager, a_step, holder_of, put_bytes, put_item,
+    request_of, run, shown_of, status_of, submit, uid, with_a_step,
 };
 use crate::*;
 use std::alloc::Allocator;
 use std::test::Fail;
 use ups_dataset::dictionary::*;
 use ups_dataset::{DataSet, Tag, Vr};
-use ups_life::{Reply, Request, StepState};
+use ups_life::StepState::InProgress;
+use ups_life::{Reply, Request};
 
 /// How many bytes of value an element with a long value representation, which has 12 bytes before them, adds
 /// to the row of a step where the whole is to take 1,048,576 bytes.
@@ -65,29 +68,17 @@ fn size_of_row<A: Allocator + Copy>(manager: &Manager<A>) -> Result<u64, Fail> {
 #[test]
 fn a_full_history_takes_no_request(rt: HostRuntime) -> Result<(), Fail> {
     let mut manager = a_manager(rt.alloc(), 2)?;
-    run(
-        &rt,
-        rt.alloc(),
-        &mut manager,
-        &[
-            (SCHEDULER, Asked::Create("1.2.3.1", Sent::Nothing), 0x0000),
-            (SCHEDULER, Asked::Create("1.2.3.2", Sent::Nothing), 0x0000),
-            (SCHEDULER, Asked::Create("1.2.3.3", Sent::Nothing), 0x0213),
-            (
-                PERFORMER,
-                Asked::Change("1.2.3.1", StepState::InProgress, "2.1"),
-                0x0213,
-            ),
-            (SCHEDULER, Asked::Cancel("1.2.3.1", Sent::Nothing), 0x0213),
-            (SCHEDULER, Asked::Set("1.2.3.1", "", Sent::GivenUp), 0x0213),
-            (SCHEDULER, Asked::Create("1.2.3.1", Sent::Nothing), 0x0111),
-            (
-                PERFORMER,
-                Asked::Change("1.2.3.3", StepState::InProgress, "2.1"),
-                0xc307,
-            ),
-        ],
-    )?;
+    let lines = [
+        (SCHEDULER, Create("1.2.3.1", Nothing), 0x0000),
+        (SCHEDULER, Create("1.2.3.2", Nothing), 0x0000),
+        (SCHEDULER, Create("1.2.3.3", Nothing), 0x0213),
+        (PERFORMER, Change("1.2.3.1", InProgress, "2.1"), 0x0213),
+        (SCHEDULER, Cancel("1.2.3.1", Nothing), 0x0213),
+        (SCHEDULER, Set("1.2.3.1", "", GivenUp), 0x0213),
+        (SCHEDULER, Create("1.2.3.1", Nothing), 0x0111),
+        (PERFORMER, Change("1.2.3.3", InProgress, "2.1"), 0xc307),
+    ];
+    run(&rt, rt.alloc(), &mut manager, &lines)?;
     assert_eq!(rt; shown_of(&manager, "1.2.3.1", &rt)?.as_str(), ROW);
     let reply = manager.get(Some(uid("1.2.3.2")?), &[PROCEDURE_STEP_STATE]);
     assert_eq!(rt; status_of(&reply), 0x0000);
@@ -122,17 +113,21 @@ fn no_set_makes_a_row_larger_than_the_limit(rt: HostRuntime) -> Result<(), Fail>
         ("READ", 0x0000, 1_048_572),
         ("CT READ ", 0x0000, 1_048_576),
     ] {
-        let texts = Sent::Text(PROCEDURE_STEP_LABEL, label);
+        let texts = Text(PROCEDURE_STEP_LABEL, label);
         let entries = manager.history().len();
-        let request = request_of(rt.alloc(), Asked::Set("1.2.3.1", "", texts))?;
+        let request = request_of(rt.alloc(), Set("1.2.3.1", "", texts))?;
         assert_eq!(rt;
             submit(&mut manager, SCHEDULER, request)?,
             number,
             "at {label}"
         );
         assert_eq!(rt; size_of_row(&manager)?, size, "at {label}");
-        let entered = manager.history().len() - entries;
-        assert_eq!(rt; entered, usize::from(number == 0x0000), "at {label}");
+        let entered = if number == 0x0000 {
+            entries + 1
+        } else {
+            entries
+        };
+        assert_eq!(rt; manager.history().len(), entered, "at {label}");
     }
     Ok(())
 }
@@ -145,18 +140,14 @@ fn a_change_of_state_is_not_refused_for_its_size(rt: HostRuntime) -> Result<(), 
         SCHEDULER,
         create_with(rt.alloc(), LARGEST_VALUE)?,
     )?;
-    let same = Sent::Text(PROCEDURE_STEP_LABEL, "MR READ ");
-    let shorter = Sent::Text(PROCEDURE_STEP_LABEL, "READ  ");
+    let same = Text(PROCEDURE_STEP_LABEL, "MR READ ");
+    let shorter = Text(PROCEDURE_STEP_LABEL, "READ  ");
     for (place, (asked, number, size)) in [
-        (
-            Asked::Change("1.2.3.1", StepState::InProgress, "2.1"),
-            0x0000,
-            1_048_578,
-        ),
-        (Asked::Cancel("1.2.3.1", Sent::Nothing), 0x0213, 1_048_578),
-        (Asked::Set("1.2.3.1", "2.1", same), 0x0213, 1_048_578),
-        (Asked::Set("1.2.3.1", "2.1", shorter), 0x0000, 1_048_576),
-        (Asked::Cancel("1.2.3.1", Sent::Nothing), 0x0000, 1_048_576),
+        (Change("1.2.3.1", InProgress, "2.1"), 0x0000, 1_048_578),
+        (Cancel("1.2.3.1", Nothing), 0x0213, 1_048_578),
+        (Set("1.2.3.1", "2.1", same), 0x0213, 1_048_578),
+        (Set("1.2.3.1", "2.1", shorter), 0x0000, 1_048_576),
+        (Cancel("1.2.3.1", Nothing), 0x0000, 1_048_576),
     ]
     .into_iter()
     .enumerate()
@@ -185,7 +176,7 @@ fn a_step_is_canceled_only_where_its_row_stays_within_the_limit(
     ] {
         let mut manager = a_manager(rt.alloc(), 10)?;
         submit(&mut manager, SCHEDULER, create_with(rt.alloc(), length)?)?;
-        let request = request_of(rt.alloc(), Asked::Cancel("1.2.3.1", Sent::Nothing))?;
+        let request = request_of(rt.alloc(), Cancel("1.2.3.1", Nothing))?;
         assert_eq!(rt;
             submit(&mut manager, SCHEDULER, request)?,
             number,
@@ -212,16 +203,8 @@ fn reasons_that_nest_8_deep_cancel_no_unclaimed_step(rt: HostRuntime) -> Result<
 #[test]
 fn reasons_that_nest_8_deep_are_entered_of_a_claimed_step(rt: HostRuntime) -> Result<(), Fail> {
     let mut manager = with_a_step(rt.alloc())?;
-    run(
-        &rt,
-        rt.alloc(),
-        &mut manager,
-        &[(
-            RIVAL,
-            Asked::Change("1.2.3.1", StepState::InProgress, "2.1"),
-            0x0000,
-        )],
-    )?;
+    let lines = [(RIVAL, Change("1.2.3.1", InProgress, "2.1"), 0x0000)];
+    run(&rt, rt.alloc(), &mut manager, &lines)?;
     let before = shown_of(&manager, "1.2.3.1", &rt)?;
     let request = cancel_of_depth(rt.alloc(), 8)?;
     assert_eq!(rt; submit(&mut manager, SCHEDULER, request)?, 0x0000);

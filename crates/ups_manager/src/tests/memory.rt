@@ -1,6 +1,8 @@
+use super::Asked::{Cancel, Change, Create, Set};
+use super::Sent::{Nothing, Performed, Text};
 use super::{
-    Asked, Asker, PERFORMER, RIVAL, ROW, SCHEDULER, Sent, a_manager, ask_of, picture, request_of,
-    status_of, submit, told, with_a_step,
+    Asked, Asker, RIVAL, ROW, SCHEDULER, a_manager, ask_of, picture, request_of, status_of, submit,
+    told, with_a_step,
 };
 use crate::*;
 use refusing::Refusing;
@@ -9,7 +11,8 @@ use std::process::Abort;
 use std::test::Fail;
 use ups_dataset::dictionary::*;
 use ups_dimse::Tags;
-use ups_life::{Ask, Reply, StepState};
+use ups_life::StepState::{Completed, InProgress};
+use ups_life::{Ask, Reply};
 use ups_pdu::Uid;
 
 /// The greatest number of growths that a test refuses in turn.
@@ -48,28 +51,20 @@ fn in_turn<'a, R: Abort + AllocGlobal>(
 
 #[test]
 fn nothing_is_entered_where_a_growth_is_refused(rt: HostRuntime) -> Result<(), Fail> {
-    let label = Sent::Text(PROCEDURE_STEP_LABEL, "MR READ ");
-    let reason = Sent::Text(REASON_FOR_CANCELLATION, "stop");
+    let label = Text(PROCEDURE_STEP_LABEL, "MR READ ");
+    let reason = Text(REASON_FOR_CANCELLATION, "stop");
     for as_service in [false, true] {
         let heap = Refusing::new(rt.alloc());
         let mut manager = a_manager(&heap, 10)?;
         for (place, (asker, asked, least)) in [
-            (SCHEDULER, Asked::Create("1.2.3.1", Sent::Nothing), 8),
-            (SCHEDULER, Asked::Create("1.2.3.2", Sent::Nothing), 6),
-            (
-                RIVAL,
-                Asked::Change("1.2.3.1", StepState::InProgress, "2.1"),
-                6,
-            ),
-            (SCHEDULER, Asked::Set("1.2.3.2", "", label), 6),
-            (RIVAL, Asked::Set("1.2.3.1", "2.1", Sent::Performed), 6),
-            (SCHEDULER, Asked::Cancel("1.2.3.1", reason), 6),
-            (SCHEDULER, Asked::Cancel("1.2.3.2", reason), 6),
-            (
-                RIVAL,
-                Asked::Change("1.2.3.1", StepState::Completed, "2.1"),
-                6,
-            ),
+            (SCHEDULER, Create("1.2.3.1", Nothing), 8),
+            (SCHEDULER, Create("1.2.3.2", Nothing), 6),
+            (RIVAL, Change("1.2.3.1", InProgress, "2.1"), 6),
+            (SCHEDULER, Set("1.2.3.2", "", label), 6),
+            (RIVAL, Set("1.2.3.1", "2.1", Performed), 6),
+            (SCHEDULER, Cancel("1.2.3.1", reason), 6),
+            (SCHEDULER, Cancel("1.2.3.2", reason), 6),
+            (RIVAL, Change("1.2.3.1", Completed, "2.1"), 6),
         ]
         .into_iter()
         .enumerate()

@@ -1,0 +1,77 @@
+-- Ranges of moments (PS3.4 section C.2.2.2.5).
+use Rattle.std.specs.Prelude.{ℕ, ℤ, int_le, pos, Bool, true, false, ◌&&◌, not, ◌+◌, ◌==◌, nat_le, List, [], ◌∷◌, length, take, drop, Option, None, Some, is_some, if◌then◌else◌}
+use Rattle.std.specs.List.{prefix_len}
+use Rattle.std.specs.Option.{option_map}
+use Rattle.ups_pdu.specs.Padding.{is_nil}
+use Rattle.ups_match.specs.declared.ranges.Span.{Span}
+use Rattle.ups_match.specs.Moments.{leading_digits, behind_digits, split_fraction, offset_of, moment}
+
+abbrev pub is_hyphen : ℕ → Bool
+is_hyphen byte = byte == 45
+
+-- fourteen digits, and perhaps a fraction: what a minus offset may stand behind
+abbrev pub has_seconds : List ℕ → Bool
+has_seconds text = length (leading_digits text) == 14 && is_nil (split_fraction (behind_digits text)).1
+
+-- nothing more, or a hyphen
+abbrev pub ends_or_hyphen : List ℕ → Bool
+ends_or_hyphen [] = true
+ends_or_hyphen (b ∷ bs) = is_hyphen b
+
+-- what stands behind a DT begins with the offset of that DT, and not with the hyphen of a range
+abbrev pub is_offset_first : List ℕ → List ℕ → Bool
+is_offset_first front rest = has_seconds front && is_some (offset_of true (pos 0) (take 5 rest)) && nat_le 5 (length rest) && ends_or_hyphen (drop 5 rest)
+
+-- how many bytes stand before a text's first hyphen
+abbrev pub hyphen_at : List ℕ → ℕ
+hyphen_at text = prefix_len (λ byte. not (is_hyphen byte)) text
+
+-- how many bytes stand before the hyphen of a range, or in the whole where there is none: the first hyphen, unless it
+-- begins an offset
+abbrev pub first_len : List ℕ → ℕ
+first_len text = if is_offset_first (take (hyphen_at text) text) (drop (hyphen_at text) text) then hyphen_at text + 5 else hyphen_at text
+
+-- an end of a range: its moment, or none where that end is open; nothing where the text is no DT
+abbrev pub bound : ℤ → Bool → List ℕ → Option (Option ℤ)
+bound offset upper [] = Some None
+bound offset upper (b ∷ bs) = option_map (λ m. Some m) (moment (b ∷ bs) offset upper)
+
+abbrev pub with_bounds : Option (Option ℤ) → Option (Option ℤ) → Option Span
+with_bounds None greatest = None
+with_bounds (Some least) None = None
+with_bounds (Some least) (Some greatest) = Some (record { least = least; greatest = greatest })
+
+-- the moments between two ends, which aren't both open
+abbrev pub between : ℤ → List ℕ → List ℕ → Option Span
+between offset [] [] = None
+between offset first last = with_bounds (bound offset false first) (bound offset true last)
+
+-- a single DT stands for its first moment
+abbrev pub alone : ℤ → List ℕ → Option Span
+alone offset text = option_map (λ m. record { least = Some m; greatest = Some m }) (moment text offset false)
+
+abbrev pub spanned : ℤ → List ℕ → List ℕ → Option Span
+spanned offset first [] = alone offset first
+spanned offset first (hyphen ∷ last) = between offset first last
+
+-- The moments that a key takes in: of a-b those from the first moment of a to the last of b, of a- and -b those on one
+-- side, and of a DT alone its first; nothing where the key is unreadable.
+abbrev pub span_of : ℤ → List ℕ → Option Span
+span_of offset text = spanned offset (take (first_len text) text) (drop (first_len text) text)
+
+abbrev pub is_from : Option ℤ → ℤ → Bool
+is_from None m = true
+is_from (Some least) m = int_le least m
+
+abbrev pub is_up_to : Option ℤ → ℤ → Bool
+is_up_to None m = true
+is_up_to (Some greatest) m = int_le m greatest
+
+abbrev pub takes_in : Span → ℤ → Bool
+takes_in span m = is_from span.least m && is_up_to span.greatest m
+
+-- a stored text is a DT whose first moment a readable key takes in
+abbrev pub spans : Option Span → Option ℤ → Bool
+spans None moment = false
+spans (Some span) None = false
+spans (Some span) (Some m) = takes_in span m

@@ -1,0 +1,110 @@
+//! Wild cards (PS3.4 section C.2.2.2.4).
+
+ghost use Rattle.std.specs.Prelude.{◌≡◌, ◌↔◌, ◌∷◌, ◌≤◌, length, IsTrue, option_copied};
+ghost use Rattle.std.specs.List.{AllPass, prefix_len};
+ghost use Rattle.ups_match.specs.Likeness.{IsLike, is_like};
+ghost use Rattle.ups_match.specs.Runs.{is_no_star, run_of, behind_run, behind_front, behind_first};
+
+/// Whether a text is like a pattern, in which `*` stands for any bytes, `?` for any one byte, and any other byte for
+/// itself (PS3.4 section C.2.2.2.4). It takes at most about as many steps as the product of the two lengths.
+pub fn likes(pattern: &[u8], text: &[u8]) -> bool
+    ensures like { IsTrue result ↔ IsLike pattern.now text.now }
+    ensures value { result ≡ is_like pattern.now text.now }
+{
+    is_like(pattern, text)
+}
+
+/// Whether a text is like a pattern.
+fn is_like(pattern: &[u8], text: &[u8]) -> bool
+    ensures { IsTrue result ↔ IsLike pattern.now text.now }
+{
+    let (run, behind) = split_run(pattern);
+    let Some(left) = behind_front(run, text) else {
+        return false;
+    };
+    match behind.split_first() {
+        Some((_, after)) => likes_anywhere(after, left),
+        None => left.is_empty(),
+    }
+}
+
+/// Whether a text is like `*` and a pattern behind it.
+///
+/// Each run is looked for at the first place where it fits: what the rest of the pattern is like behind a later
+/// place, it is like behind the first one too, since a `*` stands between.
+fn likes_anywhere(pattern: &[u8], text: &[u8]) -> bool
+    ensures { IsTrue result ↔ IsLike (42 ∷ pattern.now) text.now }
+{
+    let mut rest = pattern;
+    let mut left = text;
+    loop {
+        let (run, behind) = split_run(rest);
+        let Some((_, after)) = behind.split_first() else {
+            return ends_with(run, left);
+        };
+        let Some(found) = behind_first(run, left) else {
+            return false;
+        };
+        left = found;
+        rest = after;
+    }
+}
+
+/// The bytes of a pattern before the first `*`, and the others.
+fn split_run(pattern: &[u8]) -> (&[u8], &[u8])
+    ensures run { result.0.now ≡ run_of pattern.now }
+    ensures behind { result.1.now ≡ behind_run pattern.now }
+{
+    pattern.split_at(run_len(pattern))
+}
+
+/// How many bytes of a pattern stand before the first `*`.
+fn run_len(pattern: &[u8]) -> usize
+    ensures value { result ≡ prefix_len is_no_star pattern.now }
+    ensures bound { result ≤ length pattern.now }
+{
+    pattern.iter().take_while(|byte| **byte != b'*').count()
+}
+
+/// What stands in a text behind bytes that those of a run stand for.
+fn behind_front<'a>(run: &[u8], text: &'a [u8]) -> Option<&'a [u8]>
+    ensures { option_copied result ≡ behind_front run.now text.now }
+{
+    let mut run_left = run;
+    let mut left = text;
+    while let Some((p, more)) = run_left.split_first() {
+        let (b, after) = left.split_first()?;
+        if *p != b'?' && *p != *b {
+            return None;
+        }
+        run_left = more;
+        left = after;
+    }
+    Some(left)
+}
+
+/// What stands in a text behind the first place where a run fits.
+fn behind_first<'a>(run: &[u8], text: &'a [u8]) -> Option<&'a [u8]>
+    ensures { option_copied result ≡ behind_first run.now text.now }
+{
+    let mut left = text;
+    loop {
+        if let Some(found) = behind_front(run, left) {
+            return Some(found);
+        }
+        let (_, after) = left.split_first()?;
+        left = after;
+    }
+}
+
+/// Whether a text ends with bytes that those of a run stand for.
+fn ends_with(run: &[u8], text: &[u8]) -> bool
+    requires { AllPass is_no_star run.now }
+    ensures { IsTrue result ↔ IsLike (42 ∷ run.now) text.now }
+{
+    if text.len() < run.len() {
+        return false;
+    }
+    let (_, end) = text.split_at(text.len() - run.len());
+    behind_front(run, end).is_some()
+}
