@@ -205,11 +205,12 @@ fn syntax_of(uid: &Uid) -> Option<TransferSyntax>
 fn first_syntax(uids: &[Uid]) -> Option<TransferSyntax>
     ensures { result ≡ first_syntax uids.now }
 {
-    let (uid, rest) = uids.split_first()?;
-    match syntax_of(uid) {
-        Some(syntax) => Some(syntax),
-        None => first_syntax(rest),
+    for uid in uids {
+        if let Some(syntax) = syntax_of(uid) {
+            return Some(syntax);
+        }
     }
+    None
 }
 
 fn syntax_uid(syntax: TransferSyntax) -> Uid
