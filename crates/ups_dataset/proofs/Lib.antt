@@ -1,9 +1,11 @@
 mod Again
+mod Answering
 mod Depths
 mod Fitting
 mod Going
 mod Goods
 mod Growing
+pub mod Halves
 mod Heads
 pub mod Laying
 mod Letters

@@ -1,6 +1,7 @@
 -- What a data set is: a list of elements, each with bytes or with items, which are data sets.
-use Rattle.std.specs.Prelude.{ℕ, zero, suc, ◌+◌, Bool, false, nat_lt, List, [], ◌∷◌, Option, None, Some, if◌then◌else◌}
+use Rattle.std.specs.Prelude.{ℕ, zero, suc, ◌+◌, Bool, false, nat_lt, List, [], ◌∷◌, map, Option, None, Some, if◌then◌else◌}
 use Rattle.std.specs.List.{list_any}
+use Rattle.std.specs.Option.{unwrap_or}
 use Rattle.ups_dataset.specs.declared.tag.Tag.{Tag}
 use Rattle.ups_dataset.specs.declared.vr.Vr.{Vr}
 use Rattle.ups_dataset.specs.Tag.{number, is_tag}
@@ -66,6 +67,19 @@ stands_at tag (suc place) (e ∷ es) = stands_at tag place es
 -- one of these tags
 abbrev pub is_listed : Tag → List Tag → Bool
 is_listed tag tags = list_any (λ t. is_tag t tag) tags
+
+-- no value: no bytes, or a sequence without items
+abbrev pub without_value : Data → Data
+without_value (bytes b) = bytes []
+without_value (items is) = items no_items
+
+-- what a data set answers where an element asks for its tag: its own element, or else that one without a value
+abbrev pub answer_to : List El → El → El
+answer_to row key = unwrap_or (element_at key.tag row) (record { tag = key.tag; vr = key.vr; value = without_value key.value })
+
+-- what it answers to a set that asks (PS3.4 section C.4.1.1.3.2)
+abbrev pub answer : List El → List El → List El
+answer row keys = map (answer_to row) keys
 
 -- a measure of a set, counted so that each set in a set counts less counted so that each set in a set counts less
 abbrev mutual

@@ -23,11 +23,11 @@ mod writing;
 
 pub use dictionary::vr_of;
 pub use fault::SetFault;
-pub use limits::{MAX_DEPTH, MAX_SHORT_LENGTH};
+pub use limits::{MAX_DEPTH, MAX_SHORT_LENGTH, UNDEFINED_LENGTH};
 pub use reading::read_set;
 pub use set::{DataSet, Element, Value};
 pub use syntax::TransferSyntax;
-pub use tag::Tag;
+pub use tag::{ITEM, ITEM_DELIMITATION, SEQUENCE_DELIMITATION, Tag};
 pub use vr::Vr;
 pub use writing::write_set;
 

@@ -9,20 +9,21 @@ use crate::set::Element;
 use crate::tag::Tag;
 use std::alloc::{AllocError, Allocator};
 
-/// How many elements stand before the first whose tag is not below.
-fn place_of<A: Allocator + Copy>(elements: &[Element<A>], tag: Tag) -> usize
+/// How many elements stand before the first whose tag is not below: found by halves, since tags rise (PS3.5
+/// section 7.1).
+pub(crate) fn place_of<A: Allocator + Copy>(elements: &[Element<A>], tag: Tag) -> usize
+    requires { IsDataSet (map element_view elements.now) }
     ensures { result ≡ place_in tag (map element_view elements.now) }
 {
-    for (place, element) in elements.iter().enumerate() {
-        if element.tag.number() >= tag.number() {
-            return place;
-        }
-    }
-    elements.len()
+    elements.partition_point(|element| element.tag.number() < tag.number())
 }
 
 /// Whether an element with this tag stands at this place.
-fn stands_at<A: Allocator + Copy>(elements: &[Element<A>], place: usize, tag: Tag) -> bool
+pub(crate) fn stands_at<A: Allocator + Copy>(
+    elements: &[Element<A>],
+    place: usize,
+    tag: Tag,
+) -> bool
     ensures { result ≡ stands_at tag place (map element_view elements.now) }
 {
     place < elements.len() && elements[place].tag == tag

@@ -4,7 +4,7 @@ use crate::copying::{copy_element, copy_set, copy_value};
 use crate::listing::{is_listed, sorted_numbers};
 use crate::measuring::value_depth;
 use crate::merging::merged;
-use crate::putting::put;
+use crate::putting::{place_of, put, stands_at};
 use crate::syntax::TransferSyntax;
 use crate::tag::Tag;
 use crate::vr::Vr;
@@ -74,7 +74,7 @@ impl<A: Allocator + Copy> DataSet<A> {
     ghost use Rattle.ups_dataset.specs.Tag.{is_tag};
     ghost use Rattle.ups_dataset.specs.declared.syntax.TransferSyntax.TheVariants.{Explicit};
     ghost use Rattle.ups_dataset.specs.View.{element_view};
-    ghost use Rattle.ups_dataset.specs.Data.{element_at, put, laid_over, is_listed};
+    ghost use Rattle.ups_dataset.specs.Data.{element_at, put, laid_over, is_listed, answer_to, answer};
     ghost use Rattle.ups_dataset.specs.Valid.{IsDataSet, IsElement};
     ghost use Rattle.ups_dataset.specs.Written.{written};
 
@@ -113,12 +113,11 @@ impl<A: Allocator + Copy> DataSet<A> {
     pub fn get(&self, tag: Tag) -> Option<&Element<A>>
         ensures { MatchOption result (element_at tag self.now ≡ None) (λ e. element_at tag self.now ≡ Some (element_view e.now)) }
     {
-        for element in &self.elements {
-            if element.tag == tag {
-                return Some(element);
-            }
+        let place = place_of(&self.elements, tag);
+        if !stands_at(&self.elements, place, tag) {
+            return None;
         }
-        None
+        Some(&self.elements[place])
     }
 
     /// How many bytes it takes in Explicit VR Little Endian, or the greatest number.
@@ -193,6 +192,34 @@ impl<A: Allocator + Copy> DataSet<A> {
         Ok(DataSet::from_vec(elements))
     }
 
+    /// What this set answers where an element asks for its tag: a copy of its own, or else that element without a value.
+    fn answer_to(&self, key: &Element<A>) -> Result<Element<A>, AllocError>
+        ensures { IfOk result (λ e. element_view e ≡ answer_to self.now (element_view key.now)) }
+    {
+        let alloc = *self.elements.allocator();
+        match self.get(key.tag) {
+            Some(element) => copy_element(alloc, element),
+            None => Ok(key.without_value(alloc)),
+        }
+    }
+
+    /// What this set answers to one that asks: for each of its elements the one of this set with the same tag, or where
+    /// it has none that one without a value (PS3.4 section C.4.1.1.3.2).
+    ///
+    /// # Errors
+    ///
+    /// Where memory runs out.
+    pub fn answer(&self, keys: &DataSet<A>) -> Result<DataSet<A>, AllocError>
+        ensures { IfOk result (λ s. s ≡ answer self.now keys.now) }
+    {
+        let alloc = *self.elements.allocator();
+        let mut elements = Vec::with_capacity(alloc, keys.elements.len())?;
+        for key in &keys.elements {
+            elements.push(self.answer_to(key)?)?;
+        }
+        Ok(DataSet::from_vec(elements))
+    }
+
     /// A copy.
     ///
     /// # Errors
@@ -208,8 +235,8 @@ impl<A: Allocator + Copy> DataSet<A> {
 impl<A: Allocator + Copy> Element<A> {
     ghost use Rattle.std.specs.Prelude.{◌≡◌, IfOk};
     ghost use Rattle.ups_dataset.specs.declared.vr.Vr.TheVariants.{Sq};
-    ghost use Rattle.ups_dataset.specs.Data.{bytes, items, items_of};
-    ghost use Rattle.ups_dataset.specs.View.{element_view};
+    ghost use Rattle.ups_dataset.specs.Data.{bytes, items, items_of, without_value};
+    ghost use Rattle.ups_dataset.specs.View.{element_view, value_view};
 
     /// An element that holds bytes.
     pub fn of_bytes(tag: Tag, vr: Vr, value: Bytes<A>) -> Element<A>
@@ -230,6 +257,21 @@ impl<A: Allocator + Copy> Element<A> {
             tag,
             vr: Vr::Sq,
             value: Value::Items(sets),
+        }
+    }
+
+    /// This element without a value: no bytes, or a sequence without items. It takes no memory.
+    pub(crate) fn without_value(&self, alloc: A) -> Element<A>
+        ensures { element_view result ≡ record { tag = self.now.tag; vr = self.now.vr; value = without_value (value_view self.now.value) } }
+    {
+        let value = match &self.value {
+            Value::Bytes(_) => Value::Bytes(Bytes::from_vec(Vec::new(alloc))),
+            Value::Items(_) => Value::of_items(Vec::new(alloc)),
+        };
+        Element {
+            tag: self.tag,
+            vr: self.vr,
+            value,
         }
     }
 

@@ -340,6 +340,28 @@ fn an_element_takes_the_place_of_its_tag(rt: HostRuntime) -> Result<(), Fail> {
 }
 
 #[test]
+fn each_tag_is_found_and_none_between(rt: HostRuntime) -> Result<(), Fail> {
+    let mut set = DataSet::new(rt.alloc());
+    for element in [10u16, 2, 8, 14, 4, 12, 6] {
+        let tag = Tag {
+            group: 0x0040,
+            element,
+        };
+        put_text(rt.alloc(), &mut set, tag, b"TEXT".as_slice())?;
+    }
+    for element in 0..=16u16 {
+        let tag = Tag {
+            group: 0x0040,
+            element,
+        };
+        let found = set.get(tag);
+        let stands = element % 2 == 0 && (2..=14).contains(&element);
+        assert_eq!(rt; found.map(|e| e.tag), if stands { Some(tag) } else { None });
+    }
+    Ok(())
+}
+
+#[test]
 fn a_projection_has_the_listed_elements(rt: HostRuntime) -> Result<(), Fail> {
     let bytes = bytes_of(&rt, STEP)?;
     let set = read_set(rt.alloc(), TransferSyntax::Implicit, bytes.as_slice())?;
@@ -555,6 +577,36 @@ fn leaving_out_a_tag_fails_where_a_growth_is_refused(rt: HostRuntime) -> Result<
             break;
         }
         assert!(rt; others.is_err(), "at {number}");
+        refused = number;
+    }
+    assert!(rt; refused > 3);
+    Ok(())
+}
+
+/// Keys: two that the set of `MIXED` has, and three that it has not, of which one is a sequence with an item.
+const KEYS: &str =
+    r#"08001800 "UI" 0000 10002000 "LO" 0200 "* " 40000540 "DT" 0a00 "20240229- " 40003340 "SQ" 0000 08000000 feff00e0 00000000 74001612 "SQ" 0000 00000000"#;
+
+#[test]
+fn what_a_set_has_not_is_answered_without_a_value(rt: HostRuntime) -> Result<(), Fail> {
+    let heap = Refusing::new(rt.alloc());
+    heap.refuse(NONE);
+    let bytes = bytes_of(&rt, MIXED)?;
+    let set = read_set(&heap, TransferSyntax::Explicit, bytes.as_slice())?;
+    let bytes = bytes_of(&rt, KEYS)?;
+    let keys = read_set(&heap, TransferSyntax::Explicit, bytes.as_slice())?;
+    let mut refused = 0;
+    for number in 1..GROWTHS {
+        heap.refuse(number);
+        let answer = set.answer(&keys);
+        if heap.is_armed() {
+            assert_eq!(rt;
+                described(&answer?, &rt)?.as_str(),
+                "80018:0 100020:2 404005:0 404033:0 741216:2 "
+            );
+            break;
+        }
+        assert!(rt; answer.is_err(), "at {number}");
         refused = number;
     }
     assert!(rt; refused > 3);
