@@ -14,7 +14,7 @@ import subprocess
 import sys
 
 sys.path.insert(0, __file__.rsplit("/", 1)[0])
-from pipe import EXPLICIT, IMPLICIT, PULL, PUSH, RELEASE, VERIFICATION, act, associate, create, data, echo, get, item, items, pdu, set_attributes, step
+from pipe import EXPLICIT, IMPLICIT, PULL, PUSH, RELEASE, VERIFICATION, act, associate, create, data, echo, find, get, give_up, item, items, pdu, set_attributes, step
 
 
 def life(explicit):
@@ -37,6 +37,23 @@ def life(explicit):
     ))
 
 
+def queries(explicit):
+    """Steps that are asked for by keys of each kind: a push context 1, a pull context 3."""
+    def asks(*elements):
+        return b"".join(data(explicit, *element) for element in elements)
+
+    code = data(explicit, 0x0008, 0x0100, b"SH", b"C? ")
+    identifiers = (
+        asks((0x0008, 0x0018, b"UI", b"1.2.3.1\\1.2.3.9 "), (0x0074, 0x1204, b"LO", b"")),
+        asks((0x0010, 0x0010, b"PN", b"DO?^*"), (0x0040, 0x4005, b"DT", b"20240229-")),
+        asks((0x0040, 0x4005, b"DT", b"-20240301"), (0x0040, 0x4018, b"SQ", items([code])), (0x0074, 0x1200, b"CS", b"MEDIUM")),
+        asks((0x0040, 0x4005, b"DT", b"- ")),
+    )
+    made = b"".join(create(1, i, b"1.2.3.%d" % i, step(explicit)) for i in (1, 2, 3))
+    asked = b"".join(find(3, 4 + i, identifier) + give_up(3, 4 + i) for i, identifier in enumerate(identifiers))
+    return made + asked
+
+
 def seeds():
     """Associations that are answered to the end."""
     yield associate([(VERIFICATION, IMPLICIT)]) + echo(1) + echo(2) + RELEASE
@@ -45,6 +62,7 @@ def seeds():
         yield associate([(PUSH, syntax)]) + steps + RELEASE
         yield associate([(PUSH, syntax), (VERIFICATION, syntax)]) + steps[: len(steps) // 2] + RELEASE
         yield associate([(PUSH, syntax), (PULL, syntax)]) + life(explicit) + RELEASE
+        yield associate([(PUSH, syntax), (PULL, syntax)]) + queries(explicit) + RELEASE
 
 
 def mutated(chance, seed):

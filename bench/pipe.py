@@ -100,6 +100,17 @@ def act(context, number, instance, action, data_set):
     return message(context, command(elements), data_set)
 
 
+def find(context, number, identifier):
+    """A C-FIND of medium priority."""
+    elements = [(0x0002, even(PULL)), (0x0100, us(0x0020)), (0x0110, us(number)), (0x0700, us(0)), (0x0800, us(1))]
+    return message(context, command(elements), identifier)
+
+
+def give_up(context, number):
+    """A C-CANCEL of a C-FIND."""
+    return message(context, command([(0x0100, us(0x0FFF)), (0x0120, us(number)), (0x0800, us(0x0101))]))
+
+
 LONG = {b"OB", b"SQ", b"UN"}
 
 
@@ -192,6 +203,32 @@ def steps(program):
         print(f"| N-GET of them, {name} | {200 / max(whole - both, 1e-6):,.0f} a second | | {peak / 2**20:.1f} MiB |")
 
 
+def keys(texts):
+    """An identifier that asks for four attributes, some of them with a key."""
+    row = {(0x0008, 0x0018): (b"UI", b""), (0x0010, 0x0020): (b"LO", b""), (0x0074, 0x1000): (b"CS", b""), (0x0074, 0x1204): (b"LO", b"")}
+    row.update(texts)
+    return b"".join(data(True, g, e, vr, value) for (g, e), (vr, value) in sorted(row.items()))
+
+
+def finds(program):
+    """Queries over many steps: one step has the patient ID, one in ten the text."""
+    opening = associate([(PUSH, EXPLICIT), (PULL, EXPLICIT)])
+    for count in (100, 1_000):
+        made = b""
+        for i in range(count):
+            more = {(0x0010, 0x0020): (b"LO", b"P%05d" % i), (0x0074, 0x1204): (b"LO", b"CT %d READ" % (i % 10) + b" ")}
+            made += create(1, i + 1, b"1.2.3.%d" % (i + 1), step(True, more))
+        base, _ = best(program, opening + made + RELEASE)
+        for name, answers, texts in (
+            ("patient ID", 1, {(0x0010, 0x0020): (b"LO", b"P00042")}),
+            ("wild card", count // 10, {(0x0074, 0x1204): (b"LO", b"C?*7*READ ")}),
+        ):
+            asked = b"".join(find(3, i + 1, keys(texts)) for i in range(200))
+            took, peak = best(program, opening + made + asked + RELEASE)
+            each = max(took - base, 1e-6) / 200
+            print(f"| C-FIND by {name}, {count:,} steps, {answers} answered | {1 / each:,.0f} a second | {each * 1e6:,.0f} us each | {peak / 2**20:.1f} MiB |")
+
+
 def nested(explicit, size):
     """Sequences of one item, eight deep, again and again."""
     inner = data(explicit, 0x0040, 0x4050, b"DT", b"20240229120000")
@@ -220,6 +257,7 @@ def main():
     print("| what | rate | time | peak memory |\n|---|---|---|---|")
     echoes(program)
     steps(program)
+    finds(program)
     large(program)
 
 

@@ -7,7 +7,7 @@ use Rattle.ups_dataset.specs.declared.tag.Tag.{Tag}
 use Rattle.ups_dimse.specs.declared.fault.DimseFault.{DimseFault}
 use Rattle.ups_dimse.specs.declared.fault.DimseFault.TheVariants.{Missing, BadValue, UnknownField, Memory}
 use Rattle.ups_dimse.specs.declared.command.Command.{Command}
-use Rattle.ups_dimse.specs.declared.command.Command.TheVariants.{Request, Response}
+use Rattle.ups_dimse.specs.declared.command.Command.TheVariants.{Request, Response, Cancel}
 use Rattle.ups_dimse.specs.declared.command.RequestCommand.{RequestCommand}
 use Rattle.ups_dimse.specs.declared.command.Operation.{Operation}
 use Rattle.ups_dimse.specs.declared.command.Operation.TheVariants as operations
@@ -16,12 +16,12 @@ use Rattle.ups_dimse.specs.declared.command.OperationResult.TheVariants as resul
 use Rattle.ups_dimse.specs.declared.message.Message.{Message}
 use Rattle.ups_dimse.specs.declared.message.Message.TheVariants.{GetRequest}
 use Rattle.ups_dimse.specs.Elements.{CommandElement, SpellsElements}
-use Rattle.ups_dimse.specs.Messages.{Need, has_us, may_have_at, field_of, needs}
-use Rattle.ups_dimse.specs.Values.{HasUs, UsFails, HasUid, HasDataSet, HasTags, TagsFail}
+use Rattle.ups_dimse.specs.Messages.{Need, has_us, may_have_us, may_have_at, field_of, needs}
+use Rattle.ups_dimse.specs.Values.{HasUs, UsFails, MayHaveUs, PresentUsFails, HasUid, HasDataSet, HasTags, TagsFail}
 use Rattle.ups_dimse.specs.Commands.{request_of, response_of, IsRequest, IsCommand, SpellsCommand, HasOperation, HasResult}
 use Rattle.ups_dimse.specs.Faults.{Holds, Fails, FirstFails, ElementsFail, IsFault, Gives}
 use Rattle.ups_dimse.proofs.AttributeTags.{tags_fours}
-use Rattle.ups_dimse.proofs.Unique.{one_us, one_message, one_command}
+use Rattle.ups_dimse.proofs.Unique.{one_us, one_message, one_command, message_of, command_field}
 use Rattle.ups_dimse.proofs.Walk.{one_list}
 
 us_no : (es : List CommandElement) (n v : ℕ) (f : DimseFault) → HasUs es n v → UsFails es n f → ⊥
@@ -30,8 +30,13 @@ us_no es n v (BadValue tag) h k = k.3 (ap length (same_Some k.1 (to_le_bytes w16
 us_no es n v UnknownField h k = absurd k
 us_no es n v Memory h k = absurd k
 
+present_us_no : (es : List CommandElement) (n : ℕ) (o : Option ℕ) (f : DimseFault) → MayHaveUs es n o → PresentUsFails es n f → ⊥
+present_us_no es n (Some v) f h k = k.3 (ap length (same_Some k.1 (to_le_bytes w16 v) (sym k.2 ∙ h.is)))
+present_us_no es n None f h k = none-some k.1 (sym h ∙ k.2)
+
 need_no : (es : List CommandElement) (need : Need) (f : DimseFault) → Holds es need → Fails es need f → ⊥
 need_no es (has_us n) f h k = us_no es n h.0 f h.1 k
+need_no es (may_have_us n) f h k = present_us_no es n h.0 f h.1 k
 need_no es (may_have_at n) f h k = k.3 (tags_fours k.1 h.0 (subst (λ (o : Option (List ℕ)). Rattle.ups_pdu.specs.Each.Each Rattle.ups_dimse.specs.Values.IsTagAt (unwrap_or o []) h.0) k.2 h.1))
 
 -- all the elements are as the message needs them
@@ -44,17 +49,13 @@ all_no es [] f h k = k
 all_no es (need ∷ more) f h (inl k) = need_no es need f h.0 k
 all_no es (need ∷ more) f h (inr k) = all_no es more f h.1 k.1
 
--- the message of a command
-abbrev message_of : {A : Type 0} → Command A → Message
-message_of (Request r) = request_of r.operation
-message_of (Response r) = response_of r.result
-
 operation_holds : {A : Type 0} (es : List CommandElement) (o : Operation A) (id : ℕ) (there : Rattle.std.proofs.Common.Bool) → HasUs es 0x0110 id → HasDataSet es there → HasOperation es o → AllHold es (needs (request_of o))
 operation_holds es (operations.Create i) id there h d k = ((id, h), ((d.0, d.1), tt))
 operation_holds es (operations.Get i ts) id there h d k = ((id, h), ((d.0, d.1), ((ts, k.1), tt)))
 operation_holds es (operations.Set i) id there h d k = ((id, h), ((d.0, d.1), tt))
 operation_holds es (operations.Action i a) id there h d k = ((id, h), ((d.0, d.1), ((a, k.1), tt)))
 operation_holds es operations.Echo id there h d k = ((id, h), ((d.0, d.1), tt))
+operation_holds es (operations.Find p) id there h d k = ((id, h), ((p, k), ((d.0, d.1), tt)))
 
 result_holds : (es : List CommandElement) (o : OperationResult) (id status : ℕ) (there : Rattle.std.proofs.Common.Bool) → HasUs es 0x0120 id → HasDataSet es there → HasUs es 0x0900 status → HasResult es o → AllHold es (needs (response_of o))
 result_holds es (results.Create i) id status there h d s k = ((id, h), ((d.0, d.1), ((status, s), tt)))
@@ -62,14 +63,12 @@ result_holds es (results.Get i) id status there h d s k = ((id, h), ((d.0, d.1),
 result_holds es (results.Set i) id status there h d s k = ((id, h), ((d.0, d.1), ((status, s), tt)))
 result_holds es (results.Action i a) id status there h d s k = ((id, h), ((d.0, d.1), ((status, s), ((a, k.1), tt))))
 result_holds es results.Echo id status there h d s k = ((id, h), ((d.0, d.1), ((status, s), tt)))
+result_holds es results.Find id status there h d s k = ((id, h), ((d.0, d.1), ((status, s), tt)))
 
 command_holds : {A : Type 0} (es : List CommandElement) (c : Command A) → IsCommand es c → AllHold es (needs (message_of c))
 command_holds es (Request r) p = operation_holds es r.operation r.message_id r.has_data_set p.message_id p.data_set p.operation
 command_holds es (Response r) p = result_holds es r.result r.responded_to r.status r.has_data_set p.responded_to p.data_set p.status p.operation
-
-command_field : {A : Type 0} (es : List CommandElement) (c : Command A) → IsCommand es c → HasUs es 0x0100 (field_of (message_of c))
-command_field es (Request r) p = p.field
-command_field es (Response r) p = p.field
+command_holds es (Cancel c) p = ((c.responded_to, p.responded_to), ((p.data_set.0, p.data_set.1), tt))
 
 elements_no : {A : Type 0} (es : List CommandElement) (c : Command A) (f : DimseFault) → IsCommand es c → ElementsFail es f → ⊥
 elements_no es c f p (inl k) = us_no es 0x0100 _ f (command_field es c p) k
@@ -123,6 +122,7 @@ one_us_fault es n (BadValue t) Memory h k = absurd k
 
 one_need_fault : (es : List CommandElement) (need : Need) (f g : DimseFault) → Fails es need f → Fails es need g → f ≡ g
 one_need_fault es (has_us n) f g h k = one_us_fault es n f g h k
+one_need_fault es (may_have_us n) f g h k = h.0 ∙ sym k.0
 one_need_fault es (may_have_at n) f g h k = h.0 ∙ sym k.0
 
 one_first : (es : List CommandElement) (ns : List Need) (f g : DimseFault) → FirstFails es ns f → FirstFails es ns g → f ≡ g

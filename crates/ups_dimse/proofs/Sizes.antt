@@ -9,7 +9,7 @@ use Rattle.ups_pdu.specs.Identifier.{IsUid}
 use Rattle.ups_dataset.specs.declared.tag.Tag.{Tag}
 use Rattle.ups_dataset.specs.Tag.{tag_bytes}
 use Rattle.ups_dimse.specs.declared.command.Command.{Command}
-use Rattle.ups_dimse.specs.declared.command.Command.TheVariants.{Request, Response}
+use Rattle.ups_dimse.specs.declared.command.Command.TheVariants.{Request, Response, Cancel}
 use Rattle.ups_dimse.specs.declared.command.Operation.{Operation}
 use Rattle.ups_dimse.specs.declared.command.Operation.TheVariants as operations
 use Rattle.ups_dimse.specs.declared.command.OperationResult.{OperationResult}
@@ -17,7 +17,7 @@ use Rattle.ups_dimse.specs.declared.command.OperationResult.TheVariants as resul
 use Rattle.ups_dimse.specs.Elements.{CommandElement, command_tag}
 use Rattle.ups_dimse.specs.Commands.{class_element}
 use Rattle.ups_dimse.specs.Held.{IsHeldTag, IsHeldOperation, IsHeldResult, IsHeld}
-use Rattle.ups_dimse.specs.Written.{written_element, us_element, uid_element, tags_element, operation_elements, result_elements, command_elements, tags_of, Fits}
+use Rattle.ups_dimse.specs.Written.{written_element, us_element, optional_us_element, priority_of, uid_element, tags_element, operation_elements, result_elements, command_elements, tags_of, Fits}
 use Rattle.ups_dimse.proofs.UidText.{padded_short}
 
 pub length-tags : (ts : List Tag) → length (flat_map tag_bytes ts) ≡ 4 * length ts
@@ -25,10 +25,10 @@ length-tags [] = refl
 length-tags (t ∷ ts) = omega (arith, length-tags ts)
 
 -- the elements of a request and of a response, one after the other
-pub request_joined : (old a1 a2 a3 a4 out : List ℕ) (c os : List CommandElement) (f i d : CommandElement)
-    → a1 ≡ old ++ flat_map written_element c → a2 ≡ a1 ++ written_element f → a3 ≡ a2 ++ written_element i → a4 ≡ a3 ++ written_element d → out ≡ a4 ++ flat_map written_element os
-    → out ≡ old ++ flat_map written_element (c ++ (f ∷ i ∷ d ∷ os))
-request_joined old a1 a2 a3 a4 out c os f i d e1 e2 e3 e4 e5 = rw (e5, e4, e3, e2, e1) (simp (flat_map-append, append_assoc))
+pub request_joined : (old a1 a2 a3 a4 a5 out : List ℕ) (c ps os : List CommandElement) (f i d : CommandElement)
+    → a1 ≡ old ++ flat_map written_element c → a2 ≡ a1 ++ written_element f → a3 ≡ a2 ++ written_element i → a4 ≡ a3 ++ flat_map written_element ps → a5 ≡ a4 ++ written_element d → out ≡ a5 ++ flat_map written_element os
+    → out ≡ old ++ flat_map written_element (c ++ (f ∷ i ∷ (ps ++ (d ∷ os))))
+request_joined old a1 a2 a3 a4 a5 out c ps os f i d e1 e2 e3 e4 e5 e6 = rw (e6, e5, e4, e3, e2, e1) (simp (flat_map-append, append_assoc))
 
 pub response_joined : (old a1 a2 a3 a4 a5 out : List ℕ) (c os : List CommandElement) (f i d s : CommandElement)
     → a1 ≡ old ++ flat_map written_element c → a2 ≡ a1 ++ written_element f → a3 ≡ a2 ++ written_element i → a4 ≡ a3 ++ written_element d → a5 ≡ a4 ++ written_element s → out ≡ a5 ++ flat_map written_element os
@@ -64,6 +64,10 @@ tags_size : (n : ℕ) (ts : List Tag) → length (flat_map written_element (tags
 tags_size n [] = omega arith
 tags_size n (t ∷ ts) = omega (arith, length-tags (t ∷ ts), length-append (written_element (record { number = n; value = flat_map tag_bytes (t ∷ ts) })) [])
 
+optional_us_size : (n : ℕ) (o : Option ℕ) → length (flat_map written_element (optional_us_element n o)) ≤ 10
+optional_us_size n None = omega arith
+optional_us_size n (Some v) = omega arith
+
 uid_us_size : (n m : ℕ) (o : Option (List ℕ)) (v : ℕ) → IfSome o IsUid → length (flat_map written_element (uid_element n o ++ us_element m v ∷ [])) ≤ 83
 uid_us_size n m o v h = rw (flat_map-append written_element (uid_element n o) (us_element m v ∷ [])) (omega (arith, uid_size n o h, length-append (flat_map written_element (uid_element n o)) (flat_map written_element (us_element m v ∷ []))))
 
@@ -73,6 +77,7 @@ operation_size (operations.Get i ts) h = rw (flat_map-append written_element (ui
 operation_size (operations.Set i) h = omega (arith, uid_size 0x1001 i h)
 operation_size (operations.Action i a) h = uid_us_size 0x1001 0x1008 i a h.0
 operation_size operations.Echo h = omega arith
+operation_size (operations.Find p) h = omega arith
 
 result_size : (o : OperationResult) → IsHeldResult o → length (flat_map written_element (result_elements o)) ≤ 83
 result_size (results.Create i) h = omega (arith, uid_size 0x1000 i h)
@@ -80,11 +85,14 @@ result_size (results.Get i) h = omega (arith, uid_size 0x1000 i h)
 result_size (results.Set i) h = omega (arith, uid_size 0x1000 i h)
 result_size (results.Action i a) h = uid_us_size 0x1000 0x1008 i a h.0
 result_size results.Echo h = omega arith
+result_size results.Find h = omega arith
 
 pub command_short : {A : Type 0} (c : Command A) → Fits c → IsHeld c → length (flat_map written_element (command_elements c)) < 2 ^ 32
 command_short (Request r) fits h =
     rw (flat_map-append written_element (uid_element (class_element r.operation) r.sop_class) _)
-    (omega (arith, fits, uid_size (class_element r.operation) r.sop_class h.sop_class, operation_size r.operation h.operation, length-append {A = ℕ}))
+    (rw (flat_map-append written_element (optional_us_element 0x0700 (priority_of r.operation)) _)
+    (omega (arith, fits, uid_size (class_element r.operation) r.sop_class h.sop_class, optional_us_size 0x0700 (priority_of r.operation), operation_size r.operation h.operation, length-append {A = ℕ})))
 command_short (Response r) fits h =
     rw (flat_map-append written_element (uid_element 0x0002 r.sop_class) _)
     (omega (arith, uid_size 0x0002 r.sop_class h.sop_class, result_size r.result h.operation, length-append {A = ℕ}))
+command_short (Cancel c) fits h = omega arith

@@ -3,12 +3,12 @@ use Rattle.std.proofs.Common.{◌≡◌, ℕ, ◌+◌, true, false, None, Some, 
 use Rattle.std.specs.Prelude.{codes}
 use Rattle.ups_dimse.specs.declared.fault.DimseFault.TheVariants.{Missing, BadValue}
 use Rattle.ups_dimse.specs.declared.command.Command.{Command}
-use Rattle.ups_dimse.specs.declared.command.Command.TheVariants.{Request, Response}
+use Rattle.ups_dimse.specs.declared.command.Command.TheVariants.{Request, Response, Cancel}
 use Rattle.ups_dimse.specs.declared.command.Operation.{Operation}
 use Rattle.ups_dimse.specs.declared.command.Operation.TheVariants as operations
 use Rattle.ups_dimse.specs.declared.command.OperationResult.{OperationResult}
 use Rattle.ups_dimse.specs.declared.command.OperationResult.TheVariants as results
-use Rattle.ups_dimse.specs.declared.message.Message.TheVariants.{ActionRequest, ActionResponse}
+use Rattle.ups_dimse.specs.declared.message.Message.TheVariants.{ActionRequest, ActionResponse, FindRequest, CancelRequest}
 use Rattle.ups_dimse.specs.Elements.{CommandElement, command_tag}
 use Rattle.ups_dimse.specs.Messages.{field_of, needs}
 use Rattle.ups_dimse.specs.Commands.{request_of, response_of, result_of}
@@ -41,6 +41,7 @@ answered_field (operations.Get instance attributes) = refl
 answered_field (operations.Set instance) = refl
 answered_field (operations.Action instance action) = refl
 answered_field operations.Echo = refl
+answered_field (operations.Find priority) = refl
 
 -- an N-SET names its class and its instance as requested ones (PS3.7 section 10.3.3.1)
 set_request : command_elements (request_for 3 (operations.Set (Some step)))
@@ -90,3 +91,38 @@ long_action_type = inr ((4, record { fits = omega arith; is = refl }), inr ((0x0
 -- a response to an N-ACTION whose status is missing, and its action type too, fails by the status
 no_status : FirstFails (us_element 0x0100 0x8130 ∷ us_element 0x0120 4 ∷ us_element 0x0800 0x0101 ∷ []) (needs ActionResponse) (Missing (command_tag 0x0900))
 no_status = inr ((4, record { fits = omega arith; is = refl }), inr ((0x0101, record { fits = omega arith; is = refl }), inl (refl, refl)))
+
+-- a C-FIND has its priority before its announcement of a data set (PS3.7 section 9.3.2.1)
+find_request : command_elements (request_for 5 (operations.Find (Some 0x0001)))
+    ≡ element 0x0002 (codes "1.2" ++ 0x00 ∷ []) ∷ element 0x0100 (0x20 ∷ 0x00 ∷ []) ∷ element 0x0110 (0x05 ∷ 0x00 ∷ []) ∷ element 0x0700 (0x01 ∷ 0x00 ∷ []) ∷ element 0x0800 (0x01 ∷ 0x00 ∷ []) ∷ []
+find_request = refl
+
+-- or has none
+find_request_bare : command_elements (request_for 5 (operations.Find None))
+    ≡ element 0x0002 (codes "1.2" ++ 0x00 ∷ []) ∷ element 0x0100 (0x20 ∷ 0x00 ∷ []) ∷ element 0x0110 (0x05 ∷ 0x00 ∷ []) ∷ element 0x0800 (0x01 ∷ 0x00 ∷ []) ∷ []
+find_request_bare = refl
+
+-- its response has no instance (PS3.7 section 9.3.2.2)
+find_response : command_elements (answer_with 5 0x0000 results.Find)
+    ≡ element 0x0002 (codes "1.2" ++ 0x00 ∷ []) ∷ element 0x0100 (0x20 ∷ 0x80 ∷ []) ∷ element 0x0120 (0x05 ∷ 0x00 ∷ []) ∷ element 0x0800 (0x01 ∷ 0x01 ∷ []) ∷ element 0x0900 (0x00 ∷ 0x00 ∷ []) ∷ []
+find_response = refl
+
+-- a C-CANCEL, in bytes (PS3.7 section 9.3.2.3)
+cancel : written {A = Unit {0}} (Cancel (record { responded_to = 5; has_data_set = false }))
+    ≡ (0x00 ∷ 0x00 ∷ 0x00 ∷ 0x00 ∷ 0x04 ∷ 0x00 ∷ 0x00 ∷ 0x00 ∷ 0x1e ∷ 0x00 ∷ 0x00 ∷ 0x00 ∷ [])
+    ++ ((0x00 ∷ 0x00 ∷ 0x00 ∷ 0x01 ∷ 0x02 ∷ 0x00 ∷ 0x00 ∷ 0x00 ∷ 0xff ∷ 0x0f ∷ [])
+    ++ ((0x00 ∷ 0x00 ∷ 0x20 ∷ 0x01 ∷ 0x02 ∷ 0x00 ∷ 0x00 ∷ 0x00 ∷ 0x05 ∷ 0x00 ∷ [])
+    ++ (0x00 ∷ 0x00 ∷ 0x00 ∷ 0x08 ∷ 0x02 ∷ 0x00 ∷ 0x00 ∷ 0x00 ∷ 0x01 ∷ 0x01 ∷ [])))
+cancel = refl
+
+-- a C-FIND whose priority has four bytes fails by it, though its announcement is missing too
+long_priority : FirstFails (us_element 0x0100 0x0020 ∷ us_element 0x0110 5 ∷ element 0x0700 (0x00 ∷ 0x00 ∷ 0x00 ∷ 0x00 ∷ []) ∷ []) (needs FindRequest) (BadValue (command_tag 0x0700))
+long_priority = inr ((5, record { fits = omega arith; is = refl }), inl (refl, 0x00 ∷ 0x00 ∷ 0x00 ∷ 0x00 ∷ [], refl, λ e. omega (arith, e)))
+
+-- and one without a priority by its announcement
+no_priority : FirstFails (us_element 0x0100 0x0020 ∷ us_element 0x0110 5 ∷ []) (needs FindRequest) (Missing (command_tag 0x0800))
+no_priority = inr ((5, record { fits = omega arith; is = refl }), inr ((None, refl), inl (refl, refl)))
+
+-- a C-CANCEL that names no message fails
+no_cancelled : FirstFails (us_element 0x0100 0x0fff ∷ us_element 0x0110 5 ∷ us_element 0x0800 0x0101 ∷ []) (needs CancelRequest) (Missing (command_tag 0x0120))
+no_cancelled = inl (refl, refl)

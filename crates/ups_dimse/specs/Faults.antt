@@ -1,23 +1,25 @@
 -- The first fault of bytes that spell no command.
-use Rattle.std.specs.Prelude.{◌≡◌, ℕ, ◌⊎◌, List, [], ◌∷◌, Result, Ok, Err}
+use Rattle.std.specs.Prelude.{◌≡◌, ℕ, ◌⊎◌, List, [], ◌∷◌, Option, Result, Ok, Err}
 use Rattle.ups_dataset.specs.declared.tag.Tag.{Tag}
 use Rattle.ups_dimse.specs.declared.fault.DimseFault.{DimseFault}
 use Rattle.ups_dimse.specs.declared.fault.DimseFault.TheVariants.{BadValue, UnknownField, Memory}
 use Rattle.ups_dimse.specs.declared.message.Message.{Message}
 use Rattle.ups_dimse.specs.declared.command.Command.{Command}
 use Rattle.ups_dimse.specs.Elements.{CommandElement, command_tag, SpellsElements, AreElements}
-use Rattle.ups_dimse.specs.Messages.{Need, has_us, may_have_at, field_of, needs}
-use Rattle.ups_dimse.specs.Values.{HasUs, UsFails, HasTags, TagsFail}
+use Rattle.ups_dimse.specs.Messages.{Need, has_us, may_have_us, may_have_at, field_of, needs}
+use Rattle.ups_dimse.specs.Values.{HasUs, UsFails, MayHaveUs, PresentUsFails, HasTags, TagsFail}
 use Rattle.ups_dimse.specs.Commands.{SpellsCommand}
 
 -- an element is as the message needs it
 abbrev pub Holds : List CommandElement → Need → Type 0
 Holds elements (has_us number) = (value : ℕ) × HasUs elements number value
+Holds elements (may_have_us number) = (value : Option ℕ) × MayHaveUs elements number value
 Holds elements (may_have_at number) = (tags : List Tag) × HasTags elements number tags
 
 -- an element is not as the message needs it, with this fault
 abbrev pub Fails : List CommandElement → Need → DimseFault → Type 0
 Fails elements (has_us number) fault = UsFails elements number fault
+Fails elements (may_have_us number) fault = PresentUsFails elements number fault
 Fails elements (may_have_at number) fault = TagsFail elements number fault
 
 -- one of the elements fails, and those before it hold

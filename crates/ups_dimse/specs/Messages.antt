@@ -2,9 +2,9 @@
 -- and 10.3).
 use Rattle.std.specs.Prelude.{ℕ, List, [], ◌∷◌}
 use Rattle.ups_dimse.specs.declared.message.Message.{Message}
-use Rattle.ups_dimse.specs.declared.message.Message.TheVariants.{GetRequest, GetResponse, SetRequest, SetResponse, ActionRequest, ActionResponse, CreateRequest, CreateResponse, EchoRequest, EchoResponse}
+use Rattle.ups_dimse.specs.declared.message.Message.TheVariants.{GetRequest, GetResponse, SetRequest, SetResponse, ActionRequest, ActionResponse, CreateRequest, CreateResponse, EchoRequest, EchoResponse, FindRequest, FindResponse, CancelRequest}
 
--- Command Field (0000,0100). That of a response has its highest bit set.
+-- Command Field (0000,0100). That of a response has its highest bit set. A C-CANCEL has no response.
 abbrev pub field_of : Message → ℕ
 field_of GetRequest = 0x0110
 field_of GetResponse = 0x8110
@@ -16,14 +16,20 @@ field_of CreateRequest = 0x0140
 field_of CreateResponse = 0x8140
 field_of EchoRequest = 0x0030
 field_of EchoResponse = 0x8030
+field_of FindRequest = 0x0020
+field_of FindResponse = 0x8020
+field_of CancelRequest = 0x0fff
 
--- an element whose value has to have a certain length: a US, which has to be there, or an AT, which may be absent
+-- an element whose value has to have a certain length: a US, which has to be there or may be absent, or an AT, which
+-- may be absent
 pub data Need : Type 0 where
   has_us : ℕ → Need
+  may_have_us : ℕ → Need
   may_have_at : ℕ → Need
 
 -- the elements of a message that can be at fault, by rising numbers: Message ID (0110), Message ID Being Responded To
--- (0120), Command Data Set Type (0800), Status (0900), Attribute Identifier List (1005), Action Type ID (1008)
+-- (0120), Priority (0700), Command Data Set Type (0800), Status (0900), Attribute Identifier List (1005), Action Type ID
+-- (1008)
 abbrev pub needs : Message → List Need
 needs GetRequest = has_us 0x0110 ∷ has_us 0x0800 ∷ may_have_at 0x1005 ∷ []
 needs GetResponse = has_us 0x0120 ∷ has_us 0x0800 ∷ has_us 0x0900 ∷ []
@@ -35,3 +41,6 @@ needs CreateRequest = has_us 0x0110 ∷ has_us 0x0800 ∷ []
 needs CreateResponse = has_us 0x0120 ∷ has_us 0x0800 ∷ has_us 0x0900 ∷ []
 needs EchoRequest = has_us 0x0110 ∷ has_us 0x0800 ∷ []
 needs EchoResponse = has_us 0x0120 ∷ has_us 0x0800 ∷ has_us 0x0900 ∷ []
+needs FindRequest = has_us 0x0110 ∷ may_have_us 0x0700 ∷ has_us 0x0800 ∷ []
+needs FindResponse = has_us 0x0120 ∷ has_us 0x0800 ∷ has_us 0x0900 ∷ []
+needs CancelRequest = has_us 0x0120 ∷ has_us 0x0800 ∷ []

@@ -22,6 +22,15 @@ UsFails elements number (BadValue tag) = (tag ≡ command_tag number) × (value 
 UsFails elements number UnknownField = ⊥
 UsFails elements number Memory = ⊥
 
+-- a US that may be absent
+abbrev pub MayHaveUs : List CommandElement → ℕ → Option ℕ → Type 0
+MayHaveUs elements number (Some value) = HasUs elements number value
+MayHaveUs elements number None = value_in number elements ≡ None
+
+-- a US that is there, and has other than two bytes
+abbrev pub PresentUsFails : List CommandElement → ℕ → DimseFault → Type 0
+PresentUsFails elements number fault = (fault ≡ BadValue (command_tag number)) × (value : List ℕ) × (value_in number elements ≡ Some value) × (length value ≢ 2)
+
 -- UI: a UID, or none where the element is absent or spells none
 abbrev pub HasUid : List CommandElement → ℕ → Option (List ℕ) → Type 0
 HasUid elements number (Some uid) = (value : List ℕ) × (value_in number elements ≡ Some value) × SpellsUid value uid

@@ -5,9 +5,11 @@ use Rattle.std.specs.List.{flat_map}
 use Rattle.ups_dataset.specs.declared.tag.Tag.{Tag}
 use Rattle.ups_dataset.specs.Tag.{tag_bytes}
 use Rattle.ups_dimse.specs.declared.command.Command.{Command}
-use Rattle.ups_dimse.specs.declared.command.Command.TheVariants.{Request, Response}
+use Rattle.ups_dimse.specs.declared.command.Command.TheVariants.{Request, Response, Cancel}
 use Rattle.ups_dimse.specs.declared.command.RequestCommand.{RequestCommand}
 use Rattle.ups_dimse.specs.declared.command.ResponseCommand.{ResponseCommand}
+use Rattle.ups_dimse.specs.declared.command.CancelCommand.{CancelCommand}
+use Rattle.ups_dimse.specs.declared.message.Message.TheVariants.{CancelRequest}
 use Rattle.ups_dimse.specs.declared.command.Operation.{Operation}
 use Rattle.ups_dimse.specs.declared.command.Operation.TheVariants as operations
 use Rattle.ups_dimse.specs.declared.command.OperationResult.{OperationResult}
@@ -23,6 +25,11 @@ written_element e = tag_bytes (command_tag e.number) ++ (to_le_bytes w32 (length
 -- a number in two bytes (PS3.5 section 6.2)
 abbrev pub us_element : ℕ → ℕ → CommandElement
 us_element number value = record { number = number; value = to_le_bytes w16 value }
+
+-- a number that is absent has no element
+abbrev pub optional_us_element : ℕ → Option ℕ → List CommandElement
+optional_us_element number None = []
+optional_us_element number (Some value) = us_element number value ∷ []
 
 -- a UID of odd length has one NUL behind it (PS3.5 section 9.1)
 abbrev pub padded : List ℕ → List ℕ
@@ -42,36 +49,52 @@ tags_element number (tag ∷ tags) = record { number = number; value = flat_map 
 abbrev pub data_set_element : Bool → CommandElement
 data_set_element there = us_element 0x0800 (if there then 0x0001 else 0x0101)
 
--- the elements that are an operation's own (PS3.7 sections 9.3.5.1, 10.3.2.1, 10.3.3.1, 10.3.4.1 and 10.3.5.1)
+-- Priority (0000,0700), of the one operation that has it (PS3.7 section 9.3.2.1)
+abbrev pub priority_of : {A : Type 0} → Operation A → Option ℕ
+priority_of (operations.Create instance) = None
+priority_of (operations.Get instance attributes) = None
+priority_of (operations.Set instance) = None
+priority_of (operations.Action instance action) = None
+priority_of operations.Echo = None
+priority_of (operations.Find priority) = priority
+
+-- the other elements that are an operation's own (PS3.7 sections 9.3.5.1, 10.3.2.1, 10.3.3.1, 10.3.4.1 and 10.3.5.1)
 abbrev pub operation_elements : {A : Type 0} → Operation A → List CommandElement
 operation_elements (operations.Create instance) = uid_element 0x1000 instance
 operation_elements (operations.Get instance attributes) = uid_element 0x1001 instance ++ tags_element 0x1005 attributes
 operation_elements (operations.Set instance) = uid_element 0x1001 instance
 operation_elements (operations.Action instance action) = uid_element 0x1001 instance ++ us_element 0x1008 action ∷ []
 operation_elements operations.Echo = []
+operation_elements (operations.Find priority) = []
 
--- the elements that are a result's own (PS3.7 sections 9.3.5.2, 10.3.2.2, 10.3.3.2, 10.3.4.2 and 10.3.5.2)
+-- the elements that are a result's own (PS3.7 sections 9.3.2.2, 9.3.5.2, 10.3.2.2, 10.3.3.2, 10.3.4.2 and 10.3.5.2)
 abbrev pub result_elements : OperationResult → List CommandElement
 result_elements (results.Create instance) = uid_element 0x1000 instance
 result_elements (results.Get instance) = uid_element 0x1000 instance
 result_elements (results.Set instance) = uid_element 0x1000 instance
 result_elements (results.Action instance action) = uid_element 0x1000 instance ++ us_element 0x1008 action ∷ []
 result_elements results.Echo = []
+result_elements results.Find = []
 
 -- the elements of a request, by rising numbers
 abbrev pub request_elements : {A : Type 0} → RequestCommand A → List CommandElement
 request_elements r = uid_element (class_element r.operation) r.sop_class
-    ++ (us_element 0x0100 (field_of (request_of r.operation)) ∷ us_element 0x0110 r.message_id ∷ data_set_element r.has_data_set ∷ operation_elements r.operation)
+    ++ (us_element 0x0100 (field_of (request_of r.operation)) ∷ us_element 0x0110 r.message_id ∷ (optional_us_element 0x0700 (priority_of r.operation) ++ (data_set_element r.has_data_set ∷ operation_elements r.operation)))
 
 -- the elements of a response, by rising numbers
 abbrev pub response_elements : ResponseCommand → List CommandElement
 response_elements r = uid_element 0x0002 r.sop_class
     ++ (us_element 0x0100 (field_of (response_of r.result)) ∷ us_element 0x0120 r.responded_to ∷ data_set_element r.has_data_set ∷ us_element 0x0900 r.status ∷ result_elements r.result)
 
+-- the elements of a request that an operation be cancelled, by rising numbers (PS3.7 section 9.3.2.3)
+abbrev pub cancel_elements : CancelCommand → List CommandElement
+cancel_elements c = us_element 0x0100 (field_of CancelRequest) ∷ us_element 0x0120 c.responded_to ∷ data_set_element c.has_data_set ∷ []
+
 -- the elements behind Command Group Length (0000,0000), by rising numbers
 abbrev pub command_elements : {A : Type 0} → Command A → List CommandElement
 command_elements (Request request) = request_elements request
 command_elements (Response response) = response_elements response
+command_elements (Cancel cancel) = cancel_elements cancel
 
 -- elements, with the length of them all before them (PS3.7 section 6.3.1)
 abbrev pub grouped : List CommandElement → List CommandElement
@@ -88,9 +111,11 @@ tags_of (operations.Get instance attributes) = attributes
 tags_of (operations.Set instance) = []
 tags_of (operations.Action instance action) = []
 tags_of operations.Echo = []
+tags_of (operations.Find priority) = []
 
 -- The length of the elements fits the four bytes of Command Group Length, with 256 bytes left for those other than the
 -- attributes.
 abbrev pub Fits : {A : Type 0} → Command A → Type 0
 Fits (Request request) = 4 * length (tags_of request.operation) < 2 ^ 32 - 256
 Fits (Response response) = Unit {0}
+Fits (Cancel cancel) = Unit {0}

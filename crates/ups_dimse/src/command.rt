@@ -13,6 +13,8 @@ pub enum Command<A: Allocator + Copy> {
     Request(RequestCommand<A>),
     /// The command of a response (PS3.7 sections 9.3 and 10.3).
     Response(ResponseCommand),
+    /// The command of a C-CANCEL, which has no response (PS3.7 section 9.3.2.3).
+    Cancel(CancelCommand),
 }
 
 /// The command of a request.
@@ -57,6 +59,11 @@ pub enum Operation<A: Allocator + Copy> {
     },
     /// C-ECHO (PS3.7 section 9.3.5): whether the other side answers. It has no instance.
     Echo,
+    /// C-FIND (PS3.7 section 9.3.2): what matches an identifier, which is the data set. It has no instance.
+    Find {
+        /// Priority (0000,0700), whatever its number; None where it is absent.
+        priority: Option<u16>,
+    },
 }
 
 /// The command of a response.
@@ -101,6 +108,17 @@ pub enum OperationResult {
     },
     /// C-ECHO (PS3.7 section 9.3.5.2).
     Echo,
+    /// C-FIND (PS3.7 section 9.3.2.2).
+    Find,
+}
+
+/// The command of a C-CANCEL: a request that an operation be given up.
+#[derive(Clone, Copy)]
+pub struct CancelCommand {
+    /// Message ID Being Responded To (0000,0120): the Message ID of the operation.
+    pub responded_to: u16,
+    /// Whether a data set follows the command, by Command Data Set Type (0000,0800). The standard lets none follow.
+    pub has_data_set: bool,
 }
 
 impl<A: Allocator + Copy> Command<A> {
@@ -115,6 +133,7 @@ impl<A: Allocator + Copy> Command<A> {
         match self {
             Command::Request(request) => request.operation.attributes() < 0x3fff_ffc0,
             Command::Response(_) => true,
+            Command::Cancel(_) => true,
         }
     }
 }
@@ -122,7 +141,7 @@ impl<A: Allocator + Copy> Command<A> {
 impl<A: Allocator + Copy> Operation<A> {
     ghost use Rattle.std.specs.Prelude.{◌≡◌, length};
     ghost use Rattle.ups_dimse.specs.Commands.{request_of, class_element};
-    ghost use Rattle.ups_dimse.specs.Written.{tags_of};
+    ghost use Rattle.ups_dimse.specs.Written.{tags_of, priority_of};
 
     /// The message that requests it.
     pub(crate) fn message(&self) -> Message
@@ -134,6 +153,7 @@ impl<A: Allocator + Copy> Operation<A> {
             Operation::Set { .. } => Message::SetRequest,
             Operation::Action { .. } => Message::ActionRequest,
             Operation::Echo => Message::EchoRequest,
+            Operation::Find { .. } => Message::FindRequest,
         }
     }
 
@@ -142,10 +162,20 @@ impl<A: Allocator + Copy> Operation<A> {
         ensures { result ≡ class_element self.now }
     {
         match self {
-            Operation::Create { .. } | Operation::Echo => AFFECTED_CLASS,
+            Operation::Create { .. } | Operation::Echo | Operation::Find { .. } => AFFECTED_CLASS,
             Operation::Get { .. } | Operation::Set { .. } | Operation::Action { .. } => {
                 REQUESTED_CLASS
             }
+        }
+    }
+
+    /// Priority (0000,0700), where there is one.
+    pub(crate) fn priority(&self) -> Option<u16>
+        ensures { result ≡ priority_of self.now }
+    {
+        match self {
+            Operation::Find { priority } => *priority,
+            _ => None,
         }
     }
 
@@ -174,6 +204,7 @@ impl OperationResult {
             OperationResult::Set { .. } => Message::SetResponse,
             OperationResult::Action { .. } => Message::ActionResponse,
             OperationResult::Echo => Message::EchoResponse,
+            OperationResult::Find => Message::FindResponse,
         }
     }
 }
@@ -207,6 +238,7 @@ impl<A: Allocator + Copy> RequestCommand<A> {
                 action: *action,
             },
             Operation::Echo => OperationResult::Echo,
+            Operation::Find { .. } => OperationResult::Find,
         };
         ResponseCommand {
             sop_class: Some(self.sop_class.unwrap_or(sop_class)),

@@ -6,7 +6,7 @@ ghost use Rattle.ups_pdu.specs.Each.{Each};
 ghost use Rattle.ups_dataset.specs.declared.tag.Tag.{Tag};
 ghost use Rattle.ups_dimse.specs.Elements.{CommandElement, IsElement, SpellsElements, AreElements, value_in};
 ghost use Rattle.ups_dimse.specs.Faults.{Gives};
-ghost use Rattle.ups_dimse.specs.Values.{HasUs, UsFails, HasUid, HasDataSet, IsTagAt, HasTags, TagsFail};
+ghost use Rattle.ups_dimse.specs.Values.{HasUs, UsFails, MayHaveUs, PresentUsFails, HasUid, HasDataSet, IsTagAt, HasTags, TagsFail};
 
 use crate::fault::DimseFault;
 use crate::numbers::{DATA_SET_TYPE, command_tag};
@@ -67,13 +67,23 @@ fn value_of(bytes: &[u8], number: u16) -> Option<&[u8]>
 pub(crate) fn us_of(bytes: &[u8], number: u16) -> Result<u16, DimseFault>
     ensures { (elements : List CommandElement) → SpellsElements 0 bytes.now elements [] → MatchResult result (HasUs elements number) (UsFails elements number) }
 {
-    let Some(value) = value_of(bytes, number) else {
+    let Some(value) = optional_us_of(bytes, number)? else {
         return Err(DimseFault::Missing(command_tag(number)));
+    };
+    Ok(value)
+}
+
+/// The number in an element with the value representation US, which may be absent.
+pub(crate) fn optional_us_of(bytes: &[u8], number: u16) -> Result<Option<u16>, DimseFault>
+    ensures { (elements : List CommandElement) → SpellsElements 0 bytes.now elements [] → MatchResult result (MayHaveUs elements number) (PresentUsFails elements number) }
+{
+    let Some(value) = value_of(bytes, number) else {
+        return Ok(None);
     };
     if value.len() != 2 {
         return Err(DimseFault::BadValue(command_tag(number)));
     }
-    Ok(u16::from_le_bytes([value[0], value[1]]))
+    Ok(Some(u16::from_le_bytes([value[0], value[1]])))
 }
 
 /// The UID in an element with the value representation UI (PS3.5 section 6.2).

@@ -10,7 +10,9 @@ mod reading;
 mod tag_list;
 mod writing;
 
-pub use command::{Command, Operation, OperationResult, RequestCommand, ResponseCommand};
+pub use command::{
+    CancelCommand, Command, Operation, OperationResult, RequestCommand, ResponseCommand,
+};
 pub use fault::DimseFault;
 pub use reading::{command_is_unique, fault_is_unique, read_command};
 pub use tag_list::Tags;

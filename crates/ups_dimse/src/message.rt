@@ -27,6 +27,12 @@ pub(crate) enum Message {
     EchoRequest,
     /// C-ECHO-RSP (PS3.7 section 9.3.5.2).
     EchoResponse,
+    /// C-FIND-RQ (PS3.7 section 9.3.2.1).
+    FindRequest,
+    /// C-FIND-RSP (PS3.7 section 9.3.2.2).
+    FindResponse,
+    /// C-CANCEL-RQ (PS3.7 section 9.3.2.3).
+    CancelRequest,
 }
 
 /// The values of Command Field (PS3.7 annex E.1).
@@ -50,6 +56,12 @@ mod field {
     pub(super) const ECHO_REQUEST: u16 = 0x0030;
 
     pub(super) const ECHO_RESPONSE: u16 = 0x8030;
+
+    pub(super) const FIND_REQUEST: u16 = 0x0020;
+
+    pub(super) const FIND_RESPONSE: u16 = 0x8020;
+
+    pub(super) const CANCEL_REQUEST: u16 = 0x0fff;
 }
 
 impl Message {
@@ -68,6 +80,9 @@ impl Message {
             Message::CreateResponse => field::CREATE_RESPONSE,
             Message::EchoRequest => field::ECHO_REQUEST,
             Message::EchoResponse => field::ECHO_RESPONSE,
+            Message::FindRequest => field::FIND_REQUEST,
+            Message::FindResponse => field::FIND_RESPONSE,
+            Message::CancelRequest => field::CANCEL_REQUEST,
         }
     }
 
@@ -86,6 +101,9 @@ impl Message {
             field::CREATE_RESPONSE => Some(Message::CreateResponse),
             field::ECHO_REQUEST => Some(Message::EchoRequest),
             field::ECHO_RESPONSE => Some(Message::EchoResponse),
+            field::FIND_REQUEST => Some(Message::FindRequest),
+            field::FIND_RESPONSE => Some(Message::FindResponse),
+            field::CANCEL_REQUEST => Some(Message::CancelRequest),
             _ => None,
         }
     }

@@ -17,6 +17,8 @@ pub(crate) const COMMAND_FIELD: u16 = 0x0100;
 pub(crate) const MESSAGE_ID: u16 = 0x0110;
 /// Message ID Being Responded To, US.
 pub(crate) const RESPONDED_TO: u16 = 0x0120;
+/// Priority, US.
+pub(crate) const PRIORITY: u16 = 0x0700;
 /// Command Data Set Type, US.
 pub(crate) const DATA_SET_TYPE: u16 = 0x0800;
 /// Status, US.

@@ -7,17 +7,19 @@ ghost use Rattle.ups_dimse.specs.declared.fault.DimseFault.TheVariants.{Memory};
 ghost use Rattle.ups_dimse.specs.Elements.{CommandElement, SpellsElements};
 ghost use Rattle.ups_dimse.specs.Messages.{field_of, needs};
 ghost use Rattle.ups_dimse.specs.Values.{HasUs};
-ghost use Rattle.ups_dimse.specs.Commands.{HasOperation, HasResult, IsRequest, IsResponse, IsCommand, SpellsCommand, request_of, response_of};
+ghost use Rattle.ups_dimse.specs.Commands.{HasOperation, HasResult, IsRequest, IsResponse, IsCancel, IsCommand, SpellsCommand, request_of, response_of};
 ghost use Rattle.ups_dimse.specs.Faults.{FirstFails, Gives, IsFault};
-ghost use Rattle.ups_dimse.specs.declared.message.Message.TheVariants.{GetRequest, ActionRequest, ActionResponse};
+ghost use Rattle.ups_dimse.specs.declared.message.Message.TheVariants.{GetRequest, ActionRequest, ActionResponse, FindRequest, CancelRequest};
 
-use crate::command::{Command, Operation, OperationResult, RequestCommand, ResponseCommand};
-use crate::elements::{are_elements, has_data_set, tags_of, uid_of, us_of};
+use crate::command::{
+    CancelCommand, Command, Operation, OperationResult, RequestCommand, ResponseCommand,
+};
+use crate::elements::{are_elements, has_data_set, optional_us_of, tags_of, uid_of, us_of};
 use crate::fault::DimseFault;
 use crate::message::Message;
 use crate::numbers::{
     ACTION_TYPE, AFFECTED_CLASS, AFFECTED_INSTANCE, ATTRIBUTES, COMMAND_FIELD, GROUP_LENGTH,
-    MESSAGE_ID, REQUESTED_CLASS, REQUESTED_INSTANCE, RESPONDED_TO, STATUS, command_tag,
+    MESSAGE_ID, PRIORITY, REQUESTED_CLASS, REQUESTED_INSTANCE, RESPONDED_TO, STATUS, command_tag,
 };
 use std::alloc::Allocator;
 
@@ -50,6 +52,32 @@ fn action_request<A: Allocator + Copy>(bytes: &[u8]) -> Result<RequestCommand<A>
             instance: uid_of(bytes, REQUESTED_INSTANCE),
             action: us_of(bytes, ACTION_TYPE)?,
         },
+    })
+}
+
+/// C-FIND-RQ (PS3.7 section 9.3.2.1).
+fn find_request<A: Allocator + Copy>(bytes: &[u8]) -> Result<RequestCommand<A>, DimseFault>
+    ensures { (elements : List CommandElement) → SpellsElements 0 bytes.now elements [] → HasUs elements 0x0100 (field_of FindRequest)
+        → MatchResult result (IsRequest elements) (FirstFails elements (needs FindRequest)) }
+{
+    Ok(RequestCommand {
+        sop_class: uid_of(bytes, AFFECTED_CLASS),
+        message_id: us_of(bytes, MESSAGE_ID)?,
+        operation: Operation::Find {
+            priority: optional_us_of(bytes, PRIORITY)?,
+        },
+        has_data_set: has_data_set(bytes)?,
+    })
+}
+
+/// C-CANCEL-RQ (PS3.7 section 9.3.2.3).
+fn cancel_request(bytes: &[u8]) -> Result<CancelCommand, DimseFault>
+    ensures { (elements : List CommandElement) → SpellsElements 0 bytes.now elements [] → HasUs elements 0x0100 (field_of CancelRequest)
+        → MatchResult result (IsCancel elements) (FirstFails elements (needs CancelRequest)) }
+{
+    Ok(CancelCommand {
+        responded_to: us_of(bytes, RESPONDED_TO)?,
+        has_data_set: has_data_set(bytes)?,
     })
 }
 
@@ -140,6 +168,9 @@ fn command_of<A: Allocator + Copy>(
         }
         Message::EchoRequest => Ok(Command::Request(request(bytes, Operation::Echo)?)),
         Message::EchoResponse => Ok(Command::Response(response(bytes, OperationResult::Echo)?)),
+        Message::FindRequest => Ok(Command::Request(find_request(bytes)?)),
+        Message::FindResponse => Ok(Command::Response(response(bytes, OperationResult::Find)?)),
+        Message::CancelRequest => Ok(Command::Cancel(cancel_request(bytes)?)),
     }
 }
 
@@ -150,8 +181,9 @@ fn command_of<A: Allocator + Copy>(
 ///
 /// The first of these, in this order. `BadValue` of (0000,0000): the bytes are no elements of group 0000 with rising
 /// tags. `Missing` or `BadValue` of Command Field (0000,0100). `UnknownField`: no known message has that field. `Missing`
-/// or `BadValue` of the message's elements, by rising tag: a number that is missing or has other than two bytes, or a
-/// list of tags whose length is no multiple of four. `Memory`: the bytes spell a command, and memory ran out.
+/// or `BadValue` of the message's elements, by rising tag: a number that is missing (but for Priority (0000,0700), which
+/// may be) or has other than two bytes, or a list of tags whose length is no multiple of four. `Memory`: the bytes spell
+/// a command, and memory ran out.
 pub fn read_command<A: Allocator + Copy>(alloc: A, bytes: &[u8]) -> Result<Command<A>, DimseFault>
     // What is read is spelled.
     ensures found { IfOk result (SpellsCommand bytes.now) }

@@ -36,6 +36,16 @@ const ATTRIBUTES: Tag = Tag {
     element: 0x1005,
 };
 
+const PRIORITY: Tag = Tag {
+    group: 0,
+    element: 0x0700,
+};
+
+const RESPONDED_TO: Tag = Tag {
+    group: 0,
+    element: 0x0120,
+};
+
 const ACTION_TYPE: Tag = Tag {
     group: 0,
     element: 0x1008,
@@ -71,16 +81,26 @@ const ECHO_REQUEST: &str =
 const ECHO_RESPONSE: &str =
     "00000000 04000000 42000000 00000200 12000000 VERIFICATION 00000001 02000000 3080 00002001 02000000 0700 00000008 02000000 0101 00000009 02000000 0000";
 
+const FIND_REQUEST: &str =
+    "00000000 04000000 4a000000 00000200 1a000000 PULL 00000001 02000000 2000 00001001 02000000 0500 00000007 02000000 0000 00000008 02000000 0100";
+
+const FIND_RESPONSE: &str =
+    "00000000 04000000 4a000000 00000200 1a000000 PULL 00000001 02000000 2080 00002001 02000000 0500 00000008 02000000 0100 00000009 02000000 00ff";
+
+const CANCEL_REQUEST: &str =
+    "00000000 04000000 1e000000 00000001 02000000 ff0f 00002001 02000000 0500 00000008 02000000 0101";
+
 const LISTED_REQUEST: &str =
     "00000000 04000000 60000000 00000300 1a000000 PUSH 00000001 02000000 1001 00001001 02000000 0200 00000008 02000000 0101 00000110 08000000 INST 00000510 08000000 74000010 08001800";
 
-/// Bytes by their hexadecimal digits, in which PUSH is the UID of the UPS Push SOP class, VERIFICATION that of the
-/// Verification SOP class, and INST is 1.2.3.4.
+/// Bytes by their hexadecimal digits, in which PUSH and PULL are the UIDs of the UPS Push and the UPS Pull SOP class,
+/// VERIFICATION that of the Verification SOP class, and INST is 1.2.3.4.
 fn bytes_of(rt: &impl AllocGlobal, digits: &str) -> Result<Vec<u8>, Fail> {
     let mut text = String::new(rt.alloc());
     for word in digits.split(' ') {
         text.push_str(match word {
             "PUSH" => "312e322e3834302e31303030382e352e312e342e33342e362e31",
+            "PULL" => "312e322e3834302e31303030382e352e312e342e33342e362e33",
             "VERIFICATION" => "312e322e3834302e31303030382e312e3100",
             "INST" => "312e322e332e3400",
             other => other,
@@ -113,6 +133,13 @@ fn response(rt: &impl AllocGlobal, digits: &str) -> Result<ResponseCommand, Fail
         return Err("a request".into());
     };
     Ok(response)
+}
+
+fn cancel(rt: &impl AllocGlobal, digits: &str) -> Result<CancelCommand, Fail> {
+    let Command::Cancel(cancel) = read(rt, digits)? else {
+        return Err("no cancel".into());
+    };
+    Ok(cancel)
 }
 
 fn fault(rt: &impl AllocGlobal, digits: &str) -> Result<Option<DimseFault>, Fail> {
@@ -252,6 +279,68 @@ fn an_echo_response_is_read_and_written(rt: HostRuntime) -> Result<(), Fail> {
 }
 
 #[test]
+fn a_find_request_is_read_and_written(rt: HostRuntime) -> Result<(), Fail> {
+    for (digits, wanted) in [
+        (FIND_REQUEST, Some(0)),
+        // a high priority, and the number of none
+        (
+            "00000000 04000000 4a000000 00000200 1a000000 PULL 00000001 02000000 2000 00001001 02000000 0500 00000007 02000000 0100 00000008 02000000 0100",
+            Some(1),
+        ),
+        (
+            "00000000 04000000 4a000000 00000200 1a000000 PULL 00000001 02000000 2000 00001001 02000000 0500 00000007 02000000 ffff 00000008 02000000 0100",
+            Some(0xffff),
+        ),
+        // none
+        (
+            "00000000 04000000 40000000 00000200 1a000000 PULL 00000001 02000000 2000 00001001 02000000 0500 00000008 02000000 0100",
+            None,
+        ),
+    ] {
+        let read = request(&rt, digits)?;
+        assert!(rt; read.sop_class == Uid::of(b"1.2.840.10008.5.1.4.34.6.3"));
+        assert_eq!(rt; read.message_id, 5);
+        assert!(rt; read.has_data_set);
+        match &read.operation {
+            Operation::Find { priority } => assert_eq!(rt; *priority, wanted, "at {digits}"),
+            _ => return Err("another operation".into()),
+        }
+        assert_written(&rt, &Command::Request(read), digits)?;
+    }
+    Ok(())
+}
+
+#[test]
+fn a_find_response_is_read_and_written(rt: HostRuntime) -> Result<(), Fail> {
+    let read = response(&rt, FIND_RESPONSE)?;
+    assert!(rt; read.sop_class == Uid::of(b"1.2.840.10008.5.1.4.34.6.3"));
+    assert_eq!(rt; read.responded_to, 5);
+    assert!(rt; read.has_data_set);
+    assert_eq!(rt; read.status, 0xff00);
+    assert!(rt; matches!(&read.result, OperationResult::Find));
+    assert_written(&rt, &Command::Response(read), FIND_RESPONSE)
+}
+
+#[test]
+fn a_cancel_request_is_read_and_written(rt: HostRuntime) -> Result<(), Fail> {
+    let read = cancel(&rt, CANCEL_REQUEST)?;
+    assert_eq!(rt; read.responded_to, 5);
+    assert!(rt; !read.has_data_set);
+    assert_written(&rt, &Command::Cancel(read), CANCEL_REQUEST)?;
+    // one that announces a data set, which the standard lets none do, and that names a class, a message and a status
+    let odd =
+        "00000200 1a000000 PULL 00000001 02000000 ff0f 00001001 02000000 0700 00002001 02000000 0600 00000008 02000000 0200 00000009 02000000 0000";
+    let read = cancel(&rt, odd)?;
+    assert_eq!(rt; read.responded_to, 6);
+    assert!(rt; read.has_data_set);
+    assert_written(
+        &rt,
+        &Command::Cancel(read),
+        "00000000 04000000 1e000000 00000001 02000000 ff0f 00002001 02000000 0600 00000008 02000000 0100",
+    )
+}
+
+#[test]
 fn requests_are_answered(rt: HostRuntime) -> Result<(), Fail> {
     let other = Uid::of(b"1.2").ok_or("a UID")?;
     let created = request(&rt, CREATE_REQUEST)?.answered(other, 0, false);
@@ -264,6 +353,8 @@ fn requests_are_answered(rt: HostRuntime) -> Result<(), Fail> {
     assert_written(&rt, &Command::Response(acted), ACTION_RESPONSE)?;
     let echoed = request(&rt, ECHO_REQUEST)?.answered(other, 0, false);
     assert_written(&rt, &Command::Response(echoed), ECHO_RESPONSE)?;
+    let found = request(&rt, FIND_REQUEST)?.answered(other, 0xff00, true);
+    assert_written(&rt, &Command::Response(found), FIND_RESPONSE)?;
     let unnamed = "00000001 02000000 4001 00001001 02000000 0700 00000008 02000000 0101";
     let answer = request(&rt, unnamed)?.answered(other, 0x0110, false);
     assert_written(
@@ -500,6 +591,56 @@ fn the_first_fault_of_an_action_is_answered(rt: HostRuntime) -> Result<(), Fail>
     Ok(())
 }
 
+#[test]
+fn the_first_fault_of_a_find_or_a_cancel_is_answered(rt: HostRuntime) -> Result<(), Fail> {
+    for (digits, first) in [
+        // the priority has four bytes, and what stands before it is missing
+        (
+            "00000001 02000000 2000 00000007 04000000 00000000 00000008 02000000 0100",
+            DimseFault::Missing(MESSAGE_ID),
+        ),
+        // what stands behind it is missing
+        (
+            "00000001 02000000 2000 00001001 02000000 0500 00000007 04000000 00000000",
+            DimseFault::BadValue(PRIORITY),
+        ),
+        (
+            "00000001 02000000 2000 00001001 02000000 0500 00000007 00000000 00000008 02000000 0100",
+            DimseFault::BadValue(PRIORITY),
+        ),
+        (
+            "00000001 02000000 2000 00001001 02000000 0500 00000007 02000000 0000",
+            DimseFault::Missing(DATA_SET_TYPE),
+        ),
+        (
+            "00000001 02000000 2080 00002001 02000000 0500 00000008 02000000 0100",
+            DimseFault::Missing(STATUS),
+        ),
+        // a cancel
+        (
+            "00000001 02000000 ff0f 00000008 02000000 0101",
+            DimseFault::Missing(RESPONDED_TO),
+        ),
+        (
+            "00000001 02000000 ff0f 00001001 02000000 0500 00000008 02000000 0101",
+            DimseFault::Missing(RESPONDED_TO),
+        ),
+        (
+            "00000001 02000000 ff0f 00002001 04000000 05000000",
+            DimseFault::BadValue(RESPONDED_TO),
+        ),
+        (
+            "00000001 02000000 ff0f 00002001 02000000 0500",
+            DimseFault::Missing(DATA_SET_TYPE),
+        ),
+        // the field of a response to a cancel is that of no message
+        ("00000001 02000000 ff8f", DimseFault::UnknownField),
+    ] {
+        assert_eq!(rt; fault(&rt, digits)?, Some(first), "at {digits}");
+    }
+    Ok(())
+}
+
 /// Reads with each growth refused in turn; the command, and how many were refused.
 fn read_in_turn<'a>(
     rt: &impl Abort,
@@ -550,8 +691,16 @@ fn a_refused_growth_is_want_of_memory(rt: HostRuntime) -> Result<(), Fail> {
 }
 
 #[test]
-fn a_refused_growth_of_a_set_or_an_action_is_want_of_memory(rt: HostRuntime) -> Result<(), Fail> {
-    for digits in [SET_REQUEST, SET_RESPONSE, ACTION_REQUEST, ACTION_RESPONSE] {
+fn a_refused_growth_of_any_other_message_is_want_of_memory(rt: HostRuntime) -> Result<(), Fail> {
+    for digits in [
+        SET_REQUEST,
+        SET_RESPONSE,
+        ACTION_REQUEST,
+        ACTION_RESPONSE,
+        FIND_REQUEST,
+        FIND_RESPONSE,
+        CANCEL_REQUEST,
+    ] {
         let bytes = bytes_of(&rt, digits)?;
         let heap = Refusing::new(rt.alloc());
         let (command, refused) = read_in_turn(&rt, &heap, bytes.as_slice())?;

@@ -7,13 +7,16 @@ ghost use Rattle.ups_pdu.specs.Identifier.{IsUid};
 ghost use Rattle.ups_dataset.specs.Tag.{tag_bytes};
 ghost use Rattle.ups_dimse.specs.Elements.{command_tag};
 ghost use Rattle.ups_dimse.specs.Commands.{SpellsCommand};
-ghost use Rattle.ups_dimse.specs.Written.{written, written_element, us_element, uid_element, tags_element, data_set_element, operation_elements, result_elements, request_elements, response_elements, command_elements, tags_of, Fits};
-ghost use Rattle.ups_dimse.specs.Held.{IsHeldTag, AreHeldTags, IsHeldOperation, IsHeldResult, IsHeldRequest, IsHeldResponse, IsHeld};
+ghost use Rattle.ups_dimse.specs.Written.{written, written_element, us_element, optional_us_element, uid_element, tags_element, data_set_element, operation_elements, result_elements, request_elements, response_elements, cancel_elements, command_elements, tags_of, Fits};
+ghost use Rattle.ups_dimse.specs.Held.{IsHeldTag, AreHeldTags, IsHeldOperation, IsHeldResult, IsHeldRequest, IsHeldResponse, IsHeldCancel, IsHeld};
 
-use crate::command::{Command, Operation, OperationResult, RequestCommand, ResponseCommand};
+use crate::command::{
+    CancelCommand, Command, Operation, OperationResult, RequestCommand, ResponseCommand,
+};
+use crate::message::Message;
 use crate::numbers::{
     ACTION_TYPE, AFFECTED_CLASS, AFFECTED_INSTANCE, ATTRIBUTES, COMMAND_FIELD, DATA_SET_TYPE,
-    GROUP_LENGTH, MESSAGE_ID, REQUESTED_INSTANCE, RESPONDED_TO, STATUS, command_tag,
+    GROUP_LENGTH, MESSAGE_ID, PRIORITY, REQUESTED_INSTANCE, RESPONDED_TO, STATUS, command_tag,
 };
 use std::alloc::{AllocError, Allocator};
 use ups_dataset::Tag;
@@ -44,6 +47,21 @@ fn put_us<A: Allocator + Copy>(
     put_header(out, number, 2)?;
     out.extend_from_slice(&value.to_le_bytes())?;
     Ok(())
+}
+
+/// Writes a number at the end, where there is one.
+fn put_optional_us<A: Allocator + Copy>(
+    out: &mut Vec<u8, A>,
+    number: u16,
+    value: Option<u16>,
+) -> Result<(), AllocError>
+    ensures wrote { OnOk result (out.new.items ≡ out.old.items ++ flat_map written_element (optional_us_element number value)) }
+    ensures held { IfSome value (λ v. v < 2 ^ 16) }
+{
+    match value {
+        Some(value) => put_us(out, number, value),
+        None => Ok(()),
+    }
 }
 
 /// Writes Command Data Set Type (0000,0800) at the end.
@@ -130,7 +148,7 @@ fn put_operation<A: Allocator + Copy>(
             put_uid(out, REQUESTED_INSTANCE, *instance)?;
             put_us(out, ACTION_TYPE, *action)?;
         }
-        Operation::Echo => (),
+        Operation::Echo | Operation::Find { .. } => (),
     }
     Ok(())
 }
@@ -148,6 +166,7 @@ fn put_request<A: Allocator + Copy>(
     put_uid(out, operation.class_element(), request.sop_class)?;
     put_us(out, COMMAND_FIELD, operation.message().field())?;
     put_us(out, MESSAGE_ID, request.message_id)?;
+    put_optional_us(out, PRIORITY, operation.priority())?;
     put_data_set(out, request.has_data_set)?;
     put_operation(out, operation)?;
     Ok(())
@@ -169,7 +188,7 @@ fn put_result<A: Allocator + Copy>(
             put_uid(out, AFFECTED_INSTANCE, *instance)?;
             put_us(out, ACTION_TYPE, *action)?;
         }
-        OperationResult::Echo => (),
+        OperationResult::Echo | OperationResult::Find => (),
     }
     Ok(())
 }
@@ -191,6 +210,20 @@ fn put_response<A: Allocator + Copy>(
     Ok(())
 }
 
+/// Writes the elements of a C-CANCEL at the end.
+fn put_cancel<A: Allocator + Copy>(
+    out: &mut Vec<u8, A>,
+    cancel: &CancelCommand,
+) -> Result<(), AllocError>
+    ensures wrote { OnOk result (out.new.items ≡ out.old.items ++ flat_map written_element (cancel_elements cancel.now)) }
+    ensures held { OnOk result (IsHeldCancel cancel.now) }
+{
+    put_us(out, COMMAND_FIELD, Message::CancelRequest.field())?;
+    put_us(out, RESPONDED_TO, cancel.responded_to)?;
+    put_data_set(out, cancel.has_data_set)?;
+    Ok(())
+}
+
 /// The elements of a command, without Command Group Length.
 fn elements_of<A: Allocator + Copy>(
     alloc: A,
@@ -204,6 +237,7 @@ fn elements_of<A: Allocator + Copy>(
     match command {
         Command::Request(request) => put_request(&mut out, request)?,
         Command::Response(response) => put_response(&mut out, response)?,
+        Command::Cancel(cancel) => put_cancel(&mut out, cancel)?,
     }
     Ok(out)
 }

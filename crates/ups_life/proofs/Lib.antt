@@ -5,5 +5,7 @@ pub mod Items
 pub mod Laying
 pub mod OneHolder
 pub mod Past
+pub mod Rows
 pub mod Texts
 mod Worked
+mod WorkedWorklists

@@ -15,7 +15,6 @@ use Rattle.ups_life.specs.declared.request.Ask.TheVariants.{Do}
 use Rattle.ups_life.specs.declared.request.Reply.TheVariants.{Status as Answered, Set as Shown}
 use Rattle.ups_life.specs.declared.state.StepState.{StepState}
 use Rattle.ups_life.specs.declared.state.StepState.TheVariants.{Scheduled, InProgress, Completed, Canceled}
-use Rattle.ups_life.specs.declared.row.Row.{Row}
 use Rattle.ups_life.specs.declared.entry.Entry.{Entry}
 use Rattle.ups_life.specs.declared.status.Status.{Status}
 use Rattle.ups_life.specs.declared.status.Status.TheVariants.{Success, AttributesNotSupported, InvalidAttributeValue, DuplicateSopInstance, InvalidArgumentValue, InvalidObjectInstance, MissingAttribute, MissingAttributeValue, NoSuchActionType, ResourceLimitation, AlreadyCanceled, AlreadyCompleted, NoLongerUpdatable, WrongTransactionUid, AlreadyInProgress, ScheduledByCreateAlone, FinalStateNotMet, UnknownInstance, NotScheduled, NotInProgress, TooLateToCancel, ActionNotAppropriate}
@@ -122,11 +121,11 @@ first_fault_is_told = refl
 
 -- a step has a UID of its own
 uid_is_absent_or_well_known :
-    asked {A = Unit {0}} (operations.Create None) a_step ≡ Err InvalidObjectInstance
+    asked {A = Unit {0}} (pos 0) (operations.Create None) a_step ≡ Err InvalidObjectInstance
 unfolding moment day_number days_of_month field is_date is_time date_number second_of_day microsecond_of offset_of signed_offset
 uid_is_absent_or_well_known = refl
 
-uid_of_all_steps_is_none : asked {A = Unit {0}} (operations.Create (Some (text_of GlobalSubscription))) a_step ≡ Err InvalidObjectInstance
+uid_of_all_steps_is_none : asked {A = Unit {0}} (pos 0) (operations.Create (Some (text_of GlobalSubscription))) a_step ≡ Err InvalidObjectInstance
 unfolding moment day_number days_of_month field is_date is_time date_number second_of_day microsecond_of offset_of signed_offset
 uid_of_all_steps_is_none = refl
 
@@ -279,18 +278,18 @@ unfolding moment day_number days_of_month field is_date is_time date_number seco
 sets_are_refused = refl
 
 -- a change names a state, and is of a step
-changes_are_read : asked {A = Unit {0}} (operations.Action (Some step_one) 1) (says TRANSACTION_UID Ui (codes "2.1" ++ 0 ∷ []) ∷ says PROCEDURE_STEP_STATE Cs (codes "IN PROGRESS ") ∷ []) ≡ Ok (Do (claim mine))
+changes_are_read : asked {A = Unit {0}} (pos 0) (operations.Action (Some step_one) 1) (says TRANSACTION_UID Ui (codes "2.1" ++ 0 ∷ []) ∷ says PROCEDURE_STEP_STATE Cs (codes "IN PROGRESS ") ∷ []) ≡ Ok (Do (claim mine))
 unfolding moment day_number days_of_month field is_date is_time date_number second_of_day microsecond_of offset_of signed_offset
 changes_are_read = refl
 
-change_to_no_state_is_refused : asked {A = Unit {0}} (operations.Action (Some step_one) 1) (says PROCEDURE_STEP_STATE Cs (codes "DONE") ∷ []) ≡ Err InvalidArgumentValue
+change_to_no_state_is_refused : asked {A = Unit {0}} (pos 0) (operations.Action (Some step_one) 1) (says PROCEDURE_STEP_STATE Cs (codes "DONE") ∷ []) ≡ Err InvalidArgumentValue
 unfolding moment day_number days_of_month field is_date is_time date_number second_of_day microsecond_of offset_of signed_offset
 change_to_no_state_is_refused = refl
 
-change_of_all_steps_is_refused : asked {A = Unit {0}} (operations.Action (Some (text_of GlobalSubscription)) 1) [] ≡ Err ActionNotAppropriate
+change_of_all_steps_is_refused : asked {A = Unit {0}} (pos 0) (operations.Action (Some (text_of GlobalSubscription)) 1) [] ≡ Err ActionNotAppropriate
 unfolding moment day_number days_of_month field is_date is_time date_number second_of_day microsecond_of offset_of signed_offset
 change_of_all_steps_is_refused = refl
 
-other_actions_are_refused : asked {A = Unit {0}} (operations.Action (Some step_one) 3) [] ≡ Err NoSuchActionType
+other_actions_are_refused : asked {A = Unit {0}} (pos 0) (operations.Action (Some step_one) 3) [] ≡ Err NoSuchActionType
 unfolding moment day_number days_of_month field is_date is_time date_number second_of_day microsecond_of offset_of signed_offset
 other_actions_are_refused = refl

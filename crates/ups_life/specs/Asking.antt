@@ -1,5 +1,5 @@
--- What a message asks (PS3.4 CC.2.1, CC.2.2, CC.2.5 to CC.2.7).
-use Rattle.std.specs.Prelude.{ℕ, Bool, false, ◌||◌, ◌&&◌, ◌==◌, nat_lt, nat_le, List, [], length, Option, None, Some, Result, Ok, Err, if◌then◌else◌}
+-- What a message asks (PS3.4 CC.2.1, CC.2.2, CC.2.5 to CC.2.8).
+use Rattle.std.specs.Prelude.{ℕ, ℤ, Bool, false, ◌||◌, ◌&&◌, ◌==◌, nat_lt, nat_le, List, length, Option, None, Some, Result, Ok, Err, if◌then◌else◌}
 use Rattle.std.specs.List.{list_all, slice_split}
 use Rattle.std.specs.Str.{bytes_eq}
 use Rattle.ups_pdu.specs.declared.registered.RegisteredUid.TheVariants.{GlobalSubscription, FilteredGlobalSubscription}
@@ -10,14 +10,16 @@ use Rattle.ups_dataset.specs.declared.dictionary.TheConstants.{PROCEDURE_STEP_ST
 use Rattle.ups_dataset.specs.Data.{Data, bytes, items, El, element_at}
 use Rattle.ups_dimse.specs.declared.command.Operation.{Operation}
 use Rattle.ups_dimse.specs.declared.command.Operation.TheVariants as operations
+use Rattle.ups_match.specs.declared.fault.KeyFault.{KeyFault}
+use Rattle.ups_match.specs.Matching.{fault_of}
 use Rattle.ups_life.specs.declared.state.StepState.{StepState}
 use Rattle.ups_life.specs.declared.request.Transaction.{Transaction}
 use Rattle.ups_life.specs.declared.request.Transaction.TheVariants.{Absent, Malformed, Proper}
 use Rattle.ups_life.specs.declared.request.Request.TheVariants.{Create, Change, AskCancel, Set}
 use Rattle.ups_life.specs.declared.request.Ask.{Ask}
-use Rattle.ups_life.specs.declared.request.Ask.TheVariants.{Do, Get}
+use Rattle.ups_life.specs.declared.request.Ask.TheVariants.{Do, Get, Find}
 use Rattle.ups_life.specs.declared.status.Status.{Status}
-use Rattle.ups_life.specs.declared.status.Status.TheVariants.{InvalidArgumentValue, InvalidObjectInstance, NoSuchActionType, UnrecognizedOperation, ActionNotAppropriate}
+use Rattle.ups_life.specs.declared.status.Status.TheVariants.{InvalidArgumentValue, InvalidObjectInstance, NoSuchActionType, UnrecognizedOperation, IdentifierMismatch, ActionNotAppropriate}
 use Rattle.ups_life.specs.States.{state_of}
 
 -- the instances that stand for global subscriptions, and are no steps (PS3.4 CC.2.3)
@@ -73,10 +75,17 @@ canceled step attributes = if is_subscription step then Err ActionNotAppropriate
 abbrev pub acted : {A : Type 0} → Option (List ℕ) → ℕ → List El → Result (Ask A) Status
 acted step action attributes = if action == 1 then changed step attributes else (if action == 2 then canceled step attributes else Err NoSuchActionType)
 
--- what a message asks. A C-ECHO is none of the services of the UPS SOP classes: it asks nothing of a step.
-abbrev pub asked : {A : Type 0} → Operation A → List El → Result (Ask A) Status
-asked (operations.Create instance) attributes = created instance attributes
-asked (operations.Get instance listed) attributes = Ok (Get instance listed)
-asked (operations.Set instance) attributes = Ok (Do (Set instance (transaction_of (element_at TRANSACTION_UID attributes)) attributes))
-asked (operations.Action instance action) attributes = acted instance action attributes
-asked operations.Echo attributes = Err UnrecognizedOperation
+-- the worklist is asked for by keys that can be read (PS3.4 section C.4.1.1.4)
+abbrev pub finds : {A : Type 0} → ℤ → List El → Option KeyFault → Result (Ask A) Status
+finds offset attributes None = Ok (Find (record { attributes = attributes; offset = offset }))
+finds offset attributes (Some fault) = Err IdentifierMismatch
+
+-- What a message asks; `offset` is that of a key's DT which says none, in minutes east of UTC. A C-ECHO is none of the
+-- services of the UPS SOP classes: it asks nothing of a step.
+abbrev pub asked : {A : Type 0} → ℤ → Operation A → List El → Result (Ask A) Status
+asked offset (operations.Create instance) attributes = created instance attributes
+asked offset (operations.Get instance listed) attributes = Ok (Get instance listed)
+asked offset (operations.Set instance) attributes = Ok (Do (Set instance (transaction_of (element_at TRANSACTION_UID attributes)) attributes))
+asked offset (operations.Action instance action) attributes = acted instance action attributes
+asked offset (operations.Find priority) attributes = finds offset attributes (fault_of offset attributes)
+asked offset operations.Echo attributes = Err UnrecognizedOperation

@@ -18,7 +18,7 @@ use Rattle.ups_life.specs.declared.status.Status.{Status}
 use Rattle.ups_life.specs.declared.status.Status.TheVariants.{Success, AttributesNotSupported, ResourceLimitation, UnknownInstance}
 use Rattle.ups_life.specs.Settings.{Settings}
 use Rattle.ups_life.specs.Verdict.{verdict}
-use Rattle.ups_life.specs.Steps.{used, step_of, row, row_after, nothing, known, is_held}
+use Rattle.ups_life.specs.Steps.{used, step_of, row_after, nothing, known}
 
 -- the request is accepted
 abbrev pub accepts : Status → Bool

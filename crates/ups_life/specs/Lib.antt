@@ -3,9 +3,11 @@ pub mod Claims
 pub mod Deep
 pub mod Distinct
 pub mod History
+pub mod SetsCode
 pub mod Settings
 pub mod States
 pub mod Statuses
 pub mod Steps
 pub mod Values
 pub mod Verdict
+pub mod Worklist

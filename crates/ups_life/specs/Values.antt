@@ -5,7 +5,7 @@ use Rattle.std.specs.Str.{bytes_eq}
 use Rattle.ups_pdu.specs.Padding.{without_padding}
 use Rattle.ups_dataset.specs.declared.tag.Tag.{Tag}
 use Rattle.ups_dataset.specs.Tag.{is_tag}
-use Rattle.ups_dataset.specs.Data.{Data, bytes, items, Items, no_items, item, Elements, no_elements, element, El, element_at}
+use Rattle.ups_dataset.specs.Data.{Data, bytes, items, no_items, item, Elements, no_elements, element, El, element_at}
 use Rattle.ups_match.specs.Moments.{moment}
 use Rattle.ups_life.specs.declared.status.Status.{Status}
 use Rattle.ups_life.specs.declared.status.Status.TheVariants.{Success, InvalidAttributeValue, MissingAttribute, MissingAttributeValue}

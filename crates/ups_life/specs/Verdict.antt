@@ -1,8 +1,7 @@
 -- What is decided of a request, by what is known of its step: the life cycle of a step (PS3.4 CC.1.1, CC.2.1, CC.2.2,
 -- CC.2.5, CC.2.6).
-use Rattle.std.specs.Prelude.{Bool, true, false, ◌||◌, ◌&&◌, List, [], ◌∷◌, ℕ, Option, None, Some, codes, is_some, if◌then◌else◌}
+use Rattle.std.specs.Prelude.{Bool, true, false, ◌||◌, List, [], ◌∷◌, ℕ, Option, None, Some, codes, is_some, if◌then◌else◌}
 use Rattle.std.specs.Str.{bytes_eq}
-use Rattle.ups_dataset.specs.declared.tag.Tag.{Tag}
 use Rattle.ups_dataset.specs.Data.{El, element_at}
 use Rattle.ups_dataset.specs.declared.dictionary.TheConstants.{SOP_CLASS_UID, SOP_INSTANCE_UID, PROCEDURE_STEP_STATE, TRANSACTION_UID, UNIFIED_PROCEDURE_STEP_PERFORMED_PROCEDURE_SEQUENCE, PROCEDURE_STEP_PROGRESS_INFORMATION_SEQUENCE, PERFORMED_PROCEDURE_STEP_START_DATE_TIME, PERFORMED_PROCEDURE_STEP_END_DATE_TIME, PROCEDURE_STEP_CANCELLATION_DATE_TIME}
 use Rattle.ups_life.specs.declared.checks.TheConstants.{CHECKED}

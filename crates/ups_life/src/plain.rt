@@ -1,12 +1,22 @@
 //! The questions to a history, answered by walking it: plain and slow.
 
-ghost use Rattle.std.specs.Prelude.{◌≡◌};
-ghost use Rattle.ups_life.specs.Steps.{past, creates, used};
+ghost use Rattle.std.specs.Prelude.{◌≡◌, ◌∷◌, ◌++◌, [], ℕ, map, filter, All, IfOk, OnOk, if◌then◌else◌};
+ghost use Rattle.std.specs.Option.{unwrap_or};
+ghost use Rattle.ups_dataset.specs.Data.{answer};
+ghost use Rattle.ups_match.specs.Matching.{is_match};
+ghost use Rattle.ups_life.specs.Settings.{IsMoment, IsOffset};
+ghost use Rattle.ups_life.specs.Steps.{past, is_on, creates, used, row, row_after, nothing, held_after};
 ghost use Rattle.ups_life.specs.History.{repeats};
+ghost use Rattle.ups_life.specs.Worklist.{worklist};
 
-use crate::entry::Entry;
+use crate::changing::{ChangeFault, change};
+use crate::entry::{Entry, Peer};
 use crate::request::Request;
-use std::alloc::Allocator;
+use crate::row::Row;
+use crate::sets::Sets;
+use std::alloc::{AllocError, Allocator};
+use ups_dataset::DataSet;
+use ups_match::{Keys, Matcher, Probe};
 use ups_pdu::Uid;
 
 fn creates<A: Allocator + Copy>(uid: Uid, request: &Request<A>) -> bool
@@ -37,4 +47,123 @@ pub fn repeats<A: Allocator + Copy>(history: &[Entry<A>], request: &Request<A>) 
         Request::Create { step, .. } => used(history, *step),
         _ => false,
     }
+}
+
+/// Whether a request is on this step.
+fn is_on<A: Allocator + Copy>(uid: Uid, request: &Request<A>) -> bool
+    ensures { result ≡ is_on uid request.now }
+{
+    match request.step() {
+        Some(step) => step.as_bytes() == uid.as_bytes(),
+        None => false,
+    }
+}
+
+/// What is held of a step after an entry, which may be on another; None where there is nothing.
+///
+/// Errors: those of `change`.
+fn after_entry<A: Allocator + Copy>(
+    alloc: A,
+    row: Option<Row<A>>,
+    entry: &Entry<A>,
+    offset: i16,
+    step: Uid,
+) -> Result<Option<Row<A>>, ChangeFault>
+    requires moment { IsMoment entry.now.moment }
+    requires offset { IsOffset offset }
+    ensures { IfOk result (λ after. unwrap_or after nothing ≡ (if is_on step entry.now.request then row_after offset entry.now.moment (unwrap_or row nothing) entry.now.request else unwrap_or row nothing)) }
+{
+    if !is_on(step, &entry.request) {
+        return Ok(row);
+    }
+    let after = change(alloc, row.as_ref(), &entry.request, entry.moment, offset)?;
+    Ok(Some(after))
+}
+
+/// The attributes of a step, by each entry on it in turn.
+///
+/// Errors: TooDeep where an entry gives items that nest too deep, which no accepted request does; Memory.
+fn row<A: Allocator + Copy>(
+    alloc: A,
+    entries: &[Entry<A>],
+    offset: i16,
+    step: Uid,
+) -> Result<DataSet<A>, ChangeFault>
+    requires moments { All (λ e. IsMoment e.moment) entries.now }
+    requires offset { IsOffset offset }
+    ensures { IfOk result (λ set. set ≡ row offset (past entries.now) step) }
+{
+    let mut row: Option<Row<A>> = None;
+    for entry in entries {
+        row = after_entry(alloc, row, entry, offset, step)?;
+    }
+    match row {
+        Some(row) => Ok(row.attributes),
+        None => Ok(DataSet::new(alloc)),
+    }
+}
+
+/// Adds what a row answers to keys, where it matches them.
+fn add_answer<A: Allocator + Copy>(
+    sets: &mut Sets<A>,
+    keys: &Keys<A>,
+    row: &DataSet<A>,
+) -> Result<(), AllocError>
+    ensures { OnOk result (sets.new ≡ sets.old ++ map (λ r. answer r keys.now.attributes) (filter (is_match keys.now) (row.now ∷ []))) }
+{
+    let mut probe = Probe::new();
+    if probe.matches(keys, row) {
+        sets.push(row.answer(keys.attributes())?)?;
+    }
+    Ok(())
+}
+
+/// Adds what the step that a request creates answers to keys, where it matches them; nothing for another request.
+///
+/// Errors: those of `row`.
+fn add_created<A: Allocator + Copy>(
+    alloc: A,
+    sets: &mut Sets<A>,
+    keys: &Keys<A>,
+    entries: &[Entry<A>],
+    offset: i16,
+    request: &Request<A>,
+) -> Result<(), ChangeFault>
+    requires moments { All (λ e. IsMoment e.moment) entries.now }
+    requires offset { IsOffset offset }
+    ensures { OnOk result (sets.new ≡ sets.old ++ map (λ r. answer r keys.now.attributes) (filter (is_match keys.now) (map (row offset (past entries.now)) (held_after [] request.now)))) }
+{
+    if let Request::Create { step, .. } = request {
+        let row = row(alloc, entries, offset, *step)?;
+        add_answer(sets, keys, &row)?;
+    }
+    Ok(())
+}
+
+/// The worklist (PS3.4 sections CC.2.8 and C.4.1): of each step that matches the keys, in order of creation, the keys'
+/// attributes. `offset` is that of the local time from UTC in minutes, east of it above 0. No step is removed yet, so
+/// that the peers and for how many seconds a finished step is kept do not matter. It is slow: for each step it walks the
+/// entries again.
+///
+/// # Errors
+///
+/// `TooDeep` where the items of a step would nest more than 8 deep, which they never do by requests that were accepted;
+/// `Memory` where memory runs out.
+pub fn plain_find<A: Allocator + Copy>(
+    alloc: A,
+    entries: &[Entry<A>],
+    peers: &[Peer],
+    keep: u32,
+    offset: i16,
+    keys: &Keys<A>,
+) -> Result<Sets<A>, ChangeFault>
+    requires moments { All (λ e. IsMoment e.moment) entries.now }
+    requires offset { IsOffset offset }
+    ensures { IfOk result (λ sets. (limit : ℕ) → sets ≡ worklist (record { peers = peers.now; keep = keep; offset = offset; limit = limit }) (past entries.now) keys.now) }
+{
+    let mut sets = Sets::new(alloc);
+    for entry in entries {
+        add_created(alloc, &mut sets, keys, entries, offset, &entry.request)?;
+    }
+    Ok(sets)
 }

@@ -5,8 +5,9 @@ ghost use Rattle.std.specs.Str.{bytes_eq};
 ghost use Rattle.ups_dataset.specs.Data.{El, element_at};
 ghost use Rattle.ups_dataset.specs.View.{value_view};
 ghost use Rattle.ups_dimse.specs.declared.command.Operation.{Operation};
+ghost use Rattle.ups_match.specs.Matching.{fault_of};
 ghost use Rattle.ups_life.specs.declared.request.Ask.{Ask};
-ghost use Rattle.ups_life.specs.Asking.{is_well_known, is_subscription, transaction_value, transaction_of, named_state, changed, canceled, acted, asked};
+ghost use Rattle.ups_life.specs.Asking.{is_well_known, is_subscription, transaction_value, transaction_of, named_state, changed, canceled, acted, finds, asked};
 ghost use Rattle.ups_life.specs.declared.status.Status.TheVariants.{ResourceLimitation};
 
 use crate::actions::{CHANGE_STATE, REQUEST_CANCEL};
@@ -17,6 +18,7 @@ use std::alloc::Allocator;
 use ups_dataset::dictionary::{PROCEDURE_STEP_STATE, TRANSACTION_UID};
 use ups_dataset::{DataSet, Value};
 use ups_dimse::{Operation, Tags};
+use ups_match::Keys;
 use ups_pdu::{RegisteredUid, Uid, without_padding};
 
 /// Whether a UID is that of an instance that is no step (PS3.4 CC.2.3).
@@ -125,20 +127,35 @@ fn acted<A: Allocator + Copy>(
     }
 }
 
-/// What a message asks: its operation, with the data set that came with it, or an empty one.
+/// What a C-FIND asks: the steps that match keys (PS3.4 sections CC.2.8 and C.4.1).
+///
+/// Errors: A900H where a key can't be read.
+fn finds<A: Allocator + Copy>(attributes: DataSet<A>, offset: i16) -> Result<Ask<A>, Status>
+    ensures { result ≡ finds offset attributes (fault_of offset attributes) }
+{
+    match Keys::of(attributes, offset) {
+        Ok(keys) => Ok(Ask::Find(keys)),
+        Err(_) => Err(Status::IdentifierMismatch),
+    }
+}
+
+/// What a message asks: its operation, with the data set that came with it, or an empty one. `offset` is that of the
+/// local time from UTC in minutes, east of it above 0, by which a key's DT is read that says none.
 ///
 /// Errors: 0117H where a step is to be created whose UID is absent, malformed or well known; those of an N-ACTION
 /// (PS3.4 CC.2.1, CC.2.2): 0123H for another type than 1 and 2, C314H for a global subscription, which is no step,
-/// 0115H where a change names no state; 0211H for a C-ECHO, which asks nothing of a step (PS3.4 annex A); 0213H where memory runs out, and only for a message
+/// 0115H where a change names no state; A900H where a key of a C-FIND can't be read (PS3.4 section C.4.1.1.4); 0211H
+/// for a C-ECHO, which asks nothing of a step (PS3.4 annex A); 0213H where memory runs out, and only for a message
 /// that asks something.
 pub fn read_request<A: Allocator + Copy>(
     alloc: A,
     operation: &Operation<A>,
     attributes: DataSet<A>,
+    offset: i16,
 ) -> Result<Ask<A>, Status>
-    ensures asks { MatchResult result (λ ask. asked operation.now attributes ≡ Ok ask)
-        (λ status. ((status ≡ ResourceLimitation) × (ask : Ask A) × (asked operation.now attributes ≡ Ok ask))
-        ⊎ (asked operation.now attributes ≡ Err status)) }
+    ensures asks { MatchResult result (λ ask. asked offset operation.now attributes ≡ Ok ask)
+        (λ status. ((status ≡ ResourceLimitation) × (ask : Ask A) × (asked offset operation.now attributes ≡ Ok ask))
+        ⊎ (asked offset operation.now attributes ≡ Err status)) }
 {
     match operation {
         Operation::Create { instance } => match instance {
@@ -166,6 +183,7 @@ pub fn read_request<A: Allocator + Copy>(
             attributes,
         })),
         Operation::Action { instance, action } => acted(instance, *action, attributes),
+        Operation::Find { .. } => finds(attributes, offset),
         Operation::Echo => Err(Status::UnrecognizedOperation),
     }
 }

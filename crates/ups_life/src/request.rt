@@ -1,10 +1,12 @@
 //! What may be asked of the service, and what it answers.
 
+use crate::sets::Sets;
 use crate::state::StepState;
 use crate::status::Status;
 use std::alloc::Allocator;
 use ups_dataset::DataSet;
 use ups_dimse::Tags;
+use ups_match::Keys;
 use ups_pdu::Uid;
 
 /// The Transaction UID (0008,1195) that a request gives. Who knows that of a step's claim is its performer
@@ -85,6 +87,8 @@ pub enum Ask<A: Allocator + Copy> {
         /// Which attributes.
         attributes: Tags<A>,
     },
+    /// To answer with the steps that match keys (C-FIND, PS3.4 sections CC.2.8 and C.4.1).
+    Find(Keys<A>),
 }
 
 /// What is answered.
@@ -94,4 +98,6 @@ pub enum Reply<A: Allocator + Copy> {
     Status(Status),
     /// A status, and attributes of a step.
     Set(Status, DataSet<A>),
+    /// Those attributes of each step found that were asked for, in order of creation.
+    Sets(Sets<A>),
 }

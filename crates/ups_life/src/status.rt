@@ -3,7 +3,8 @@
 ghost use Rattle.std.specs.Prelude.{◌≡◌};
 ghost use Rattle.ups_life.specs.Statuses.{code};
 
-/// How a request was answered (PS3.7 annex C, PS3.4 CC.2.1 to CC.2.7). Only after Success was it accepted.
+/// How a request was answered (PS3.7 annex C, PS3.4 CC.2.1 to CC.2.7 and section C.4.1.1.4). Only after Success was it
+/// accepted.
 #[derive(Clone, Copy, Debug, PartialEq, Eq)]
 pub enum Status {
     /// 0000H: done as asked.
@@ -32,10 +33,16 @@ pub enum Status {
     UnrecognizedOperation,
     /// 0213H: there is no room.
     ResourceLimitation,
+    /// A700H: there is no room to find what matches.
+    OutOfResources,
+    /// A900H: the keys of a query can't be read.
+    IdentifierMismatch,
     /// B304H: the step is CANCELED already, as was asked.
     AlreadyCanceled,
     /// B306H: the step is COMPLETED already, as was asked.
     AlreadyCompleted,
+    /// C000H: the data set of a query could not be read.
+    UnableToProcess,
     /// C300H: the step may no longer be updated.
     NoLongerUpdatable,
     /// C301H: the correct Transaction UID was not given.
@@ -56,6 +63,8 @@ pub enum Status {
     TooLateToCancel,
     /// C314H: the action does not go with this instance.
     ActionNotAppropriate,
+    /// FF00H: this matches, and there may be more.
+    Pending,
 }
 
 impl Status {
@@ -77,8 +86,11 @@ impl Status {
             Status::NoSuchActionType => 0x0123,
             Status::UnrecognizedOperation => 0x0211,
             Status::ResourceLimitation => 0x0213,
+            Status::OutOfResources => 0xa700,
+            Status::IdentifierMismatch => 0xa900,
             Status::AlreadyCanceled => 0xb304,
             Status::AlreadyCompleted => 0xb306,
+            Status::UnableToProcess => 0xc000,
             Status::NoLongerUpdatable => 0xc300,
             Status::WrongTransactionUid => 0xc301,
             Status::AlreadyInProgress => 0xc302,
@@ -89,6 +101,7 @@ impl Status {
             Status::NotInProgress => 0xc310,
             Status::TooLateToCancel => 0xc311,
             Status::ActionNotAppropriate => 0xc314,
+            Status::Pending => 0xff00,
         }
     }
 }

@@ -6,12 +6,14 @@ use std::test::Fail;
 use ups_dataset::dictionary::*;
 use ups_dataset::{DataSet, Element, MAX_DEPTH, MAX_SHORT_LENGTH, Tag, Value, Vr, vr_of};
 use ups_dimse::{Operation, Tags};
+use ups_match::Keys;
 use ups_pdu::{Ae, Bytes, RegisteredUid, Uid};
 
 mod creating;
 mod life_cycle;
 mod memory;
 mod reading;
+mod worklist;
 
 /// A step that is to begin at noon: ready, scheduled, of medium priority.
 const STEP: [(Tag, &str); 5] = [
@@ -192,6 +194,7 @@ fn told<A: Allocator + Copy>(
     match reply {
         Reply::Set(status, set) => Ok((status.code(), described(set, rt)?)),
         Reply::Status(_) => Err("a status alone".into()),
+        Reply::Sets(_) => Err("answers of a worklist".into()),
     }
 }
 
@@ -288,7 +291,7 @@ fn add_uid(text: &mut String, uid: Option<Uid>) -> Result<(), Fail> {
 /// What is asked, as text: the request with its step, its Transaction UID and its attributes.
 fn asked_text<A: Allocator + Copy>(ask: &Ask<A>, rt: &impl AllocGlobal) -> Result<String, Fail> {
     let Ask::Do(request) = ask else {
-        return Err("an N-GET".into());
+        return Err("no request".into());
     };
     let mut text = String::new(rt.alloc());
     add_uid(&mut text, request.step())?;
@@ -346,8 +349,11 @@ fn each_status_has_its_number(rt: HostRuntime) -> Result<(), Fail> {
         (Status::NoSuchActionType, 0x0123),
         (Status::UnrecognizedOperation, 0x0211),
         (Status::ResourceLimitation, 0x0213),
+        (Status::OutOfResources, 0xa700),
+        (Status::IdentifierMismatch, 0xa900),
         (Status::AlreadyCanceled, 0xb304),
         (Status::AlreadyCompleted, 0xb306),
+        (Status::UnableToProcess, 0xc000),
         (Status::NoLongerUpdatable, 0xc300),
         (Status::WrongTransactionUid, 0xc301),
         (Status::AlreadyInProgress, 0xc302),
@@ -358,6 +364,7 @@ fn each_status_has_its_number(rt: HostRuntime) -> Result<(), Fail> {
         (Status::NotInProgress, 0xc310),
         (Status::TooLateToCancel, 0xc311),
         (Status::ActionNotAppropriate, 0xc314),
+        (Status::Pending, 0xff00),
     ] {
         assert_eq!(rt; status.code(), number, "at {status:?}");
     }

@@ -1,17 +1,16 @@
 -- A request that is entered was accepted, and what a manager keeps stays so.
-use Rattle.std.proofs.Common.{◌≡◌, ◌⊎◌, inl, inr, ℕ, ℤ, ◌<◌, Bool, true, false, cond, ◌&&◌, List, [], ◌∷◌, ◌++◌, length, Option, Some, refl, sym, ap, subst, ◌∙◌, arith}
+use Rattle.std.proofs.Common.{◌≡◌, All, ◌⊎◌, inl, inr, ℕ, ℤ, ◌<◌, Bool, true, false, cond, ◌&&◌, List, [], ◌∷◌, ◌++◌, length, Some, refl, sym, ap, subst, ◌∙◌, arith}
 use Rattle.std.specs.Prelude.{nat_lt, not}
 use Rattle.std.specs.Option.{option_or, unwrap_or}
 use Rattle.std.specs.List.{AllByRecursion}
 use Rattle.std.proofs.lemmas.Bool.Decides.{nat_tests}
-use Rattle.ups_dataset.specs.Data.{El}
-use Rattle.ups_life.specs.declared.request.Request.{Request}
+use Rattle.std.proofs.lemmas.List.Elements.{All-cons, All-append}
 use Rattle.ups_life.specs.declared.entry.Entry.{Entry}
 use Rattle.ups_life.specs.declared.request.Ask.TheVariants.{Do}
 use Rattle.ups_life.specs.declared.request.Reply.TheVariants.{Status as Answered}
 use Rattle.ups_life.specs.declared.status.Status.{Status}
 use Rattle.ups_life.specs.declared.status.Status.TheVariants.{Success, ResourceLimitation}
-use Rattle.ups_life.specs.Settings.{Settings}
+use Rattle.ups_life.specs.Settings.{Settings, IsMoment}
 use Rattle.ups_life.specs.Steps.{past, step_of, row_after, nothing, known}
 use Rattle.ups_life.specs.Verdict.{verdict}
 use Rattle.ups_life.specs.History.{accepts, legal, status, sized, in_room, is_sized, fits, repeats, row_then}
@@ -125,3 +124,15 @@ pub small_kept : {A : Type 0} (s : Settings) (history : List (Entry A)) (hs room
 small_kept {A} s history hs room held call x all same put a =
     subst (λ (l : List (HeldStep A)). AllByRecursion IsSmallStep l) (sym (put ∙ ap (put_step x) same))
     (small_put x hs (small_after s call.moment hs x (repeats (past history) call.request) call.request all a.allowed a.row a.fits) all)
+
+-- each moment in a history has a date
+abbrev pub HaveDates : {A : Type 0} → List (Entry A) → Type 0
+HaveDates {A} history = All (λ (e : Entry A). IsMoment e.moment) history
+
+pub no_moments : {A : Type 0} → HaveDates {A = A} []
+no_moments k d h = absurd (omega (arith, h))
+
+pub moments_after : {A : Type 0} (history new : List (Entry A)) (call : Call A) → HaveDates history → IsMoment call.moment → new ≡ history ++ entry call.caller call.ae call.moment call.request ∷ [] → HaveDates new
+moments_after {A} history new call dated is more =
+    let e : Entry A = entry call.caller call.ae call.moment call.request in
+    subst HaveDates (sym more) (All-append (λ (x : Entry A). IsMoment x.moment) history (e ∷ []) dated (All-cons (λ (x : Entry A). IsMoment x.moment) e [] is no_moments))

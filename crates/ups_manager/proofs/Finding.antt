@@ -1,5 +1,5 @@
 -- What is found among the steps is what the definitions say.
-use Rattle.std.proofs.Common.{◌≡◌, ℕ, ◌≤◌, Bool, true, false, cond, List, [], ◌∷◌, length, filter, refl, sym, ap, subst, ◌∙◌, arith, Option, Some, None}
+use Rattle.std.proofs.Common.{◌≡◌, ℕ, ◌≤◌, Bool, true, false, cond, List, [], ◌∷◌, length, filter, sym, ap, subst, ◌∙◌, arith, Option, Some, None}
 use Rattle.std.specs.List.{AllByRecursion}
 use Rattle.std.specs.Option.{option_map}
 use Rattle.std.proofs.lemmas.List.{length-append}
@@ -10,15 +10,14 @@ use Rattle.ups_dataset.specs.Written.{written, written_element}
 use Rattle.ups_life.specs.declared.entry.Entry.{Entry}
 use Rattle.ups_life.specs.declared.request.Reply.{Reply}
 use Rattle.ups_life.specs.declared.request.Reply.TheVariants.{Status as Answered}
-use Rattle.ups_life.specs.declared.row.Row.{Row}
 use Rattle.ups_life.specs.declared.state.StepState.{StepState}
 use Rattle.ups_life.specs.declared.state.StepState.TheVariants.{Scheduled, InProgress, Completed, Canceled}
 use Rattle.ups_life.specs.declared.status.Status.TheVariants.{UnknownInstance}
 use Rattle.ups_life.specs.Settings.{Settings}
-use Rattle.ups_life.specs.Steps.{past, known}
+use Rattle.ups_life.specs.Steps.{known}
 use Rattle.ups_life.specs.History.{got, shown, shown_of}
 use Rattle.ups_manager.specs.declared.rows.HeldStep.{HeldStep}
-use Rattle.ups_manager.specs.Held.{held_steps, slack, IsSmallStep, step_at, row_in}
+use Rattle.ups_manager.specs.Held.{held_steps, slack, IsSmallStep, step_at}
 use Rattle.ups_manager.specs.Law.{IsSmall, SmallReply}
 use Rattle.ups_manager.proofs.Holding.{row_in-held_steps}
 use Rattle.ups_manager.proofs.Small.{small_at}

@@ -1,6 +1,6 @@
 -- A row that fits.
-use Rattle.std.proofs.Common.{◌≡◌, ℕ, ◌+◌, ◌<◌, ◌≤◌, Bool, true, false, ◌&&◌, List, length, refl, arith}
-use Rattle.std.specs.Prelude.{nat_lt, not, min, max}
+use Rattle.std.proofs.Common.{◌≡◌, ℕ, ◌+◌, ◌≤◌, Bool, true, false, ◌&&◌, List, length, refl, arith}
+use Rattle.std.specs.Prelude.{nat_lt, not, min}
 use Rattle.std.proofs.lemmas.Bool.Decides.{nat_tests}
 use Rattle.ups_dataset.specs.declared.limits.TheConstants.{MAX_DEPTH}
 use Rattle.ups_dataset.specs.declared.syntax.TransferSyntax.TheVariants.{Explicit}

@@ -1,9 +1,8 @@
 -- The steps held after a history, and after one more entry.
-use Rattle.std.proofs.Common.{◌≡◌, ℕ, ℤ, Bool, true, false, ◌||◌, ◌&&◌, cond, List, [], ◌∷◌, ◌++◌, map, Option, None, Some, refl, sym, ap, subst, ◌∙◌}
+use Rattle.std.proofs.Common.{◌≡◌, ℕ, ℤ, Bool, true, false, ◌||◌, cond, List, [], ◌∷◌, ◌++◌, map, Option, None, Some, refl, sym, ap, ◌∙◌}
 use Rattle.std.specs.Option.{option_or, option_map, unwrap_or}
 use Rattle.std.specs.Str.{bytes_eq}
 use Rattle.std.specs.List.{list_any}
-use Rattle.ups_dataset.specs.Data.{El}
 use Rattle.ups_life.specs.declared.request.Request.{Request}
 use Rattle.ups_life.specs.declared.request.Request.TheVariants.{Create, Change, AskCancel, Set}
 use Rattle.ups_life.specs.declared.entry.Entry.{Entry}
@@ -13,7 +12,7 @@ use Rattle.ups_life.specs.declared.status.Status.TheVariants.{Success}
 use Rattle.ups_life.specs.Settings.{Settings}
 use Rattle.ups_life.specs.Distinct.{Distinct}
 use Rattle.ups_life.specs.Verdict.{verdict}
-use Rattle.ups_life.specs.Steps.{Claim, is_on, is_step, step_of, creates, used, held, held_after, is_held, known, row_of, row_after, nothing, holder, claim, claimed, taken}
+use Rattle.ups_life.specs.Steps.{Claim, is_on, is_step, step_of, creates, used, held, held_after, is_held, known, row_of, row_after, nothing, holder, claim, taken}
 use Rattle.ups_life.specs.History.{repeats, legal}
 use Rattle.ups_life.proofs.Texts.{same_text, text_is_itself}
 use Rattle.ups_life.proofs.Accepted.{decided, legal_tail, created_fresh, on_held, neither, differ}

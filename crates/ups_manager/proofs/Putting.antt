@@ -1,5 +1,5 @@
 -- A step among those that are held.
-use Rattle.std.proofs.Common.{◌≡◌, ℕ, zero, suc, ◌<◌, Bool, true, false, cond, List, [], ◌∷◌, ◌++◌, length, slice_set, refl, ap, arith}
+use Rattle.std.proofs.Common.{◌≡◌, suc, ◌<◌, Bool, true, false, cond, List, [], ◌∷◌, ◌++◌, length, slice_set, refl, ap, arith}
 use Rattle.std.specs.Str.{bytes_eq}
 use Rattle.ups_manager.specs.declared.rows.HeldStep.{HeldStep}
 use Rattle.ups_manager.specs.Held.{place_in, put_step}

@@ -1,8 +1,9 @@
 -- The steps that are held, as the definitions see them.
-use Rattle.std.specs.Prelude.{◌≡◌, ◌≤◌, ◌+◌, ℕ, ℤ, Bool, true, zero, suc, List, [], ◌∷◌, length, map, Option, None, Some, if◌then◌else◌}
+use Rattle.std.specs.Prelude.{◌≤◌, ◌+◌, ℕ, ℤ, suc, List, [], ◌∷◌, length, map, Option, None, Some, if◌then◌else◌}
 use Rattle.std.specs.Option.{option_map}
 use Rattle.std.specs.Str.{bytes_eq}
 use Rattle.ups_dataset.specs.declared.syntax.TransferSyntax.TheVariants.{Explicit}
+use Rattle.ups_dataset.specs.Data.{El}
 use Rattle.ups_dataset.specs.Written.{written}
 use Rattle.ups_life.specs.declared.entry.Entry.{Entry}
 use Rattle.ups_life.specs.declared.row.Row.{Row}
@@ -20,6 +21,10 @@ held_step offset es u = record { step = u; row = row_of offset es u; holder = ho
 -- the steps held, in order of creation
 abbrev pub held_steps : {A : Type 0} → ℤ → List (Entry A) → List (HeldStep A)
 held_steps offset es = map (held_step offset es) (held es)
+
+-- their attributes
+abbrev pub attributes_in : {A : Type 0} → List (HeldStep A) → List (List El)
+attributes_in {A} hs = map (λ (h : HeldStep A). h.row.attributes) hs
 
 -- the step with this UID
 abbrev pub step_at : {A : Type 0} → List ℕ → List (HeldStep A) → Option (HeldStep A)

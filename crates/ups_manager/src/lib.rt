@@ -9,6 +9,7 @@ mod manager;
 mod rows;
 mod service;
 mod starting;
+mod worklist;
 
 pub use call::Call;
 pub use fault::ManagerFault;

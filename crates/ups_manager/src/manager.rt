@@ -1,14 +1,15 @@
 //! What the service holds: the history of accepted requests, and the steps.
 
-ghost use Rattle.std.specs.Prelude.{[], ◌≡◌, ◌≤◌, ◌<◌, ◌⊎◌, ◌++◌, None, Some, true, false, length, IfOk, IfErr, OnOk, vec_len, vec_capacity};
+ghost use Rattle.std.specs.Prelude.{[], ◌≡◌, ◌≤◌, ◌<◌, ◌^◌, ◌⊎◌, ◌++◌, None, Some, true, false, length, All, IfOk, IfErr, OnOk, vec_len, vec_capacity};
 ghost use Rattle.std.specs.Option.{unwrap_or, option_or, option_copied};
 ghost use Rattle.ups_life.specs.declared.request.Ask.TheVariants.{Do};
-ghost use Rattle.ups_life.specs.declared.request.Reply.TheVariants.{Status as Answered};
-ghost use Rattle.ups_life.specs.declared.status.Status.TheVariants.{Success, ResourceLimitation};
+ghost use Rattle.ups_life.specs.declared.request.Reply.TheVariants.{Status as Answered, Sets as Found};
+ghost use Rattle.ups_life.specs.declared.status.Status.TheVariants.{Success, ResourceLimitation, OutOfResources};
 ghost use Rattle.ups_life.specs.Settings.{IsMoment, IsOffset};
-ghost use Rattle.ups_life.specs.Steps.{past, step_of, row_after, nothing};
+ghost use Rattle.ups_life.specs.Steps.{past, held, step_of, row_after, nothing};
 ghost use Rattle.ups_life.specs.Verdict.{verdict};
 ghost use Rattle.ups_life.specs.History.{accepts, is_sized, fits, repeats, got};
+ghost use Rattle.ups_life.specs.Worklist.{found};
 ghost use Rattle.ups_manager.specs.declared.fault.ManagerFault.TheVariants.{Memory};
 ghost use Rattle.ups_manager.specs.Held.{step_at, row_in, row_of_step, holder_in, claimed_by, holder_of};
 ghost use Rattle.ups_manager.specs.Law.{Answers, SmallReply, entered, is_legal};
@@ -16,19 +17,25 @@ ghost use Rattle.ups_manager.specs.Refusal.{refusal};
 
 use crate::call::Call;
 use crate::fault::ManagerFault;
-use crate::rows::{HeldStep, find, put, row_of};
+use crate::rows::{HeldStep, find, put, row_of, uids_of};
 use crate::starting::refusal;
-use std::alloc::Allocator;
+use crate::worklist::matches_among;
+use std::alloc::{AllocError, Allocator};
 use std::marker::Model;
-use ups_dataset::Tag;
+use ups_dataset::dictionary::TRANSACTION_UID;
+use ups_dataset::{DataSet, Element, Tag, Value};
 use ups_life::{
     Configuration, Entry, Holder, Peer, Reply, Request, Row, Status, StepState, Transaction,
     change, repeats, shown, verdict,
 };
+use ups_match::{Keys, Matcher};
 use ups_pdu::Uid;
 
 /// How many bytes a row may have at most, in Explicit VR Little Endian.
 const ROW_LIMIT: u64 = 1_048_576;
+
+/// How many bytes stand before a value at most, in Explicit VR Little Endian (PS3.5 section 7.1.2).
+const LONGEST_HEADER: u64 = 12;
 
 /// The manager: the history of accepted requests, and the steps that are held. A contract sees it
 /// as what was fixed at the start and the history, oldest first.
@@ -86,6 +93,31 @@ fn is_sized<A: Allocator + Copy>(request: &Request<A>) -> bool
     }
 }
 
+/// How many bytes at most the attributes of a request have that no row keeps: those of its Transaction UID.
+fn left_out<A: Allocator + Copy>(attributes: &DataSet<A>) -> u64 {
+    match attributes.get(TRANSACTION_UID) {
+        Some(
+            Element {
+                value: Value::Bytes(bytes),
+                ..
+            },
+        ) => (bytes.len() as u64).saturating_add(LONGEST_HEADER),
+        Some(_) => u64::MAX,
+        None => 0,
+    }
+}
+
+/// Whether what a request gives is too large for a row whatever else the step has, so that no row need be made
+/// to find that out.
+fn is_too_large<A: Allocator + Copy>(request: &Request<A>) -> bool {
+    match request {
+        Request::Create { attributes, .. } | Request::Set { attributes, .. } => {
+            attributes.size() > ROW_LIMIT.saturating_add(left_out(attributes))
+        }
+        Request::Change { .. } | Request::AskCancel { .. } => false,
+    }
+}
+
 /// The row that a request at a moment makes of its step.
 ///
 /// Errors: 0213H where the row would be too large, its items would nest too deep, or memory runs out.
@@ -102,6 +134,9 @@ fn row_for<A: Allocator + Copy>(
     ensures fits { IfOk result (λ after. is_sized request.now ≡ true → fits after.attributes ≡ true) }
     ensures error { IfErr result (λ e. e ≡ ResourceLimitation) }
 {
+    if is_too_large(request) {
+        return Err(Status::ResourceLimitation);
+    }
     let Ok(after) = change(alloc, row, request, moment, offset) else {
         return Err(Status::ResourceLimitation);
     };
@@ -235,7 +270,8 @@ impl<A: Allocator + Copy> Manager<A> {
 
     /// The offset of the local time from UTC in minutes, above 0 east of it.
     pub fn offset(&self) -> i16
-        ensures { result ≡ self.now.settings.offset }
+        ensures value { result ≡ self.now.settings.offset }
+        ensures within { IsOffset self.now.settings.offset }
     {
         self.configuration.offset()
     }
@@ -251,8 +287,20 @@ impl<A: Allocator + Copy> Manager<A> {
     pub fn history(&self) -> &[Entry<A>]
         ensures shown { result.now ≡ self.now.history }
         ensures legal { is_legal self.now.settings self.now.history }
+        ensures moments { All (λ e. IsMoment e.moment) result.now }
     {
         self.history.as_slice()
+    }
+
+    /// The UIDs of the steps held, in order of creation.
+    ///
+    /// # Errors
+    ///
+    /// Where memory runs out.
+    pub fn held(&self) -> Result<Vec<Uid, A>, AllocError>
+        ensures { IfOk result (λ v. v.items ≡ held (past self.now.history)) }
+    {
+        uids_of(self.alloc, self.steps.as_slice())
     }
 
     /// What an N-GET is answered (PS3.4 CC.2.7): C307H for a step that is not held, 0213H where memory runs
@@ -272,6 +320,19 @@ impl<A: Allocator + Copy> Manager<A> {
         match shown(&held.row.attributes, attributes) {
             Ok(reply) => reply,
             Err(_) => Reply::Status(Status::ResourceLimitation),
+        }
+    }
+
+    /// What a C-FIND is answered (PS3.4 sections CC.2.8 and C.4.1): the steps held to which a matcher says yes, in
+    /// order of creation, each with the attributes that the keys name; A700H where memory runs out.
+    pub fn find<M: Matcher>(&self, keys: &Keys<A>, matcher: &mut M) -> Reply<A>
+        requires count { M.asked matcher.old < 2 ^ 63 }
+        ensures answer { (result ≡ Found (found M.says self.now.settings.offset (past self.now.history) keys.now)) ⊎ (result ≡ Answered OutOfResources) }
+        ensures legal { is_legal self.now.settings self.now.history }
+    {
+        match matches_among(self.alloc, self.steps.as_slice(), keys, matcher) {
+            Ok(sets) => Reply::Sets(sets),
+            Err(_) => Reply::Status(Status::OutOfResources),
         }
     }
 

@@ -1,10 +1,10 @@
 //! The steps that are held.
 
-ghost use Rattle.std.specs.Prelude.{◌≡◌, ◌<◌, vec_len, vec_capacity};
+ghost use Rattle.std.specs.Prelude.{◌≡◌, ◌<◌, map, IfOk, vec_len, vec_capacity};
 ghost use Rattle.std.specs.Option.{option_copied, option_map};
 ghost use Rattle.ups_manager.specs.Held.{step_at, place_in, put_step};
 
-use std::alloc::Allocator;
+use std::alloc::{AllocError, Allocator};
 use ups_life::{Holder, Row};
 use ups_pdu::Uid;
 
@@ -49,6 +49,22 @@ pub(crate) fn row_of<A: Allocator + Copy>(held: Option<&HeldStep<A>>) -> Option<
         Some(held) => Some(&held.row),
         None => None,
     }
+}
+
+/// The UIDs of steps, in their order.
+///
+/// Errors: where memory runs out.
+pub(crate) fn uids_of<A: Allocator + Copy>(
+    alloc: A,
+    steps: &[HeldStep<A>],
+) -> Result<Vec<Uid, A>, AllocError>
+    ensures { IfOk result (λ v. v.items ≡ map (λ h. h.step) steps.now) }
+{
+    let mut uids = Vec::with_capacity(alloc, steps.len())?;
+    for held in steps {
+        uids.push(held.step)?;
+    }
+    Ok(uids)
 }
 
 /// Puts a step in the place of the one with its UID, or else behind the others.

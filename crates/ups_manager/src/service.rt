@@ -9,6 +9,7 @@ use crate::call::Call;
 use crate::manager::Manager;
 use std::alloc::Allocator;
 use ups_life::{Ask, Reply};
+use ups_match::Probe;
 use ups_pdu::Ae;
 
 /// What answers a session: the manager, or a pass to one that others share. It has what was fixed at the start,
@@ -72,6 +73,7 @@ impl<A: Allocator + Copy> Service<A> for Manager<A> {
                 request,
             }),
             Ask::Get { step, attributes } => self.get(step, attributes.as_slice()),
+            Ask::Find(keys) => self.find(&keys, &mut Probe::new()),
         }
     }
 }

@@ -16,6 +16,7 @@ mod life_cycle;
 mod limits;
 mod memory;
 mod starting;
+mod worklists;
 
 /// The steps that the tests create.
 pub(crate) const STEPS: [&str; 3] = ["1.2.3.1", "1.2.3.2", "1.2.3.3"];
@@ -33,10 +34,6 @@ const STEP: [(Tag, &str); 5] = [
 /// Endian: 26, 8, 14, 6, 10, 6 and 8 bytes of values, each with 8 bytes before it.
 pub(crate) const ROW: &str =
     "00080016=1.2.840.10008.5.1.4.34.6.1 00080018=1.2.3.1_ 00404005=20240229120000 00404041=READY_ 00741000=SCHEDULED_ 00741200=MEDIUM 00741204=CT_READ_ ";
-
-/// What is shown of it once it is claimed.
-pub(crate) const CLAIMED: &str =
-    "00080016=1.2.840.10008.5.1.4.34.6.1 00080018=1.2.3.1_ 00404005=20240229120000 00404041=READY_ 00741000=IN_PROGRESS_ 00741200=MEDIUM 00741204=CT_READ_ ";
 
 /// The moment at which steps are created: 2024-02-29 12:00:00 UTC.
 pub(crate) const NOON: u64 = 1_709_208_000;
@@ -77,16 +74,10 @@ pub(crate) enum Sent {
     Nothing,
     /// An attribute with a text.
     Text(Tag, &'static str),
-    /// All but this attribute.
-    Without(Tag),
     /// What COMPLETED needs: the start and the end of what was performed.
     Performed,
     /// What CANCELED needs: when the step was given up.
     GivenUp,
-    /// How far the step has come, of which patient, and a Transaction UID.
-    HalfDone,
-    /// Why a step is to be canceled, and whom to ask.
-    Stop,
 }
 
 /// Progress information.
@@ -100,22 +91,6 @@ const PERFORMED: [(Tag, &str); 2] = [
 
 /// The text of a step that was given up.
 const GIVEN_UP: [(Tag, &str); 1] = [(PROCEDURE_STEP_CANCELLATION_DATE_TIME, "20240229120300")];
-
-/// The texts of a step that is half done.
-const HALF_DONE: [(Tag, &str); 2] = [
-    (PROCEDURE_STEP_PROGRESS, "50"),
-    (PROCEDURE_STEP_PROGRESS_DESCRIPTION, "half done "),
-];
-
-/// The texts of a patient, with a Transaction UID.
-const PATIENT: [(Tag, &str); 2] = [(PATIENT_NAME, "DOE^JANE"), (TRANSACTION_UID, "2.1\0")];
-
-/// The texts of a cancel request.
-const STOP: [(Tag, &str); 3] = [
-    (CONTACT_DISPLAY_NAME, "NOBODY"),
-    (PROCEDURE_STEP_LABEL, "X "),
-    (REASON_FOR_CANCELLATION, "stop"),
-];
 
 /// What is asked of the step with a UID.
 #[derive(Clone, Copy)]
@@ -222,17 +197,11 @@ fn with<A: Allocator + Copy>(
     match sent {
         Sent::Nothing => {}
         Sent::Text(tag, text) => put_bytes(alloc, &mut set, tag, vr_of(tag), text.as_bytes())?,
-        Sent::Without(tag) => set = set.without(tag)?,
         Sent::Performed => {
             let tag = UNIFIED_PROCEDURE_STEP_PERFORMED_PROCEDURE_SEQUENCE;
             put_item(alloc, &mut set, tag, set_of(alloc, &PERFORMED)?)?;
         }
         Sent::GivenUp => put_item(alloc, &mut set, PROGRESS, set_of(alloc, &GIVEN_UP)?)?,
-        Sent::HalfDone => {
-            put_item(alloc, &mut set, PROGRESS, set_of(alloc, &HALF_DONE)?)?;
-            put_texts(alloc, &mut set, &PATIENT)?;
-        }
-        Sent::Stop => put_texts(alloc, &mut set, &STOP)?,
     }
     Ok(set)
 }
@@ -295,6 +264,7 @@ pub(crate) fn status_of<A: Allocator + Copy>(reply: &Reply<A>) -> u16 {
     match reply {
         Reply::Status(status) => status.code(),
         Reply::Set(status, _) => status.code(),
+        Reply::Sets(_) => 0x0000,
     }
 }
 

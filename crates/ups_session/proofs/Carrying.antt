@@ -4,6 +4,7 @@ use Rattle.std.proofs.lemmas.List.{map-append, take_more}
 use Rattle.std.specs.Io.KnownBytes.{Appends}
 use Rattle.ups_pdu.specs.declared.pdu.Pdu.{Pdu}
 use Rattle.ups_pdu.specs.declared.pdv.Pdv.{Pdv}
+use Rattle.ups_assoc.specs.declared.negotiating.Config.{Config}
 use Rattle.ups_life.specs.Settings.{Settings}
 use Rattle.ups_life.specs.declared.entry.Entry.{Entry}
 use Rattle.ups_life.specs.declared.request.Reply.{Reply}
@@ -27,9 +28,9 @@ did_one live h said sent (Ok y) is = (refl, refl, is)
 did_one live h said sent (Err e) (why, part) = (why, ([], append-nil (h ∷ [])), part)
 
 -- something is said
-pub says_on : {A Y : Type 0} (ae : List ℕ) (from live : Live A) (h : Happening A) (said : List (Pdu A)) (c0 c1 m0 m1 : Option (List ℕ)) (s : Settings) (k : ℕ) (seen : List (Entry A)) (sent : List ℕ) (r : Result Y SessionFault)
-    → Reacts ae from h (saying live said) → Appends c0 c1 sent → Says (spelled said) sent r → Tells m0 m1 [] → Goes (Happens (acceptor ae)) (h ∷ []) from live (world c0 m0 s k seen) (world c1 m1 s k seen) r
-says_on {A} ae from live h said c0 c1 m0 m1 s k seen sent r reacts writes is tells =
+pub says_on : {A Y : Type 0} (config : Config) (from live : Live A) (h : Happening A) (said : List (Pdu A)) (c0 c1 m0 m1 : Option (List ℕ)) (s : Settings) (k : ℕ) (seen : List (Entry A)) (sent : List ℕ) (r : Result Y SessionFault)
+    → Reacts config from h (saying live said) → Appends c0 c1 sent → Says (spelled said) sent r → Tells m0 m1 [] → Goes (Happens (acceptor config)) (h ∷ []) from live (world c0 m0 s k seen) (world c1 m1 s k seen) r
+says_on {A} config from live h said c0 c1 m0 m1 s k seen sent r reacts writes is tells =
     let talk : Talk A = record { said = said; asks = []; replies = [] } in
     record {
       some = h ∷ [];
@@ -37,7 +38,7 @@ says_on {A} ae from live h said c0 c1 m0 m1 s k seen sent r reacts writes is tel
       end = live;
       sent = sent;
       moments = [];
-      ran = chain_one (Happens (acceptor ae)) h from live talk (saying live said, reacts, (refl, refl, refl, refl));
+      ran = chain_one (Happens (acceptor config)) h from live talk (saying live said, reacts, (refl, refl, refl, refl));
       settings = refl;
       caller = refl;
       writes = writes;
@@ -47,10 +48,10 @@ says_on {A} ae from live h said c0 c1 m0 m1 s k seen sent r reacts writes is tel
     }
 
 -- something is asked, and the reply is said
-pub asks_on : {A Y : Type 0} (ae : List ℕ) (from live : Live A) (h : Happening A) (w : Waiting A) (m : ℕ) (q : Reply A) (c0 c1 m0 m1 m2 : Option (List ℕ)) (s s2 : Settings) (k k2 : ℕ) (seen seen2 : List (Entry A)) (sent : List ℕ) (r : Result Y SessionFault)
-    → Reacts ae from h (record { live = live; say = []; waiting = Some w }) → Tells m0 m1 (m ∷ []) → Tells m1 m2 [] → s2 ≡ s → k2 ≡ k → Serves s k seen w.ae m w.ask q seen2
-    → Appends c0 c1 sent → Says (spelled (response w.max w.context w.command q)) sent r → Goes (Happens (acceptor ae)) (h ∷ []) from live (world c0 m0 s k seen) (world c1 m2 s2 k2 seen2) r
-asks_on {A} ae from live h w m q c0 c1 m0 m1 m2 s s2 k k2 seen seen2 sent r reacts told quiet same one serves writes is =
+pub asks_on : {A Y : Type 0} (config : Config) (from live : Live A) (h : Happening A) (w : Waiting A) (m : ℕ) (q : Reply A) (c0 c1 m0 m1 m2 : Option (List ℕ)) (s s2 : Settings) (k k2 : ℕ) (seen seen2 : List (Entry A)) (sent : List ℕ) (r : Result Y SessionFault)
+    → Reacts config from h (record { live = live; say = []; waiting = Some w }) → Tells m0 m1 (m ∷ []) → Tells m1 m2 [] → s2 ≡ s → k2 ≡ k → Serves s k seen w.ae m w.ask q seen2
+    → Appends c0 c1 sent → Says (spelled (response w.max w.context w.command q)) sent r → Goes (Happens (acceptor config)) (h ∷ []) from live (world c0 m0 s k seen) (world c1 m2 s2 k2 seen2) r
+asks_on {A} config from live h w m q c0 c1 m0 m1 m2 s s2 k k2 seen seen2 sent r reacts told quiet same one serves writes is =
     let said : List (Pdu A) = response w.max w.context w.command q in
     let talk : Talk A = record { said = said; asks = record { ae = w.ae; ask = w.ask } ∷ []; replies = q ∷ [] } in
     record {
@@ -59,7 +60,7 @@ asks_on {A} ae from live h w m q c0 c1 m0 m1 m2 s s2 k k2 seen seen2 sent r reac
       end = live;
       sent = sent;
       moments = m ∷ [];
-      ran = chain_one (Happens (acceptor ae)) h from live talk
+      ran = chain_one (Happens (acceptor config)) h from live talk
           (record { live = live; say = []; waiting = Some w }, reacts, (w, saying live said, said, [], refl, refl, (refl, refl, refl, refl), refl, refl));
       settings = same;
       caller = one;
@@ -79,17 +80,17 @@ came_all k xs = ap (map fragment) (sym (take-append-drop k xs)) ∙ map-append f
 one_more : {A : Type 0} (k : ℕ) (xs : List (Pdv A)) (p : Pdv A) → k < length xs → p ≡ get_or xs k p → take (k + 1) xs ≡ take k xs ++ p ∷ []
 one_more k xs p lt e = take_more xs k p lt ∙ ap (λ q. take k xs ++ q ∷ []) (sym e)
 
-pub fragments_on : {A : Type 0} (ae : List ℕ) (k : ℕ) (xs : List (Pdv A)) (p : Pdv A) (live mid after : Live A) (u v w : World A) → k < length xs → p ≡ get_or xs k p
-    → Goes (Happens (acceptor ae)) (map fragment (take k xs)) live mid u v okay → Goes (Happens (acceptor ae)) (fragment p ∷ []) mid after v w okay → Goes (Happens (acceptor ae)) (map fragment (take (k + 1) xs)) live after u w okay
-fragments_on {A} ae k xs p live mid after u v w lt e g h =
-    subst (λ (hs : List (Happening A)). Goes (Happens (acceptor ae)) hs live after u w okay) (sym (came_more k xs p (one_more k xs p lt e)))
-    (goes_on (Happens (acceptor ae)) (map fragment (take k xs)) (fragment p ∷ []) live mid after u v w tt okay g h)
+pub fragments_on : {A : Type 0} (config : Config) (k : ℕ) (xs : List (Pdv A)) (p : Pdv A) (live mid after : Live A) (u v w : World A) → k < length xs → p ≡ get_or xs k p
+    → Goes (Happens (acceptor config)) (map fragment (take k xs)) live mid u v okay → Goes (Happens (acceptor config)) (fragment p ∷ []) mid after v w okay → Goes (Happens (acceptor config)) (map fragment (take (k + 1) xs)) live after u w okay
+fragments_on {A} config k xs p live mid after u v w lt e g h =
+    subst (λ (hs : List (Happening A)). Goes (Happens (acceptor config)) hs live after u w okay) (sym (came_more k xs p (one_more k xs p lt e)))
+    (goes_on (Happens (acceptor config)) (map fragment (take k xs)) (fragment p ∷ []) live mid after u v w tt okay g h)
 
-pub fragments_cut : {A : Type 0} (ae : List ℕ) (k : ℕ) (xs : List (Pdv A)) (p : Pdv A) (live mid after : Live A) (u v w : World A) (e : SessionFault) → k < length xs → p ≡ get_or xs k p
-    → Goes (Happens (acceptor ae)) (map fragment (take k xs)) live mid u v okay → Goes (Happens (acceptor ae)) (fragment p ∷ []) mid after v w (failing e) → Goes (Happens (acceptor ae)) (map fragment xs) live after u w (failing e)
-fragments_cut {A} ae k xs p live mid after u v w e lt is g h =
-    let some : Goes (Happens (acceptor ae)) (map fragment (take (k + 1) xs)) live after u w (failing e) =
-    subst (λ (hs : List (Happening A)). Goes (Happens (acceptor ae)) hs live after u w (failing e)) (sym (came_more k xs p (one_more k xs p lt is)))
-    (goes_on (Happens (acceptor ae)) (map fragment (take k xs)) (fragment p ∷ []) live mid after u v w tt (failing e) g h) in
-    subst (λ (hs : List (Happening A)). Goes (Happens (acceptor ae)) hs live after u w (failing e)) (sym (came_all (k + 1) xs))
-    (goes_cut (Happens (acceptor ae)) (map fragment (take (k + 1) xs)) (map fragment (drop (k + 1) xs)) live after after u w e some)
+pub fragments_cut : {A : Type 0} (config : Config) (k : ℕ) (xs : List (Pdv A)) (p : Pdv A) (live mid after : Live A) (u v w : World A) (e : SessionFault) → k < length xs → p ≡ get_or xs k p
+    → Goes (Happens (acceptor config)) (map fragment (take k xs)) live mid u v okay → Goes (Happens (acceptor config)) (fragment p ∷ []) mid after v w (failing e) → Goes (Happens (acceptor config)) (map fragment xs) live after u w (failing e)
+fragments_cut {A} config k xs p live mid after u v w e lt is g h =
+    let some : Goes (Happens (acceptor config)) (map fragment (take (k + 1) xs)) live after u w (failing e) =
+    subst (λ (hs : List (Happening A)). Goes (Happens (acceptor config)) hs live after u w (failing e)) (sym (came_more k xs p (one_more k xs p lt is)))
+    (goes_on (Happens (acceptor config)) (map fragment (take k xs)) (fragment p ∷ []) live mid after u v w tt (failing e) g h) in
+    subst (λ (hs : List (Happening A)). Goes (Happens (acceptor config)) hs live after u w (failing e)) (sym (came_all (k + 1) xs))
+    (goes_cut (Happens (acceptor config)) (map fragment (take (k + 1) xs)) (map fragment (drop (k + 1) xs)) live after after u w e some)

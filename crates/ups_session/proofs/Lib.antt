@@ -8,6 +8,6 @@ pub mod Going
 pub mod Headed
 pub mod Hearings
 pub mod Receiving
-pub mod Replying
+pub mod Parts
 pub mod Spoken
 pub mod Telling

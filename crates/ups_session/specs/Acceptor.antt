@@ -1,5 +1,5 @@
 -- What is made of an association that a peer opens (PS3.8 section 9.2).
-use Rattle.std.specs.Prelude.{◌≡◌, ◌⊎◌, ℕ, Bool, true, false, not, ◌==◌, List, [], ◌∷◌, map, Option, None, Some, if◌then◌else◌}
+use Rattle.std.specs.Prelude.{◌≡◌, ◌⊎◌, ℕ, ℤ, Bool, true, false, not, ◌==◌, List, [], ◌∷◌, map, Option, None, Some, if◌then◌else◌}
 use Rattle.std.specs.Option.{unwrap_or}
 use Rattle.ups_ulstate.specs.declared.state.UlState.{UlState}
 use Rattle.ups_ulstate.specs.declared.state.UlState.TheVariants.{Sta2}
@@ -14,10 +14,11 @@ use Rattle.ups_pdu.specs.declared.pdu.Pdu.{Pdu}
 use Rattle.ups_pdu.specs.declared.pdu.Pdu.TheVariants.{AssociateAc, AssociateRj, ReleaseRp, Abort}
 use Rattle.ups_pdu.specs.declared.pdv.Pdv.{Pdv}
 use Rattle.ups_dimse.specs.declared.command.Command.{Command}
-use Rattle.ups_dimse.specs.declared.command.Command.TheVariants.{Request, Response}
+use Rattle.ups_dimse.specs.declared.command.Command.TheVariants.{Request, Response, Cancel}
 use Rattle.ups_dimse.specs.declared.command.RequestCommand.{RequestCommand}
 use Rattle.ups_dimse.specs.Commands.{SpellsCommand}
 use Rattle.ups_assoc.specs.declared.negotiating.AcceptedContext.{AcceptedContext}
+use Rattle.ups_assoc.specs.declared.negotiating.Config.{Config}
 use Rattle.ups_assoc.specs.declared.negotiating.Acceptance.{Acceptance}
 use Rattle.ups_assoc.specs.declared.negotiating.Outcome.{Outcome}
 use Rattle.ups_assoc.specs.declared.negotiating.Outcome.TheVariants.{Accept, Reject}
@@ -156,48 +157,50 @@ abbrev pub decides : {A : Type 0} → Terms A → AcceptedContext → RequestCom
 decides terms context command (Answer status) = Some (response terms.max context command (Answered status), None)
 decides terms context command (Question ask) = Some ([], Some (record { ae = terms.ae; ask = ask; max = terms.max; context = context; command = command }))
 
--- a response that nobody asked for is taken, and not answered
-abbrev pub Commanded : {A : Type 0} → Terms A → Option AcceptedContext → Option (List ℕ) → Command A → Heard A → Type 0
-Commanded terms context body (Response response) h = h ≡ Some ([], None)
-Commanded terms None body (Request command) h = h ≡ None
-Commanded {A} terms (Some context) body (Request command) h =
-    (decision : Decision A) × Decides context command body decision × (h ≡ decides terms context command decision)
+-- A response that nobody asked for is taken, and not answered; and so is a C-CANCEL, since each C-FIND is answered whole
+-- before anything else is read (PS3.7 section 9.3.2.3).
+abbrev pub Commanded : {A : Type 0} → ℤ → Terms A → Option AcceptedContext → Option (List ℕ) → Command A → Heard A → Type 0
+Commanded offset terms context body (Response response) h = h ≡ Some ([], None)
+Commanded offset terms context body (Cancel cancel) h = h ≡ Some ([], None)
+Commanded offset terms None body (Request command) h = h ≡ None
+Commanded {A} offset terms (Some context) body (Request command) h =
+    (decision : Decision A) × Decides offset context command body decision × (h ≡ decides terms context command decision)
 
 -- a whole message; where its command can't be read, the association is aborted
-abbrev pub Understands : {A : Type 0} → Terms A → RawMessage A → Heard A → Type 0
-Understands {A} terms message h =
-    ((command : Command A) × SpellsCommand message.command command × Commanded terms (context_at message.context terms.contexts) message.body command h)
+abbrev pub Understands : {A : Type 0} → ℤ → Terms A → RawMessage A → Heard A → Type 0
+Understands {A} offset terms message h =
+    ((command : Command A) × SpellsCommand message.command command × Commanded offset terms (context_at message.context terms.contexts) message.body command h)
     ⊎ (((command : Command A) → SpellsCommand message.command command → ⊥) × (h ≡ None))
 
 -- a fragment: a message goes on, or is whole; or there is none, and the association is aborted
-abbrev pub Continues : {A : Type 0} → Live A → Agreed A → Fed A → TurnOf A → Type 0
-Continues live agreed (more begun) turn = turn ≡ saying (with_begun live agreed begun) []
-Continues {A} live agreed (whole message) turn = (h : Heard A) × Understands agreed.terms message h × (turn ≡ heard (with_begun live agreed Nothing) h)
-Continues live agreed (fault why) turn = turn ≡ aborting (with_begun live agreed Failed)
+abbrev pub Continues : {A : Type 0} → ℤ → Live A → Agreed A → Fed A → TurnOf A → Type 0
+Continues offset live agreed (more begun) turn = turn ≡ saying (with_begun live agreed begun) []
+Continues {A} offset live agreed (whole message) turn = (h : Heard A) × Understands offset agreed.terms message h × (turn ≡ heard (with_begun live agreed Nothing) h)
+Continues offset live agreed (fault why) turn = turn ≡ aborting (with_begun live agreed Failed)
 
-abbrev pub Received : {A : Type 0} → Live A → Option (Agreed A) → Pdv A → TurnOf A → Type 0
-Received live None pdv turn = turn ≡ saying live []
-Received live (Some agreed) pdv turn = Continues live agreed (fed agreed.assembler.ids agreed.assembler.begun pdv) turn
+abbrev pub Received : {A : Type 0} → ℤ → Live A → Option (Agreed A) → Pdv A → TurnOf A → Type 0
+Received offset live None pdv turn = turn ≡ saying live []
+Received offset live (Some agreed) pdv turn = Continues offset live agreed (fed agreed.assembler.ids agreed.assembler.begun pdv) turn
 
-abbrev pub Indicated : {A : Type 0} → Live A → Pdv A → Option (UlAction × UlState) → TurnOf A → Type 0
-Indicated live pdv None turn = turn ≡ saying live []
-Indicated live pdv (Some (Dt2, state)) turn = Received (moved live events.Data Dt2 state) live.agreed pdv turn
-Indicated live pdv (Some (action, state)) turn = turn ≡ acts unexpected (moved live events.Data action state) action
+abbrev pub Indicated : {A : Type 0} → ℤ → Live A → Pdv A → Option (UlAction × UlState) → TurnOf A → Type 0
+Indicated offset live pdv None turn = turn ≡ saying live []
+Indicated offset live pdv (Some (Dt2, state)) turn = Received offset (moved live events.Data Dt2 state) live.agreed pdv turn
+Indicated offset live pdv (Some (action, state)) turn = turn ≡ acts unexpected (moved live events.Data action state) action
 
--- What is made of each thing that happens, where ae is the title of this application entity.
-abbrev pub Reacts : {A : Type 0} → List ℕ → Live A → Happening A → TurnOf A → Type 0
-Reacts ae live (event e) turn = turn ≡ plainly unexpected live e (next_of false true e live.state)
-Reacts ae live (request rq) turn = turn ≡ requested live (outcome ae rq)
-Reacts ae live (fragment pdv) turn = Indicated live pdv (next_of false true events.Data live.state) turn
-Reacts ae live (invalid f) turn = turn ≡ plainly (reason_of f) live events.Invalid (next_of false true events.Invalid live.state)
+-- What is made of each thing that happens, by the title of this application entity and its offset from UTC in minutes.
+abbrev pub Reacts : {A : Type 0} → Config → Live A → Happening A → TurnOf A → Type 0
+Reacts config live (event e) turn = turn ≡ plainly unexpected live e (next_of false true e live.state)
+Reacts config live (request rq) turn = turn ≡ requested live (outcome config.ae rq)
+Reacts config live (fragment pdv) turn = Indicated config.offset live pdv (next_of false true events.Data live.state) turn
+Reacts config live (invalid f) turn = turn ≡ plainly (reason_of f) live events.Invalid (next_of false true events.Invalid live.state)
 
 -- a reply of the service is what the request is answered
 abbrev pub HearsReply : {A : Type 0} → Live A → Waiting A → Reply A → TurnOf A → Type 0
 HearsReply live w reply turn = turn ≡ saying live (response w.max w.context w.command reply)
 
 -- the side that a peer opens an association with
-abbrev pub acceptor : {A : Type 0} → List ℕ → Side A (Live A) (Waiting A)
-acceptor ae = record { state = λ live. live.state; Reacts = Reacts ae; asked = λ w. record { ae = w.ae; ask = w.ask }; Hears = HearsReply }
+abbrev pub acceptor : {A : Type 0} → Config → Side A (Live A) (Waiting A)
+acceptor config = record { state = λ live. live.state; Reacts = Reacts config; asked = λ w. record { ae = w.ae; ask = w.ask }; Hears = HearsReply }
 
 -- a transport connection was opened, and an A-ASSOCIATE-RQ is awaited
 abbrev pub opened : {A : Type 0} → Live A

@@ -1,5 +1,5 @@
 -- Which requests a presentation context takes, and what they ask (PS3.4 CC.2, PS3.7 sections 9 and 10).
-use Rattle.std.specs.Prelude.{◌≡◌, ◌⊎◌, ◌==◌, ℕ, Bool, true, false, ◌||◌, List, [], Option, None, Some, Result, Ok, Err, MatchBool}
+use Rattle.std.specs.Prelude.{◌≡◌, ◌⊎◌, ◌==◌, ℕ, ℤ, Bool, true, false, ◌||◌, List, [], Option, None, Some, Result, Ok, Err, MatchBool}
 use Rattle.std.specs.Str.{bytes_eq}
 use Rattle.ups_pdu.specs.declared.registered.RegisteredUid.TheVariants as registered
 use Rattle.ups_pdu.specs.Registered.{text_of}
@@ -15,7 +15,7 @@ use Rattle.ups_assoc.specs.declared.negotiating.AcceptedContext.{AcceptedContext
 use Rattle.ups_assoc.specs.Classes.{uid_of}
 use Rattle.ups_life.specs.declared.request.Ask.{Ask}
 use Rattle.ups_life.specs.declared.status.Status.{Status}
-use Rattle.ups_life.specs.declared.status.Status.TheVariants.{Success, UnrecognizedOperation, NoSuchSopClass, NoSuchActionType, ProcessingFailure}
+use Rattle.ups_life.specs.declared.status.Status.TheVariants.{Success, UnrecognizedOperation, NoSuchSopClass, NoSuchActionType, ProcessingFailure, UnableToProcess}
 use Rattle.ups_life.specs.Asking.{asked}
 use Rattle.ups_session.specs.declared.deciding.Decision.{Decision}
 use Rattle.ups_session.specs.declared.deciding.Decision.TheVariants.{Answer, Question}
@@ -29,8 +29,10 @@ offers UpsPush (operations.Action instance action) = true
 offers UpsPull (operations.Get instance attributes) = true
 offers UpsPull (operations.Set instance) = true
 offers UpsPull (operations.Action instance action) = true
+offers UpsPull (operations.Find priority) = true
 offers UpsWatch (operations.Get instance attributes) = true
 offers UpsWatch (operations.Action instance action) = true
+offers UpsWatch (operations.Find priority) = true
 offers class operation = false
 
 -- the action types of each SOP class (PS3.4 table CC.2-1): 1 is Change UPS State, 2 is Request UPS Cancel
@@ -61,25 +63,31 @@ abbrev pub HasSet : TransferSyntax → Option (List ℕ) → List El → Type 0
 HasSet syntax None set = set ≡ []
 HasSet syntax (Some body) set = SpellsSet syntax body set
 
--- a C-ECHO is answered at once; any other request asks something, or is refused
+-- the status of a request whose data set can't be read: of a C-FIND its own (PS3.7 annex C, PS3.4 section C.4.1.1.4)
+abbrev pub unread : {A : Type 0} → Operation A → Status
+unread (operations.Find priority) = UnableToProcess
+unread operation = ProcessingFailure
+
+-- A C-ECHO is answered at once; any other request asks something, or is refused. The offset is that of the local time
+-- from UTC, in minutes.
 abbrev pub question : {A : Type 0} → Result (Ask A) Status → Decision A
 question (Ok ask) = Question ask
 question (Err status) = Answer status
 
-abbrev pub decided : {A : Type 0} → Operation A → List El → Decision A
-decided operations.Echo set = Answer Success
-decided operation set = question (asked operation set)
+abbrev pub decided : {A : Type 0} → ℤ → Operation A → List El → Decision A
+decided offset operations.Echo set = Answer Success
+decided offset operation set = question (asked offset operation set)
 
 -- What comes of a request with its data set on a context. It is refused, in this order, where its service is none of
 -- the context's SOP class (0211H), where it names another SOP class (0118H), where it is an N-ACTION of a type that the
--- class doesn't have (0123H), and where its data set can't be read (0110H).
-abbrev pub Decides : {A : Type 0} → AcceptedContext → RequestCommand A → Option (List ℕ) → Decision A → Type 0
-Decides context request body decision =
+-- class doesn't have (0123H), and where its data set can't be read (0110H, of a C-FIND C000H).
+abbrev pub Decides : {A : Type 0} → ℤ → AcceptedContext → RequestCommand A → Option (List ℕ) → Decision A → Type 0
+Decides offset context request body decision =
     MatchBool (offers context.sop_class request.operation) (
     MatchBool (takes context.sop_class request.operation request.sop_class) (
     MatchBool (acts context.sop_class request.operation) (
-    ((set : List El) × HasSet context.transfer_syntax body set × (decision ≡ decided request.operation set))
-    ⊎ (((set : List El) → HasSet context.transfer_syntax body set → ⊥) × (decision ≡ Answer ProcessingFailure)))
+    ((set : List El) × HasSet context.transfer_syntax body set × (decision ≡ decided offset request.operation set))
+    ⊎ (((set : List El) → HasSet context.transfer_syntax body set → ⊥) × (decision ≡ Answer (unread request.operation))))
     (decision ≡ Answer NoSuchActionType))
     (decision ≡ Answer NoSuchSopClass))
     (decision ≡ Answer UnrecognizedOperation)

@@ -4,6 +4,7 @@ ghost use Rattle.std.specs.Prelude.{◌≡◌, ◌≤◌, [], ◌∷◌, ℕ, Li
 ghost use Rattle.std.specs.Io.KnownBytes.{Appends, Consumes};
 ghost use Rattle.ups_pdu.specs.declared.pdu.Pdu.TheVariants as pdus;
 ghost use Rattle.ups_pdu.specs.Spelling.{SpellsPdu};
+ghost use Rattle.ups_assoc.specs.declared.negotiating.Config.{Config};
 ghost use Rattle.ups_session.specs.Fold.{Happening, event as happened, request as requested, fragment as came, invalid as arrived, happenings, Happens};
 ghost use Rattle.ups_session.specs.Acceptor.{acceptor, opened, Reacts};
 ghost use Rattle.ups_session.specs.Deeds.{turn_of, IsWritable, IsRoomy};
@@ -16,7 +17,7 @@ use crate::deed::{Deed, Waiting};
 use crate::fault::{End, SessionFault};
 use crate::gate::Gate;
 use crate::live::{Live, UNEXPECTED};
-use crate::responding::response;
+use crate::replying::say_reply;
 use crate::saying::say;
 use crate::taking::{Got, read_one};
 use std::alloc::Allocator;
@@ -37,8 +38,8 @@ fn respond<A: Allocator + Copy, W: Write, S: Service<A>, G: Gate>(
     waiting: Waiting<A>,
 ) -> Result<(), SessionFault>
     requires { 8 ≤ waiting.max }
-    ensures { (ae : List ℕ) → (from : Live A) → (live : Live A) → (h : Happening A) → Reacts ae from h (record { live = live; say = []; waiting = Some waiting })
-        → Goes (Happens (acceptor ae)) (h ∷ []) from live
+    ensures { (config : Config) → (from : Live A) → (live : Live A) → (h : Happening A) → Reacts config from h (record { live = live; say = []; waiting = Some waiting })
+        → Goes (Happens (acceptor config)) (h ∷ []) from live
         (world (W.contents writer.old) (G.moments gate.old) (S.settings service.old) (S.caller service.old) (S.seen service.old))
         (world (W.contents writer.new) (G.moments gate.new) (S.settings service.new) (S.caller service.new) (S.seen service.new)) result }
 {
@@ -51,8 +52,7 @@ fn respond<A: Allocator + Copy, W: Write, S: Service<A>, G: Gate>(
     } = waiting;
     let moment = gate.now();
     let reply = service.call(ae, moment, ask);
-    let said = response(alloc, max, &context, &command, &reply)?;
-    say(alloc, writer, gate, said.as_slice())
+    say_reply(alloc, writer, gate, max, &context, &command, &reply)
 }
 
 /// Does what something that happens makes a session do.
@@ -66,8 +66,8 @@ fn carry<A: Allocator + Copy, W: Write, S: Service<A>, G: Gate>(
     deed: Deed<A>,
 ) -> Result<(), SessionFault>
     requires { IsWritable deed }
-    ensures { (ae : List ℕ) → (from : Live A) → (live : Live A) → (h : Happening A) → Reacts ae from h (turn_of live deed)
-        → Goes (Happens (acceptor ae)) (h ∷ []) from live
+    ensures { (config : Config) → (from : Live A) → (live : Live A) → (h : Happening A) → Reacts config from h (turn_of live deed)
+        → Goes (Happens (acceptor config)) (h ∷ []) from live
         (world (W.contents writer.old) (G.moments gate.old) (S.settings service.old) (S.caller service.old) (S.seen service.old))
         (world (W.contents writer.new) (G.moments gate.new) (S.settings service.new) (S.caller service.new) (S.seen service.new)) result }
 {
@@ -88,7 +88,7 @@ fn on_event<A: Allocator + Copy, W: Write, S: Service<A>, G: Gate>(
     gate: &mut G,
     event: UlEvent,
 ) -> Result<(), SessionFault>
-    ensures goes { (ae : List ℕ) → Goes (Happens (acceptor ae)) (happened event ∷ []) live.old live.new
+    ensures goes { (config : Config) → Goes (Happens (acceptor config)) (happened event ∷ []) live.old live.new
         (world (W.contents writer.old) (G.moments gate.old) (S.settings service.old) (S.caller service.old) (S.seen service.old))
         (world (W.contents writer.new) (G.moments gate.new) (S.settings service.new) (S.caller service.new) (S.seen service.new)) result }
     ensures agreed { live.new.agreed ≡ live.old.agreed }
@@ -108,7 +108,7 @@ fn on_invalid<A: Allocator + Copy, W: Write, S: Service<A>, G: Gate>(
     gate: &mut G,
     fault: PduFault,
 ) -> Result<(), SessionFault>
-    ensures goes { (ae : List ℕ) → Goes (Happens (acceptor ae)) (arrived fault ∷ []) live.old live.new
+    ensures goes { (config : Config) → Goes (Happens (acceptor config)) (arrived fault ∷ []) live.old live.new
         (world (W.contents writer.old) (G.moments gate.old) (S.settings service.old) (S.caller service.old) (S.seen service.old))
         (world (W.contents writer.new) (G.moments gate.new) (S.settings service.new) (S.caller service.new) (S.seen service.new)) result }
     ensures agreed { live.new.agreed ≡ live.old.agreed }
@@ -130,7 +130,7 @@ fn on_request<A: Allocator + Copy, W: Write, S: Service<A>, G: Gate>(
     request: &AssociateRq<A>,
 ) -> Result<(), SessionFault>
     requires spelled { (bytes : List ℕ) × SpellsPdu bytes (pdus.AssociateRq request.now) }
-    ensures goes { Goes (Happens (acceptor config.now.ae)) (requested request.now ∷ []) live.old live.new
+    ensures goes { Goes (Happens (acceptor config.now)) (requested request.now ∷ []) live.old live.new
         (world (W.contents writer.old) (G.moments gate.old) (S.settings service.old) (S.caller service.old) (S.seen service.old))
         (world (W.contents writer.new) (G.moments gate.new) (S.settings service.new) (S.caller service.new) (S.seen service.new)) result }
     ensures roomy { IsRoomy live.old.agreed → IsRoomy live.new.agreed }
@@ -144,6 +144,7 @@ fn on_request<A: Allocator + Copy, W: Write, S: Service<A>, G: Gate>(
 /// Errors: a failed write; want of memory.
 fn on_fragment<A: Allocator + Copy, W: Write, S: Service<A>, G: Gate>(
     alloc: A,
+    config: &Config,
     live: &mut Live<A>,
     writer: &mut W,
     service: &mut S,
@@ -151,12 +152,12 @@ fn on_fragment<A: Allocator + Copy, W: Write, S: Service<A>, G: Gate>(
     pdv: &Pdv<A>,
 ) -> Result<(), SessionFault>
     requires roomy { IsRoomy live.old.agreed }
-    ensures goes { (ae : List ℕ) → Goes (Happens (acceptor ae)) (came pdv.now ∷ []) live.old live.new
+    ensures goes { Goes (Happens (acceptor config.now)) (came pdv.now ∷ []) live.old live.new
         (world (W.contents writer.old) (G.moments gate.old) (S.settings service.old) (S.caller service.old) (S.seen service.old))
         (world (W.contents writer.new) (G.moments gate.new) (S.settings service.new) (S.caller service.new) (S.seen service.new)) result }
     ensures roomy { OnOk result (IsRoomy live.new.agreed) }
 {
-    let deed = live.fragment(alloc, pdv)?;
+    let deed = live.fragment(alloc, config, pdv)?;
     carry(alloc, writer, service, gate, deed)
 }
 
@@ -165,6 +166,7 @@ fn on_fragment<A: Allocator + Copy, W: Write, S: Service<A>, G: Gate>(
 /// Errors: a failed write; want of memory.
 fn on_fragments<A: Allocator + Copy, W: Write, S: Service<A>, G: Gate>(
     alloc: A,
+    config: &Config,
     live: &mut Live<A>,
     writer: &mut W,
     service: &mut S,
@@ -172,13 +174,13 @@ fn on_fragments<A: Allocator + Copy, W: Write, S: Service<A>, G: Gate>(
     pdvs: &[Pdv<A>],
 ) -> Result<(), SessionFault>
     requires roomy { IsRoomy live.old.agreed }
-    ensures goes { (ae : List ℕ) → Goes (Happens (acceptor ae)) (map came pdvs.now) live.old live.new
+    ensures goes { Goes (Happens (acceptor config.now)) (map came pdvs.now) live.old live.new
         (world (W.contents writer.old) (G.moments gate.old) (S.settings service.old) (S.caller service.old) (S.seen service.old))
         (world (W.contents writer.new) (G.moments gate.new) (S.settings service.new) (S.caller service.new) (S.seen service.new)) result }
     ensures roomy { OnOk result (IsRoomy live.new.agreed) }
 {
     for pdv in pdvs {
-        on_fragment(alloc, live, writer, service, gate, pdv)?;
+        on_fragment(alloc, config, live, writer, service, gate, pdv)?;
     }
     Ok(())
 }
@@ -197,7 +199,7 @@ fn on_pdu<A: Allocator + Copy, W: Write, S: Service<A>, G: Gate>(
 ) -> Result<(), SessionFault>
     requires roomy { IsRoomy live.old.agreed }
     requires spelled { (bytes : List ℕ) × SpellsPdu bytes pdu.now }
-    ensures goes { Goes (Happens (acceptor config.now.ae)) (happenings pdu.now) live.old live.new
+    ensures goes { Goes (Happens (acceptor config.now)) (happenings pdu.now) live.old live.new
         (world (W.contents writer.old) (G.moments gate.old) (S.settings service.old) (S.caller service.old) (S.seen service.old))
         (world (W.contents writer.new) (G.moments gate.new) (S.settings service.new) (S.caller service.new) (S.seen service.new)) result }
     ensures roomy { OnOk result (IsRoomy live.new.agreed) }
@@ -207,7 +209,7 @@ fn on_pdu<A: Allocator + Copy, W: Write, S: Service<A>, G: Gate>(
             return on_request(alloc, config, live, writer, service, gate, request);
         }
         Pdu::Data(pdvs) => {
-            return on_fragments(alloc, live, writer, service, gate, pdvs.as_slice());
+            return on_fragments(alloc, config, live, writer, service, gate, pdvs.as_slice());
         }
         Pdu::AssociateAc(_) => UlEvent::AssociateAc,
         Pdu::AssociateRj { .. } => UlEvent::AssociateRj,
@@ -232,7 +234,7 @@ fn turn<A: Allocator + Copy, R: Read, W: Write, S: Service<A>, G: Gate>(
 ) -> Result<(), SessionFault>
     requires roomy { IsRoomy live.old.agreed }
     ensures turned { (input : List ℕ) × Consumes (R.remaining reader.old) (R.remaining reader.new) input
-        × Turned (acceptor config.now.ae) live.old live.new (R.remaining reader.new) input
+        × Turned (acceptor config.now) live.old live.new (R.remaining reader.new) input
         (world (W.contents writer.old) (G.moments gate.old) (S.settings service.old) (S.caller service.old) (S.seen service.old))
         (world (W.contents writer.new) (G.moments gate.new) (S.settings service.new) (S.caller service.new) (S.seen service.new)) result }
     ensures roomy { OnOk result (IsRoomy live.new.agreed) }
@@ -247,7 +249,7 @@ fn turn<A: Allocator + Copy, R: Read, W: Write, S: Service<A>, G: Gate>(
 }
 
 /// Answers what comes on a transport connection that a peer has opened, until the association has ended or so many
-/// PDUs were read (PS3.8 section 9.2). `config` has the title of this application entity.
+/// PDUs were read (PS3.8 section 9.2). `config` has the title of this application entity, and its offset from UTC.
 ///
 /// # Errors
 ///
@@ -263,7 +265,7 @@ pub fn serve<A: Allocator + Copy, R: Read, W: Write, S: Service<A>, G: Gate>(
     turns: u64,
 ) -> Result<End, SessionFault>
     ensures session { (input : List ℕ) × Consumes (R.remaining reader.old) (R.remaining reader.new) input
-        × IsSession (acceptor config.now.ae) (λ live. live.ending) opened turns (R.remaining reader.new) input
+        × IsSession (acceptor config.now) (λ live. live.ending) opened turns (R.remaining reader.new) input
         (world (W.contents writer.old) (G.moments gate.old) (S.settings service.old) (S.caller service.old) (S.seen service.old))
         (world (W.contents writer.new) (G.moments gate.new) (S.settings service.new) (S.caller service.new) (S.seen service.new)) result }
 {

@@ -4,10 +4,10 @@ ghost use Rattle.std.specs.Prelude.{◌≡◌, ◌≢◌, List, [], Option, None
 ghost use Rattle.std.specs.Option.{option_copied};
 ghost use Rattle.ups_dataset.specs.Data.{El};
 ghost use Rattle.ups_dataset.specs.declared.fault.SetFault.TheVariants.{Memory};
-ghost use Rattle.ups_session.specs.Rules.{offers, takes, has_type, acts, HasSet, decided, Decides};
+ghost use Rattle.ups_session.specs.Rules.{offers, takes, has_type, acts, HasSet, unread, decided, Decides};
 
 use std::alloc::{AllocError, Allocator};
-use ups_assoc::{AcceptedContext, SopClass};
+use ups_assoc::{AcceptedContext, Config, SopClass};
 use ups_dataset::{DataSet, SetFault, TransferSyntax, read_set};
 use ups_dimse::{Operation, RequestCommand};
 use ups_life::{Ask, CHANGE_STATE, REQUEST_CANCEL, Status, read_request};
@@ -34,9 +34,15 @@ fn offers<A: Allocator + Copy>(class: SopClass, operation: &Operation<A>) -> boo
         ) => true,
         (
             SopClass::UpsPull,
-            Operation::Get { .. } | Operation::Set { .. } | Operation::Action { .. },
+            Operation::Get { .. }
+            | Operation::Set { .. }
+            | Operation::Action { .. }
+            | Operation::Find { .. },
         ) => true,
-        (SopClass::UpsWatch, Operation::Get { .. } | Operation::Action { .. }) => true,
+        (
+            SopClass::UpsWatch,
+            Operation::Get { .. } | Operation::Action { .. } | Operation::Find { .. },
+        ) => true,
         _ => false,
     }
 }
@@ -104,20 +110,32 @@ fn set_of<A: Allocator + Copy>(
     }
 }
 
-/// What a request with its data set comes to: a C-ECHO is answered at once.
+/// The status of a request whose data set can't be read.
+fn unread<A: Allocator + Copy>(operation: &Operation<A>) -> Status
+    ensures { result ≡ unread operation.now }
+{
+    match operation {
+        Operation::Find { .. } => Status::UnableToProcess,
+        _ => Status::ProcessingFailure,
+    }
+}
+
+/// What a request with its data set comes to: a C-ECHO is answered at once. `offset` is that of the local time from
+/// UTC, in minutes.
 ///
 /// Errors: want of memory.
 fn decided<A: Allocator + Copy>(
     alloc: A,
+    offset: i16,
     operation: &Operation<A>,
     set: DataSet<A>,
 ) -> Result<Decision<A>, AllocError>
-    ensures { IfOk result (λ decision. decision ≡ decided operation.now set) }
+    ensures { IfOk result (λ decision. decision ≡ decided offset operation.now set) }
 {
     if let Operation::Echo = operation {
         return Ok(Decision::Answer(Status::Success));
     }
-    match read_request(alloc, operation, set) {
+    match read_request(alloc, operation, set, offset) {
         Ok(ask) => Ok(Decision::Question(ask)),
         Err(Status::ResourceLimitation) => Err(AllocError),
         Err(status) => Ok(Decision::Answer(status)),
@@ -126,17 +144,18 @@ fn decided<A: Allocator + Copy>(
 
 /// What comes of a request with its data set on a presentation context. The first refusal that applies is its
 /// answer: 0211H where the service is none of the context's SOP class, 0118H where the request names another SOP
-/// class, 0123H where it is an N-ACTION of a type that the class does not have, 0110H where its data set can't be
-/// read.
+/// class, 0123H where it is an N-ACTION of a type that the class does not have, 0110H, of a C-FIND C000H, where its data
+/// set can't be read. `config` has the offset of the local time from UTC.
 ///
 /// Errors: want of memory.
 pub(crate) fn decide<A: Allocator + Copy>(
     alloc: A,
+    config: &Config,
     context: &AcceptedContext,
     request: &RequestCommand<A>,
     body: Option<&[u8]>,
 ) -> Result<Decision<A>, AllocError>
-    ensures { IfOk result (Decides context.now request.now (option_copied body.entry)) }
+    ensures { IfOk result (Decides config.now.offset context.now request.now (option_copied body.entry)) }
 {
     if !offers(context.sop_class, &request.operation) {
         return Ok(Decision::Answer(Status::UnrecognizedOperation));
@@ -148,7 +167,7 @@ pub(crate) fn decide<A: Allocator + Copy>(
         return Ok(Decision::Answer(Status::NoSuchActionType));
     }
     let Some(set) = set_of(alloc, context.transfer_syntax, body)? else {
-        return Ok(Decision::Answer(Status::ProcessingFailure));
+        return Ok(Decision::Answer(unread(&request.operation)));
     };
-    decided(alloc, &request.operation, set)
+    decided(alloc, config.offset, &request.operation, set)
 }

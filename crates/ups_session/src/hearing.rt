@@ -15,11 +15,10 @@ use crate::deciding::{Decision, decide};
 use crate::deed::{Deed, Waiting};
 use crate::fault::SessionFault;
 use crate::live::Terms;
-use crate::responding::response;
+use crate::responding::bare_response;
 use std::alloc::Allocator;
-use ups_assoc::{AcceptedContext, RawMessage};
+use ups_assoc::{AcceptedContext, Config, RawMessage};
 use ups_dimse::{Command, DimseFault, RequestCommand, read_command};
-use ups_life::Reply;
 
 /// The presentation context of an id.
 fn context_at(id: u8, contexts: &[AcceptedContext]) -> Option<AcceptedContext>
@@ -48,12 +47,8 @@ fn decided<A: Allocator + Copy>(
     ensures memory { IfErr result (λ e. e ≡ Memory) }
 {
     match decision {
-        Decision::Answer(status) => Ok(Deed::Say(response(
-            alloc,
-            terms.max,
-            &context,
-            &command,
-            &Reply::Status(status),
+        Decision::Answer(status) => Ok(Deed::Say(bare_response(
+            alloc, terms.max, &context, &command, status,
         )?)),
         Decision::Question(ask) => Ok(Deed::Ask(Waiting {
             ae: terms.ae,
@@ -70,20 +65,21 @@ fn decided<A: Allocator + Copy>(
 /// Errors: want of memory.
 fn requested<A: Allocator + Copy>(
     alloc: A,
+    config: &Config,
     terms: &Terms<A>,
     id: u8,
     command: RequestCommand<A>,
     body: Option<&[u8]>,
 ) -> Result<Option<Deed<A>>, SessionFault>
     requires { 8 ≤ terms.now.max }
-    ensures heard { IfOk result (λ found. Commanded terms.now (context_at id terms.now.contexts) (option_copied body.entry) (Request command) (heard_of found)) }
+    ensures heard { IfOk result (λ found. Commanded config.now.offset terms.now (context_at id terms.now.contexts) (option_copied body.entry) (Request command) (heard_of found)) }
     ensures writable { IfOk result AreWritable }
     ensures memory { IfErr result (λ e. e ≡ Memory) }
 {
     let Some(context) = context_at(id, terms.contexts.as_slice()) else {
         return Ok(None);
     };
-    let decision = decide(alloc, &context, &command, body)?;
+    let decision = decide(alloc, config, &context, &command, body)?;
     Ok(Some(decided(alloc, terms, context, command, decision)?))
 }
 
@@ -92,20 +88,23 @@ fn requested<A: Allocator + Copy>(
 /// Errors: want of memory.
 pub(crate) fn understand<A: Allocator + Copy>(
     alloc: A,
+    config: &Config,
     terms: &Terms<A>,
     message: RawMessage<A>,
 ) -> Result<Option<Deed<A>>, SessionFault>
     requires { 8 ≤ terms.now.max }
-    ensures heard { IfOk result (λ found. Understands terms.now message (heard_of found)) }
+    ensures heard { IfOk result (λ found. Understands config.now.offset terms.now message (heard_of found)) }
     ensures writable { IfOk result AreWritable }
     ensures memory { IfErr result (λ e. e ≡ Memory) }
 {
     match read_command(alloc, message.command.as_slice()) {
         Ok(Command::Request(command)) => {
             let body = message.body.as_ref().map(|body| body.as_slice());
-            requested(alloc, terms, message.context, command, body)
+            requested(alloc, config, terms, message.context, command, body)
         }
         Ok(Command::Response(_)) => Ok(Some(Deed::nothing(alloc))),
+        // each query was answered whole before this was read
+        Ok(Command::Cancel(_)) => Ok(Some(Deed::nothing(alloc))),
         Err(fault) => unread(fault),
     }
 }

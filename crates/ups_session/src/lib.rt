@@ -11,6 +11,7 @@ mod fault;
 mod gate;
 mod hearing;
 mod live;
+mod replying;
 mod responding;
 mod saying;
 mod taking;

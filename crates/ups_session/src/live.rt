@@ -366,11 +366,12 @@ impl<A: Allocator + Copy> Live<A> {
     fn receive(
         &mut self,
         alloc: A,
+        config: &Config,
         agreed: Agreed<A>,
         pdv: &Pdv<A>,
     ) -> Result<Deed<A>, SessionFault>
         requires roomy { 8 ≤ agreed.terms.max }
-        ensures turn { IfOk result (λ deed. Continues self.old agreed (fed agreed.assembler.ids agreed.assembler.begun pdv.now) (turn_of self.new deed)) }
+        ensures turn { IfOk result (λ deed. Continues config.now.offset self.old agreed (fed agreed.assembler.ids agreed.assembler.begun pdv.now) (turn_of self.new deed)) }
         ensures writable { IfOk result IsWritable }
         ensures roomy { OnOk result (IsRoomy self.new.agreed) }
         ensures memory { IfErr result (λ e. e ≡ Memory) }
@@ -382,7 +383,7 @@ impl<A: Allocator + Copy> Live<A> {
                 Ok(Deed::nothing(alloc))
             }
             Ok(Some(message)) => {
-                let found = understand(alloc, &agreed.terms, message)?;
+                let found = understand(alloc, config, &agreed.terms, message)?;
                 self.hear(alloc, agreed, found)
             }
             Err(fault) => {
@@ -395,15 +396,15 @@ impl<A: Allocator + Copy> Live<A> {
     /// A fragment came in a state where there are messages.
     ///
     /// Errors: want of memory.
-    fn indicate(&mut self, alloc: A, pdv: &Pdv<A>) -> Result<Deed<A>, SessionFault>
+    fn indicate(&mut self, alloc: A, config: &Config, pdv: &Pdv<A>) -> Result<Deed<A>, SessionFault>
         requires roomy { IsRoomy self.old.agreed }
-        ensures turn { IfOk result (λ deed. Received self.old self.old.agreed pdv.now (turn_of self.new deed)) }
+        ensures turn { IfOk result (λ deed. Received config.now.offset self.old self.old.agreed pdv.now (turn_of self.new deed)) }
         ensures writable { IfOk result IsWritable }
         ensures roomy { OnOk result (IsRoomy self.new.agreed) }
         ensures memory { IfErr result (λ e. e ≡ Memory) }
     {
         match self.agreed.take() {
-            Some(agreed) => self.receive(alloc, agreed, pdv),
+            Some(agreed) => self.receive(alloc, config, agreed, pdv),
             None => Ok(Deed::nothing(alloc)),
         }
     }
@@ -411,9 +412,14 @@ impl<A: Allocator + Copy> Live<A> {
     /// A fragment of a P-DATA-TF came.
     ///
     /// Errors: want of memory.
-    pub fn fragment(&mut self, alloc: A, pdv: &Pdv<A>) -> Result<Deed<A>, SessionFault>
+    pub fn fragment(
+        &mut self,
+        alloc: A,
+        config: &Config,
+        pdv: &Pdv<A>,
+    ) -> Result<Deed<A>, SessionFault>
         requires roomy { IsRoomy self.old.agreed }
-        ensures turn { IfOk result (λ deed. Indicated self.old pdv.now (next_of false true events.Data self.old.state) (turn_of self.new deed)) }
+        ensures turn { IfOk result (λ deed. Indicated config.now.offset self.old pdv.now (next_of false true events.Data self.old.state) (turn_of self.new deed)) }
         ensures writable { IfOk result IsWritable }
         ensures roomy { OnOk result (IsRoomy self.new.agreed) }
         ensures memory { IfErr result (λ e. e ≡ Memory) }
@@ -423,7 +429,7 @@ impl<A: Allocator + Copy> Live<A> {
         };
         self.moved(UlEvent::Data, action, state);
         match action {
-            UlAction::Dt2 => self.indicate(alloc, pdv),
+            UlAction::Dt2 => self.indicate(alloc, config, pdv),
             _ => self.act(alloc, UNEXPECTED, action),
         }
     }

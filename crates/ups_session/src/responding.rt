@@ -1,20 +1,21 @@
 //! Responses in PDUs.
 
-ghost use Rattle.std.specs.Prelude.{◌≡◌, ◌≤◌, ◌⊎◌, Some, IfOk, IfErr, option_copied};
+ghost use Rattle.std.specs.Prelude.{◌≡◌, ◌≤◌, ◌<◌, ◌^◌, ◌⊎◌, Some, IfOk, IfErr, length, option_copied};
 ghost use Rattle.std.specs.List.{AllByRecursion};
 ghost use Rattle.ups_pdu.specs.Fits.{Fits};
 ghost use Rattle.ups_assoc.specs.Cutting.{pieces};
+ghost use Rattle.ups_dataset.specs.declared.syntax.TransferSyntax.TheVariants.{Explicit};
+ghost use Rattle.ups_dataset.specs.Written.{written};
 ghost use Rattle.ups_life.specs.Statuses.{code};
-ghost use Rattle.ups_manager.specs.Law.{SmallReply};
 ghost use Rattle.ups_session.specs.declared.fault.SessionFault.TheVariants.{Memory};
-ghost use Rattle.ups_session.specs.Responses.{answer_bytes, response};
+ghost use Rattle.ups_session.specs.Responses.{answer_bytes, bare_response, set_response};
 
 use crate::fault::SessionFault;
 use std::alloc::{AllocError, Allocator};
 use ups_assoc::{AcceptedContext, cut};
-use ups_dataset::write_set;
+use ups_dataset::{DataSet, write_set};
 use ups_dimse::{Command, RequestCommand, write_command};
-use ups_life::{Reply, Status};
+use ups_life::Status;
 use ups_pdu::{Pdu, RegisteredUid};
 
 /// The bytes of the command of a response.
@@ -54,31 +55,43 @@ fn pieces<A: Allocator + Copy>(
     }
 }
 
-/// A response to a request, cut for a peer that takes PDUs of this length.
+/// A response without a data set, cut for a peer that takes PDUs of this length.
 ///
 /// Errors: want of memory.
-pub(crate) fn response<A: Allocator + Copy>(
+pub(crate) fn bare_response<A: Allocator + Copy>(
     alloc: A,
     max: u32,
     context: &AcceptedContext,
     request: &RequestCommand<A>,
-    reply: &Reply<A>,
+    status: Status,
 ) -> Result<Vec<Pdu<A>, A>, SessionFault>
     requires max { 8 ≤ max }
-    requires small { SmallReply reply.now }
-    ensures response { IfOk result (λ v. v.items ≡ response max context.now request.now reply.now) }
+    ensures response { IfOk result (λ v. v.items ≡ bare_response max context.now request.now status) }
     ensures writable { IfOk result (λ v. AllByRecursion (λ p. Fits p) v.items) }
     ensures memory { IfErr result (λ e. e ≡ Memory) }
 {
-    match reply {
-        Reply::Status(status) => {
-            let command = answer_bytes(alloc, request, *status, false)?;
-            pieces(alloc, max, context.id, &command, None)
-        }
-        Reply::Set(status, set) => {
-            let command = answer_bytes(alloc, request, *status, true)?;
-            let body = write_set(alloc, context.transfer_syntax, set)?;
-            pieces(alloc, max, context.id, &command, Some(body.as_slice()))
-        }
-    }
+    let command = answer_bytes(alloc, request, status, false)?;
+    pieces(alloc, max, context.id, &command, None)
+}
+
+/// A response with a data set, cut for a peer that takes PDUs of this length.
+///
+/// Errors: want of memory.
+pub(crate) fn set_response<A: Allocator + Copy>(
+    alloc: A,
+    max: u32,
+    context: &AcceptedContext,
+    request: &RequestCommand<A>,
+    status: Status,
+    set: &DataSet<A>,
+) -> Result<Vec<Pdu<A>, A>, SessionFault>
+    requires max { 8 ≤ max }
+    requires short { length (written Explicit set.now) < 2 ^ 32 }
+    ensures response { IfOk result (λ v. v.items ≡ set_response max context.now request.now status set.now) }
+    ensures writable { IfOk result (λ v. AllByRecursion (λ p. Fits p) v.items) }
+    ensures memory { IfErr result (λ e. e ≡ Memory) }
+{
+    let command = answer_bytes(alloc, request, status, true)?;
+    let body = write_set(alloc, context.transfer_syntax, set)?;
+    pieces(alloc, max, context.id, &command, Some(body.as_slice()))
 }

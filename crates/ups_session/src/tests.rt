@@ -8,10 +8,13 @@ use ups_manager::Manager;
 use ups_pdu::Ae;
 
 mod actions;
+mod finding;
 
 const PUSH: &str = "312e322e3834302e31303030382e352e312e342e33342e362e31";
 
 const PULL: &str = "312e322e3834302e31303030382e352e312e342e33342e362e33";
+
+const WATCH: &str = "312e322e3834302e31303030382e352e312e342e33342e362e32";
 
 const VERIFICATION: &str = "312e322e3834302e31303030382e312e31";
 
@@ -152,7 +155,7 @@ const MOMENTS: [u64; 2] = [1_709_208_000, 1_709_208_060];
 const MANY: u64 = 1_000_000;
 
 /// The bytes of hex digits, with spaces among them, and of texts in quotes, each repeated where `*` and a
-/// number follow. PUSH, PULL and VERIFICATION are the UIDs of classes.
+/// number follow. PUSH, PULL, WATCH and VERIFICATION are the UIDs of classes.
 fn bytes_of(rt: &impl AllocGlobal, texts: &[&str]) -> Result<Vec<u8>, Fail> {
     let mut bytes = Vec::new(rt.alloc());
     for text in texts {
@@ -168,6 +171,7 @@ fn digits_of(word: &str) -> &str {
     match word {
         "PUSH" => PUSH,
         "PULL" => PULL,
+        "WATCH" => WATCH,
         "VERIFICATION" => VERIFICATION,
         _ => word,
     }
@@ -197,13 +201,25 @@ fn a_manager<A: Allocator + Copy>(alloc: A, limit: u64) -> Result<Manager<A>, Fa
 /// A session over devices, with a manager.
 fn session<A: Allocator + Copy, B: Allocator + Copy>(
     alloc: A,
+    reader: CutReader<'_>,
+    writer: &mut CutWriter<B>,
+    manager: &mut Manager<A>,
+    turns: u64,
+) -> Result<Result<End, SessionFault>, Fail> {
+    session_at(0, alloc, reader, writer, manager, turns)
+}
+
+/// The same at an offset from UTC, in minutes.
+fn session_at<A: Allocator + Copy, B: Allocator + Copy>(
+    offset: i16,
+    alloc: A,
     mut reader: CutReader<'_>,
     writer: &mut CutWriter<B>,
     manager: &mut Manager<A>,
     turns: u64,
 ) -> Result<Result<End, SessionFault>, Fail> {
     let ae = Ae::of(b"UPSD").ok_or("a title")?;
-    let config = Config { ae, offset: 0 };
+    let config = Config { ae, offset };
     let mut gate = ListGate::new(&MOMENTS);
     Ok(serve(
         alloc,

@@ -7,7 +7,7 @@ ghost use Rattle.ups_manager.specs.Refusal.{refusal};
 ghost use Rattle.ups_session.specs.Acceptor.{acceptor, opened};
 ghost use Rattle.ups_session.specs.Session.{IsSession};
 ghost use Rattle.ups_session.specs.World.{world};
-ghost use Rattle.upsd.specs.Piping.{settings};
+ghost use Rattle.upsd.specs.Piping.{config, settings};
 
 use crate::gate::Epoch;
 use crate::hexing::{HexReader, HexWriter};
@@ -49,7 +49,7 @@ pub fn pipe<A: Allocator + Copy, R: Read, W: Write>(
     requires few { length peers.now ≤ 1000 }
     requires allowed { refusal peers.now (pos 0) 1000000 ≡ None }
     ensures session { hex ≡ false → (input : List ℕ) × (history : List (Entry A)) × Consumes (R.remaining reader.old) (R.remaining reader.new) input
-        × IsSession (acceptor ae) (λ live. live.ending) opened turns (R.remaining reader.new) input
+        × IsSession (acceptor (config ae)) (λ live. live.ending) opened turns (R.remaining reader.new) input
         (world (W.contents writer.old) None (settings peers.now) 0 [])
         (world (W.contents writer.new) None (settings peers.now) 0 history) result }
 {

@@ -46,7 +46,7 @@ fn read_in_turn<'a>(
 ) -> Result<(Ask<&'a Refusing<Global>>, u64), Fail> {
     for growth in 1..GROWTHS {
         heap.refuse(growth);
-        let ask = read_request(heap, operation, DataSet::new(heap));
+        let ask = read_request(heap, operation, DataSet::new(heap), 0);
         heap.refuse(0);
         match ask {
             Ok(ask) => return Ok((ask, growth - 1)),
@@ -165,7 +165,7 @@ fn read_without_memory<'a>(
 ) -> Result<Ask<&'a Refusing<Global>>, Fail> {
     let attributes = set_of(heap, &[(PROCEDURE_STEP_STATE, "COMPLETED ")])?;
     heap.refuse(1);
-    let ask = read_request(heap, operation, attributes);
+    let ask = read_request(heap, operation, attributes, 0);
     assert!(rt; heap.is_armed());
     heap.refuse(0);
     match ask {

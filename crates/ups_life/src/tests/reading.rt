@@ -7,13 +7,13 @@ fn a_create_asks_for_a_step_of_its_own_uid(rt: HostRuntime) -> Result<(), Fail> 
     let operation = Operation::Create {
         instance: Some(uid("1.2.3.1")?),
     };
-    match read_request(rt.alloc(), &operation, a_step(rt.alloc())?) {
+    match read_request(rt.alloc(), &operation, a_step(rt.alloc())?, 0) {
         Ok(Ask::Do(request)) => {
             assert!(rt; request.step() == Some(uid("1.2.3.1")?));
             let row = change(rt.alloc(), None, &request, 0, 0)?;
             assert_eq!(rt; described(&row.attributes, &rt)?.as_str(), ROW);
         }
-        Ok(Ask::Get { .. }) => return Err("an N-GET".into()),
+        Ok(Ask::Get { .. } | Ask::Find(_)) => return Err("no request".into()),
         Err(_) => return Err("a status".into()),
     }
     for instance in [
@@ -22,7 +22,7 @@ fn a_create_asks_for_a_step_of_its_own_uid(rt: HostRuntime) -> Result<(), Fail> 
         Uid::of(b"1.2.840.10008.5.1.4.34.5.1"),
     ] {
         let operation = Operation::Create { instance };
-        let answer = read_request(rt.alloc(), &operation, a_step(rt.alloc())?);
+        let answer = read_request(rt.alloc(), &operation, a_step(rt.alloc())?, 0);
         match answer {
             Ok(_) => return Err("a request".into()),
             Err(status) => assert_eq!(rt; status.code(), 0x0117),
@@ -43,12 +43,12 @@ fn a_get_asks_for_the_listed_attributes(rt: HostRuntime) -> Result<(), Fail> {
             instance,
             attributes: Tags::from_vec(Vec::from_slice(rt.alloc(), listed)?),
         };
-        match read_request(rt.alloc(), &operation, DataSet::new(rt.alloc())) {
+        match read_request(rt.alloc(), &operation, DataSet::new(rt.alloc()), 0) {
             Ok(Ask::Get { step, attributes }) => {
                 assert!(rt; step == instance);
                 assert_eq!(rt; attributes.as_slice(), listed);
             }
-            Ok(Ask::Do(_)) => return Err("a request".into()),
+            Ok(Ask::Do(_) | Ask::Find(_)) => return Err("no N-GET".into()),
             Err(_) => return Err("a status".into()),
         }
     }
@@ -61,7 +61,7 @@ fn read_text(
     operation: &Operation<Global>,
     attributes: &[(Tag, &str)],
 ) -> Result<String, Fail> {
-    match read_request(rt.alloc(), operation, set_of(rt.alloc(), attributes)?) {
+    match read_request(rt.alloc(), operation, set_of(rt.alloc(), attributes)?, 0) {
         Ok(ask) => asked_text(&ask, rt),
         Err(status) => Ok(format!(in rt.alloc(); "{:04x}", status.code())?),
     }
@@ -192,10 +192,37 @@ fn an_action_is_on_a_step(rt: HostRuntime) -> Result<(), Fail> {
 
 #[test]
 fn an_echo_asks_nothing_of_a_step(rt: HostRuntime) -> Result<(), Fail> {
-    let Err(status) = read_request(rt.alloc(), &Operation::Echo, a_step(rt.alloc())?) else {
+    let Err(status) = read_request(rt.alloc(), &Operation::Echo, a_step(rt.alloc())?, 0) else {
         return Err("an ask".into());
     };
     assert_eq!(rt; status, Status::UnrecognizedOperation);
     assert_eq!(rt; status.code(), 0x0211);
+    Ok(())
+}
+
+/// What is asked by a C-FIND for steps that begin at a time, an hour east of UTC.
+fn find_from(rt: &impl AllocGlobal, start: &str) -> Result<Result<Ask<Global>, Status>, Fail> {
+    let operation = Operation::Find { priority: None };
+    let attributes = set_of(
+        rt.alloc(),
+        &[(SCHEDULED_PROCEDURE_STEP_START_DATE_TIME, start)],
+    )?;
+    Ok(read_request(rt.alloc(), &operation, attributes, 60))
+}
+
+#[test]
+fn a_find_asks_by_keys_that_can_be_read(rt: HostRuntime) -> Result<(), Fail> {
+    let Ok(Ask::Find(keys)) = find_from(&rt, "20240229- ")? else {
+        return Err("no C-FIND".into());
+    };
+    assert_eq!(rt;
+        described(keys.attributes(), &rt)?.as_str(),
+        "00404005=20240229-_ "
+    );
+    assert_eq!(rt; keys.offset(), 60);
+    let Err(status) = find_from(&rt, "- ")? else {
+        return Err("keys".into());
+    };
+    assert_eq!(rt; status.code(), 0xa900);
     Ok(())
 }

@@ -1,5 +1,6 @@
 use super::Asked::{Cancel, Change, Create, Set};
 use super::Sent::{GivenUp, Nothing, Text};
+use super::worklists::{found_by, keys_of};
 use super::{
     PERFORMER, RIVAL, ROW, SCHEDULER, a_manager, a_step, holder_of, put_bytes, put_item,
     request_of, run, shown_of, status_of, submit, uid, with_a_step,
@@ -61,7 +62,7 @@ fn cancel_of_depth<A: Allocator + Copy>(alloc: A, depth: u8) -> Result<Request<A
 fn size_of_row<A: Allocator + Copy>(manager: &Manager<A>) -> Result<u64, Fail> {
     match manager.get(Some(uid("1.2.3.1")?), &[]) {
         Reply::Set(_, set) => Ok(set.size()),
-        Reply::Status(_) => Err("a status alone".into()),
+        Reply::Status(_) | Reply::Sets(_) => Err("no set".into()),
     }
 }
 
@@ -82,6 +83,11 @@ fn a_full_history_takes_no_request(rt: HostRuntime) -> Result<(), Fail> {
     assert_eq!(rt; shown_of(&manager, "1.2.3.1", &rt)?.as_str(), ROW);
     let reply = manager.get(Some(uid("1.2.3.2")?), &[PROCEDURE_STEP_STATE]);
     assert_eq!(rt; status_of(&reply), 0x0000);
+    let keys = keys_of(rt.alloc(), &[(SOP_INSTANCE_UID, "")])?;
+    assert_eq!(rt;
+        found_by(&rt, &manager, &keys)?.as_str(),
+        "00080018=1.2.3.1_ \n00080018=1.2.3.2_ \n"
+    );
     Ok(())
 }
 
@@ -94,6 +100,21 @@ fn a_row_over_the_limit_is_not_created(rt: HostRuntime) -> Result<(), Fail> {
     assert_eq!(rt; status_of(&manager.get(Some(uid("1.2.3.1")?), &[])), 0xc307);
     let largest = create_with(rt.alloc(), LARGEST_VALUE)?;
     assert_eq!(rt; submit(&mut manager, SCHEDULER, largest)?, 0x0000);
+    assert_eq!(rt; size_of_row(&manager)?, 1_048_576);
+    Ok(())
+}
+
+#[test]
+fn a_blank_transaction_uid_is_not_measured(rt: HostRuntime) -> Result<(), Fail> {
+    let mut manager = a_manager(rt.alloc(), 10)?;
+    for (length, number) in [(LARGEST_VALUE + 2, 0x0213), (LARGEST_VALUE, 0x0000)] {
+        let mut request = create_with(rt.alloc(), length)?;
+        if let Request::Create { attributes, .. } = &mut request {
+            let blank = vec![in rt.alloc(); b' '; 65_534]?;
+            put_bytes(rt.alloc(), attributes, TRANSACTION_UID, Vr::Ui, &blank)?;
+        }
+        assert_eq!(rt; submit(&mut manager, SCHEDULER, request)?, number);
+    }
     assert_eq!(rt; size_of_row(&manager)?, 1_048_576);
     Ok(())
 }

@@ -3,13 +3,13 @@
 use super::*;
 
 /// An A-ASSOCIATE-RQ with a push context 1 and another context 3, in Implicit VR Little Endian, and its answer.
-const TWO_CONTEXTS_OF: &str =
+pub(super) const TWO_CONTEXTS_OF: &str =
     "01 00 000000e8 0001 0000 \"UPSD\" 20*12 \"SCHED1\" 20*10 00*32 10 00 0015 \"1.2.840.10008.3.1.1.1\" 20 00 0037 01 000000 30 00 001a PUSH 40 00 0011 \"1.2.840.10008.1.2\" 20 00 0037 03 000000 30 00 001a";
 
-const TWO_CONTEXTS_END: &str =
+pub(super) const TWO_CONTEXTS_END: &str =
     "40 00 0011 \"1.2.840.10008.1.2\" 50 00 0011 51 00 0004 00004000 52 00 0005 \"1.2.3\"";
 
-const TWO_ACCEPTED: &str =
+pub(super) const TWO_ACCEPTED: &str =
     "02 00 000000ba 0001 0000 \"UPSD\" 20*12 \"SCHED1\" 20*10 00*32 10 00 0015 \"1.2.840.10008.3.1.1.1\" 21 00 0019 01 00 00 00 40 00 0011 \"1.2.840.10008.1.2\" 21 00 0019 03 00 00 00 40 00 0011 \"1.2.840.10008.1.2\" 50 00 001f 51 00 0004 00004000 52 00 0009 \"2.25.7001\" 55 00 0006 \"UPSD_1\"";
 
 /// An N-ACTION request on context 3, up to its action type, and its response up to its status.
@@ -41,7 +41,7 @@ const ODD: &str = "04 00 00000012 0000000e 03 02 74000010 03000000 \"ABC\" 00";
 const ODD_ON_1: &str = "04 00 00000012 0000000e 01 02 74000010 03000000 \"ABC\" 00";
 
 /// The data set of a request to cancel, which is empty, on context 3 and on context 1.
-const NOTHING: &str = "04 00 00000006 00000002 03 02";
+pub(super) const NOTHING: &str = "04 00 00000006 00000002 03 02";
 
 const NOTHING_ON_1: &str = "04 00 00000006 00000002 01 02";
 
@@ -72,9 +72,6 @@ const GOT_STATE: &str =
 const COMPLETED: &str = "04 00 00000018 00000014 01 02 74000010 0a000000 \"COMPLETED\" 20";
 
 const CANCELED: &str = "04 00 00000016 00000012 01 02 74000010 08000000 \"CANCELED\"";
-
-/// The UID of the watch class.
-const WATCH: &str = "312e322e3834302e31303030382e352e312e342e33342e362e32";
 
 /// A session over an input that ends with a release, on a push context 1 and a context 3 of this class: what is
 /// written, and how many requests are entered.

@@ -1,7 +1,13 @@
-use Rattle.std.proofs.Common.{rules}
-use Rattle.ups_dimse.proofs.Failing.{only_command, fault_command}
+use Rattle.std.proofs.Common.{rules, refl, inl, inr}
+use Rattle.ups_dimse.specs.declared.fault.DimseFault.TheVariants.{UnknownField}
+use Rattle.ups_dimse.proofs.Failing.{only_command, fault_command, spelled_no}
 use Rattle.ups_dimse.specs.Elements.{AreElements}
 use Rattle.ups_dimse.proofs.reading.read_command.Goals as goal
+
+pub returns-in_default-clause-only : goal.returns-in_default-clause-only
+returns-in_default-clause-only g c = λ command p.
+    let es : AreElements 0 c.args.bytes.now = search rules in
+    absurd (spelled_no c.args.bytes.now command es.0 UnknownField p es.1 (inr (inl (_, c.in_ok-field.ensures es.0 es.1, c.in_default.ensures, refl))))
 
 pub returns-clause-only : goal.returns-clause-only
 returns-clause-only g c =

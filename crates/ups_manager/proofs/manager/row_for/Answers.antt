@@ -1,4 +1,3 @@
-use Rattle.std.proofs.Common.{arith}
 use Rattle.ups_manager.proofs.Fitting.{fits_so, within_limit}
 use Rattle.ups_manager.proofs.manager.row_for.Goals as goal
 

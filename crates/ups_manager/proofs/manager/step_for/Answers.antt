@@ -1,9 +1,7 @@
-use Rattle.std.proofs.Common.{ℤ, w16, ◌≡◌, ◌⊎◌, inl, List, Option, IfErr, sym, ap, subst, ◌∙◌}
+use Rattle.std.proofs.Common.{ℤ, w16, ◌≡◌, inl, sym, ap, ◌∙◌}
 use Rattle.std.specs.Option.{option_copied, option_map, unwrap_or}
 use Rattle.std.proofs.lemmas.Int.{to_z-of_z}
 use Rattle.std.proofs.lemmas.Result.{err_from_is_err_and}
-use Rattle.ups_life.specs.declared.status.Status.{Status}
-use Rattle.ups_life.specs.declared.status.Status.TheVariants.{ResourceLimitation}
 use Rattle.ups_life.specs.Steps.{past, step_of, row_after, nothing}
 use Rattle.ups_life.specs.Verdict.{verdict}
 use Rattle.ups_life.specs.History.{repeats}

@@ -1,4 +1,4 @@
-use Rattle.std.proofs.Common.{◌≡◌, ap, ◌∙◌, arith, List}
+use Rattle.std.proofs.Common.{◌≡◌, ap, ◌∙◌, arith}
 use Rattle.ups_manager.specs.Held.{place_in}
 use Rattle.ups_manager.proofs.Putting.{put_over, put_behind}
 use Rattle.ups_manager.proofs.rows.put.Goals as goal

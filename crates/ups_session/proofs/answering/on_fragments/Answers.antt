@@ -11,23 +11,23 @@ use Rattle.ups_session.proofs.Carrying.{fragments_on, fragments_cut}
 use Rattle.ups_session.proofs.answering.on_fragments.Goals as goal
 
 pub loop-pdv-init : goal.loop-pdv-init
-loop-pdv-init g c = (c.requires.roomy, λ ae. goes_nowhere (Happens (acceptor ae)) c.args.live.now _ tt)
+loop-pdv-init g c = (c.requires.roomy, goes_nowhere (Happens (acceptor c.args.config.now)) c.args.live.now _ tt)
 
 pub returns-in_err-on_fragment-clause-goes : goal.returns-in_err-on_fragment-clause-goes
-returns-in_err-on_fragment-clause-goes g c = λ ae.
+returns-in_err-on_fragment-clause-goes g c =
     let p = err_from_is_err_and c.from_residual.result c.from_residual.ensures.1 in
     rw (p.1, p.2)
-    (fragments_cut ae c.loop-pdv.pdv-index c.args.pdvs.now c.pdv-item.result c.args.live.now c.loop-pdv.live c.on_fragment.new.live _ _ _ c.in_err-on_fragment.field-0.0 c.loop-pdv-test.true c.pdv-item.is (c.loop-pdv.invariant.1 ae) (c.in_err-on_fragment.ensures.goes ae))
+    (fragments_cut c.args.config.now c.loop-pdv.pdv-index c.args.pdvs.now c.pdv-item.result c.args.live.now c.loop-pdv.live c.on_fragment.new.live _ _ _ c.in_err-on_fragment.field-0.0 c.loop-pdv-test.true c.pdv-item.is c.loop-pdv.invariant.1 c.in_err-on_fragment.ensures.goes)
 
 pub loop-pdv-preserved : goal.loop-pdv-preserved
 loop-pdv-preserved g c = (
   c.in_ok-on_fragment.ensures.roomy,
-  λ ae. fragments_on ae c.loop-pdv.pdv-index c.args.pdvs.now c.pdv-item.result c.args.live.now c.loop-pdv.live c.on_fragment.new.live _ _ _ c.loop-pdv-test.true c.pdv-item.is (c.loop-pdv.invariant.1 ae) (c.in_ok-on_fragment.ensures.goes ae),
+  fragments_on c.args.config.now c.loop-pdv.pdv-index c.args.pdvs.now c.pdv-item.result c.args.live.now c.loop-pdv.live c.on_fragment.new.live _ _ _ c.loop-pdv-test.true c.pdv-item.is c.loop-pdv.invariant.1 c.in_ok-on_fragment.ensures.goes,
 )
 
 pub returns-clause-goes : goal.returns-clause-goes
-returns-clause-goes g c = λ ae.
-    subst (λ (l : List (Pdv g.row.A.Denot)). Goes (Happens (acceptor ae)) (map fragment l) c.args.live.now c.loop-pdv.live
+returns-clause-goes g c =
+    subst (λ (l : List (Pdv g.row.A.Denot)). Goes (Happens (acceptor c.args.config.now)) (map fragment l) c.args.live.now c.loop-pdv.live
     (world (g.W.Write.contents c.args.writer.now) (g.G.Gate.moments c.args.gate.now) (g.S.Service.settings c.args.service.now) (g.S.Service.caller c.args.service.now) (g.S.Service.seen c.args.service.now))
     (world (g.W.Write.contents c.loop-pdv.writer) (g.G.Gate.moments c.loop-pdv.gate) (g.S.Service.settings c.loop-pdv.service) (g.S.Service.caller c.loop-pdv.service) (g.S.Service.seen c.loop-pdv.service)) okay)
-    (take_all c.loop-pdv.pdv-index c.args.pdvs.now (search rules)) (c.loop-pdv.invariant.1 ae)
+    (take_all c.loop-pdv.pdv-index c.args.pdvs.now (search rules)) c.loop-pdv.invariant.1

@@ -22,7 +22,7 @@ loop-left-init g c =
       [],
       Consumes-nil _,
       omega (arith),
-      subst (λ (l : Live g.row.A.Denot). Came (acceptor c.args.config.now.ae) opened l [] [] [] w w) (sym e) (came_first (acceptor c.args.config.now.ae) opened w),
+      subst (λ (l : Live g.row.A.Denot). Came (acceptor c.args.config.now) opened l [] [] [] w w) (sym e) (came_first (acceptor c.args.config.now) opened w),
     )
 
 pub returns-in_err-turn : goal.returns-in_err-turn
@@ -34,7 +34,7 @@ returns-in_err-turn g c =
       session = (
         input ++ more,
         Consumes-trans _ _ _ _ _ consumed then,
-        rw (p.1, p.2) (session_failed (acceptor c.args.config.now.ae) (λ live. live.ending) opened c.loop-left.live c.turn.new.live c.args.turns c.loop-left.left (g.R.Read.remaining c.turn.new.reader) input more arrivals _ _ _ c.in_err-turn.field-0.0 came count is_open turned),
+        rw (p.1, p.2) (session_failed (acceptor c.args.config.now) (λ live. live.ending) opened c.loop-left.live c.turn.new.live c.args.turns c.loop-left.left (g.R.Read.remaining c.turn.new.reader) input more arrivals _ _ _ c.in_err-turn.field-0.0 came count is_open turned),
       );
     }
 
@@ -50,7 +50,7 @@ returns-in-Some g c =
         (
           arrivals ++ a ∷ [],
           c.turn.new.live,
-          came_on (acceptor c.args.config.now.ae) opened c.loop-left.live c.turn.new.live input more arrivals a _ _ _ came is_open spells goes,
+          came_on (acceptor c.args.config.now) opened c.loop-left.live c.turn.new.live input more arrivals a _ _ _ came is_open spells goes,
           at_end_on (g.R.Read.remaining c.turn.new.reader) arrivals a end,
           few,
           c.in-Some.ensures.0,
@@ -69,5 +69,5 @@ loop-left-preserved g c =
       arrivals ++ a ∷ [],
       Consumes-trans _ _ _ _ _ consumed then,
       omega (arith, count, c.loop-left-test.true, length-append arrivals (a ∷ [])),
-      came_on (acceptor c.args.config.now.ae) opened c.loop-left.live c.turn.new.live input more arrivals a _ _ _ came is_open spells goes,
+      came_on (acceptor c.args.config.now) opened c.loop-left.live c.turn.new.live input more arrivals a _ _ _ came is_open spells goes,
     )

@@ -12,7 +12,7 @@ invariant-loop-left g l =
     IsRoomy l.live.agreed × IsOpen l.live.state
     × (input : List ℕ) × (arrivals : List (Arrival g.row.A.Denot)) × Consumes (g.R.Read.remaining l.initial.reader) (g.R.Read.remaining l.reader) input
     × (length arrivals + l.left ≡ l.turns)
-    × Came (acceptor l.config.ae) opened l.live input [] arrivals
+    × Came (acceptor l.config) opened l.live input [] arrivals
     (world (g.W.Write.contents l.initial.writer) (g.G.Gate.moments l.initial.gate) (g.S.Service.settings l.initial.service) (g.S.Service.caller l.initial.service) (g.S.Service.seen l.initial.service))
     (world (g.W.Write.contents l.writer) (g.G.Gate.moments l.gate) (g.S.Service.settings l.service) (g.S.Service.caller l.service) (g.S.Service.seen l.service))
 

@@ -2,7 +2,7 @@ use Rattle.std.proofs.Common.{◌≡◌, ◌∙◌, ap, Some}
 use Rattle.std.specs.Option.{unwrap_or}
 use Rattle.ups_life.specs.Statuses.{code}
 use Rattle.ups_session.specs.Responses.{answer}
-use Rattle.ups_session.proofs.Replying.{if_ok, written_answer}
+use Rattle.ups_session.proofs.Parts.{if_ok, written_answer}
 use Rattle.ups_session.proofs.responding.answer_bytes.Goals as goal
 
 pub returns : goal.returns

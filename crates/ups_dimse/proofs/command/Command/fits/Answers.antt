@@ -10,3 +10,6 @@ returns-in-Request g c = rw (c.in-Request.is, c.attributes.ensures) (fits_by _)
 
 pub returns-in-Response : goal.returns-in-Response
 returns-in-Response g c = rw c.in-Response.is (λ h. tt, λ h. refl)
+
+pub returns-in-Cancel : goal.returns-in-Cancel
+returns-in-Cancel g c = rw c.in-Cancel.is (λ h. tt, λ h. refl)

@@ -1,4 +1,4 @@
-use Rattle.std.proofs.Common.{◌≡◌, ap, ◌∙◌, sym}
+use Rattle.std.proofs.Common.{ap, ◌∙◌}
 use Rattle.ups_life.specs.Steps.{past}
 use Rattle.ups_manager.specs.Held.{step_at, holder_in}
 use Rattle.ups_manager.proofs.Holding.{holder_in-held_steps}

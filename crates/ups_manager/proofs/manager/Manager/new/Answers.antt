@@ -1,4 +1,4 @@
-use Rattle.std.proofs.Common.{◌≡◌, [], ℤ, w16, to_z, of_z, List, None, sym, ap, subst, ◌∙◌, rules, refl}
+use Rattle.std.proofs.Common.{◌≡◌, ℤ, w16, List, None, sym, ap, subst, ◌∙◌, rules, refl}
 use Rattle.std.specs.List.{AllByRecursion}
 use Rattle.std.proofs.lemmas.Int.{to_z-of_z}
 use Rattle.ups_life.specs.declared.entry.Entry.{Entry}
@@ -9,6 +9,7 @@ use Rattle.ups_manager.specs.declared.rows.HeldStep.{HeldStep}
 use Rattle.ups_manager.specs.Held.{held_steps, IsSmallStep}
 use Rattle.ups_manager.specs.Law.{is_legal}
 use Rattle.ups_manager.specs.Refusal.{refusal}
+use Rattle.ups_manager.proofs.Entering.{HaveDates, no_moments}
 use Rattle.ups_manager.proofs.Offsets.{good_offset}
 use Rattle.ups_manager.proofs.manager.Manager.new.Goals as goal
 
@@ -26,6 +27,7 @@ pub invariant_of-result : goal.invariant_of-result
 invariant_of-result g c = record {
   offset = subst (λ (s : Settings). IsOffset s.offset) (sym (returns-clause-settings g c)) (good_offset c.args.peers.now c.args.offset c.args.limit (returns-clause-allowed g c));
   legal = subst (λ (l : List (Entry g.row.A.Denot)). is_legal c.new.result l) (sym c.new-2.ensures.items) refl;
+  moments = subst HaveDates (sym c.new-2.ensures.items) no_moments;
   steps = c.new-3.ensures.items ∙ ap (λ (l : List (Entry g.row.A.Denot)). held_steps c.new.result.offset (past l)) (sym c.new-2.ensures.items);
   small = subst (λ (l : List (HeldStep g.row.A.Denot)). AllByRecursion IsSmallStep l) (sym c.new-3.ensures.items) tt;
 }

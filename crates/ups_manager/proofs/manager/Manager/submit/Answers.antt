@@ -1,4 +1,4 @@
-use Rattle.std.proofs.Common.{◌≡◌, ◌++◌, ◌∷◌, [], ℤ, w16, to_z, of_z, List, inl, sym, ap, subst, ◌∙◌, rules, arith}
+use Rattle.std.proofs.Common.{◌≡◌, ◌++◌, ◌∷◌, [], w16, to_z, of_z, List, inl, sym, ap, subst, ◌∙◌, rules}
 use Rattle.std.specs.List.{AllByRecursion}
 use Rattle.std.proofs.lemmas.Int.{to_z-of_z}
 use Rattle.ups_life.specs.declared.entry.Entry.{Entry}
@@ -8,7 +8,7 @@ use Rattle.ups_life.specs.Steps.{past}
 use Rattle.ups_manager.specs.declared.rows.HeldStep.{HeldStep}
 use Rattle.ups_manager.specs.Held.{held_steps, put_step, IsSmallStep}
 use Rattle.ups_manager.specs.Law.{entry, is_legal}
-use Rattle.ups_manager.proofs.Entering.{Accepted, accepted, succeeds, legal_after, steps_after, small_kept, answers_refusal}
+use Rattle.ups_manager.proofs.Entering.{Accepted, accepted, succeeds, legal_after, steps_after, small_kept, answers_refusal, HaveDates, moments_after}
 use Rattle.ups_manager.proofs.manager.Manager.submit.Given as given
 use Rattle.ups_manager.proofs.manager.Manager.submit.Goals as goal
 
@@ -26,6 +26,7 @@ invariant_of-self-in-Err-make_room g c =
     record {
       offset = c.self.invariant.offset;
       legal = subst (is_legal m.configuration) (sym c.make_room.ensures.history) c.self.invariant.legal;
+      moments = subst HaveDates (sym c.make_room.ensures.history) c.self.invariant.moments;
       steps = c.make_room.ensures.steps ∙ c.self.invariant.steps ∙ ap (λ l. held_steps m.configuration.offset (past l)) (sym c.make_room.ensures.history);
       small = subst (λ (l : List (HeldStep g.row.A.Denot)). AllByRecursion IsSmallStep l) (sym c.make_room.ensures.steps) c.self.invariant.small;
     }
@@ -53,6 +54,7 @@ invariant_of-self-2 g c =
     record {
       offset = c.self.invariant.offset;
       legal = returns-clause-legal_after g c;
+      moments = moments_after m.history.items c.push_reserved.new.self.items c.args.call c.self.invariant.moments c.requires.moment (history_is g c);
       steps = steps_after m.configuration m.history.items c.push_reserved.new.self.items m.steps.items c.put.new.steps.items c.args.call c.in-Ok.held c.self.invariant.legal c.self.invariant.steps (history_is g c)
           (c.put.ensures ∙ ap (put_step c.in-Ok.held) c.make_room.ensures.steps) (entered g c);
       small = small_kept m.configuration m.history.items m.steps.items c.make_room.new.steps.items c.put.new.steps.items c.args.call c.in-Ok.held c.self.invariant.small c.make_room.ensures.steps c.put.ensures (entered g c);
