@@ -1,7 +1,7 @@
 //! The command line.
 
-ghost use Rattle.std.specs.Prelude.{◌≡◌, ◌≤◌, length, None, IfOk, pos};
-ghost use Rattle.ups_manager.specs.Refusal.{is_named, refusal};
+ghost use Rattle.std.specs.Prelude.{◌≡◌, ◌≤◌, length, IfOk, false};
+ghost use Rattle.ups_manager.specs.Refusal.{is_named, is_twice, is_bad_offset};
 
 use clap::{Arg, ArgAction, Command};
 use std::alloc::{AllocError, AllocFailed, Allocator, Global};
@@ -27,6 +27,12 @@ pub(crate) enum ArgumentFault {
     /// More peers than may be named.
     #[error("more than 1,000 PEERs are named")]
     TooMany,
+    /// The word behind `--keep` is no number of seconds.
+    #[error("--keep takes a number of seconds, from 0 to 4294967295")]
+    Keep,
+    /// The word behind `--offset` is no offset from UTC.
+    #[error("--offset takes a number of minutes, from -720 to 840")]
+    Offset,
     /// Memory ran out.
     #[error("out of memory")]
     Memory,
@@ -44,8 +50,16 @@ impl<T: Drop> From<AllocFailed<T>> for ArgumentFault {
     }
 }
 
-/// The command line of `upsd`.
-pub(crate) fn command<'a>(alloc: Global) -> Result<Command<'a>, AllocError> {
+/// The words that name peers.
+fn peer_words<'a>(alloc: Global) -> Arg<'a> {
+    Arg::new(alloc, "peer")
+        .value_name("PEER")
+        .help("an application entity that may watch steps: AE=host:port or AE=host:port,lock")
+        .action(ArgAction::Append)
+}
+
+/// The command line of `upsd pipe`.
+fn pipe_command<'a>(alloc: Global) -> Result<Command<'a>, AllocError> {
     let ae = Arg::new(alloc, "ae")
         .long("ae")
         .value_name("AE")
@@ -56,20 +70,43 @@ pub(crate) fn command<'a>(alloc: Global) -> Result<Command<'a>, AllocError> {
         .long("hex")
         .help("read hex digits, and write each PDU as a line of them")
         .action(ArgAction::SetTrue);
-    let peers = Arg::new(alloc, "peer")
-        .value_name("PEER")
-        .help("an application entity that may watch steps: AE=host:port or AE=host:port,lock")
-        .action(ArgAction::Append);
-    let pipe = Command::new(alloc, "pipe")
+    Command::new(alloc, "pipe")
         .about("answers one association from standard input to standard output")
         .arg(ae)?
         .arg(hex)?
-        .arg(peers)?;
+        .arg(peer_words(alloc))
+}
+
+/// The command line of `upsd script`.
+fn script_command<'a>(alloc: Global) -> Result<Command<'a>, AllocError> {
+    let keep = Arg::new(alloc, "keep")
+        .long("keep")
+        .value_name("N")
+        .help("for how many seconds a finished step is kept at least [default: 60]")
+        .action(ArgAction::Set);
+    let offset = Arg::new(alloc, "offset")
+        .long("offset")
+        .value_name("MINUTES")
+        .help("the offset of the local time from UTC, above 0 east of it [default: 0]")
+        .allow_negative_numbers(true)
+        .action(ArgAction::Set);
+    Command::new(alloc, "script")
+        .about("answers a script from standard input, a line for each of its lines")
+        .arg(keep)?
+        .arg(offset)?
+        .arg(peer_words(alloc))
+}
+
+/// The command line of `upsd`.
+pub(crate) fn command<'a>(alloc: Global) -> Result<Command<'a>, AllocError> {
+    let pipe = pipe_command(alloc)?;
+    let script = script_command(alloc)?;
     Command::new(alloc, "upsd")
         .version("0.1.0")
         .about("a DICOM Unified Procedure Step manager")
         .subcommand_required(true)
-        .subcommand(pipe)
+        .subcommand(pipe)?
+        .subcommand(script)
 }
 
 fn is_port(text: &str) -> bool {
@@ -102,16 +139,35 @@ pub(crate) fn ae_of(word: &str) -> Result<Ae, ArgumentFault> {
     }
 }
 
+/// How many seconds a word says.
+///
+/// Errors: Keep where it says none, or 2^32 or more.
+pub(crate) fn keep_of(word: &str) -> Result<u32, ArgumentFault> {
+    word.parse::<u32>().map_err(|_| ArgumentFault::Keep)
+}
+
+/// The offset from UTC in minutes that a word says (PS3.5 section 6.2, DT).
+///
+/// Errors: Offset where it says none from -720 to 840.
+pub(crate) fn offset_of(word: &str) -> Result<i16, ArgumentFault>
+    ensures { IfOk result (λ offset. is_bad_offset offset ≡ false) }
+{
+    match word.parse::<i16>() {
+        Ok(offset) if offset >= -720 && offset <= 840 => Ok(offset),
+        _ => Err(ArgumentFault::Offset),
+    }
+}
+
 /// The peers that words name.
 ///
 /// Errors: Peer where a word names none; Doubled where two words name the same; TooMany; want of memory.
-#[tactic(auto, using(crate::proofs::Naming::twice_on, crate::proofs::Naming::unrefused))]
+#[tactic(auto, using(crate::proofs::Naming::twice_on))]
 pub(crate) fn peers_of<A: Allocator + Copy>(
     alloc: A,
     words: &[&str],
 ) -> Result<Vec<Peer, A>, ArgumentFault>
     ensures few { IfOk result (λ peers. length peers.items ≤ 1000) }
-    ensures allowed { IfOk result (λ peers. refusal peers.items (pos 0) 1000000 ≡ None) }
+    ensures once { IfOk result (λ peers. is_twice peers.items ≡ false) }
 {
     let mut peers = Vec::new(alloc);
     if words.len() > PEERS_LIMIT {

@@ -8,12 +8,15 @@ mod arguments;
 mod gate;
 mod hexing;
 mod piping;
+mod scripting;
 #[cfg(test)]
 mod tests;
 
 use crate::arguments::{ArgumentFault, ae_of, command, peers_of};
+use crate::scripting::{answer_script, script_arguments};
 use clap::ArgMatches;
 pub use piping::pipe;
+pub use scripting::script;
 use std::alloc::{AllocError, Global};
 use std::io::{self, BufReader};
 use std::process::ExitCode;
@@ -44,6 +47,7 @@ struct PipeArguments {
 /// Reads what a command line asks of `pipe`.
 ///
 /// Errors: those of its words.
+#[tactic(auto, using(crate::proofs::Naming::unrefused))]
 fn pipe_arguments(alloc: Global, matches: &ArgMatches<'_>) -> Result<PipeArguments, ArgumentFault>
     ensures few { IfOk result (λ asked. length asked.peers.items ≤ 1000) }
     ensures allowed { IfOk result (λ asked. refusal asked.peers.items (pos 0) 1000000 ≡ None) }
@@ -84,6 +88,15 @@ fn answer(rt: &HostRuntime, asked: &PipeArguments) -> Result<u8, AllocError>
     }
 }
 
+/// Tells why the words of a command line are refused, and gives the exit status.
+fn refused(rt: &HostRuntime, fault: ArgumentFault) -> Result<u8, AllocError> {
+    if fault == ArgumentFault::Memory {
+        return Err(AllocError);
+    }
+    let _ = eprintln!(rt; "upsd: {fault}");
+    Ok(USAGE)
+}
+
 /// Does what the words of a command line ask, and gives the exit status.
 fn run(rt: &HostRuntime, words: &[String]) -> Result<u8, AllocError> {
     let matches = match command(rt.alloc())?.try_get_matches_from(words) {
@@ -93,16 +106,16 @@ fn run(rt: &HostRuntime, words: &[String]) -> Result<u8, AllocError> {
             return Ok(if error.use_stderr() { USAGE } else { 0 });
         }
     };
-    let Some((_, matches)) = matches.subcommand() else {
-        return Ok(USAGE);
-    };
-    match pipe_arguments(rt.alloc(), matches) {
-        Ok(asked) => answer(rt, &asked),
-        Err(ArgumentFault::Memory) => Err(AllocError),
-        Err(fault) => {
-            let _ = eprintln!(rt; "upsd: {fault}");
-            Ok(USAGE)
-        }
+    match matches.subcommand() {
+        Some(("script", matches)) => match script_arguments(rt.alloc(), matches) {
+            Ok(asked) => answer_script(rt, &asked),
+            Err(fault) => refused(rt, fault),
+        },
+        Some((_, matches)) => match pipe_arguments(rt.alloc(), matches) {
+            Ok(asked) => answer(rt, &asked),
+            Err(fault) => refused(rt, fault),
+        },
+        None => Ok(USAGE),
     }
 }
 

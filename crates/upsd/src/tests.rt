@@ -5,6 +5,8 @@ use std::io::{Error, ErrorKind, Read, Write};
 use std::process::Abort;
 use std::test::Fail;
 
+mod scripts;
+
 const PUSH: &str = "312e322e3834302e31303030382e352e312e342e33342e362e31";
 
 /// An A-ASSOCIATE-RQ for the push class, in Implicit VR Little Endian.

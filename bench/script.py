@@ -1,0 +1,98 @@
+#!/usr/bin/env python3
+"""Measures `upsd script`: lines a second, and the memory of a long line; prints a table.
+
+Usage: bench/script.py [PROGRAM]        (crates/upsd/out/upsd, which `rt run` builds)
+"""
+
+import subprocess
+import sys
+import tempfile
+import time
+
+STEP = b"00404005=20240229120000 00404041=READY 00741000=SCHEDULED 00741200=MEDIUM 00741204=CT%20READ 00100020=P"
+
+
+def create(number):
+    return b"0 SCHED1 create 1.2.3.%d " % number + STEP + b"%05d\n" % number
+
+
+def run(program, stdin, before=()):
+    """The seconds of one run, what it wrote, and what it told on standard error."""
+    with tempfile.TemporaryFile() as given, tempfile.TemporaryFile() as told:
+        given.write(stdin)
+        given.flush()
+        given.seek(0)
+        began = time.perf_counter()
+        done = subprocess.run([*before, program, "script"], stdin=given, stdout=told, stderr=subprocess.PIPE, text=True)
+        took = time.perf_counter() - began
+        told.seek(0)
+        out = told.read()
+    return took, out, done
+
+
+def best(program, stdin, wanted, times=5):
+    """The seconds of the best run; each line of a run has to begin with the status that is wanted."""
+    least = None
+    for _ in range(times):
+        took, out, done = run(program, stdin)
+        lines = out.splitlines()
+        if done.returncode != 0 or len(lines) != stdin.count(b"\n") or not all(line.startswith(wanted) for line in lines):
+            sys.exit(f"{program}: status {done.returncode}, {done.stderr}")
+        least = took if least is None else min(least, took)
+    return least
+
+
+def lines(program):
+    made = b"".join(create(i) for i in range(100))
+    base = best(program, made, b"0000")
+    for count in (1_000, 10_000):
+        print_rate("create", count, best(program, b"".join(create(i) for i in range(count)), b"0000"))
+        gets = b"".join(b"0 P1 get 1.2.3.%d 00741000 00100020\n" % (i % 100) for i in range(count))
+        print_rate("get, over 100 steps", count, best(program, made + gets, b"0000") - base)
+        finds = b"".join(b"0 P1 find 00080018= 00100020=P%05d\n" % (i % 100) for i in range(count))
+        print_rate("find by patient ID, over 100 steps", count, best(program, made + finds, b"0000") - base)
+        finds = b"0 P1 find 00080018= 00741204=C*READ\n" * count
+        print_rate("find by wild card, 100 answers", count, best(program, made + finds, b"0000") - base)
+
+
+def print_rate(name, count, took):
+    print(f"| {name}, {count:,} lines | {count / max(took, 1e-6):,.0f} lines a second | |")
+
+
+def peak(program, stdin):
+    """The peak memory of one run, in bytes, and the status of the last reply."""
+    _, out, done = run(program, stdin, ["/usr/bin/time", "-f", "%M"])
+    return int(done.stderr.split()[-1]) * 1024, out.splitlines()[-1][:4].decode()
+
+
+def long_lines(program):
+    floor, _ = peak(program, b"0 P1 held\n")
+    size = 16_777_216
+    made = create(1)
+    heads = {"create": b"0 P1 create 1.2.3.2 " + STEP + b"1 ", "set": b"0 P1 set 1.2.3.1 - ", "find": b"0 P1 find "}
+    shapes = (
+        ("one large value", lambda n: b"0074100A=" + b"A" * n),
+        ("attributes of eight bytes", lambda n: b" ".join(b"%04X%04X=ABCDEFGH" % (0x0101 + 2 * (i // 60000), 0x1001 + i % 60000) for i in range(n // 18))),
+        ("attributes of one byte", lambda n: b" ".join(b"%04X%04X=A" % (0x0101 + 2 * (i // 60000), 0x1001 + i % 60000) for i in range(n // 11))),
+        ("attributes without value", lambda n: b" ".join(b"%04X%04X=" % (0x0101 + 2 * (i // 60000), 0x1001 + i % 60000) for i in range(n // 10))),
+        ("items", lambda n: b" ".join(b"00404018.%d/00080100=A" % (i + 1) for i in range(min(n // 25, 131_000)))),
+    )
+    for name, shape in shapes:
+        for verb, head in heads.items():
+            line = head + shape(size - 200)
+            assert len(line) <= size
+            began = time.perf_counter()
+            used, answer = peak(program, made + line + b"\n")
+            took = time.perf_counter() - began
+            print(f"| {verb} of {len(line):,} bytes, {name}: {answer} | {took:.2f} s | {(used - floor) / len(line):.1f} bytes a byte |")
+
+
+def main():
+    program = sys.argv[1] if len(sys.argv) > 1 else "crates/upsd/out/upsd"
+    print("| what | rate or time | peak memory |\n|---|---|---|")
+    lines(program)
+    long_lines(program)
+
+
+if __name__ == "__main__":
+    main()

@@ -1,0 +1,19 @@
+//! Scripts: requests to a service of Unified Procedure Steps (PS3.4 annex CC), a line each, and a line for each reply.
+//! A line becomes the operation and the data set that a message would bring, and is asked of a manager as that is.
+#![tactic(auto)]
+
+mod asking;
+mod attributes;
+mod fault;
+mod line;
+mod paths;
+mod printing;
+mod running;
+mod spelling;
+mod words;
+
+pub use fault::ScriptFault;
+pub use running::run;
+
+#[cfg(test)]
+mod tests;
