@@ -7,5 +7,6 @@ pub mod OneHolder
 pub mod Past
 pub mod Rows
 pub mod Texts
+pub mod Untold
 mod Worked
 mod WorkedWorklists

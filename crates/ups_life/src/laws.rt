@@ -1,7 +1,8 @@
 //! What the life cycle of a step owes (PS3.4 CC.1.1): laws, each the contract of a function that does nothing.
 
-ghost use Rattle.std.specs.Prelude.{◌≡◌, ◌≤◌, ℕ, List, ◌∷◌, length, true, Some};
-ghost use Rattle.ups_dataset.specs.Data.{El};
+ghost use Rattle.std.specs.Prelude.{◌≡◌, ◌≤◌, ℕ, ℤ, List, ◌∷◌, length, true, None, Some};
+ghost use Rattle.ups_dataset.specs.declared.dictionary.TheConstants.{TRANSACTION_UID};
+ghost use Rattle.ups_dataset.specs.Data.{El, element_at, answer_to, without_value};
 ghost use Rattle.ups_life.specs.declared.entry.Entry.{Entry};
 ghost use Rattle.ups_life.specs.declared.request.Request.TheVariants.{Change, Set};
 ghost use Rattle.ups_life.specs.declared.request.Transaction.{Transaction};
@@ -10,7 +11,7 @@ ghost use Rattle.ups_life.specs.declared.state.StepState.{StepState};
 ghost use Rattle.ups_life.specs.declared.state.StepState.TheVariants.{InProgress};
 ghost use Rattle.ups_life.specs.Settings.{Settings};
 ghost use Rattle.ups_life.specs.States.{is_final};
-ghost use Rattle.ups_life.specs.Steps.{Claim, past, state, claim, right};
+ghost use Rattle.ups_life.specs.Steps.{Claim, past, state, claim, right, row};
 ghost use Rattle.ups_life.specs.Claims.{claims};
 ghost use Rattle.ups_life.specs.History.{legal};
 
@@ -38,4 +39,12 @@ pub fn only_the_holder_sets<A: Allocator + Copy>()
 pub fn only_the_holder_finishes<A: Allocator + Copy>()
     ensures { (s : Settings) → (e : Entry A) → (es : List (Entry A)) → (u : List ℕ) → (to : StepState) → (t : Transaction) → legal s (e ∷ es) ≡ true
         → e.request ≡ Change (Some u) to t → is_final to ≡ true → (uid : List ℕ) × (t ≡ Proper uid) × (right es u ≡ Some uid) }
+{}
+
+/// No step shows its Transaction UID, whatever was asked of it (PS3.4 CC.2.5): its attributes have none, and a query that
+/// asks for it is answered without a value.
+pub fn a_transaction_uid_is_never_told<A: Allocator + Copy>()
+    ensures shown { (offset : ℤ) → (es : List (Entry A)) → (u : List ℕ) → element_at TRANSACTION_UID (row offset es u) ≡ None }
+    ensures found { (offset : ℤ) → (es : List (Entry A)) → (u : List ℕ) → (key : El) → key.tag ≡ TRANSACTION_UID
+        → answer_to (row offset es u) key ≡ record { tag = key.tag; vr = key.vr; value = without_value key.value } }
 {}

@@ -400,4 +400,5 @@ fn the_laws_are_of_each_allocator() {
     laws::a_claim_stays::<Global>();
     laws::only_the_holder_sets::<Global>();
     laws::only_the_holder_finishes::<Global>();
+    laws::a_transaction_uid_is_never_told::<Global>();
 }
