@@ -65,8 +65,8 @@ def seeds():
         yield associate([(PUSH, syntax), (PULL, syntax)]) + queries(explicit) + RELEASE
 
 
-def mutated(chance, seed):
-    """A seed with some of its bytes changed, dropped, doubled or put elsewhere, or cut off."""
+def mutated(chance, seed, spoil):
+    """A seed with some of its bytes changed, dropped or doubled, or spoiled in a way of its own form."""
     given = bytearray(seed)
     for _ in range(chance.randint(1, 4)):
         at = chance.randrange(len(given))
@@ -74,18 +74,25 @@ def mutated(chance, seed):
         if kind == 0:
             given[at] = chance.randrange(256)
         elif kind == 1:
-            given[at] ^= 1 << chance.randrange(8)
-        elif kind == 2:
             del given[at : at + chance.randint(1, 8)]
-        elif kind == 3:
+        elif kind == 2:
             given[at:at] = given[at : at + chance.randint(1, 300)]
-        elif kind == 4:
-            given[at : at + 4] = struct.pack(">I", chance.choice([0, 1, 0x7FFFFFFF, 0xFFFFFFFF, 16384, 131072]))
         else:
-            del given[at:]
+            spoil(chance, given, at)
         if not given:
-            given = bytearray(b"\x05")
+            given = bytearray(seed[:1])
     return bytes(given)
+
+
+def spoil_pdus(chance, given, at):
+    """Turns a bit, puts a length, or cuts the bytes off."""
+    kind = chance.randrange(3)
+    if kind == 0:
+        given[at] ^= 1 << chance.randrange(8)
+    elif kind == 1:
+        given[at : at + 4] = struct.pack(">I", chance.choice([0, 1, 0x7FFFFFFF, 0xFFFFFFFF, 16384, 131072]))
+    else:
+        del given[at:]
 
 
 def are_pdus(out):
@@ -109,7 +116,7 @@ def fuzz(program, count, seed):
     origins = list(seeds())
     statuses = collections.Counter()
     for number in range(count):
-        given = mutated(chance, chance.choice(origins))
+        given = mutated(chance, chance.choice(origins), spoil_pdus)
         done = run(program, given)
         statuses[done.returncode] += 1
         if done.returncode not in (0, 2) or not are_pdus(done.stdout):

@@ -14,6 +14,9 @@ import re
 import subprocess
 import sys
 
+sys.path.insert(0, __file__.rsplit("/", 1)[0])
+from fuzz import mutated
+
 STEP = b"00404005=20240229120000 00404041=READY 00741000=SCHEDULED 00741200=MEDIUM 00741204=CT%20READ"
 SEED = b"\n".join((
     b"0 SCHED1 create 1.2.3.1 " + STEP + b" 00741202=READS 00100020=P1",
@@ -32,27 +35,17 @@ SEED = b"\n".join((
 ))
 
 
-def mutated(chance):
-    """The seed with some of its bytes changed, dropped, doubled or put elsewhere."""
-    given = bytearray(SEED)
-    for _ in range(chance.randint(1, 4)):
-        at = chance.randrange(len(given))
-        kind = chance.randrange(6)
-        if kind == 0:
-            given[at] = chance.randrange(256)
-        elif kind == 1:
-            given[at] = chance.choice(b"0123456789ABCDEF./=% \n")
-        elif kind == 2:
-            del given[at : at + chance.randint(1, 8)]
-        elif kind == 3:
-            given[at:at] = given[at : at + chance.randint(1, 200)]
-        elif kind == 4:
-            lines = given.split(b"\n")
-            chance.shuffle(lines)
-            given = bytearray(b"\n".join(lines))
-        else:
-            given[at:at] = chance.choice((b".131072/", b".2/", b"/", b"%00", b"00081195=9 ", b"FFFEE000=", b"00080000=", b"\r"))
-    return bytes(given)
+def spoil_lines(chance, given, at):
+    """Puts a character that has a meaning, orders the lines anew, or puts a part of a word between."""
+    kind = chance.randrange(3)
+    if kind == 0:
+        given[at] = chance.choice(b"0123456789ABCDEF./=% \n")
+    elif kind == 1:
+        lines = given.split(b"\n")
+        chance.shuffle(lines)
+        given[:] = b"\n".join(lines)
+    else:
+        given[at:at] = chance.choice((b".131072/", b".2/", b"/", b"%00", b"00081195=9 ", b"FFFEE000=", b"00080000=", b"\r"))
 
 
 def is_told(done, lines):
@@ -74,7 +67,7 @@ def main():
     chance = random.Random(int(sys.argv[3]) if len(sys.argv) > 3 else 1)
     statuses = collections.Counter()
     for number in range(count):
-        given = mutated(chance)
+        given = mutated(chance, SEED, spoil_lines)
         lines = given.count(b"\n") + (0 if given.endswith(b"\n") or not given else 1)
         done = subprocess.run([program, "script"], input=given, capture_output=True, timeout=10)
         statuses[done.returncode] += 1

@@ -156,17 +156,22 @@ def step(explicit, more=()):
     return b"".join(data(explicit, g, e, vr, value) for (g, e), (vr, value) in sorted(row.items()))
 
 
-def run(program, stdin, before=()):
-    """The seconds of one run, and what it told on standard error."""
+def timed(words, stdin):
+    """The seconds of one run, what it wrote, and how it ended."""
     with tempfile.TemporaryFile() as given, tempfile.TemporaryFile() as told:
         given.write(stdin)
         given.flush()
         given.seek(0)
         began = time.perf_counter()
-        done = subprocess.run([*before, program, "pipe", "--ae", "UPSD"], stdin=given, stdout=told, stderr=subprocess.PIPE, text=True)
+        done = subprocess.run(words, stdin=given, stdout=told, stderr=subprocess.PIPE, text=True)
         took = time.perf_counter() - began
         told.seek(0)
-        out = told.read()
+        return took, told.read(), done
+
+
+def run(program, stdin, before=()):
+    """The seconds of one run, and what it told on standard error."""
+    took, out, done = timed([*before, program, "pipe", "--ae", "UPSD"], stdin)
     if done.returncode != 0:
         sys.exit(f"{program}: {done.stderr}")
     if not out.endswith(pdu(6, bytes(4))):

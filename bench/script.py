@@ -4,10 +4,11 @@
 Usage: bench/script.py [PROGRAM]        (crates/upsd/out/upsd, which `rt run` builds)
 """
 
-import subprocess
 import sys
-import tempfile
 import time
+
+sys.path.insert(0, __file__.rsplit("/", 1)[0])
+from pipe import timed
 
 STEP = b"00404005=20240229120000 00404041=READY 00741000=SCHEDULED 00741200=MEDIUM 00741204=CT%20READ 00100020=P"
 
@@ -17,17 +18,8 @@ def create(number):
 
 
 def run(program, stdin, before=()):
-    """The seconds of one run, what it wrote, and what it told on standard error."""
-    with tempfile.TemporaryFile() as given, tempfile.TemporaryFile() as told:
-        given.write(stdin)
-        given.flush()
-        given.seek(0)
-        began = time.perf_counter()
-        done = subprocess.run([*before, program, "script"], stdin=given, stdout=told, stderr=subprocess.PIPE, text=True)
-        took = time.perf_counter() - began
-        told.seek(0)
-        out = told.read()
-    return took, out, done
+    """The seconds of one run, what it wrote, and how it ended."""
+    return timed([*before, program, "script"], stdin)
 
 
 def best(program, stdin, wanted, times=5):
