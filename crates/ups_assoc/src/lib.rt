@@ -19,6 +19,3 @@ pub use negotiating::{
 };
 pub use sop_class::SopClass;
 pub use walking::{data_follows, the_first_data_set_type_decides};
-
-#[cfg(test)]
-mod tests;

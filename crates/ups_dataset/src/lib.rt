@@ -30,6 +30,3 @@ pub use syntax::TransferSyntax;
 pub use tag::{ITEM, ITEM_DELIMITATION, SEQUENCE_DELIMITATION, Tag};
 pub use vr::Vr;
 pub use writing::write_set;
-
-#[cfg(test)]
-mod tests;

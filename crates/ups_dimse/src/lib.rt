@@ -17,6 +17,3 @@ pub use fault::DimseFault;
 pub use reading::{command_is_unique, fault_is_unique, read_command};
 pub use tag_list::Tags;
 pub use writing::write_command;
-
-#[cfg(test)]
-mod tests;

@@ -35,6 +35,3 @@ pub use sets::Sets;
 pub use showing::shown;
 pub use state::StepState;
 pub use status::Status;
-
-#[cfg(test)]
-mod tests;

@@ -15,6 +15,3 @@ pub use call::Call;
 pub use fault::ManagerFault;
 pub use manager::Manager;
 pub use service::Service;
-
-#[cfg(test)]
-mod tests;

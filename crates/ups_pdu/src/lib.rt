@@ -42,6 +42,3 @@ pub use registered::RegisteredUid;
 pub use text::{is_padding, without_padding};
 pub use uid::Uid;
 pub use writing::{fits_where_spelled, pdu_is_unique, short_is_writable, write_pdu};
-
-#[cfg(test)]
-mod tests;

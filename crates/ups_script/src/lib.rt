@@ -13,7 +13,4 @@ mod spelling;
 mod words;
 
 pub use fault::ScriptFault;
-pub use running::run;
-
-#[cfg(test)]
-mod tests;
+pub use running::{answer_lines, run};

@@ -118,10 +118,55 @@ fn reply_to<A: Allocator + Copy>(
     }
 }
 
-/// Tells that a line is none.
+/// Tells that a line is none, and gives the fault that ends its script.
+fn bad_line<W: Write>(writer: &mut W, number: u64) -> ScriptFault
+    requires number { (1 ≤ number) × (number ≤ 1000000) }
+    ensures { TellsLine result }
+{
+    match put_bad_line(writer, number) {
+        Ok(()) => ScriptFault::BadLine(number),
+        Err(_) => ScriptFault::Write,
+    }
+}
+
 fn put_bad_line<W: Write>(writer: &mut W, number: u64) -> io::Result<()> {
     writeln!(writer, "bad line {number}")?;
     writer.flush()
+}
+
+/// Writes the reply to a question.
+///
+/// Errors: Write; Memory.
+fn put_answer<A: Allocator + Copy, W: Write>(
+    alloc: A,
+    manager: &mut Manager<A>,
+    writer: &mut W,
+    asked: Asked<A>,
+) -> Result<(), ScriptFault>
+    ensures { IfErr result TellsLine }
+{
+    let Asked {
+        moment,
+        ae,
+        question,
+    } = asked;
+    let written = match question {
+        Question::Message(operation, data_set) => {
+            let reply = reply_to(alloc, manager, ae, moment, operation, data_set)?;
+            put_reply(writer, &reply)
+        }
+        Question::Held => put_steps(writer, &manager.held()?),
+        Question::Holder(step) => {
+            let holder = step.and_then(|step| manager.holder(step));
+            put_holder(writer, holder.map(|holder| holder.ae))
+        }
+    };
+    written.map_err(|_| ScriptFault::Write)
+}
+
+/// What a line asks, of which nothing is kept.
+fn asked_of<A: Allocator + Copy>(alloc: A, line: Vec<u8, A>) -> Result<Asked<A>, LineFault> {
+    asked_by(alloc, &line)
 }
 
 /// Writes the reply to the line of a number.
@@ -137,44 +182,26 @@ fn answer<A: Allocator + Copy, W: Write>(
     requires number { (1 ≤ number) × (number ≤ 1000000) }
     ensures { IfErr result TellsLine }
 {
-    let Asked {
-        moment,
-        ae,
-        question,
-    } = match asked_by(alloc, &line) {
-        Ok(asked) => asked,
-        Err(LineFault::Memory) => return Err(ScriptFault::Memory),
-        Err(LineFault::Malformed) => {
-            put_bad_line(writer, number).map_err(|_| ScriptFault::Write)?;
-            return Err(ScriptFault::BadLine(number));
-        }
-    };
-    drop(line);
-    let written = match question {
-        Question::Message(operation, data_set) => {
-            let reply = reply_to(alloc, manager, ae, moment, operation, data_set)?;
-            put_reply(writer, &reply)
-        }
-        Question::Held => put_steps(writer, &manager.held()?),
-        Question::Holder(step) => {
-            let holder = step.and_then(|step| manager.holder(step));
-            put_holder(writer, holder.map(|holder| holder.ae))
-        }
-    };
-    written.map_err(|_| ScriptFault::Write)
+    match asked_of(alloc, line) {
+        Ok(asked) => put_answer(alloc, manager, writer, asked),
+        Err(LineFault::Memory) => Err(ScriptFault::Memory),
+        Err(LineFault::Malformed) => Err(bad_line(writer, number)),
+    }
 }
 
-/// Answers line after line, so many at most.
+/// Answers line after line of a script by a manager: so many lines at most.
 ///
-/// Errors: those of `run`.
-pub(crate) fn answer_lines<A: Allocator + Copy, R: BufRead, W: Write>(
+/// # Errors
+///
+/// Those of [`run`]; TooManyLines where there are more than `limit`.
+pub fn answer_lines<A: Allocator + Copy, R: BufRead, W: Write>(
     alloc: A,
     manager: &mut Manager<A>,
     reader: &mut R,
     writer: &mut W,
     limit: u64,
 ) -> Result<(), ScriptFault>
-    requires { limit ≤ MAX_LINES }
+    requires { limit ≤ 1000000 }
     ensures { IfErr result TellsLine }
 {
     for number in 1..=limit {

@@ -50,6 +50,6 @@ impl<T: Drop> From<AllocFailed<T>> for SessionFault {
     ghost from_gives = { λ _ e. e ≡ Memory };
 
     fn from(_e: AllocFailed<T>) -> SessionFault {
-        SessionFault::Memory
+        SessionFault::from(AllocError)
     }
 }

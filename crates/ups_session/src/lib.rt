@@ -15,8 +15,6 @@ mod replying;
 mod responding;
 mod saying;
 mod taking;
-#[cfg(test)]
-mod tests;
 mod wire;
 
 pub use answering::serve;

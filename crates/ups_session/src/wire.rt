@@ -5,7 +5,12 @@ ghost use Rattle.std.specs.Io.KnownBytes.{Appends, Consumes, IsAtEnd};
 ghost use Rattle.ups_session.specs.Wire.{Filling, Taking, Sent};
 
 use crate::fault::SessionFault;
-use std::io::{ErrorKind, Read, Write};
+use std::io::{Error, ErrorKind, Read, Write};
+
+/// Whether a signal interrupted what failed, so that it is tried again.
+fn is_interrupted(error: &Error) -> bool {
+    error.kind() == ErrorKind::Interrupted
+}
 
 /// One read, tried again where a signal interrupts it. None where it failed.
 fn read_some<R: Read>(reader: &mut R, buf: &mut [u8]) -> Option<usize>
@@ -14,7 +19,7 @@ fn read_some<R: Read>(reader: &mut R, buf: &mut [u8]) -> Option<usize>
     for _ in 0..u64::MAX {
         match reader.read(buf) {
             Ok(n) => return Some(n),
-            Err(e) if e.kind() == ErrorKind::Interrupted => {}
+            Err(e) if is_interrupted(&e) => {}
             Err(_) => return None,
         }
     }
@@ -63,7 +68,7 @@ fn write_some<W: Write>(writer: &mut W, buf: &[u8]) -> Option<usize>
     for _ in 0..u64::MAX {
         match writer.write(buf) {
             Ok(n) => return Some(n),
-            Err(e) if e.kind() == ErrorKind::Interrupted => {}
+            Err(e) if is_interrupted(&e) => {}
             Err(_) => return None,
         }
     }

@@ -7,6 +7,3 @@ mod table;
 
 pub use state::{UlAction, UlEvent, UlState};
 pub use table::next;
-
-#[cfg(test)]
-mod tests;

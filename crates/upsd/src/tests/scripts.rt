@@ -9,24 +9,60 @@ const CREATE_LINE: &str =
 
 const GET_LINE: &str = "0 SCHED1 get 1.2.3.1 00741000 00081195\n";
 
-/// The text of two others.
-fn joined(rt: &impl AllocGlobal, one: &str, two: &str) -> Result<String, Fail> {
-    let mut text = String::from_str(rt.alloc(), one)?;
-    text.push_str(two)?;
-    Ok(text)
+/// The exit status of a script, and the replies to it.
+#[derive(Drop)]
+struct Replied {
+    status: u8,
+    output: Vec<u8>,
 }
 
-#[test]
+/// Runs a script without peers, in local time that is so many minutes east of UTC.
+fn replied_at<A: Allocator + Copy>(
+    rt: &impl AllocGlobal,
+    alloc: A,
+    text: &str,
+    offset: i16,
+) -> Result<Replied, Fail> {
+    if offset < -720 || offset > 840 {
+        return Err("no offset".into());
+    }
+    let mut reader = text.as_bytes();
+    let mut output = Vec::new(rt.alloc());
+    let status = script(alloc, &mut reader, &mut output, &[], 60, offset);
+    Ok(Replied { status, output })
+}
+
+/// A script without peers has this exit status, and these replies.
+fn is_replied<R: Abort + AllocGlobal>(
+    rt: &R,
+    text: &str,
+    offset: i16,
+    status: u8,
+    replies: &str,
+) -> Result<(), Fail> {
+    let found = replied_at(rt, rt.alloc(), text, offset)?;
+    assert_eq!(rt; found.status, status);
+    assert_eq!(rt; std::str::from_utf8(&found.output).ok(), Some(replies));
+    Ok(())
+}
+
+/// Runs a script with two peers.
 #[tactic(auto, using(crate::proofs::Naming::unrefused))]
-fn a_script_is_answered_line_by_line(rt: HostRuntime) -> Result<(), Fail> {
+fn with_peers(rt: &impl AllocGlobal, text: &str) -> Result<Replied, Fail> {
     let peers = peers_of(rt.alloc(), &["W1=host:104,lock", "W2=host:105"])?;
-    let text = joined(&rt, CREATE_LINE, GET_LINE)?;
     let mut reader = text.as_bytes();
     let mut output = Vec::new(rt.alloc());
     let status = script(rt.alloc(), &mut reader, &mut output, &peers, 60, 0);
-    assert_eq!(rt; status, 0);
+    Ok(Replied { status, output })
+}
+
+#[test]
+fn a_script_is_answered_line_by_line(rt: HostRuntime) -> Result<(), Fail> {
+    let text = format!(in rt.alloc(); "{CREATE_LINE}{GET_LINE}")?;
+    let found = with_peers(&rt, text.as_str())?;
+    assert_eq!(rt; found.status, 0);
     assert_eq!(rt;
-        output.as_slice(),
+        found.output.as_slice(),
         b"0000\n0001 00741000=SCHEDULED\n".as_slice()
     );
     Ok(())
@@ -34,27 +70,27 @@ fn a_script_is_answered_line_by_line(rt: HostRuntime) -> Result<(), Fail> {
 
 #[test]
 fn a_moment_is_told_in_local_time(rt: HostRuntime) -> Result<(), Fail> {
-    let cancel = "120 SCHED1 cancel 1.2.3.1\n120 SCHED1 get 1.2.3.1 00741002\n";
-    let text = joined(&rt, CREATE_LINE, cancel)?;
-    let mut reader = text.as_bytes();
-    let mut output = Vec::new(rt.alloc());
-    let status = script(rt.alloc(), &mut reader, &mut output, &[], 60, -300);
-    assert_eq!(rt; status, 0);
-    assert_eq!(rt;
-        std::str::from_utf8(&output).ok(),
-        Some("0000\n0000\n0000 00741002/00404052=19691231190200-0500\n")
-    );
-    Ok(())
+    let text = format!(in rt.alloc();
+        "{CREATE_LINE}120 SCHED1 cancel 1.2.3.1\n120 SCHED1 get 1.2.3.1 00741002\n"
+    )?;
+    is_replied(
+        &rt,
+        text.as_str(),
+        -300,
+        0,
+        "0000\n0000\n0000 00741002/00404052=19691231190200-0500\n",
+    )
 }
 
 #[test]
 fn a_line_that_is_none_has_a_status(rt: HostRuntime) -> Result<(), Fail> {
-    let mut reader = b"0 SCHED1 held\n0 SCHED1 hold\n".as_slice();
-    let mut output = Vec::new(rt.alloc());
-    let status = script(rt.alloc(), &mut reader, &mut output, &[], 60, 0);
-    assert_eq!(rt; status, 2);
-    assert_eq!(rt; output.as_slice(), b"0000\nbad line 2\n".as_slice());
-    Ok(())
+    is_replied(
+        &rt,
+        "0 SCHED1 held\n0 SCHED1 hold\n",
+        0,
+        2,
+        "0000\nbad line 2\n",
+    )
 }
 
 #[test]
@@ -72,10 +108,9 @@ fn a_writer_that_fails_has_a_status(rt: HostRuntime) -> Result<(), Fail> {
 fn want_of_memory_has_a_status(rt: HostRuntime) -> Result<(), Fail> {
     let heap = Refusing::new(rt.alloc());
     heap.refuse(1);
-    let mut reader = GET_LINE.as_bytes();
-    let mut output = Vec::new(rt.alloc());
-    assert_eq!(rt; script(&heap, &mut reader, &mut output, &[], 60, 0), 3);
-    assert!(rt; output.is_empty());
+    let found = replied_at(&rt, &heap, GET_LINE, 0)?;
+    assert_eq!(rt; found.status, 3);
+    assert!(rt; found.output.is_empty());
     Ok(())
 }
 

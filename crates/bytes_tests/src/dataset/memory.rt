@@ -1,0 +1,246 @@
+use super::{is_described, set_read};
+use fixtures::{Refusing, bytes_of, described};
+use std::alloc::{Allocator, Global};
+use std::test::*;
+use ups_dataset::dictionary::*;
+use ups_dataset::*;
+use ups_pdu::Bytes;
+
+/// A set with bytes, a sequence with two items and a group length.
+const MIXED: &str =
+    r#"10002000 "LO" 0200 "P1" 74000000 "UL" 0400 00000000 74001612 "SQ" 0000 ffffffff feff00e0 16000000 40005040 "DT" 0e00 "20240229120100" feff00e0 00000000 feffdde0 00000000"#;
+
+/// What is described of it.
+const DESCRIBED: &str = "00100020=P1 00741216=[00404050=20240229120100 ][] ";
+
+/// Keys: two that the set of `MIXED` has, and three that it has not, of which one is a sequence with an item.
+const KEYS: &str =
+    r#"08001800 "UI" 0000 10002000 "LO" 0200 "* " 40000540 "DT" 0a00 "20240229- " 40003340 "SQ" 0000 08000000 feff00e0 00000000 74001612 "SQ" 0000 00000000"#;
+
+/// No growth is refused.
+const NONE: u64 = 0;
+
+/// The greatest number of growths that a test refuses in turn.
+const GROWTHS: u64 = 100;
+
+/// Reads with each growth refused in turn, until none is: how many there are.
+fn growths_of_reading(rt: &impl AllocGlobal, bytes: &[u8]) -> Result<u64, Fail> {
+    let heap = Refusing::new(rt.alloc());
+    for number in 1..GROWTHS {
+        heap.refuse(number);
+        let fault = read_set(&heap, TransferSyntax::Explicit, bytes).err();
+        match (heap.is_armed(), fault) {
+            (true, None) => return Ok(number - 1),
+            (false, Some(SetFault::Memory)) => {}
+            _ => return Err("another answer than Memory where a growth is refused".into()),
+        }
+    }
+    Err("no end of growths".into())
+}
+
+#[test]
+fn reading_answers_memory_where_a_growth_is_refused(rt: HostRuntime) -> Result<(), Fail> {
+    let bytes = bytes_of(&rt, MIXED)?;
+    assert!(rt; growths_of_reading(&rt, &bytes)? > 4);
+    Ok(())
+}
+
+/// What a set is asked for.
+#[derive(Clone, Copy)]
+enum Job {
+    Copy,
+    Project,
+    LayOver,
+    LeaveOut,
+    Answer,
+}
+
+/// Whether a job gives the wanted set; None where memory runs out.
+fn is_done<A: Allocator + Copy>(
+    rt: &impl AllocGlobal,
+    job: Job,
+    set: &DataSet<A>,
+    keys: &DataSet<A>,
+    wanted: &str,
+) -> Result<Option<bool>, Fail> {
+    let made = match job {
+        Job::Copy => set.copy(),
+        Job::Project => set.project(&[UNIFIED_PROCEDURE_STEP_PERFORMED_PROCEDURE_SEQUENCE]),
+        Job::LayOver => set.laid_over(set),
+        Job::LeaveOut => set.without(PATIENT_ID),
+        Job::Answer => set.answer(keys),
+    };
+    match made {
+        Ok(made) => Ok(Some(is_described(rt, &made, wanted)?)),
+        Err(_) => Ok(None),
+    }
+}
+
+/// Does a job with each growth refused in turn, until none is: how many there are. The set stays as it is.
+fn growths_of<A: Allocator + Copy>(
+    rt: &impl AllocGlobal,
+    heap: &Refusing<Global>,
+    job: Job,
+    set: &DataSet<A>,
+    keys: &DataSet<A>,
+    wanted: &str,
+) -> Result<u64, Fail> {
+    for number in 1..GROWTHS {
+        heap.refuse(number);
+        let done = is_done(rt, job, set, keys, wanted)?;
+        if !is_described(rt, set, DESCRIBED)? {
+            return Err("the set is another".into());
+        }
+        match (heap.is_armed(), done) {
+            (true, Some(true)) => return Ok(number - 1),
+            (false, None) => {}
+            _ => return Err("an answer where a growth is refused, or a wrong one".into()),
+        }
+    }
+    Err("no end of growths".into())
+}
+
+/// The growths of a job on the sets of `MIXED` and `KEYS`.
+fn growths_between<A: Allocator + Copy>(
+    rt: &impl AllocGlobal,
+    heap: &Refusing<Global>,
+    alloc: A,
+    job: Job,
+    wanted: &str,
+) -> Result<u64, Fail> {
+    let set = set_read(rt, alloc, TransferSyntax::Explicit, MIXED)?;
+    let keys = set_read(rt, alloc, TransferSyntax::Explicit, KEYS)?;
+    growths_of(rt, heap, job, &set, &keys, wanted)
+}
+
+/// A job on those sets takes more growths than a number.
+fn check_growths(
+    rt: &impl AllocGlobal,
+    job: Job,
+    more_than: u64,
+    wanted: &str,
+) -> Result<(), Fail> {
+    let heap = Refusing::new(rt.alloc());
+    let growths = growths_between(rt, &heap, &heap, job, wanted)?;
+    if growths <= more_than {
+        return Err("fewer growths".into());
+    }
+    Ok(())
+}
+
+/// Writes with each growth refused in turn, until none is: how many there are.
+fn growths_of_writing<A: Allocator + Copy>(
+    heap: &Refusing<Global>,
+    alloc: A,
+    set: &DataSet<A>,
+) -> Result<u64, Fail> {
+    if set.size() >= 0x1_0000_0000 {
+        return Err("a set of 4 GB or more".into());
+    }
+    for number in 1..GROWTHS {
+        heap.refuse(number);
+        let is_written = write_set(alloc, TransferSyntax::Explicit, set).is_ok();
+        if heap.is_armed() != is_written {
+            return Err("an answer where a growth is refused, or none".into());
+        }
+        if is_written {
+            return Ok(number - 1);
+        }
+    }
+    Err("no end of growths".into())
+}
+
+/// What is described of the elements of `MIXED` but for the patient's id.
+const SEQUENCE: &str = "00741216=[00404050=20240229120100 ][] ";
+
+/// The growths of writing the set of `MIXED`.
+fn growths_of_writing_mixed(rt: &impl AllocGlobal) -> Result<u64, Fail> {
+    let heap = Refusing::new(rt.alloc());
+    let set = set_read(rt, &heap, TransferSyntax::Explicit, MIXED)?;
+    growths_of_writing(&heap, &heap, &set)
+}
+
+#[test]
+fn writing_and_copying_fail_where_a_growth_is_refused(rt: HostRuntime) -> Result<(), Fail> {
+    assert!(rt; growths_of_writing_mixed(&rt)? > 0);
+    check_growths(&rt, Job::Copy, 4, DESCRIBED)?;
+    check_growths(&rt, Job::Project, 3, SEQUENCE)?;
+    check_growths(&rt, Job::LayOver, 4, DESCRIBED)
+}
+
+/// Puts an element, which needs a growth at most, where the next growth is refused: whether it is put.
+fn is_put<A: Allocator + Copy>(
+    heap: &Refusing<Global>,
+    alloc: A,
+    set: &mut DataSet<A>,
+    tag: Tag,
+) -> Result<bool, Fail> {
+    if tag.is_mark() || tag.is_group_length() {
+        return Err("no element of a set".into());
+    }
+    heap.refuse(NONE);
+    let value = Bytes::copy_of(alloc, b"AB")?;
+    heap.refuse(1);
+    Ok(set.replace(Element::of_bytes(tag, Vr::Lo, value)).is_ok())
+}
+
+/// Whether a growth is refused where an element is put. Then the set is as it was, and else the element is put.
+fn is_refused<A: Allocator + Copy>(
+    rt: &impl AllocGlobal,
+    heap: &Refusing<Global>,
+    alloc: A,
+    set: &mut DataSet<A>,
+    tag: Tag,
+) -> Result<bool, Fail> {
+    let before = described(set, rt)?;
+    let is_put = is_put(heap, alloc, set, tag)?;
+    let is_refused = !heap.is_armed();
+    let is_same = is_described(rt, set, before.as_str())?;
+    if is_put == is_refused || is_refused && !is_same || is_put && set.get(tag).is_none() {
+        return Err("put where a growth is refused, or not put where none is".into());
+    }
+    Ok(is_refused)
+}
+
+/// Whether a growth is refused where one of six elements is put into an empty set.
+fn are_refused<A: Allocator + Copy>(
+    rt: &impl AllocGlobal,
+    heap: &Refusing<Global>,
+    alloc: A,
+) -> Result<bool, Fail> {
+    let mut set = DataSet::new(alloc);
+    let mut refused = false;
+    for tag in [
+        PROCEDURE_STEP_STATE,
+        WORKLIST_LABEL,
+        PATIENT_ID,
+        PATIENT_NAME,
+        PROCEDURE_STEP_LABEL,
+        ADMISSION_ID,
+    ] {
+        refused = is_refused(rt, heap, alloc, &mut set, tag)? || refused;
+    }
+    Ok(refused)
+}
+
+#[test]
+fn a_set_stays_as_it_was_where_a_growth_is_refused(rt: HostRuntime) -> Result<(), Fail> {
+    let heap = Refusing::new(rt.alloc());
+    assert!(rt; are_refused(&rt, &heap, &heap)?);
+    Ok(())
+}
+
+#[test]
+fn leaving_out_a_tag_fails_where_a_growth_is_refused(rt: HostRuntime) -> Result<(), Fail> {
+    check_growths(&rt, Job::LeaveOut, 3, SEQUENCE)
+}
+
+#[test]
+fn what_a_set_has_not_is_answered_without_a_value(rt: HostRuntime) -> Result<(), Fail> {
+    check_growths(
+        &rt,
+        Job::Answer,
+        3,
+        "00080018= 00100020=P1 00404005= 00404033= 00741216=[00404050=20240229120100 ][] ",
+    )
+}

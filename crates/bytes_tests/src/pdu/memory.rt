@@ -1,0 +1,78 @@
+ghost use Rattle.ups_pdu.specs.Fits.{Fits};
+
+use super::vectors::read_short;
+use fixtures::vectors::{ACCEPTED, CREATE, REQUEST};
+use fixtures::{Refusing, bytes_of};
+use std::alloc::{Allocator, Global};
+use std::test::*;
+use ups_pdu::*;
+
+/// How many bytes of a PDU are read, or why none is.
+fn taken<A: Allocator + Copy>(alloc: A, bytes: &[u8]) -> Result<usize, PduFault> {
+    Ok(read_pdu(alloc, bytes)?.1)
+}
+
+/// Reads with each growth refused in turn, until none is: how many there are.
+fn growths_of_reading(rt: &impl AllocGlobal, bytes: &[u8]) -> Result<u64, Fail> {
+    let heap = Refusing::new(rt.alloc());
+    for growth in 1..100 {
+        heap.refuse(growth);
+        match taken(&heap, bytes) {
+            Err(PduFault::Memory) => {}
+            Ok(len) if len == bytes.len() => return Ok(growth - 1),
+            _ => return Err("neither the PDU nor want of memory".into()),
+        }
+    }
+    Err("no end of growths".into())
+}
+
+/// Whether memory suffices to write a PDU, and what is written is these bytes.
+fn is_written<A: Allocator + Copy>(alloc: A, pdu: &Pdu<A>, bytes: &[u8]) -> Option<bool>
+    requires { Fits pdu.now }
+{
+    let written = write_pdu(alloc, pdu).ok()?;
+    Some(written.as_slice() == bytes)
+}
+
+/// Writes with each growth refused in turn, until none is: how many there are.
+fn growths_of_writing<A: Allocator + Copy>(
+    heap: &Refusing<Global>,
+    alloc: A,
+    pdu: &Pdu<A>,
+    bytes: &[u8],
+) -> Result<u64, Fail>
+    requires { Fits pdu.now }
+{
+    for growth in 1..100 {
+        heap.refuse(growth);
+        match is_written(alloc, pdu, bytes) {
+            None => {}
+            Some(true) => return Ok(growth - 1),
+            Some(false) => return Err("other bytes".into()),
+        }
+    }
+    Err("no end of growths".into())
+}
+
+/// Reads, and then writes with each growth refused in turn: how many there are.
+fn growths_of_writing_again(rt: &impl AllocGlobal, bytes: &[u8]) -> Result<u64, Fail> {
+    let heap = Refusing::new(rt.alloc());
+    let pdu = read_short(&heap, bytes)?;
+    growths_of_writing(&heap, &heap, &pdu, bytes)
+}
+
+/// The PDU that a text stands for takes memory to be read, and to be written.
+fn check_growths(rt: &impl AllocGlobal, text: &str) -> Result<(), Fail> {
+    let bytes = bytes_of(rt, text)?;
+    if growths_of_reading(rt, &bytes)? == 0 || growths_of_writing_again(rt, &bytes)? == 0 {
+        return Err(text.into());
+    }
+    Ok(())
+}
+
+#[test]
+fn each_refused_growth_is_memory(rt: HostRuntime) -> Result<(), Fail> {
+    check_growths(&rt, REQUEST)?;
+    check_growths(&rt, ACCEPTED)?;
+    check_growths(&rt, CREATE)
+}

@@ -1,0 +1,111 @@
+use fixtures::Refusing;
+use std::alloc::{AllocError, Allocator, Global};
+
+/// Whether the first growth of a list is refused, and not the second.
+fn is_first_refused(heap: &Refusing<Global>) -> bool {
+    let mut values = Vec::new(heap);
+    let was_armed = heap.is_armed();
+    heap.refuse(1);
+    let is_armed = heap.is_armed();
+    let is_refused = values.push(7u64).is_err();
+    let is_over = !heap.is_armed();
+    let is_put = values.push(8).is_ok();
+    !was_armed && is_armed && is_refused && is_over && is_put && values.as_slice() == [8].as_slice()
+}
+
+#[test]
+fn refuses_the_first_growth_and_no_other(rt: HostRuntime) {
+    let heap = Refusing::new(rt.alloc());
+    assert!(rt; is_first_refused(&heap));
+}
+
+/// Whether the second growth is refused, which is that of another list, and neither the first nor the third.
+fn is_second_refused(heap: &Refusing<Global>) -> bool {
+    let mut first = Vec::new(heap);
+    let mut second = Vec::new(heap);
+    heap.refuse(2);
+    let is_put = first.push(1u64).is_ok();
+    let is_armed = heap.is_armed();
+    let is_refused = second.push(2u64).is_err();
+    let is_over = !heap.is_armed();
+    is_put && is_armed && is_refused && is_over && second.push(3).is_ok()
+}
+
+#[test]
+fn lets_one_growth_pass_and_refuses_the_second(rt: HostRuntime) {
+    let heap = Refusing::new(rt.alloc());
+    assert!(rt; is_second_refused(&heap));
+}
+
+#[test]
+fn forgets_what_an_earlier_call_asked_for(rt: HostRuntime) {
+    let heap = Refusing::new(rt.alloc());
+    let mut values = Vec::new(&heap);
+    heap.refuse(1);
+    heap.refuse(0);
+    let is_armed = heap.is_armed();
+    assert!(rt; !is_armed && values.push(7u64).is_ok());
+}
+
+/// Whether a block that grows, and one that shrinks, counts as a growth.
+fn are_changes_counted(heap: &Refusing<Global>) -> bool {
+    let mut values: Vec<u64, &Refusing<Global>> = Vec::new(heap);
+    let is_put = values.reserve_exact(1).is_ok() && values.push(7).is_ok();
+    heap.refuse(1);
+    let is_refused = values.reserve_exact(9).is_err();
+    let is_grown = values.reserve_exact(9).is_ok();
+    heap.refuse(1);
+    values.shrink_to_fit();
+    let is_over = !heap.is_armed() && values.capacity() >= 10;
+    values.shrink_to_fit();
+    let is_whole = values.capacity() == 1 && values.as_slice() == [7].as_slice();
+    is_put && is_refused && is_grown && is_over && is_whole
+}
+
+#[test]
+fn counts_a_block_that_changes_its_size(rt: HostRuntime) {
+    let heap = Refusing::new(rt.alloc());
+    assert!(rt; are_changes_counted(&heap));
+}
+
+// Grows two lists, so that either may be the one that is refused.
+fn copies<A: Allocator + Copy>(alloc: A) -> Result<Vec<u64, A>, AllocError> {
+    let mut numbers = Vec::new(alloc);
+    for number in 0..5u64 {
+        numbers.push(number)?;
+    }
+    let mut copied = Vec::new(alloc);
+    for &number in numbers.iter() {
+        copied.push(number)?;
+    }
+    Ok(copied)
+}
+
+/// Whether five numbers are copied; None where a growth is refused.
+fn are_copied<A: Allocator + Copy>(alloc: A) -> Option<bool> {
+    let copied = copies(alloc).ok()?;
+    Some(copied.as_slice() == [0, 1, 2, 3, 4].as_slice())
+}
+
+/// Refuses each growth of `copies` in turn, and says how many there are.
+fn growths_of_copies(heap: &Refusing<Global>) -> u64 {
+    for number in 1..100u64 {
+        heap.refuse(number);
+        if are_copied(heap).is_some() {
+            return number - 1;
+        }
+    }
+    0
+}
+
+#[test]
+fn refuses_each_growth_in_turn(rt: HostRuntime) {
+    let heap = Refusing::new(rt.alloc());
+    let growths = growths_of_copies(&heap);
+    assert!(rt; growths >= 2 && heap.is_armed());
+    heap.refuse(growths);
+    let is_refused = are_copied(&heap).is_none();
+    assert!(rt; is_refused && !heap.is_armed());
+    let are_copied = are_copied(&heap);
+    assert!(rt; are_copied == Some(true));
+}

@@ -1,0 +1,5 @@
+mod associations;
+mod fragments;
+mod large;
+mod memory;
+mod pieces;

@@ -1,0 +1,230 @@
+use crate::rows::{CREATE, CREATED, parts};
+use fixtures::bytes_of;
+use std::alloc::{Allocator, Global};
+use std::test::*;
+use ups_assoc::*;
+use ups_dataset::TransferSyntax;
+use ups_pdu::{Bytes, Pdv};
+
+/// The accepted contexts: one, of this id.
+pub(crate) fn context(id: u8) -> [AcceptedContext; 1] {
+    [AcceptedContext {
+        id,
+        sop_class: SopClass::UpsPush,
+        transfer_syntax: TransferSyntax::Implicit,
+    }]
+}
+
+/// A fragment with this message control header (PS3.8 annex E.2).
+pub(crate) fn pdv<A: Allocator + Copy>(
+    alloc: A,
+    context: u8,
+    control: u8,
+    bytes: &[u8],
+) -> Result<Pdv<A>, Fail> {
+    Ok(Pdv {
+        context,
+        command: control & 1 == 1,
+        last: control & 2 == 2,
+        bytes: Bytes::copy_of(alloc, bytes)?,
+    })
+}
+
+/// The text for `bytes_of` of a word, which may be CREATE or CREATED.
+pub(crate) fn named(word: &str) -> &str {
+    match word {
+        "CREATE" => CREATE,
+        "CREATED" => CREATED,
+        other => other,
+    }
+}
+
+/// The fragment of a text: its context, its control header and what stands in it.
+fn fragment(rt: &impl AllocGlobal, text: &str) -> Result<Pdv<Global>, Fail> {
+    let (id, rest) = text.split_once(' ').ok_or("a context")?;
+    let (control, content) = rest.split_once(' ').ok_or("a header")?;
+    let bytes = bytes_of(rt, named(content))?;
+    pdv(
+        rt.alloc(),
+        id.parse::<u8>()?,
+        control.parse::<u8>()?,
+        &bytes,
+    )
+}
+
+/// Whether a message is that of a text: its context, its command, and its data set or `-`.
+fn is_message(
+    rt: &impl AllocGlobal,
+    message: &RawMessage<Global>,
+    text: &str,
+) -> Result<bool, Fail> {
+    let (id, command, body) = parts(text)?;
+    let command = bytes_of(rt, named(command))?;
+    if message.context != id.parse::<u8>()? || message.command.as_slice() != command.as_slice() {
+        return Ok(false);
+    }
+    match &message.body {
+        Some(found) => Ok(body != "-" && found.as_slice() == bytes_of(rt, body)?.as_slice()),
+        None => Ok(body == "-"),
+    }
+}
+
+/// Whether a fragment is answered as a text says: with `more`, a message or a fault.
+fn is_answered(
+    rt: &impl AllocGlobal,
+    assembler: &mut Assembler<Global>,
+    fragment: &Pdv<Global>,
+    expected: &str,
+) -> Result<bool, Fail> {
+    match assembler.feed(fragment) {
+        Ok(None) => Ok(expected == "more"),
+        Ok(Some(message)) => is_message(rt, &message, expected),
+        Err(AssocFault::UnknownContext) => Ok(expected == "UnknownContext"),
+        Err(AssocFault::MixedContext) => Ok(expected == "MixedContext"),
+        Err(AssocFault::DataWithoutCommand) => Ok(expected == "DataWithoutCommand"),
+        Err(AssocFault::Failed) => Ok(expected == "Failed"),
+        Err(_) => Ok(false),
+    }
+}
+
+/// Whether each fragment of a row is answered as the row says, where contexts 1 and 5 are accepted.
+fn are_answered(rt: &impl AllocGlobal, row: &str) -> Result<bool, Fail> {
+    let mut assembler = Assembler::new(rt.alloc(), &[context(1)[0], context(5)[0]])?;
+    for step in row.split(", ") {
+        let (text, expected) = step.split_once('=').ok_or("a step")?;
+        if !is_answered(rt, &mut assembler, &fragment(rt, text)?, expected)? {
+            return Ok(false);
+        }
+    }
+    Ok(true)
+}
+
+/// In each row fragments and what they are answered: a context that was not accepted; another context inside a message,
+/// or a command where data is due; data that no whole command announces; messages; what comes after a fault.
+const FRAGMENTS: &str = "0 3 CREATED=UnknownContext
+2 3 CREATED=UnknownContext
+3 3 CREATED=UnknownContext
+3 2 CREATED=UnknownContext
+1 1 00=more, 255 1 00=UnknownContext
+1 3 CREATE=more, 3 2 00=UnknownContext
+1 1 CREATE=more, 5 1 00=MixedContext
+1 1 CREATE=more, 5 0 00=MixedContext
+1 3 CREATE=more, 5 3 CREATED=MixedContext
+1 3 CREATE=more, 5 2 00=MixedContext
+1 3 CREATE=more, 1 3 CREATED=MixedContext
+1 3 CREATE=more, 1 0 00=more, 1 1 00=MixedContext
+1 2 00=DataWithoutCommand
+1 0 00=DataWithoutCommand
+1 1 CREATE=more, 1 2 00=DataWithoutCommand
+1 3 CREATED=1|CREATED|-, 1 2 00=DataWithoutCommand
+1 3 CREATE=more, 1 2 00=1|CREATE|00
+1 3 CREATED=1|CREATED|-, 5 3 CREATED=5|CREATED|-
+1 3 CREATE=more, 1 2 \"1234\"=1|CREATE|\"1234\", 1 3 CREATED=1|CREATED|-
+3 3 CREATED=UnknownContext, 1 3 CREATED=Failed, 3 3 CREATED=Failed
+1 2 CREATED=DataWithoutCommand, 1 3 CREATED=Failed, 1 2 CREATED=Failed";
+
+#[test]
+fn each_fragment_is_answered(rt: HostRuntime) -> Result<(), Fail> {
+    for row in FRAGMENTS.lines() {
+        assert!(rt; are_answered(&rt, row)?, "at {row}");
+    }
+    Ok(())
+}
+
+/// Feeds bytes in fragments of one byte each, with this control header but for the last, which has another; none makes a
+/// message whole.
+fn feed_each(
+    rt: &impl AllocGlobal,
+    assembler: &mut Assembler<Global>,
+    bytes: &[u8],
+    control: u8,
+    last: u8,
+) -> Result<(), Fail> {
+    for (place, byte) in bytes.iter().enumerate() {
+        let control = if place + 1 == bytes.len() {
+            last
+        } else {
+            control
+        };
+        let fragment = pdv(rt.alloc(), 255, control, &[*byte])?;
+        if assembler.feed(&fragment)?.is_some() {
+            return Err("a message before its end".into());
+        }
+    }
+    Ok(())
+}
+
+#[test]
+fn fragments_of_one_byte_give_the_message(rt: HostRuntime) -> Result<(), Fail> {
+    let mut assembler = Assembler::new(rt.alloc(), &context(255))?;
+    feed_each(&rt, &mut assembler, &bytes_of(&rt, CREATE)?, 1, 3)?;
+    feed_each(&rt, &mut assembler, b"abcdef", 0, 0)?;
+    let last = pdv(rt.alloc(), 255, 2, b"")?;
+    assert!(rt; is_answered(&rt, &mut assembler, &last, "255|CREATE|\"abcdef\"")?);
+    Ok(())
+}
+
+/// The fault at the last fragment of a message that has so many bytes of data behind 63 fragments of 16,384 bytes; none
+/// comes before it.
+fn fault_at_the_end(rt: &impl AllocGlobal, more: usize) -> Result<Option<AssocFault>, Fail> {
+    let zeros = [0; 16_384];
+    let mut assembler = Assembler::new(rt.alloc(), &context(1))?;
+    let fragment = pdv(rt.alloc(), 1, 0, &zeros)?;
+    let is_begun = is_answered(
+        rt,
+        &mut assembler,
+        &self::fragment(rt, "1 3 CREATE")?,
+        "more",
+    )?;
+    for _ in 0..63 {
+        if !is_begun || assembler.feed(&fragment)?.is_some() {
+            return Err("a message before its end".into());
+        }
+    }
+    let last = pdv(rt.alloc(), 1, 2, zeros.get(..more).ok_or("a part")?)?;
+    Ok(assembler.feed(&last).err())
+}
+
+#[test]
+fn a_message_has_at_most_1048576_bytes(rt: HostRuntime) -> Result<(), Fail> {
+    // The command has 92 bytes: 63 fragments of 16,384 bytes and one of 16,292 fill the message.
+    assert_eq!(rt; fault_at_the_end(&rt, 16_292)?, None);
+    assert_eq!(rt; fault_at_the_end(&rt, 16_293)?, Some(AssocFault::TooLong));
+    Ok(())
+}
+
+/// In each row a command, and whether it announces a data set. Behind the first ones: another data set type behind the
+/// first, or one behind an element of odd length; no data set type, a value of another length, a short header, a short
+/// value; other tags with the same digits.
+const ANNOUNCING: &str = "CREATE|yes
+CREATED|no
+00000008 02000000 0000|yes
+00000008 02000000 0201|yes
+00000008 02000000 0100|yes
+00000008 02000000 0001|yes
+00000008 02000000 0101|no
+00000008 02000000 0101 00000008 02000000 0100|no
+00000008 02000000 0100 00000008 02000000 0101|yes
+00000001 03000000 010203 00000008 02000000 0100|yes
+|no
+00000001 02000000 0100|no
+00000008 04000000 01000000|no
+00000008 00000000|no
+00000008 01000000 0100|no
+00000008 020000|no
+00000008 02000000 01|no
+00000001 0b000000 0100 00000008 02000000 0100|no
+00000001 ffffffff 0100 00000008 02000000 0100|no
+08000000 02000000 0100|no
+00000800 02000000 0100|no
+00080000 02000000 0100|no";
+
+#[test]
+fn a_data_set_is_announced_by_the_first_data_set_type(rt: HostRuntime) -> Result<(), Fail> {
+    for row in ANNOUNCING.lines() {
+        let (command, expected) = row.split_once('|').ok_or("a row")?;
+        let command = bytes_of(&rt, named(command))?;
+        assert_eq!(rt; data_follows(&command), expected == "yes", "at {row}");
+    }
+    Ok(())
+}
