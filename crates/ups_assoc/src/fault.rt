@@ -42,6 +42,6 @@ impl<T: Drop> From<AllocFailed<T>> for AssocFault {
     ghost from_gives = { λ _ e. e ≡ Memory };
 
     fn from(_e: AllocFailed<T>) -> AssocFault {
-        AssocFault::Memory
+        AssocFault::from(AllocError)
     }
 }

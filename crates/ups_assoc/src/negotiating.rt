@@ -1,6 +1,6 @@
 //! The answer to an association request (PS3.8 sections 7.1, 9.3.2 to 9.3.4; PS3.7 annex D.3.3).
 
-ghost use Rattle.std.specs.Prelude.{◌≡◌, ◌<◌, List, ℕ, IfOk, IfErr, OnErr, map, option_to_list};
+ghost use Rattle.std.specs.Prelude.{◌≡◌, ◌<◌, ◌++◌, List, ℕ, IfOk, IfErr, OnOk, OnErr, map, option_to_list};
 ghost use Rattle.std.specs.List.{flat_map, AllByRecursion};
 ghost use Rattle.ups_pdu.specs.declared.pdu.Pdu.TheVariants.{AssociateRq as RequestPdu};
 ghost use Rattle.ups_pdu.specs.Spelling.{SpellsPdu};
@@ -65,21 +65,6 @@ impl<A: Allocator + Copy> Model for AcceptedContexts<A> {
 }
 
 impl<A: Allocator + Copy> AcceptedContexts<A> {
-    /// The list of a vector. It takes no memory.
-    pub fn from_vec(contexts: Vec<AcceptedContext, A>) -> AcceptedContexts<A>
-        ensures { result ≡ contexts.items }
-    {
-        AcceptedContexts { contexts }
-    }
-
-    /// The vector of the list. It takes no memory.
-    pub fn into_vec(self) -> Vec<AcceptedContext, A>
-        ensures { result.items ≡ self }
-    {
-        let AcceptedContexts { contexts } = self;
-        contexts
-    }
-
     /// The list, lent.
     pub fn as_slice(&self) -> &[AcceptedContext]
         ensures { result.now ≡ self.now }
@@ -299,6 +284,21 @@ fn answers_to<A: Allocator + Copy>(
     Ok(AnsweredContexts::from_vec(answers))
 }
 
+/// Puts an accepted context at the end, where there is one.
+///
+/// Errors: want of memory.
+fn put_accepted<A: Allocator + Copy>(
+    contexts: &mut Vec<AcceptedContext, A>,
+    context: Option<AcceptedContext>,
+) -> Result<(), AllocError>
+    ensures { OnOk result (contexts.new.items ≡ contexts.old.items ++ option_to_list context) }
+{
+    if let Some(context) = context {
+        contexts.push(context)?;
+    }
+    Ok(())
+}
+
 /// The contexts that are accepted for the proposed ones.
 ///
 /// Errors: want of memory.
@@ -310,11 +310,9 @@ fn accepted_of<A: Allocator + Copy>(
 {
     let mut contexts = Vec::new(alloc);
     for context in proposed {
-        if let Some(context) = accepted(context) {
-            contexts.push(context)?;
-        }
+        put_accepted(&mut contexts, accepted(context))?;
     }
-    Ok(AcceptedContexts::from_vec(contexts))
+    Ok(AcceptedContexts { contexts })
 }
 
 /// A peer's maximum length as it counts: 0 is none, and no more than 16,384 is used.

@@ -37,6 +37,6 @@ impl<T: Drop> From<AllocFailed<T>> for DimseFault {
     ghost from_gives = { λ _ e. e ≡ Memory };
 
     fn from(_e: AllocFailed<T>) -> DimseFault {
-        DimseFault::Memory
+        DimseFault::from(AllocError)
     }
 }

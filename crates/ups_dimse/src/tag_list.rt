@@ -38,14 +38,6 @@ impl<A: Allocator + Copy> Tags<A> {
         Tags { tags }
     }
 
-    /// The vector of the tags. It takes no memory.
-    pub fn into_vec(self) -> Vec<Tag, A>
-        ensures { result.items ≡ self }
-    {
-        let Tags { tags } = self;
-        tags
-    }
-
     /// The tags, lent.
     pub fn as_slice(&self) -> &[Tag]
         ensures { result.now ≡ self.now }

@@ -35,3 +35,6 @@ pub use sets::Sets;
 pub use showing::shown;
 pub use state::StepState;
 pub use status::Status;
+
+#[cfg(test)]
+mod tests;

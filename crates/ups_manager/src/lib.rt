@@ -15,3 +15,6 @@ pub use call::Call;
 pub use fault::ManagerFault;
 pub use manager::Manager;
 pub use service::Service;
+
+#[cfg(test)]
+mod tests;

@@ -22,3 +22,6 @@ pub use likeness::likes;
 pub use matcher::{Matcher, Probe};
 pub use moments::read_dt;
 pub use stamps::{stamps_are_read_back, write_dt};
+
+#[cfg(test)]
+mod tests;

@@ -9,3 +9,6 @@ returns-clause-fits g c =
     let some = subst (λ (n : ℕ). 0 < n) c.room-size.ensures.room (omega (arith, c.room-size.ensures.some)) in
     let most = subst (λ (n : ℕ). n ≤ 16378) c.room-size.ensures.room c.room-size.ensures.most in
     rw is (fits_pieces g.row.A.Denot c.args.context c.args.command.now (option_copied c.args.body) c.args.max some most)
+
+pub returns-clause-pieces : goal.returns-clause-pieces
+returns-clause-pieces g c = search rules

@@ -15,3 +15,6 @@ returns-in_err-accept_request-clause-only_accepting g c =
 
 pub returns-clause-fits : goal.returns-clause-fits
 returns-clause-fits g c bytes s = acceptance_writable bytes c.args.request.now c.in-Some.ae c.in_ok-accept_request.field-0 c.in_ok-accept_request.ensures.accepts c.in_ok-accept_request.ensures.ids s
+
+pub returns-then-not-is_title-clause-outcome : goal.returns-then-not-is_title-clause-outcome
+returns-then-not-is_title-clause-outcome g c = search rules

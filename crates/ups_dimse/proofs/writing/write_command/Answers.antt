@@ -8,3 +8,6 @@ overflow_cast-len g c = omega (arith, ap length c.in_ok-elements.ensures.wrote, 
 
 pub returns-clause-again : goal.returns-clause-again
 returns-clause-again g c = again _ c.args.command.now c.requires c.in_ok-elements.ensures.held (search rules)
+
+pub returns-clause-written : goal.returns-clause-written
+returns-clause-written g c = search rules
