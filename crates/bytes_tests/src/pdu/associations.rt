@@ -203,10 +203,14 @@ fn is_answered(contexts: &[AnsweredContext], reason: Option<u8>) -> bool {
 /// The only context of the answer with these items is accepted, or refused for this reason.
 fn check_answer(rt: &impl AllocGlobal, items: &str, reason: Option<u8>) -> Result<(), Fail> {
     let bytes = associate(rt, PduKind::AssociateAc, items)?;
-    match read_pdu(rt.alloc(), &bytes)?.0 {
-        Pdu::AssociateAc(answer) if is_answered(answer.contexts.as_slice(), reason) => Ok(()),
-        _ => Err(items.into()),
+    let (pdu, _) = read_pdu(rt.alloc(), &bytes)?;
+    let Pdu::AssociateAc(answer) = pdu else {
+        return Err(items.into());
+    };
+    if !is_answered(answer.contexts.as_slice(), reason) {
+        return Err(items.into());
     }
+    Ok(())
 }
 
 #[test]
