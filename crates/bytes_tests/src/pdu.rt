@@ -81,6 +81,31 @@ fn a_million_bytes_of_padding_are_dropped(rt: HostRuntime) -> Result<(), Fail> {
     Ok(())
 }
 
+/// Adds a million spaces.
+fn put_spaces(bytes: &mut Vec<u8>) -> Result<(), Fail> {
+    for _ in 0..1_000_000_u32 {
+        bytes.push(b' ')?;
+    }
+    Ok(())
+}
+
+/// An X with a million spaces before it and behind it.
+fn spaced(rt: &impl AllocGlobal) -> Result<Vec<u8>, Fail> {
+    let mut bytes = Vec::new(rt.alloc());
+    put_spaces(&mut bytes)?;
+    bytes.push(b'X')?;
+    put_spaces(&mut bytes)?;
+    Ok(bytes)
+}
+
+#[test]
+fn a_million_spaces_on_each_side_are_no_part_of_a_title(rt: HostRuntime) -> Result<(), Fail> {
+    let bytes = spaced(&rt)?;
+    assert_eq!(rt; bytes.len(), 2_000_001);
+    assert!(rt; spells_title(&bytes, b"X"));
+    Ok(())
+}
+
 /// The name of a fault, and `None` where there is none.
 fn named(fault: Option<PduFault>) -> &'static str {
     match fault {

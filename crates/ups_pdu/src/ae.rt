@@ -43,31 +43,33 @@ fn is_ae(text: &[u8]) -> bool
     !text.is_empty() && text.len() <= 16 && are_title_bytes(text)
 }
 
+/// The bytes without the spaces at their front.
 fn without_leading_spaces(bytes: &[u8]) -> &[u8]
     ensures { result.now ≡ without_leading is_space bytes.now }
 {
-    let Some((first, rest)) = bytes.split_first() else {
-        return bytes;
-    };
-    if *first == b' ' {
-        without_leading_spaces(rest)
-    } else {
-        bytes
+    let mut rest = bytes;
+    while let Some((first, after)) = rest.split_first() {
+        if *first != b' ' {
+            return rest;
+        }
+        rest = after;
     }
+    rest
 }
 
+/// The bytes without the spaces at their end.
 #[tactic(auto, using(crate::proofs::Trailing::space_goes, crate::proofs::Trailing::no_space_stays))]
 fn without_trailing_spaces(bytes: &[u8]) -> &[u8]
     ensures { result.now ≡ without_trailing is_space bytes.now }
 {
-    let Some((last, front)) = bytes.split_last() else {
-        return bytes;
-    };
-    if *last == b' ' {
-        without_trailing_spaces(front)
-    } else {
-        bytes
+    let mut rest = bytes;
+    while let Some((last, front)) = rest.split_last() {
+        if *last != b' ' {
+            return rest;
+        }
+        rest = front;
     }
+    rest
 }
 
 /// A text, and zeros behind it.
