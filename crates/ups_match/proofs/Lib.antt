@@ -10,4 +10,5 @@ pub mod Joining
 pub mod KeyWalks
 pub mod Offsets
 pub mod PatternRuns
+pub mod Places
 pub mod ReadingBack

@@ -10,7 +10,7 @@ use Rattle.std.specs.List.{AllPass, prefix_len, list_any}
 use Rattle.ups_match.specs.Likeness.{is_star, is_question_mark, StandsFor, IsLike, begins_like, ends_of, is_like}
 use Rattle.ups_match.specs.Runs.{is_no_star, run_of, behind_run, behind_front, or_else, behind_first}
 
-same_number : (n : ℕ) → (n == n) ≡ true
+pub same_number : (n : ℕ) → (n == n) ≡ true
 same_number n = grind (arith, nat_tests)
 
 -- a byte other than * stands for one byte

@@ -12,6 +12,7 @@ mod matching;
 mod moments;
 mod ranges;
 mod rule;
+mod runs;
 mod stamps;
 mod texts;
 mod universal;

@@ -1,12 +1,15 @@
 //! Wild cards (PS3.4 section C.2.2.2.4).
 
-ghost use Rattle.std.specs.Prelude.{◌≡◌, ◌↔◌, ◌∷◌, ◌≤◌, length, IsTrue, option_copied};
+ghost use Rattle.std.specs.Prelude.{◌≡◌, ◌↔◌, ◌∷◌, ◌≤◌, length, IsTrue};
 ghost use Rattle.std.specs.List.{AllPass, prefix_len};
 ghost use Rattle.ups_match.specs.Likeness.{IsLike, is_like};
-ghost use Rattle.ups_match.specs.Runs.{is_no_star, run_of, behind_run, behind_front, behind_first};
+ghost use Rattle.ups_match.specs.Runs.{is_no_star, run_of, behind_run};
+
+use crate::runs::{behind_first, behind_front};
 
 /// Whether a text is like a pattern, in which `*` stands for any bytes, `?` for any one byte, and any other byte for
-/// itself (PS3.4 section C.2.2.2.4). It takes at most about as many steps as the product of the two lengths.
+/// itself (PS3.4 section C.2.2.2.4). Without `?` it takes about as many steps as both have bytes; a run with `?` takes at
+/// most about as many as its length times that of the text.
 pub fn likes(pattern: &[u8], text: &[u8]) -> bool
     ensures like { IsTrue result ↔ IsLike pattern.now text.now }
     ensures value { result ≡ is_like pattern.now text.now }
@@ -64,37 +67,6 @@ fn run_len(pattern: &[u8]) -> usize
     ensures bound { result ≤ length pattern.now }
 {
     pattern.iter().take_while(|byte| **byte != b'*').count()
-}
-
-/// What stands in a text behind bytes that those of a run stand for.
-fn behind_front<'a>(run: &[u8], text: &'a [u8]) -> Option<&'a [u8]>
-    ensures { option_copied result ≡ behind_front run.now text.now }
-{
-    let mut run_left = run;
-    let mut left = text;
-    while let Some((p, more)) = run_left.split_first() {
-        let (b, after) = left.split_first()?;
-        if *p != b'?' && *p != *b {
-            return None;
-        }
-        run_left = more;
-        left = after;
-    }
-    Some(left)
-}
-
-/// What stands in a text behind the first place where a run fits.
-fn behind_first<'a>(run: &[u8], text: &'a [u8]) -> Option<&'a [u8]>
-    ensures { option_copied result ≡ behind_first run.now text.now }
-{
-    let mut left = text;
-    loop {
-        if let Some(found) = behind_front(run, left) {
-            return Some(found);
-        }
-        let (_, after) = left.split_first()?;
-        left = after;
-    }
 }
 
 /// Whether a text ends with bytes that those of a run stand for.

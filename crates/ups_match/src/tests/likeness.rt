@@ -1,4 +1,5 @@
 use crate::likes;
+use std::alloc::{AllocError, Global};
 use std::test::Fail;
 
 /// A pattern, a text, and whether they are alike: by regular expressions, in which `.*` stands for `*` and `.` for `?`.
@@ -106,5 +107,24 @@ fn many_stars_and_a_long_text(rt: HostRuntime) -> Result<(), Fail> {
     let pattern = b"*A*A*A*A*A*A*A*A*A*A*A*A*A*A*A*A*A*A*A*A*A*A*A*A*A*A*A*A*A*A*A*AB";
     let text = b"AAAAAAAAAAAAAAAAAAAAAAAAAAAAAAAAAAAAAAAAAAAAAAAAAAAAAAAAAAAAAAAA";
     assert!(rt; !likes(pattern.as_slice(), text.as_slice()));
+    Ok(())
+}
+
+/// A front, then many letters A.
+fn letters(alloc: Global, front: &[u8], count: usize, end: &[u8]) -> Result<Vec<u8>, AllocError> {
+    let mut text = Vec::from_slice(alloc, front)?;
+    text.resize(text.len().saturating_add(count), b'A')?;
+    text.extend_from_slice(end)?;
+    Ok(text)
+}
+
+/// A run that fits nearly everywhere but for its last letter: a search place by place would not end.
+#[test]
+fn a_long_run_in_a_long_text(rt: HostRuntime) -> Result<(), Fail> {
+    let pattern = letters(rt.alloc(), b"*", 100_000, b"B*")?;
+    let other = letters(rt.alloc(), b"", 200_000, b"")?;
+    assert!(rt; !likes(pattern.as_slice(), other.as_slice()));
+    let same = letters(rt.alloc(), b"", 200_000, b"BA")?;
+    assert!(rt; likes(pattern.as_slice(), same.as_slice()));
     Ok(())
 }

@@ -1,6 +1,6 @@
 use Rattle.std.proofs.Common.{◌≡◌, length}
 use Rattle.ups_match.specs.Runs.{behind_first}
-use Rattle.ups_match.proofs.likeness.behind_first.Given as goal
+use Rattle.ups_match.proofs.runs.behind_first_fit.Given as goal
 
 abbrev pub invariant-loop-found : goal.invariant-loop-found
 invariant-loop-found l = behind_first l.run l.left ≡ behind_first l.run l.text

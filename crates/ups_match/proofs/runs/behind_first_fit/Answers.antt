@@ -1,6 +1,6 @@
 use Rattle.std.proofs.Common.{◌≡◌, List, ℕ, [], ◌∷◌, ap, ◌∙◌, Some}
 use Rattle.ups_match.specs.Runs.{behind_front, behind_first, or_else}
-use Rattle.ups_match.proofs.likeness.behind_first.Goals as goal
+use Rattle.ups_match.proofs.runs.behind_first_fit.Goals as goal
 
 fitting : (run text left : List ℕ) → Some left ≡ behind_front run text → Some left ≡ behind_first run text
 fitting run [] left e = e

@@ -1,0 +1,59 @@
+//! Where a run fits in a text: what stands in a pattern between two `*` (PS3.4 section C.2.2.2.4).
+
+ghost use Rattle.std.specs.Prelude.{◌≡◌, false, option_copied};
+ghost use Rattle.std.specs.List.{list_any};
+ghost use Rattle.ups_match.specs.Likeness.{is_question_mark};
+ghost use Rattle.ups_match.specs.Runs.{behind_front, behind_first};
+
+use memchr::memmem;
+
+/// What stands in a text behind bytes that those of a run stand for.
+pub(crate) fn behind_front<'a>(run: &[u8], text: &'a [u8]) -> Option<&'a [u8]>
+    ensures { option_copied result ≡ behind_front run.now text.now }
+{
+    let mut run_left = run;
+    let mut left = text;
+    while let Some((p, more)) = run_left.split_first() {
+        let (b, after) = left.split_first()?;
+        if *p != b'?' && *p != *b {
+            return None;
+        }
+        run_left = more;
+        left = after;
+    }
+    Some(left)
+}
+
+/// What stands in a text behind the first place where a run fits.
+pub(crate) fn behind_first<'a>(run: &[u8], text: &'a [u8]) -> Option<&'a [u8]>
+    ensures { option_copied result ≡ behind_first run.now text.now }
+{
+    if run.contains(&b'?') {
+        return behind_first_fit(run, text);
+    }
+    behind_first_copy(run, text)
+}
+
+/// The same of a run without `?`, which fits where its bytes stand. It takes about as many steps as both have bytes.
+fn behind_first_copy<'a>(run: &[u8], text: &'a [u8]) -> Option<&'a [u8]>
+    requires { list_any is_question_mark run.now ≡ false }
+    ensures { option_copied result ≡ behind_first run.now text.now }
+{
+    let place = memmem::find(text, run)?;
+    let (_, behind) = text.split_at(place + run.len());
+    Some(behind)
+}
+
+/// The same of any run, place by place.
+fn behind_first_fit<'a>(run: &[u8], text: &'a [u8]) -> Option<&'a [u8]>
+    ensures { option_copied result ≡ behind_first run.now text.now }
+{
+    let mut left = text;
+    loop {
+        if let Some(found) = behind_front(run, left) {
+            return Some(found);
+        }
+        let (_, after) = left.split_first()?;
+        left = after;
+    }
+}
