@@ -13,7 +13,8 @@ use Rattle.ups_pdu.specs.Fits.{Fits}
 use Rattle.ups_assoc.specs.declared.message.RawMessage.{RawMessage}
 use Rattle.ups_assoc.specs.declared.assembling.Begun.TheVariants.{Nothing}
 use Rattle.ups_assoc.specs.Announcing.{data_follows}
-use Rattle.ups_assoc.specs.Messages.{limit, is_accepted, bytes_of, IsPart, IsRun, IsBody, IsMessage}
+use Rattle.ups_assoc.specs.Limits.{longest_message}
+use Rattle.ups_assoc.specs.Messages.{is_accepted, bytes_of, IsPart, IsRun, IsBody, IsMessage}
 use Rattle.ups_assoc.specs.Feeding.{feeds}
 use Rattle.ups_assoc.specs.Cutting.{room, fragment, fragments, run, body_run, pieces, pdvs_in}
 use Rattle.ups_assoc.specs.Negotiation.{counted}
@@ -95,7 +96,7 @@ pub room_some : (max : ℕ) → (max ≡ 0) ⊎ (8 ≤ max) → 2 ≤ room max
 room_some max (inl e) = subst (λ (n : ℕ). 2 ≤ room n) (sym e) (omega arith)
 room_some max (inr h) = room_at (counted max) (cond_both _ 16384 max (λ (n : ℕ). 8 ≤ n) (λ e. omega arith) (λ e. h))
 
-pub whole_again : (A : Type 0) (ids : List ℕ) (max : ℕ) (m : RawMessage A) → (max ≡ 0) ⊎ (8 ≤ max) → is_accepted ids m.context ≡ true → is_some m.body ≡ data_follows m.command → length m.command + length (unwrap_or m.body []) ≤ limit
+pub whole_again : (A : Type 0) (ids : List ℕ) (max : ℕ) (m : RawMessage A) → (max ≡ 0) ⊎ (8 ≤ max) → is_accepted ids m.context ≡ true → is_some m.body ≡ data_follows m.command → length m.command + length (unwrap_or m.body []) ≤ longest_message
     → feeds ids (flat_map pdvs_in (pieces {A = A} m.context m.command m.body max)) Nothing ≡ Some (m ∷ [], Nothing)
 whole_again A ids max m enough a e le =
     let size = room max in

@@ -12,7 +12,8 @@ use Rattle.ups_assoc.specs.declared.message.RawMessage.{RawMessage}
 use Rattle.ups_assoc.specs.declared.assembling.Begun.{Begun}
 use Rattle.ups_assoc.specs.declared.assembling.Begun.TheVariants.{Nothing, Command, Body, Failed}
 use Rattle.ups_assoc.specs.Announcing.{data_follows}
-use Rattle.ups_assoc.specs.Messages.{limit, is_accepted, bytes_of, IsPart, IsRun, IsMessage, AreMessages, IsOpen, IsBegunBody, IsBegun, AreFragments}
+use Rattle.ups_assoc.specs.Limits.{longest_message}
+use Rattle.ups_assoc.specs.Messages.{is_accepted, bytes_of, IsPart, IsRun, IsMessage, AreMessages, IsOpen, IsBegunBody, IsBegun, AreFragments}
 use Rattle.ups_assoc.specs.Feeding.{Fed, more, whole, fault, command_end, body_end, with_command, with_data, taken, fed, onward, feeds}
 
 -- what a fragment makes of a message, by shape
@@ -25,8 +26,8 @@ past : (A : Type 0) (ids : List ℕ) (ps : List (Pdv A)) (b : Bool) (e : AssocFa
 past A ids ps true e f h = tt
 past A ids ps false e f h = h refl
 
-within : (A : Type 0) (ids : List ℕ) (ps : List (Pdv A)) (n : ℕ) (f : Fed A) (b : Bool) → nat_le n limit ≡ b → (n ≤ limit → After ids ps f) → After ids ps (cond b f (fault faults.TooLong))
-within A ids ps n f true e h = h (leb-true n limit e)
+within : (A : Type 0) (ids : List ℕ) (ps : List (Pdv A)) (n : ℕ) (f : Fed A) (b : Bool) → nat_le n longest_message ≡ b → (n ≤ longest_message → After ids ps f) → After ids ps (cond b f (fault faults.TooLong))
+within A ids ps n f true e h = h (leb-true n longest_message e)
 within A ids ps n f false e h = tt
 
 open_push : (A : Type 0) (context : ℕ) (command : Bool) (ps : List (Pdv A)) (p : Pdv A) → IsOpen context command ps → IsPart context command false p → IsOpen context command (ps ++ p ∷ [])
@@ -46,7 +47,7 @@ bytes_push : (A : Type 0) (ps : List (Pdv A)) (p : Pdv A) (bytes : List ℕ) →
 bytes_push A ps p bytes e = flat_map-append (λ (q : Pdv A). q.bytes) ps (p ∷ []) ∙ ap (λ (w : List ℕ). bytes_of ps ++ w) (append-nil p.bytes) ∙ ap (λ (w : List ℕ). w ++ p.bytes) e
 
 -- fragments of a command and one more
-command_shape : (A : Type 0) (ids : List ℕ) (context : ℕ) (done : List (Pdv A)) (bytes : List ℕ) (p : Pdv A) (last d : Bool) → is_accepted ids context ≡ true → IsOpen context true done → IsPart context true last p → bytes_of (done ++ p ∷ []) ≡ bytes → length bytes ≤ limit → data_follows bytes ≡ d
+command_shape : (A : Type 0) (ids : List ℕ) (context : ℕ) (done : List (Pdv A)) (bytes : List ℕ) (p : Pdv A) (last d : Bool) → is_accepted ids context ≡ true → IsOpen context true done → IsPart context true last p → bytes_of (done ++ p ∷ []) ≡ bytes → length bytes ≤ longest_message → data_follows bytes ≡ d
     → After ids (done ++ p ∷ []) (cond last (cond d (more (Body context bytes [])) (whole (record { context = context; command = bytes; body = None }))) (more (Command context bytes)))
 command_shape A ids context done bytes p false d a o i e le f = record { some = some_push A done p; accepted = a; command_open = open_push A context true done p o i; bytes_are = e; within = le }
 command_shape A ids context done bytes p true true a o i e le f = record {
@@ -59,7 +60,7 @@ command_shape A ids context done bytes p true true a o i e le f = record {
   announces = f;
   data_open = tt;
   bytes_are = refl;
-  within = subst (λ (w : List ℕ). length w ≤ limit) (sym e) le;
+  within = subst (λ (w : List ℕ). length w ≤ longest_message) (sym e) le;
 }
 command_shape A ids context done bytes p true false a o i e le f = record {
   commands = done ++ p ∷ [];
@@ -69,7 +70,7 @@ command_shape A ids context done bytes p true false a o i e le f = record {
   command_run = run_push A context true done p o i;
   command_is = e;
   body_is = (f, refl);
-  within = subst (λ (w : List ℕ). length w ≤ limit) (sym e) le;
+  within = subst (λ (w : List ℕ). length w ≤ longest_message) (sym e) le;
 }
 
 -- a fragment of a command
@@ -77,11 +78,11 @@ command_taken : (A : Type 0) (ids : List ℕ) (context : ℕ) (done : List (Pdv 
     → After ids (done ++ p ∷ []) (with_command context bytes p)
 unfolding with_command
 command_taken A ids context done bytes p a o e on k =
-    within A ids (done ++ p ∷ []) (length (bytes ++ p.bytes)) (command_end context (bytes ++ p.bytes) p.last) (nat_le (length (bytes ++ p.bytes)) limit) refl
+    within A ids (done ++ p ∷ []) (length (bytes ++ p.bytes)) (command_end context (bytes ++ p.bytes) p.last) (nat_le (length (bytes ++ p.bytes)) longest_message) refl
     (λ le. command_shape A ids context done (bytes ++ p.bytes) p p.last (data_follows (bytes ++ p.bytes)) a o (record { on_context = on; of_command = k; is_last = refl }) (bytes_push A done p bytes e) le refl)
 
 body_shape_at : (A : Type 0) (ids : List ℕ) (context : ℕ) (c bytes : List ℕ) (done : List (Pdv A)) (p : Pdv A) (last : Bool) → (i : IsBegunBody ids context c bytes done) → IsPart context false last p → done ++ p ∷ [] ≡ i.commands ++ (i.datas ++ p ∷ [])
-    → bytes_of (i.datas ++ p ∷ []) ≡ bytes ++ p.bytes → length (bytes_of (done ++ p ∷ [])) ≤ limit → After ids (done ++ p ∷ []) (body_end context c (bytes ++ p.bytes) last)
+    → bytes_of (i.datas ++ p ∷ []) ≡ bytes ++ p.bytes → length (bytes_of (done ++ p ∷ [])) ≤ longest_message → After ids (done ++ p ∷ []) (body_end context c (bytes ++ p.bytes) last)
 body_shape_at A ids context c bytes done p false i part parts are le = record {
   commands = i.commands;
   datas = i.datas ++ p ∷ [];
@@ -106,7 +107,7 @@ body_shape_at A ids context c bytes done p true i part parts are le = record {
 }
 
 -- fragments of a data set and one more
-body_shape : (A : Type 0) (ids : List ℕ) (context : ℕ) (c bytes : List ℕ) (done : List (Pdv A)) (p : Pdv A) (last : Bool) → (i : IsBegunBody ids context c bytes done) → IsPart context false last p → length c + length (bytes ++ p.bytes) ≤ limit
+body_shape : (A : Type 0) (ids : List ℕ) (context : ℕ) (c bytes : List ℕ) (done : List (Pdv A)) (p : Pdv A) (last : Bool) → (i : IsBegunBody ids context c bytes done) → IsPart context false last p → length c + length (bytes ++ p.bytes) ≤ longest_message
     → After ids (done ++ p ∷ []) (body_end context c (bytes ++ p.bytes) last)
 body_shape A ids context c bytes done p last i part le =
     let parts : done ++ p ∷ [] ≡ i.commands ++ (i.datas ++ p ∷ []) = ap (λ (w : List (Pdv A)). w ++ p ∷ []) i.parts ∙ append_assoc i.commands i.datas (p ∷ []) in
@@ -120,7 +121,7 @@ body_taken : (A : Type 0) (ids : List ℕ) (context : ℕ) (c bytes : List ℕ) 
     → After ids (done ++ p ∷ []) (with_data context c bytes p)
 unfolding with_data
 body_taken A ids context c bytes done p i on k =
-    within A ids (done ++ p ∷ []) (length c + length (bytes ++ p.bytes)) (body_end context c (bytes ++ p.bytes) p.last) (nat_le (length c + length (bytes ++ p.bytes)) limit) refl
+    within A ids (done ++ p ∷ []) (length c + length (bytes ++ p.bytes)) (body_end context c (bytes ++ p.bytes) p.last) (nat_le (length c + length (bytes ++ p.bytes)) longest_message) refl
     (λ le. body_shape A ids context c bytes done p p.last i (record { on_context = on; of_command = k; is_last = refl }) le)
 
 taken_shape : (A : Type 0) (ids : List ℕ) (b : Begun A) (done : List (Pdv A)) (p : Pdv A) → IsBegun ids b done → is_accepted ids p.context ≡ true → After ids (done ++ p ∷ []) (taken b p)

@@ -10,14 +10,15 @@ use Rattle.ups_assoc.specs.declared.assembling.Begun.TheVariants.{Nothing, Comma
 use Rattle.ups_assoc.specs.declared.assembling.Taken.{Taken}
 use Rattle.ups_assoc.specs.declared.assembling.Taken.TheVariants.{More, Whole}
 use Rattle.ups_assoc.specs.Announcing.{data_follows}
-use Rattle.ups_assoc.specs.Messages.{limit, is_accepted}
+use Rattle.ups_assoc.specs.Limits.{longest_message}
+use Rattle.ups_assoc.specs.Messages.{is_accepted}
 use Rattle.ups_assoc.specs.Feeding.{Fed, more, whole, fault, sized, command_end, body_end, with_command, with_data, taken, has_failed, fed, Ends, Takes, IsRefused, Feeds}
 
-pub sized_within : (A : Type 0) (n : ℕ) (f : Fed A) → n ≤ limit → sized n f ≡ f
-sized_within A n f le = ap (λ (b : Bool). cond b f (fault faults.TooLong)) (le-leb n limit le)
+pub sized_within : (A : Type 0) (n : ℕ) (f : Fed A) → n ≤ longest_message → sized n f ≡ f
+sized_within A n f le = ap (λ (b : Bool). cond b f (fault faults.TooLong)) (le-leb n longest_message le)
 
-sized_past : (A : Type 0) (n : ℕ) (f : Fed A) → limit < n → sized n f ≡ fault faults.TooLong
-sized_past A n f lt = ap (λ (b : Bool). cond b f (fault faults.TooLong)) (lt-leb n limit lt)
+sized_past : (A : Type 0) (n : ℕ) (f : Fed A) → longest_message < n → sized n f ≡ fault faults.TooLong
+sized_past A n f lt = ap (λ (b : Bool). cond b f (fault faults.TooLong)) (lt-leb n longest_message lt)
 
 abbrev failing : {A : Type 0} → AssocFault → Result (Taken A) AssocFault
 failing e = Err e
@@ -52,7 +53,7 @@ with_command_err A context bytes p e r =
     let same : 0 + length (bytes ++ p.bytes) ≡ length (bytes ++ p.bytes) = omega arith in
     refused A (length (bytes ++ p.bytes)) (command_end context (bytes ++ p.bytes) p.last) e (command_no_fault A context (bytes ++ p.bytes) p.last (data_follows (bytes ++ p.bytes))) (subst (λ (n : ℕ). IsRefused e n) same r)
 
-pub with_command_ok : (A : Type 0) (context : ℕ) (bytes all : List ℕ) (p : Pdv A) (t : Taken A) → all ≡ bytes ++ p.bytes → 0 + length (bytes ++ p.bytes) ≤ limit → Ends (command_end context all p.last) t → Ends (with_command context bytes p) t
+pub with_command_ok : (A : Type 0) (context : ℕ) (bytes all : List ℕ) (p : Pdv A) (t : Taken A) → all ≡ bytes ++ p.bytes → 0 + length (bytes ++ p.bytes) ≤ longest_message → Ends (command_end context all p.last) t → Ends (with_command context bytes p) t
 unfolding with_command
 with_command_ok A context bytes all p t e le ends =
     subst (λ (x : Fed A). Ends x t) (sym (sized_within A (length (bytes ++ p.bytes)) (command_end context (bytes ++ p.bytes) p.last) (omega arith)))
@@ -63,7 +64,7 @@ unfolding with_data
 with_data_err A context command bytes p e r =
     refused A (length command + length (bytes ++ p.bytes)) (body_end context command (bytes ++ p.bytes) p.last) e (body_no_fault A context command (bytes ++ p.bytes) p.last) r
 
-pub with_data_ok : (A : Type 0) (context : ℕ) (command bytes all : List ℕ) (p : Pdv A) (t : Taken A) → all ≡ bytes ++ p.bytes → length command + length (bytes ++ p.bytes) ≤ limit → Ends (body_end context command all p.last) t → Ends (with_data context command bytes p) t
+pub with_data_ok : (A : Type 0) (context : ℕ) (command bytes all : List ℕ) (p : Pdv A) (t : Taken A) → all ≡ bytes ++ p.bytes → length command + length (bytes ++ p.bytes) ≤ longest_message → Ends (body_end context command all p.last) t → Ends (with_data context command bytes p) t
 unfolding with_data
 with_data_ok A context command bytes all p t e le ends =
     subst (λ (x : Fed A). Ends x t) (sym (sized_within A (length command + length (bytes ++ p.bytes)) (body_end context command (bytes ++ p.bytes) p.last) le))

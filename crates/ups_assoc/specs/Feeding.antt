@@ -10,7 +10,8 @@ use Rattle.ups_assoc.specs.declared.assembling.Begun.TheVariants.{Nothing, Comma
 use Rattle.ups_assoc.specs.declared.assembling.Taken.{Taken}
 use Rattle.ups_assoc.specs.declared.assembling.Taken.TheVariants.{More, Whole}
 use Rattle.ups_assoc.specs.Announcing.{data_follows}
-use Rattle.ups_assoc.specs.Messages.{limit, is_accepted}
+use Rattle.ups_assoc.specs.Limits.{longest_message}
+use Rattle.ups_assoc.specs.Messages.{is_accepted}
 
 -- what a fragment makes of what has come of a message: more of it, the whole, or a fault
 pub data Fed (A : Type 0) : Type 0 where
@@ -20,7 +21,7 @@ pub data Fed (A : Type 0) : Type 0 where
 
 -- as far as the message isn't too long
 abbrev pub sized : {A : Type 0} → ℕ → Fed A → Fed A
-sized len fed = if nat_le len limit then fed else fault faults.TooLong
+sized len fed = if nat_le len longest_message then fed else fault faults.TooLong
 
 -- at the last fragment of a command the data set is due, where one is announced; else the message is whole
 abbrev pub command_end : {A : Type 0} → ℕ → List ℕ → Bool → Fed A
@@ -82,7 +83,7 @@ Takes (fault f) (Err e) = e ≡ f
 
 -- too long, or want of memory where it isn't
 abbrev pub IsRefused : AssocFault → ℕ → Type 0
-IsRefused e len = ((e ≡ faults.TooLong) × (limit < len)) ⊎ ((e ≡ faults.Memory) × (len ≤ limit))
+IsRefused e len = ((e ≡ faults.TooLong) × (longest_message < len)) ⊎ ((e ≡ faults.Memory) × (len ≤ longest_message))
 
 -- What an assembler answers, and what has come of the next message then. After a fault it has failed, and it has
 -- failed where memory ran out.

@@ -4,6 +4,7 @@ pub mod Classes
 pub mod Contexts
 pub mod Cutting
 pub mod Feeding
+pub mod Limits
 pub mod Messages
 pub mod Negotiation
 pub mod Same

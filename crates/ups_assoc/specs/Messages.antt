@@ -6,10 +6,7 @@ use Rattle.ups_assoc.specs.declared.message.RawMessage.{RawMessage}
 use Rattle.ups_assoc.specs.declared.assembling.Begun.{Begun}
 use Rattle.ups_assoc.specs.declared.assembling.Begun.TheVariants.{Nothing, Command, Body, Failed}
 use Rattle.ups_assoc.specs.Announcing.{data_follows}
-
--- the longest message, in bytes
-abbrev pub limit : ℕ
-limit = 1048576
+use Rattle.ups_assoc.specs.Limits.{longest_message}
 
 -- whether a presentation context is among the accepted ones
 abbrev pub is_accepted : List ℕ → ℕ → Bool
@@ -46,7 +43,7 @@ pub record IsMessage {A : Type 0} (ids : List ℕ) (pdvs : List (Pdv A)) (messag
   pub command_run : IsRun message.context true commands
   pub command_is : bytes_of commands ≡ message.command
   pub body_is : IsBody message.context message.command datas message.body
-  pub within : length (bytes_of pdvs) ≤ limit
+  pub within : length (bytes_of pdvs) ≤ longest_message
 
 -- the fragments are these messages, one after the other
 abbrev pub AreMessages : {A : Type 0} → List ℕ → List (Pdv A) → List (RawMessage A) → Type 0
@@ -64,7 +61,7 @@ pub record IsBegunCommand {A : Type 0} (ids : List ℕ) (context : ℕ) (bytes :
   pub accepted : is_accepted ids context ≡ true
   pub command_open : IsOpen context true pdvs
   pub bytes_are : bytes_of pdvs ≡ bytes
-  pub within : length bytes ≤ limit
+  pub within : length bytes ≤ longest_message
 
 -- the fragments of a command that announces a data set, and the first ones of that, if any
 pub record IsBegunBody {A : Type 0} (ids : List ℕ) (context : ℕ) (command bytes : List ℕ) (pdvs : List (Pdv A)) : Type 0 where
@@ -77,7 +74,7 @@ pub record IsBegunBody {A : Type 0} (ids : List ℕ) (context : ℕ) (command by
   pub announces : data_follows command ≡ true
   pub data_open : IsOpen context false datas
   pub bytes_are : bytes_of datas ≡ bytes
-  pub within : length (bytes_of pdvs) ≤ limit
+  pub within : length (bytes_of pdvs) ≤ longest_message
 
 -- These fragments are the beginning of a message, of which this has come.
 abbrev pub IsBegun : {A : Type 0} → List ℕ → Begun A → List (Pdv A) → Type 0

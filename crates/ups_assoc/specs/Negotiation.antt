@@ -9,6 +9,7 @@ use Rattle.ups_pdu.specs.declared.pdu.Pdu.TheVariants.{AssociateAc as AnswerPdu}
 use Rattle.ups_pdu.specs.declared.registered.RegisteredUid.TheVariants.{ApplicationContext, Implementation}
 use Rattle.ups_pdu.specs.Registered.{text_of}
 use Rattle.ups_pdu.specs.Fits.{Fits}
+use Rattle.ups_pdu.specs.Limits.{max_data_length}
 use Rattle.ups_assoc.specs.declared.negotiating.AcceptedContext.{AcceptedContext}
 use Rattle.ups_assoc.specs.declared.negotiating.Acceptance.{Acceptance}
 use Rattle.ups_assoc.specs.declared.negotiating.Outcome.{Outcome}
@@ -36,13 +37,13 @@ number_source r = (numbers r).1
 abbrev pub number_reason : Rejection → ℕ
 number_reason r = (numbers r).2
 
--- a maximum length as it counts: 0 is none, and no more than 16,384 is used (PS3.8 annex D.1)
+-- a maximum length as it counts: 0 is none, and no more is used than the longest P-DATA-TF has (PS3.8 annex D.1)
 abbrev pub counted : ℕ → ℕ
-counted max = if max == 0 || nat_lt 16384 max then 16384 else max
+counted max = if max == 0 || nat_lt max_data_length max then max_data_length else max
 
 -- what is said of this server (PS3.7 annex D.3.3.2)
 abbrev pub this_server : {A : Type 0} → UserInformation A
-this_server = record { maximum_length = 16384; implementation_class = Some (text_of Implementation); asynchronous_window = None; roles = []; implementation_version = Some (codes "UPSD_1") }
+this_server = record { maximum_length = max_data_length; implementation_class = Some (text_of Implementation); asynchronous_window = None; roles = []; implementation_version = Some (codes "UPSD_1") }
 
 -- the answer that accepts: the titles as they stood, and an answer to each context in order
 abbrev pub answer : {A : Type 0} → AssociateRq A → AssociateAc A

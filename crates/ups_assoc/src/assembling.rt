@@ -6,10 +6,12 @@ ghost use Rattle.ups_assoc.specs.declared.fault.AssocFault.TheVariants.{Memory};
 ghost use Rattle.ups_assoc.specs.declared.message.RawMessage.{RawMessage};
 ghost use Rattle.ups_assoc.specs.declared.assembling.Begun.{Begun};
 ghost use Rattle.ups_assoc.specs.declared.assembling.Begun.TheVariants.{Nothing};
-ghost use Rattle.ups_assoc.specs.Messages.{limit, is_accepted, AreFragments};
+ghost use Rattle.ups_assoc.specs.Limits.{longest_message};
+ghost use Rattle.ups_assoc.specs.Messages.{is_accepted, AreFragments};
 ghost use Rattle.ups_assoc.specs.Feeding.{IsRefused, has_failed, command_end, body_end, with_command, with_data, taken, fed, feeds, Ends, Takes, Feeds};
 
 use crate::fault::AssocFault;
+use crate::limits::LONGEST_MESSAGE;
 use crate::message::RawMessage;
 use crate::negotiating::AcceptedContext;
 use crate::walking::data_follows;
@@ -17,9 +19,6 @@ use std::alloc::{AllocError, Allocator};
 use std::marker::Model;
 use std::mem;
 use ups_pdu::{Bytes, Pdv};
-
-/// The longest message, its command and its data set together, in bytes.
-const LONGEST_MESSAGE: usize = 1_048_576;
 
 /// What has come of a message.
 #[derive(Drop)]
@@ -60,7 +59,7 @@ impl<A: Allocator + Copy> Begun<A> {
 
 /// Whether three lengths together are no longer than a message may be.
 fn is_within(first: usize, second: usize, third: usize) -> bool
-    ensures { IsTrue result ↔ (first + second + third ≤ limit) }
+    ensures { IsTrue result ↔ (first + second + third ≤ longest_message) }
 {
     first <= LONGEST_MESSAGE
         && second <= LONGEST_MESSAGE - first
@@ -75,7 +74,7 @@ fn appended<A: Allocator + Copy>(
     elsewhere: usize,
     more: &[u8],
 ) -> Result<Bytes<A>, AssocFault>
-    ensures appended { IfOk result (λ b. (b ≡ bytes ++ more.now) × (elsewhere + length (bytes ++ more.now) ≤ limit)) }
+    ensures appended { IfOk result (λ b. (b ≡ bytes ++ more.now) × (elsewhere + length (bytes ++ more.now) ≤ longest_message)) }
     ensures fault { IfErr result (λ e. IsRefused e (elsewhere + length (bytes ++ more.now))) }
 {
     if !is_within(elsewhere, bytes.len(), more.len()) {

@@ -1,12 +1,14 @@
 //! Cutting messages into fragments (PS3.8 annexes D.1 and E, PS3.7 section 6.3.1).
 
-ghost use Rattle.std.specs.Prelude.{◌≡◌, ◌≤◌, ◌<◌, ◌⊎◌, ◌+◌, ◌++◌, List, [], ◌∷◌, ℕ, Some, length, true, is_some, option_copied, unwrap_or, OnOk, IfOk, IfErr};
+ghost use Rattle.std.specs.Prelude.{◌≡◌, ◌≤◌, ◌<◌, ◌⊎◌, ◌+◌, ◌-◌, ◌++◌, List, [], ◌∷◌, ℕ, Some, length, true, is_some, option_copied, unwrap_or, OnOk, IfOk, IfErr};
 ghost use Rattle.std.specs.List.{flat_map, AllByRecursion};
 ghost use Rattle.ups_pdu.specs.Fits.{Fits};
+ghost use Rattle.ups_pdu.specs.Limits.{max_data_length};
 ghost use Rattle.ups_assoc.specs.declared.fault.AssocFault.TheVariants.{Memory};
 ghost use Rattle.ups_assoc.specs.declared.message.RawMessage.{RawMessage};
 ghost use Rattle.ups_assoc.specs.declared.assembling.Begun.TheVariants.{Nothing};
-ghost use Rattle.ups_assoc.specs.Messages.{limit, is_accepted};
+ghost use Rattle.ups_assoc.specs.Limits.{longest_message};
+ghost use Rattle.ups_assoc.specs.Messages.{is_accepted};
 ghost use Rattle.ups_assoc.specs.Announcing.{data_follows};
 ghost use Rattle.ups_assoc.specs.Feeding.{feeds};
 ghost use Rattle.ups_assoc.specs.Cutting.{room, fragment, run, body_run, pieces, pdvs_in};
@@ -22,7 +24,7 @@ fn room(max: u32) -> usize
     requires { (max ≡ 0) ⊎ (8 ≤ max) }
     ensures room { result ≡ room max }
     ensures some { 2 ≤ result }
-    ensures most { result ≤ 16378 }
+    ensures most { result ≤ max_data_length - 6 }
 {
     let len = counted(max) as usize - 6;
     len / 2 * 2
@@ -122,6 +124,6 @@ pub fn cut<A: Allocator + Copy>(
 /// it is no longer than a message may be.
 pub fn a_cut_message_is_whole_again<A: Allocator + Copy>()
     ensures { (ids : List ℕ) → (max : ℕ) → (message : RawMessage A) → ((max ≡ 0) ⊎ (8 ≤ max)) → is_accepted ids message.context ≡ true
-        → is_some message.body ≡ data_follows message.command → length message.command + length (unwrap_or message.body []) ≤ limit
+        → is_some message.body ≡ data_follows message.command → length message.command + length (unwrap_or message.body []) ≤ longest_message
         → feeds ids (flat_map pdvs_in (pieces message.context message.command message.body max)) Nothing ≡ Some (message ∷ [], Nothing) }
 {}

@@ -5,6 +5,7 @@
 mod assembling;
 mod cutting;
 mod fault;
+mod limits;
 mod message;
 mod negotiating;
 mod sop_class;
@@ -13,6 +14,7 @@ mod walking;
 pub use assembling::{Assembler, every_cut_gives_its_messages, every_message_is_of_its_fragments};
 pub use cutting::{a_cut_message_is_whole_again, cut};
 pub use fault::AssocFault;
+pub use limits::{LONGEST_MESSAGE, limits_are_those_of_the_profile};
 pub use message::RawMessage;
 pub use negotiating::{
     Acceptance, AcceptedContext, AcceptedContexts, Config, Outcome, Rejection, negotiate,

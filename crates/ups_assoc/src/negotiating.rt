@@ -17,11 +17,8 @@ use std::marker::Model;
 use ups_dataset::TransferSyntax;
 use ups_pdu::{
     Ae, AnsweredContext, AnsweredContexts, AssociateAc, AssociateRq, Bytes, ContextAnswer,
-    ProposedContext, RegisteredUid, Roles, Uid, UserInformation,
+    MAX_DATA_LENGTH, ProposedContext, RegisteredUid, Roles, Uid, UserInformation,
 };
-
-/// The longest P-DATA-TF that is received, and the longest that is sent (PS3.8 annex D.1).
-pub(crate) const MAXIMUM_LENGTH: u32 = 16_384;
 
 /// The result for a context whose abstract syntax isn't supported (PS3.8 section 9.3.3.2).
 const ABSTRACT_SYNTAX_NOT_SUPPORTED: u8 = 3;
@@ -319,8 +316,8 @@ fn accepted_of<A: Allocator + Copy>(
 pub(crate) fn counted(max: u32) -> u32
     ensures { result ≡ counted max }
 {
-    if max == 0 || max > MAXIMUM_LENGTH {
-        MAXIMUM_LENGTH
+    if max == 0 || max > MAX_DATA_LENGTH {
+        MAX_DATA_LENGTH
     } else {
         max
     }
@@ -341,7 +338,7 @@ fn this_server<A: Allocator + Copy>(alloc: A) -> Result<UserInformation<A>, Allo
 {
     let version_name = Bytes::copy_of(alloc, b"UPSD_1")?;
     Ok(UserInformation {
-        maximum_length: MAXIMUM_LENGTH,
+        maximum_length: MAX_DATA_LENGTH,
         implementation_class: Some(RegisteredUid::Implementation.uid()),
         asynchronous_window: None,
         roles: Roles::from_vec(Vec::new(alloc)),

@@ -2,7 +2,7 @@
 use Rattle.std.proofs.Common.{true, false, ◌≡◌, ◌≢◌, ◌<◌, ◌≤◌, ◌+◌, ◌%◌, ◌^◌, ℕ, Bool, inl, inr, List, [], ◌++◌, length, refl, sym, ap, subst, ◌∙◌, arith, append_assoc}
 use Rattle.std.proofs.lemmas.List.{length-append}
 use Rattle.ups_dataset.specs.declared.tag.Tag.{Tag}
-use Rattle.ups_dataset.specs.declared.limits.TheConstants.{MAX_DEPTH, MAX_SHORT_LENGTH, UNDEFINED_LENGTH}
+use Rattle.ups_dataset.specs.Limits.{max_depth, max_short_length, undefined_length}
 use Rattle.ups_dataset.specs.declared.vr.Vr.{Vr}
 use Rattle.ups_dataset.specs.declared.vr.Vr.TheVariants.{Sq, Un}
 use Rattle.ups_dataset.specs.declared.syntax.TransferSyntax.{TransferSyntax}
@@ -35,7 +35,7 @@ AreKeptItems Implicit is = AreImplicitItems is
 -- the representation that a reading gives back
 abbrev IsRead : TransferSyntax → Tag → Vr → ℕ → Type 0
 IsRead Implicit tag vr len = vr ≡ implicit_vr tag len
-IsRead Explicit tag vr len = is_long vr ≡ false → len ≤ MAX_SHORT_LENGTH
+IsRead Explicit tag vr len = is_long vr ≡ false → len ≤ max_short_length
 
 kept_parts : (syntax : TransferSyntax) (tag : Tag) (vr : Vr) (d : Data) (more : Elements) → AreKept syntax (element tag vr d more) → IsKeptData syntax d × AreKept syntax more
 kept_parts Explicit tag vr d more h = (tt, tt)
@@ -54,16 +54,16 @@ is_read Implicit tag vr d more v (e, _, _) = e
 is_read Explicit tag vr (bytes b) more (_, _, few) h = few
 is_read Explicit tag vr (items is) more (s, _) h = λ short. let c : true ≡ false = sym (ap is_long s) ∙ short in absurd cc
 
-letters_head : (tag : Tag) (vr : Vr) (len : ℕ) (rest : List ℕ) (b : Bool) → is_long vr ≡ b → IsTag tag → is_mark tag ≡ false → (is_long vr ≡ false → len ≤ MAX_SHORT_LENGTH) → len < UNDEFINED_LENGTH
+letters_head : (tag : Tag) (vr : Vr) (len : ℕ) (rest : List ℕ) (b : Bool) → is_long vr ≡ b → IsTag tag → is_mark tag ≡ false → (is_long vr ≡ false → len ≤ max_short_length) → len < undefined_length
     → IsHead Explicit ((tag_bytes tag ++ (letters vr ++ written_length b len)) ++ rest) (Known tag vr len) rest
 letters_head tag vr len rest true e low m say fits = (m, inr (record { reserved = 0; low = low; fits = omega (arith, fits); long = e; parts = ap (λ l. tag_bytes tag ++ l) (append_assoc (letters vr) (written_length true len) rest) }))
 letters_head tag vr len rest false e low m say fits = (m, inl (record { low = low; fits = omega (arith, say e); short = e; parts = ap (λ l. tag_bytes tag ++ l) (append_assoc (letters vr) (written_length false len) rest) }))
 
-head_again : (syntax : TransferSyntax) (tag : Tag) (vr : Vr) (len : ℕ) (rest : List ℕ) → IsTag tag → is_mark tag ≡ false → IsRead syntax tag vr len → len < UNDEFINED_LENGTH → IsHead syntax (written_head syntax tag vr len ++ rest) (Known tag vr len) rest
+head_again : (syntax : TransferSyntax) (tag : Tag) (vr : Vr) (len : ℕ) (rest : List ℕ) → IsTag tag → is_mark tag ≡ false → IsRead syntax tag vr len → len < undefined_length → IsHead syntax (written_head syntax tag vr len ++ rest) (Known tag vr len) rest
 head_again Implicit tag vr len rest low m say fits = (m, say, record { low = low; fits = omega (arith, fits); parts = refl })
 head_again Explicit tag vr len rest low m say fits = letters_head tag vr len rest (is_long vr) refl low m say fits
 
-plain : (vr : Vr) (len : ℕ) → vr ≢ Sq → len < UNDEFINED_LENGTH → is_sequence vr len ≡ false
+plain : (vr : Vr) (len : ℕ) → vr ≢ Sq → len < undefined_length → is_sequence vr len ≡ false
 plain Sq len n l = absurd (n refl)
 plain Un len n l = grind (arith, l)
 plain vr len n l = refl
@@ -98,7 +98,7 @@ inside_same : (syntax : TransferSyntax) (vr : Vr) → vr ≡ Sq → inside synta
 inside_same syntax vr e = ap (λ v. inside syntax v) e
 
 mutual
-  again_elements : (syntax : TransferSyntax) (level low : ℕ) (es : Elements) → level + depth_elements es ≤ MAX_DEPTH → AreElements low es → AreKept syntax es → length (written_elements syntax es) < 2 ^ 32 → SpellsElements syntax level Filled low (written_elements syntax es) es []
+  again_elements : (syntax : TransferSyntax) (level low : ℕ) (es : Elements) → level + depth_elements es ≤ max_depth → AreElements low es → AreKept syntax es → length (written_elements syntax es) < 2 ^ 32 → SpellsElements syntax level Filled low (written_elements syntax es) es []
   again_elements syntax level low no_elements deep h k l = (refl, refl)
   again_elements syntax level low (element tag vr d more) deep (rises, small, is, sets, later) k l =
       let head = written_head syntax tag vr (length (written_data syntax d)) in
@@ -107,7 +107,7 @@ mutual
       let sum = length-append (head ++ data_bytes) rest in
       let sum_too = length-append head data_bytes in
       let long = head_long syntax tag vr (length data_bytes) in
-      let fits : length data_bytes < UNDEFINED_LENGTH = omega (arith, l, sum, sum_too, long) in
+      let fits : length data_bytes < undefined_length = omega (arith, l, sum, sum_too, long) in
       let parts = kept_parts syntax tag vr d more k in (
         rest,
         vr,
@@ -119,7 +119,7 @@ mutual
         again_elements syntax level (number tag + 1) more (omega (arith, deep)) later parts.1 (omega (arith, l, sum)),
       )
 
-  again_data : (syntax : TransferSyntax) (level : ℕ) (vr : Vr) (d : Data) (rest : List ℕ) → level + depth_data d ≤ MAX_DEPTH → IsValue vr d → HoldsSets d → IsKeptData syntax d → length (written_data syntax d) < UNDEFINED_LENGTH → SpellsData syntax level vr (length (written_data syntax d)) (written_data syntax d ++ rest) vr d rest
+  again_data : (syntax : TransferSyntax) (level : ℕ) (vr : Vr) (d : Data) (rest : List ℕ) → level + depth_data d ≤ max_depth → IsValue vr d → HoldsSets d → IsKeptData syntax d → length (written_data syntax d) < undefined_length → SpellsData syntax level vr (length (written_data syntax d)) (written_data syntax d ++ rest) vr d rest
   again_data syntax level vr (bytes b) rest deep (n, e, _) sets k fits = (plain vr (length b) n fits, refl, fits, e, refl, refl)
   again_data syntax level vr (items is) rest deep (s, _) sets k fits = (
     ap (λ v. is_sequence v (length (written_items syntax is))) s,
@@ -131,7 +131,7 @@ mutual
     subst (λ (x : TransferSyntax). SpellsItems x level Filled (written_items syntax is) is []) (sym (inside_same syntax vr s)) (again_items syntax level is deep sets (kept_items_of syntax is k) (omega (arith, fits))),
   )
 
-  again_items : (syntax : TransferSyntax) (level : ℕ) (is : Items) → level + depth_items is ≤ MAX_DEPTH → AreSets is → AreKeptItems syntax is → length (written_items syntax is) < UNDEFINED_LENGTH → SpellsItems syntax level Filled (written_items syntax is) is []
+  again_items : (syntax : TransferSyntax) (level : ℕ) (is : Items) → level + depth_items is ≤ max_depth → AreSets is → AreKeptItems syntax is → length (written_items syntax is) < undefined_length → SpellsItems syntax level Filled (written_items syntax is) is []
   again_items syntax level no_items deep h k l = (refl, refl)
   again_items syntax level (item es more) deep (he, hm) k l =
       let body = written_elements syntax es in

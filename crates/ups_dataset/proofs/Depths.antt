@@ -1,7 +1,7 @@
 -- How deep items nest, counted one after the other.
 use Rattle.std.proofs.Common.{◌≡◌, ◌<◌, ◌≤◌, ◌+◌, ℕ, List, [], ◌∷◌, ◌++◌, length, map, max, take, get_or, sym, ap, ◌∙◌, arith}
 use Rattle.std.proofs.lemmas.List.{take_more, map-append}
-use Rattle.ups_dataset.specs.declared.limits.TheConstants.{MAX_DEPTH}
+use Rattle.ups_dataset.specs.Limits.{max_depth}
 use Rattle.ups_dataset.specs.declared.set.Element.{Element}
 use Rattle.ups_dataset.specs.declared.vr.Vr.{Vr}
 use Rattle.ups_dataset.specs.Tag.{number}
@@ -9,12 +9,12 @@ use Rattle.ups_dataset.specs.Data.{Data, bytes, items, Elements, no_elements, el
 use Rattle.ups_dataset.specs.Valid.{depth_data, depth_items, depth_elements, IsValue, AreElements}
 use Rattle.ups_dataset.specs.View.{element_view, value_view}
 
-depth_within : (vr : Vr) (d : Data) → IsValue vr d → depth_data d ≤ MAX_DEPTH
+depth_within : (vr : Vr) (d : Data) → IsValue vr d → depth_data d ≤ max_depth
 depth_within vr (bytes b) h = omega arith
 depth_within vr (items is) (_, h) = h
 
 -- no data set nests too deep
-pub within : (low : ℕ) (es : Elements) → AreElements low es → depth_elements es ≤ MAX_DEPTH
+pub within : (low : ℕ) (es : Elements) → AreElements low es → depth_elements es ≤ max_depth
 within low no_elements h = omega arith
 within low (element tag vr d more) (_, _, is, _, later) = omega (arith, depth_within vr d is.value, within (number tag + 1) more later)
 

@@ -1,9 +1,8 @@
 -- A loop that goes over what stands one after the other.
 use Rattle.std.proofs.Common.{◌≤◌, ◌+◌, ℕ, List, length, arith}
 use Rattle.ups_dataset.specs.declared.tag.Tag.{Tag}
-use Rattle.ups_dataset.specs.declared.tag.TheConstants.{ITEM_DELIMITATION, SEQUENCE_DELIMITATION}
 use Rattle.ups_dataset.specs.declared.vr.Vr.{Vr}
-use Rattle.ups_dataset.specs.Tag.{number}
+use Rattle.ups_dataset.specs.Tag.{number, item_delimitation, sequence_delimitation}
 use Rattle.ups_dataset.specs.Head.{IsKnown, IsItem, Ends, Spans}
 use Rattle.ups_dataset.specs.declared.syntax.TransferSyntax.{TransferSyntax}
 use Rattle.ups_dataset.specs.declared.head.Reach.{Reach}
@@ -25,7 +24,7 @@ pub record ItemsGo (syntax : TransferSyntax) (level : ℕ) (reach : Reach) (text
   pub left : length rest ≤ length text
 
 pub go_element : (syntax : TransferSyntax) (level : ℕ) (reach : Reach) (text : List ℕ) (from : ℕ) (rest : List ℕ) (tag : Tag) (vr : Vr) (len : ℕ) (after : List ℕ) (kept : Vr) (d : Data) (next : List ℕ)
-    → ((end : List ℕ) → Ends ITEM_DELIMITATION reach rest end → ⊥) → IsKnown syntax from rest tag vr len after → SpellsData syntax level vr len after kept d next
+    → ((end : List ℕ) → Ends item_delimitation reach rest end → ⊥) → IsKnown syntax from rest tag vr len after → SpellsData syntax level vr len after kept d next
     → ElementsGo syntax level reach text from rest → ElementsGo syntax level reach text (number tag + 1) next
 go_element syntax level reach text from rest tag vr len after kept d next more known value go = record {
   spelled = λ es end s. go.spelled (element tag kept d es) end (next, vr, len, after, known.head, known_rises syntax from rest tag vr len after known, value, s);
@@ -34,7 +33,7 @@ go_element syntax level reach text from rest tag vr len after kept d next more k
 }
 
 pub go_item : (syntax : TransferSyntax) (level : ℕ) (reach : Reach) (text rest : List ℕ) (len : ℕ) (after : List ℕ) (within : Reach) (inner left next : List ℕ) (es : Elements)
-    → ((end : List ℕ) → Ends SEQUENCE_DELIMITATION reach rest end → ⊥) → IsItem level rest len after → Spans len after within inner left next → SpellsElements syntax (level + 1) within 0 inner es left
+    → ((end : List ℕ) → Ends sequence_delimitation reach rest end → ⊥) → IsItem level rest len after → Spans len after within inner left next → SpellsElements syntax (level + 1) within 0 inner es left
     → ItemsGo syntax level reach text rest → ItemsGo syntax level reach text next
 go_item syntax level reach text rest len after within inner left next es more is spans spelled go = record {
   spelled = λ js end s. go.spelled (item es js) end (next, len, after, is.head, item_deep level rest len after is, within, inner, left, spans, spelled, s);

@@ -2,8 +2,7 @@
 use Rattle.std.proofs.Common.{true, false, ◌≡◌, ◌≢◌, ℕ, Bool, ◌<◌, ◌≤◌, ◌+◌, ◌%◌, ◌⊎◌, inl, inr, Option, None, Some, List, ◌++◌, length, refl, sym, ap, ◌∙◌, arith, nat_lt, ◌==◌, if◌then◌else◌}
 use Rattle.std.proofs.lemmas.List.{length-append}
 use Rattle.ups_dataset.specs.declared.tag.Tag.{Tag}
-use Rattle.ups_dataset.specs.declared.tag.TheConstants.{ITEM_DELIMITATION, SEQUENCE_DELIMITATION}
-use Rattle.ups_dataset.specs.declared.limits.TheConstants.{MAX_DEPTH, UNDEFINED_LENGTH}
+use Rattle.ups_dataset.specs.Limits.{max_depth, undefined_length}
 use Rattle.ups_dataset.specs.declared.vr.Vr.{Vr}
 use Rattle.ups_dataset.specs.declared.syntax.TransferSyntax.{TransferSyntax}
 use Rattle.ups_dataset.specs.declared.syntax.TransferSyntax.TheVariants.{Implicit, Explicit}
@@ -14,7 +13,7 @@ use Rattle.ups_dataset.specs.declared.head.Head.TheVariants.{Known, Strange, Mar
 use Rattle.ups_dataset.specs.declared.fault.SetFault.{SetFault}
 use Rattle.ups_dataset.specs.declared.fault.SetFault.TheVariants.{Short, TagOrder, OddLength, Depth, BadItem}
 use Rattle.std.specs.Int.{w16, w32, to_le_bytes}
-use Rattle.ups_dataset.specs.Tag.{number}
+use Rattle.ups_dataset.specs.Tag.{number, item_delimitation, sequence_delimitation}
 use Rattle.ups_dataset.specs.Vr.{letters}
 use Rattle.ups_dataset.specs.Head.{IsMark, IsHead, IsKnown, IsItem, IsLength, IsLeft, Ends, Spans, is_sequence, length_fault}
 use Rattle.ups_dataset.specs.Data.{Data, bytes, items, Items, no_items, item, Elements, no_elements, element}
@@ -54,7 +53,7 @@ head_shorter Explicit text (Known tag vr len) rest (m, inr p) = rw p.parts (omeg
 head_shorter Implicit text (Strange tag) rest h = absurd h
 head_shorter Explicit text (Strange tag) rest (m, p) = rw p.parts (omega arith)
 
-head_fits : (syntax : TransferSyntax) (text : List ℕ) (tag : Tag) (vr : Vr) (len : ℕ) (rest : List ℕ) → len ≢ UNDEFINED_LENGTH → IsHead syntax text (Known tag vr len) rest → len < UNDEFINED_LENGTH
+head_fits : (syntax : TransferSyntax) (text : List ℕ) (tag : Tag) (vr : Vr) (len : ℕ) (rest : List ℕ) → len ≢ undefined_length → IsHead syntax text (Known tag vr len) rest → len < undefined_length
 head_fits Implicit text tag vr len rest e (m, v, p) = omega (arith, e, p.fits)
 head_fits Explicit text tag vr len rest e (m, inl p) = omega (arith, e, p.fits)
 head_fits Explicit text tag vr len rest e (m, inr p) = omega (arith, e, p.fits)
@@ -74,15 +73,15 @@ spans_shorter len after Ended inner left rest (_, i, r) l = omega (arith, l, ap 
 pub known_length : (syntax : TransferSyntax) (from : ℕ) (text : List ℕ) (tag : Tag) (vr : Vr) (len : ℕ) (after : List ℕ) → IsKnown syntax from text tag vr len after → IsLength len (length after)
 known_length syntax from text tag vr len after k =
     let a = stops (nat_lt (number tag) from) TagOrder _ k.good in
-    elim (either (len == UNDEFINED_LENGTH) (if is_sequence vr len then None else Some BadItem) (length_fault len (length after)) a.1) [
+    elim (either (len == undefined_length) (if is_sequence vr len then None else Some BadItem) (length_fault len (length after)) a.1) [
       | inl (e, _) ↦ inl (grind (arith, e))
       | inr (e, g) ↦ let l = good_length len (length after) g in inr (head_fits syntax text tag vr len after (grind (arith, e)) k.head, l.0, l.1)
     ]
 
-pub known_bytes : (syntax : TransferSyntax) (from : ℕ) (text : List ℕ) (tag : Tag) (vr : Vr) (len : ℕ) (after : List ℕ) → IsKnown syntax from text tag vr len after → is_sequence vr len ≡ false → len < UNDEFINED_LENGTH
+pub known_bytes : (syntax : TransferSyntax) (from : ℕ) (text : List ℕ) (tag : Tag) (vr : Vr) (len : ℕ) (after : List ℕ) → IsKnown syntax from text tag vr len after → is_sequence vr len ≡ false → len < undefined_length
 known_bytes syntax from text tag vr len after k plain =
     let a = stops (nat_lt (number tag) from) TagOrder _ k.good in
-    elim (either (len == UNDEFINED_LENGTH) (if is_sequence vr len then None else Some BadItem) (length_fault len (length after)) a.1) [
+    elim (either (len == undefined_length) (if is_sequence vr len then None else Some BadItem) (length_fault len (length after)) a.1) [
       | inl (_, e) ↦ let s = goes (is_sequence vr len) BadItem None e in let b : false ≡ true = sym plain ∙ s.0 in absurd cc
       | inr (e, g) ↦ head_fits syntax text tag vr len after (grind (arith, e)) k.head
     ]
@@ -90,7 +89,7 @@ known_bytes syntax from text tag vr len after k plain =
 -- each rest is shorter
 mutual
   pub elements_shorter : (syntax : TransferSyntax) (level : ℕ) (reach : Reach) (from : ℕ) (text : List ℕ) (es : Elements) (rest : List ℕ) → SpellsElements syntax level reach from text es rest → length rest ≤ length text
-  elements_shorter syntax level reach from text no_elements rest e = ends_shorter ITEM_DELIMITATION reach text rest e
+  elements_shorter syntax level reach from text no_elements rest e = ends_shorter item_delimitation reach text rest e
   elements_shorter syntax level reach from text (element tag vr d more) rest (next, head_vr, len, after, is, low, value, later) =
       omega (arith, head_shorter syntax text (Known tag head_vr len) after is, data_shorter syntax level head_vr len after vr d next value, elements_shorter syntax level reach (number tag + 1) next more rest later)
 
@@ -99,27 +98,27 @@ mutual
   data_shorter syntax level head_vr len after vr (items is) next (_, _, reach, inner, left, spans, spelled) = spans_shorter len after reach inner left next spans (items_shorter (inside syntax head_vr) level reach inner is left spelled)
 
   pub items_shorter : (syntax : TransferSyntax) (level : ℕ) (reach : Reach) (text : List ℕ) (is : Items) (rest : List ℕ) → SpellsItems syntax level reach text is rest → length rest ≤ length text
-  items_shorter syntax level reach text no_items rest e = ends_shorter SEQUENCE_DELIMITATION reach text rest e
+  items_shorter syntax level reach text no_items rest e = ends_shorter sequence_delimitation reach text rest e
   items_shorter syntax level reach text (item es more) rest (next, len, after, is, low, within, inner, left, spans, spelled, later) =
       omega (arith, mark_shorter text _ len after is, spans_shorter len after within inner left next spans (elements_shorter syntax (level + 1) within 0 inner es left spelled), items_shorter syntax level reach next more rest later)
 
 -- nothing is left where the inside fills its bytes
 pub elements_left : (syntax : TransferSyntax) (level : ℕ) (reach : Reach) (from : ℕ) (text : List ℕ) (es : Elements) (rest : List ℕ) → SpellsElements syntax level reach from text es rest → IsLeft reach rest
-elements_left syntax level reach from text no_elements rest e = ends_left ITEM_DELIMITATION reach text rest e
+elements_left syntax level reach from text no_elements rest e = ends_left item_delimitation reach text rest e
 elements_left syntax level reach from text (element tag vr d more) rest (next, head_vr, len, after, is, low, value, later) = elements_left syntax level reach (number tag + 1) next more rest later
 
 pub items_left : (syntax : TransferSyntax) (level : ℕ) (reach : Reach) (text : List ℕ) (is : Items) (rest : List ℕ) → SpellsItems syntax level reach text is rest → IsLeft reach rest
-items_left syntax level reach text no_items rest e = ends_left SEQUENCE_DELIMITATION reach text rest e
+items_left syntax level reach text no_items rest e = ends_left sequence_delimitation reach text rest e
 items_left syntax level reach text (item es more) rest (next, len, after, is, low, within, inner, left, spans, spelled, later) = items_left syntax level reach next more rest later
 
-pub item_deep : (level : ℕ) (text : List ℕ) (len : ℕ) (after : List ℕ) → IsItem level text len after → level < MAX_DEPTH
+pub item_deep : (level : ℕ) (text : List ℕ) (len : ℕ) (after : List ℕ) → IsItem level text len after → level < max_depth
 item_deep level text len after k =
-    elim (either (len == UNDEFINED_LENGTH) (if nat_lt level MAX_DEPTH then None else Some Depth) (if (len % 2) == 0 then (if nat_lt (length after) len then Some Short else (if nat_lt level MAX_DEPTH then None else Some Depth)) else Some OddLength) k.good) [
-      | inl (_, e) ↦ let s = goes (nat_lt level MAX_DEPTH) Depth None e in grind (arith, s.0)
-      | inr (_, e) ↦ let a = goes ((len % 2) == 0) OddLength _ e in let b = stops (nat_lt (length after) len) Short _ a.1 in let s = goes (nat_lt level MAX_DEPTH) Depth None b.1 in grind (arith, s.0)
+    elim (either (len == undefined_length) (if nat_lt level max_depth then None else Some Depth) (if (len % 2) == 0 then (if nat_lt (length after) len then Some Short else (if nat_lt level max_depth then None else Some Depth)) else Some OddLength) k.good) [
+      | inl (_, e) ↦ let s = goes (nat_lt level max_depth) Depth None e in grind (arith, s.0)
+      | inr (_, e) ↦ let a = goes ((len % 2) == 0) OddLength _ e in let b = stops (nat_lt (length after) len) Short _ a.1 in let s = goes (nat_lt level max_depth) Depth None b.1 in grind (arith, s.0)
     ]
 
-pub bytes_data : (syntax : TransferSyntax) (level : ℕ) (vr : Vr) (len : ℕ) (after b next : List ℕ) → is_sequence vr len ≡ false → len < UNDEFINED_LENGTH → IsLength len (length after) → length b ≡ len → after ≡ b ++ next → SpellsData syntax level vr len after vr (bytes b) next
+pub bytes_data : (syntax : TransferSyntax) (level : ℕ) (vr : Vr) (len : ℕ) (after b next : List ℕ) → is_sequence vr len ≡ false → len < undefined_length → IsLength len (length after) → length b ≡ len → after ≡ b ++ next → SpellsData syntax level vr len after vr (bytes b) next
 bytes_data syntax level vr len after b next plain low (inl e) l p = absurd (omega (arith, e, low))
 bytes_data syntax level vr len after b next plain low (inr (_, even, _)) l p = (plain, refl, low, even, l, p)
 

@@ -1,18 +1,17 @@
 -- A loop that builds what stands one after the other.
 use Rattle.std.proofs.Common.{true, false, ◌≡◌, ◌≤◌, ◌+◌, ◌++◌, ℕ, Bool, List, [], ◌∷◌, length, arith, refl, ap, ◌∙◌, subst, if◌then◌else◌}
 use Rattle.ups_dataset.specs.declared.tag.Tag.{Tag}
-use Rattle.ups_dataset.specs.declared.tag.TheConstants.{ITEM_DELIMITATION, SEQUENCE_DELIMITATION}
 use Rattle.ups_dataset.specs.declared.vr.Vr.{Vr}
 use Rattle.ups_dataset.specs.declared.syntax.TransferSyntax.{TransferSyntax}
 use Rattle.ups_dataset.specs.declared.head.Reach.{Reach}
 use Rattle.ups_dataset.specs.declared.fault.SetFault.{SetFault}
-use Rattle.ups_dataset.specs.Tag.{number, is_group_length}
+use Rattle.ups_dataset.specs.Tag.{number, is_group_length, item_delimitation, sequence_delimitation}
 use Rattle.ups_dataset.specs.Head.{IsKnown, IsItem, Ends, Spans}
 use Rattle.ups_dataset.specs.Data.{Data, Items, no_items, item, Elements, no_elements, element, El, elements_of, items_of}
 use Rattle.ups_dataset.specs.Spelling.{SpellsElements, SpellsItems, kept, kept_data, kept_items}
 use Rattle.ups_dataset.specs.Failing.{ElementsFail, ItemsFail, behind, behind_item}
 use Rattle.ups_dataset.specs.Building.{keeps, BuildsValue, BuildsElements, BuildsItems}
-use Rattle.ups_dataset.specs.declared.limits.TheConstants.{MAX_DEPTH}
+use Rattle.ups_dataset.specs.Limits.{max_depth}
 use Rattle.ups_dataset.specs.Valid.{AreElements, IsDataSet}
 use Rattle.ups_dataset.proofs.Fitting.{fit_elements}
 use Rattle.ups_dataset.proofs.Goods.{known_rises, known_shorter, mark_shorter, data_shorter, elements_shorter, spans_shorter, item_deep}
@@ -53,7 +52,7 @@ pub record ItemsGrow (syntax : TransferSyntax) (level : ℕ) (reach : Reach) (te
   pub left : length rest ≤ length text
 
 grow : (syntax : TransferSyntax) (level : ℕ) (reach : Reach) (text : List ℕ) (from : ℕ) (rest : List ℕ) (xs ys : List El) (tag : Tag) (vr : Vr) (len : ℕ) (after : List ℕ) (value : Data) (kept_vr : Vr) (next : List ℕ)
-    → ((end : List ℕ) → Ends ITEM_DELIMITATION reach rest end → ⊥) → IsKnown syntax from rest tag vr len after → (b : BuildsValue syntax level vr len after value kept_vr next)
+    → ((end : List ℕ) → Ends item_delimitation reach rest end → ⊥) → IsKnown syntax from rest tag vr len after → (b : BuildsValue syntax level vr len after value kept_vr next)
     → ((es : Elements) → joined xs (kept (element tag kept_vr b.all es)) ≡ joined ys (kept es))
     → ElementsGrow syntax level reach text from rest xs → ElementsGrow syntax level reach text (number tag + 1) next ys
 grow syntax level reach text from rest xs ys tag vr len after value kept_vr next more known b e go = record {
@@ -68,13 +67,13 @@ kept_by xs tag vr d value es true e = refl
 kept_by xs tag vr d value es false e = ap (λ (v : Data). joined xs (element tag vr v (kept es))) e ∙ joined_next xs (record { tag = tag; vr = vr; value = value }) (kept es)
 
 pub grow_by : (syntax : TransferSyntax) (level : ℕ) (reach : Reach) (text : List ℕ) (from : ℕ) (rest : List ℕ) (xs : List El) (tag : Tag) (vr : Vr) (len : ℕ) (after : List ℕ) (value : Data) (kept_vr : Vr) (next : List ℕ)
-    → ((end : List ℕ) → Ends ITEM_DELIMITATION reach rest end → ⊥) → IsKnown syntax from rest tag vr len after → BuildsValue syntax level vr len after value kept_vr next
+    → ((end : List ℕ) → Ends item_delimitation reach rest end → ⊥) → IsKnown syntax from rest tag vr len after → BuildsValue syntax level vr len after value kept_vr next
     → ElementsGrow syntax level reach text from rest xs → ElementsGrow syntax level reach text (number tag + 1) next (keeps tag kept_vr value xs)
 grow_by syntax level reach text from rest xs tag vr len after value kept_vr next more known b go =
     grow syntax level reach text from rest xs (keeps tag kept_vr value xs) tag vr len after value kept_vr next more known b (λ es. kept_by xs tag kept_vr b.all value es (is_group_length tag) b.is) go
 
 pub grow_item : (syntax : TransferSyntax) (level : ℕ) (reach : Reach) (text rest : List ℕ) (xs : List (List El)) (len : ℕ) (after : List ℕ) (within : Reach) (inner left next : List ℕ) (set : List El)
-    → ((end : List ℕ) → Ends SEQUENCE_DELIMITATION reach rest end → ⊥) → IsItem level rest len after → Spans len after within inner left next → BuildsElements syntax (level + 1) within 0 inner set left
+    → ((end : List ℕ) → Ends sequence_delimitation reach rest end → ⊥) → IsItem level rest len after → Spans len after within inner left next → BuildsElements syntax (level + 1) within 0 inner set left
     → ItemsGrow syntax level reach text rest xs → ItemsGrow syntax level reach text next (xs ++ set ∷ [])
 grow_item syntax level reach text rest xs len after within inner left next set more is spans b go = record {
   spelled = λ js end s.
@@ -84,14 +83,14 @@ grow_item syntax level reach text rest xs len after within inner left next set m
   left = omega (arith, go.left, mark_shorter rest _ len after is.head, spans_shorter len after within inner left next spans (elements_shorter syntax (level + 1) within 0 inner b.all left b.spelled));
 }
 
-pub grown : (syntax : TransferSyntax) (level : ℕ) (reach : Reach) (text : List ℕ) (from : ℕ) (rest : List ℕ) (xs : List El) (end : List ℕ) → Ends ITEM_DELIMITATION reach rest end → ElementsGrow syntax level reach text from rest xs → BuildsElements syntax level reach 0 text xs end
+pub grown : (syntax : TransferSyntax) (level : ℕ) (reach : Reach) (text : List ℕ) (from : ℕ) (rest : List ℕ) (xs : List El) (end : List ℕ) → Ends item_delimitation reach rest end → ElementsGrow syntax level reach text from rest xs → BuildsElements syntax level reach 0 text xs end
 grown syntax level reach text from rest xs end e go = let r = go.spelled no_elements end e in record { all = r.0; spelled = r.1; is = r.2 ∙ joined_end xs }
 
-pub grown_items : (syntax : TransferSyntax) (level : ℕ) (reach : Reach) (text rest : List ℕ) (xs : List (List El)) (end : List ℕ) → Ends SEQUENCE_DELIMITATION reach rest end → ItemsGrow syntax level reach text rest xs → BuildsItems syntax level reach text xs end
+pub grown_items : (syntax : TransferSyntax) (level : ℕ) (reach : Reach) (text rest : List ℕ) (xs : List (List El)) (end : List ℕ) → Ends sequence_delimitation reach rest end → ItemsGrow syntax level reach text rest xs → BuildsItems syntax level reach text xs end
 grown_items syntax level reach text rest xs end e go = let r = go.spelled no_items end e in record { all = r.0; spelled = r.1; is = r.2 ∙ joined_items_end xs }
 
 -- what was built is a data set
-pub grown_set : (syntax : TransferSyntax) (level : ℕ) (reach : Reach) (text : List ℕ) (from : ℕ) (rest : List ℕ) (xs : List El) (end : List ℕ) → level ≤ MAX_DEPTH → Ends ITEM_DELIMITATION reach rest end → ElementsGrow syntax level reach text from rest xs → IsDataSet xs
+pub grown_set : (syntax : TransferSyntax) (level : ℕ) (reach : Reach) (text : List ℕ) (from : ℕ) (rest : List ℕ) (xs : List El) (end : List ℕ) → level ≤ max_depth → Ends item_delimitation reach rest end → ElementsGrow syntax level reach text from rest xs → IsDataSet xs
 grown_set syntax level reach text from rest xs end l e go =
     let b = grown syntax level reach text from rest xs end e go in
     subst (λ (es : Elements). AreElements 0 es) b.is (fit_elements syntax level reach 0 text b.all end l b.spelled 0 (omega arith))

@@ -2,8 +2,7 @@
 use Rattle.std.proofs.Common.{true, false, ◌≡◌, ℕ, Bool, ◌<◌, ◌≤◌, ◌+◌, ◌%◌, ◌⊎◌, inl, inr, Option, None, Some, List, length, refl, sym, ap, subst, ◌∙◌, arith, nat_lt, ◌==◌, if◌then◌else◌}
 use Rattle.std.proofs.lemmas.List.{length-append}
 use Rattle.ups_dataset.specs.declared.tag.Tag.{Tag}
-use Rattle.ups_dataset.specs.declared.tag.TheConstants.{ITEM, ITEM_DELIMITATION, SEQUENCE_DELIMITATION}
-use Rattle.ups_dataset.specs.declared.limits.TheConstants.{MAX_DEPTH, UNDEFINED_LENGTH}
+use Rattle.ups_dataset.specs.Limits.{max_depth, undefined_length}
 use Rattle.ups_dataset.specs.declared.vr.Vr.{Vr}
 use Rattle.ups_dataset.specs.declared.vr.Vr.TheVariants.{Un}
 use Rattle.ups_dataset.specs.declared.syntax.TransferSyntax.{TransferSyntax}
@@ -17,7 +16,7 @@ use Rattle.ups_dataset.specs.Head.{IsMark, IsHead, HeadFails, ItemHeadFails, End
 use Rattle.ups_dataset.specs.Data.{Data, bytes, items, Items, no_items, item, Elements, no_elements, element}
 use Rattle.ups_dataset.specs.Spelling.{SpellsElements, SpellsData, SpellsItems, inside}
 use Rattle.ups_dataset.specs.Failing.{ElementsFail, ValueFails, ItemsFail, at_head, in_value, behind, in_items, at_item, in_item, behind_item}
-use Rattle.ups_dataset.specs.Tag.{number}
+use Rattle.ups_dataset.specs.Tag.{number, item_tag, item_delimitation, sequence_delimitation}
 use Rattle.ups_pdu.proofs.Parts.{same_parts}
 use Rattle.ups_dataset.proofs.Heads.{one_mark, one_head, begins, mark_begins, not_both, head_tag}
 
@@ -43,13 +42,13 @@ same_heads syntax text j k v w m n x y p q =
     let e = one_head syntax text (Known j v m) (Known k w n) x y p q in
     record { tags = ap head_tag e.0; vrs = ap vr_in e.0; lens = ap len_in e.0; rests = e.1 }
 
-pub ends_head : (syntax : TransferSyntax) (reach : Reach) (text rest : List ℕ) (tag : Tag) (vr : Vr) (len : ℕ) (after : List ℕ) → Ends ITEM_DELIMITATION reach text rest → IsHead syntax text (Known tag vr len) after → ⊥
+pub ends_head : (syntax : TransferSyntax) (reach : Reach) (text rest : List ℕ) (tag : Tag) (vr : Vr) (len : ℕ) (after : List ℕ) → Ends item_delimitation reach text rest → IsHead syntax text (Known tag vr len) after → ⊥
 ends_head syntax Filled text rest tag vr len after (e, _) h = omega (arith, ap length e, (begins syntax text (Known tag vr len) after h).long)
-ends_head syntax Ended text rest tag vr len after e h = not_both text ITEM_DELIMITATION tag (mark_begins text ITEM_DELIMITATION 0 rest true refl e) (begins syntax text (Known tag vr len) after h)
+ends_head syntax Ended text rest tag vr len after e h = not_both text item_delimitation tag (mark_begins text item_delimitation 0 rest true refl e) (begins syntax text (Known tag vr len) after h)
 
-pub ends_item : (reach : Reach) (text rest : List ℕ) (len : ℕ) (after : List ℕ) → Ends SEQUENCE_DELIMITATION reach text rest → IsMark text ITEM len after → ⊥
-ends_item Filled text rest len after (e, _) h = omega (arith, ap length e, (mark_begins text ITEM len after true refl h).long)
-ends_item Ended text rest len after e h = omega (arith, ap (λ (t : Tag). t.element) (one_mark text SEQUENCE_DELIMITATION ITEM 0 len rest after e h).0)
+pub ends_item : (reach : Reach) (text rest : List ℕ) (len : ℕ) (after : List ℕ) → Ends sequence_delimitation reach text rest → IsMark text item_tag len after → ⊥
+ends_item Filled text rest len after (e, _) h = omega (arith, ap length e, (mark_begins text item_tag len after true refl h).long)
+ends_item Ended text rest len after e h = omega (arith, ap (λ (t : Tag). t.element) (one_mark text sequence_delimitation item_tag 0 len rest after e h).0)
 
 pub one_end : (mark : Tag) (reach : Reach) (text r s : List ℕ) → Ends mark reach text r → Ends mark reach text s → r ≡ s
 one_end mark Filled text r s (_, p) (_, q) = p ∙ sym q
@@ -72,7 +71,7 @@ move_data syntax level v w m n x y vr d next ev em ex s =
 
 mutual
   pub one_elements : (syntax : TransferSyntax) (level : ℕ) (reach : Reach) (from : ℕ) (text : List ℕ) (es fs : Elements) (r s : List ℕ) → SpellsElements syntax level reach from text es r → SpellsElements syntax level reach from text fs s → (es ≡ fs) × (r ≡ s)
-  one_elements syntax level reach from text no_elements no_elements r s p q = (refl, one_end ITEM_DELIMITATION reach text r s p q)
+  one_elements syntax level reach from text no_elements no_elements r s p q = (refl, one_end item_delimitation reach text r s p q)
   one_elements syntax level reach from text no_elements (element tag vr d more) r s p (next, head_vr, len, after, is, low, value, later) = absurd (ends_head syntax reach text r tag head_vr len after p is)
   one_elements syntax level reach from text (element tag vr d more) no_elements r s (next, head_vr, len, after, is, low, value, later) p = absurd (ends_head syntax reach text s tag head_vr len after p is)
   one_elements syntax level reach from text (element j v d more) (element k w f later) r s (nj, hj, mj, aj, ij, lj, dj, ej) (nk, hk, mk, ak, ik, lk, dk, ek) =
@@ -95,11 +94,11 @@ mutual
       (ev ∙ sym ew, ap (λ l. items l) one.0, one_rest len after reach inner left left' r s one.1 spans spans_again)
 
   pub one_items : (syntax : TransferSyntax) (level : ℕ) (reach : Reach) (text : List ℕ) (is js : Items) (r s : List ℕ) → SpellsItems syntax level reach text is r → SpellsItems syntax level reach text js s → (is ≡ js) × (r ≡ s)
-  one_items syntax level reach text no_items no_items r s p q = (refl, one_end SEQUENCE_DELIMITATION reach text r s p q)
+  one_items syntax level reach text no_items no_items r s p q = (refl, one_end sequence_delimitation reach text r s p q)
   one_items syntax level reach text no_items (item es more) r s p (next, len, after, is, low, within, inner, left, spans, spelled, later) = absurd (ends_item reach text r len after p is)
   one_items syntax level reach text (item es more) no_items r s (next, len, after, is, low, within, inner, left, spans, spelled, later) p = absurd (ends_item reach text s len after p is)
   one_items syntax level reach text (item es more) (item fs later) r s (nj, mj, aj, ij, _, cj, bj, lj, sj, ej, tj) (nk, mk, ak, ik, _, ck, bk, lk, sk, ek, tk) =
-      let marks = one_mark text ITEM ITEM mj mk aj ak ij ik in
+      let marks = one_mark text item_tag item_tag mj mk aj ak ij ik in
       let moved : Spans mj aj ck bk lk nk = subst (λ (a : List ℕ). Spans mj a ck bk lk nk) (sym marks.2) (subst (λ (m : ℕ). Spans m ak ck bk lk nk) (sym marks.1) sk) in
       let same = one_inside mj aj cj ck bj lj nj bk lk nk sj moved in
       let again : SpellsElements syntax (level + 1) cj 0 bj fs lk = subst (λ (l : List ℕ). SpellsElements syntax (level + 1) cj 0 l fs lk) (sym same.1) (subst (λ (c : Reach). SpellsElements syntax (level + 1) c 0 bk fs lk) (sym same.0) ek) in
@@ -109,19 +108,19 @@ mutual
       (λ i. item (one.0 i) (rest.0 i), rest.1)
 
 -- what is spelled has no fault at its header
-pub good_head : (from : ℕ) (tag : Tag) (vr : Vr) (len room : ℕ) → from ≤ number tag → ((len ≡ UNDEFINED_LENGTH) × (is_sequence vr len ≡ true)) ⊎ ((len < UNDEFINED_LENGTH) × ((len % 2) ≡ 0) × (len ≤ room)) → head_fault from (Known tag vr len) room ≡ None
+pub good_head : (from : ℕ) (tag : Tag) (vr : Vr) (len room : ℕ) → from ≤ number tag → ((len ≡ undefined_length) × (is_sequence vr len ≡ true)) ⊎ ((len < undefined_length) × ((len % 2) ≡ 0) × (len ≤ room)) → head_fault from (Known tag vr len) room ≡ None
 good_head from tag vr len room low (inl (e, s)) =
     let a : nat_lt (number tag) from ≡ false = grind (arith, low) in
-    let b : (len == UNDEFINED_LENGTH) ≡ true = grind (arith, e) in
+    let b : (len == undefined_length) ≡ true = grind (arith, e) in
     rw (a, b, s) refl
 good_head from tag vr len room low (inr (l, even, fits)) =
     let a : nat_lt (number tag) from ≡ false = grind (arith, low) in
-    let b : (len == UNDEFINED_LENGTH) ≡ false = grind (arith, l) in
+    let b : (len == undefined_length) ≡ false = grind (arith, l) in
     let c : ((len % 2) == 0) ≡ true = grind (arith, even) in
     let d : nat_lt room len ≡ false = grind (arith, fits) in
     rw (a, b, c, d) refl
 
-spans_length : (len : ℕ) (after : List ℕ) (reach : Reach) (inner left rest : List ℕ) → Spans len after reach inner left rest → (len ≡ UNDEFINED_LENGTH) ⊎ ((len < UNDEFINED_LENGTH) × ((len % 2) ≡ 0) × (len ≤ length after))
+spans_length : (len : ℕ) (after : List ℕ) (reach : Reach) (inner left rest : List ℕ) → Spans len after reach inner left rest → (len ≡ undefined_length) ⊎ ((len < undefined_length) × ((len % 2) ≡ 0) × (len ≤ length after))
 spans_length len after Filled inner left rest (l, even, e, p, _) = inr (l, even, omega (arith, e, ap length p, length-append inner rest))
 spans_length len after Ended inner left rest (e, _, _) = inl e
 
@@ -132,10 +131,10 @@ spelled_good syntax level from tag head_vr len after vr (items is) next low (s, 
   | inr r ↦ good_head from tag head_vr len (length after) low (inr r)
 ]
 
-pub good_item : (level len : ℕ) (after : List ℕ) (reach : Reach) (inner left rest : List ℕ) → level < MAX_DEPTH → Spans len after reach inner left rest → item_fault level len (length after) ≡ None
+pub good_item : (level len : ℕ) (after : List ℕ) (reach : Reach) (inner left rest : List ℕ) → level < max_depth → Spans len after reach inner left rest → item_fault level len (length after) ≡ None
 good_item level len after reach inner left rest low spans = elim (spans_length len after reach inner left rest spans) [
-  | inl e ↦ (let b : (len == UNDEFINED_LENGTH) ≡ true = grind (arith, e) in let d : nat_lt level MAX_DEPTH ≡ true = grind (arith, low) in rw (b, d) refl)
-  | inr (l, even, fits) ↦ (let b : (len == UNDEFINED_LENGTH) ≡ false = grind (arith, l) in let c : ((len % 2) == 0) ≡ true = grind (arith, even) in let r : nat_lt (length after) len ≡ false = grind (arith, fits) in let d : nat_lt level MAX_DEPTH ≡ true = grind (arith, low) in rw (b, c, r, d) refl)
+  | inl e ↦ (let b : (len == undefined_length) ≡ true = grind (arith, e) in let d : nat_lt level max_depth ≡ true = grind (arith, low) in rw (b, d) refl)
+  | inr (l, even, fits) ↦ (let b : (len == undefined_length) ≡ false = grind (arith, l) in let c : ((len % 2) == 0) ≡ true = grind (arith, even) in let r : nat_lt (length after) len ≡ false = grind (arith, fits) in let d : nat_lt level max_depth ≡ true = grind (arith, low) in rw (b, c, r, d) refl)
 ]
 
 opens_spans : (len : ℕ) (after : List ℕ) (within : Reach) (inner' : List ℕ) (reach : Reach) (inner left rest : List ℕ) → Opens len after within inner' → Spans len after reach inner left rest → (within ≡ reach) × (inner' ≡ inner)
@@ -151,11 +150,11 @@ head_not syntax from text fault tag vr len after (inr (head, rest, h, e)) is goo
     let clash : Some fault ≡ None = sym e ∙ (λ i. head_fault from (same.0 i) (length (same.1 i))) ∙ good in
     absurd cc
 
-item_not : (level : ℕ) (text : List ℕ) (fault : SetFault) (len : ℕ) (after : List ℕ) → ItemHeadFails level text fault → IsMark text ITEM len after → item_fault level len (length after) ≡ None → ⊥
-item_not level text fault len after (inl (_, short)) is good = omega (arith, short, (mark_begins text ITEM len after true refl is).long)
-item_not level text fault len after (inr (inl (_, tag, m, rest, h, other))) is good = other (one_mark text tag ITEM m len rest after h is).0
+item_not : (level : ℕ) (text : List ℕ) (fault : SetFault) (len : ℕ) (after : List ℕ) → ItemHeadFails level text fault → IsMark text item_tag len after → item_fault level len (length after) ≡ None → ⊥
+item_not level text fault len after (inl (_, short)) is good = omega (arith, short, (mark_begins text item_tag len after true refl is).long)
+item_not level text fault len after (inr (inl (_, tag, m, rest, h, other))) is good = other (one_mark text tag item_tag m len rest after h is).0
 item_not level text fault len after (inr (inr (m, rest, h, e))) is good =
-    let same = one_mark text ITEM ITEM m len rest after h is in
+    let same = one_mark text item_tag item_tag m len rest after h is in
     let clash : Some fault ≡ None = sym e ∙ (λ i. item_fault level (same.1 i) (length (same.2 i))) ∙ good in
     absurd cc
 
@@ -188,12 +187,12 @@ mutual
   not_items syntax level reach text fault (item fs later) rest (at_item _ _ _ _ _ noend bad) (nk, mk, ak, ik, dk, ck, bk, lk, sk, ek, tk) =
       item_not level text fault mk ak bad ik (good_item level mk ak ck bk lk nk dk sk)
   not_items syntax level reach text fault (item fs later) rest (in_item _ _ _ _ _ len after within inner noend is opens bad) (nk, mk, ak, ik, dk, ck, bk, lk, sk, ek, tk) =
-      let marks = one_mark text ITEM ITEM len mk after ak is.head ik in
+      let marks = one_mark text item_tag item_tag len mk after ak is.head ik in
       let moved : Spans len after ck bk lk nk = subst (λ (a : List ℕ). Spans len a ck bk lk nk) (sym marks.2) (subst (λ (m : ℕ). Spans m ak ck bk lk nk) (sym marks.1) sk) in
       let same = opens_spans len after within inner ck bk lk nk opens moved in
       not_elements syntax (level + 1) within 0 inner fault fs lk bad (subst (λ (l : List ℕ). SpellsElements syntax (level + 1) within 0 l fs lk) (sym same.1) (subst (λ (c : Reach). SpellsElements syntax (level + 1) c 0 bk fs lk) (sym same.0) ek))
   not_items syntax level reach text fault (item fs later) rest (behind_item _ _ _ _ _ len after within inner left next es noend is spans spelled bad) (nk, mk, ak, ik, dk, ck, bk, lk, sk, ek, tk) =
-      let marks = one_mark text ITEM ITEM len mk after ak is.head ik in
+      let marks = one_mark text item_tag item_tag len mk after ak is.head ik in
       let moved : Spans len after ck bk lk nk = subst (λ (a : List ℕ). Spans len a ck bk lk nk) (sym marks.2) (subst (λ (m : ℕ). Spans m ak ck bk lk nk) (sym marks.1) sk) in
       let same = one_inside len after within ck inner left next bk lk nk spans moved in
       let again : SpellsElements syntax (level + 1) within 0 inner fs lk = subst (λ (l : List ℕ). SpellsElements syntax (level + 1) within 0 l fs lk) (sym same.1) (subst (λ (c : Reach). SpellsElements syntax (level + 1) c 0 bk fs lk) (sym same.0) ek) in
@@ -207,12 +206,12 @@ if_never true x y p q e = p e
 if_never false x y p q e = q e
 
 head_never : (from : ℕ) (head : Head) (room : ℕ) → head_fault from head room ≡ Some Memory → ⊥
-head_never from (Known tag vr len) room = if_never (nat_lt (number tag) from) _ _ (λ e. absurd cc) (if_never (len == UNDEFINED_LENGTH) _ _ (if_never (is_sequence vr len) _ _ (λ e. absurd cc) (λ e. absurd cc)) (if_never ((len % 2) == 0) _ _ (if_never (nat_lt room len) _ _ (λ e. absurd cc) (λ e. absurd cc)) (λ e. absurd cc)))
+head_never from (Known tag vr len) room = if_never (nat_lt (number tag) from) _ _ (λ e. absurd cc) (if_never (len == undefined_length) _ _ (if_never (is_sequence vr len) _ _ (λ e. absurd cc) (λ e. absurd cc)) (if_never ((len % 2) == 0) _ _ (if_never (nat_lt room len) _ _ (λ e. absurd cc) (λ e. absurd cc)) (λ e. absurd cc)))
 head_never from (Strange tag) room = if_never (nat_lt (number tag) from) _ _ (λ e. absurd cc) (λ e. absurd cc)
 head_never from (Mark tag len) room = λ e. absurd cc
 
 item_never : (level len room : ℕ) → item_fault level len room ≡ Some Memory → ⊥
-item_never level len room = if_never (len == UNDEFINED_LENGTH) _ _ (if_never (nat_lt level MAX_DEPTH) _ _ (λ e. absurd cc) (λ e. absurd cc)) (if_never ((len % 2) == 0) _ _ (if_never (nat_lt room len) _ _ (λ e. absurd cc) (if_never (nat_lt level MAX_DEPTH) _ _ (λ e. absurd cc) (λ e. absurd cc))) (λ e. absurd cc))
+item_never level len room = if_never (len == undefined_length) _ _ (if_never (nat_lt level max_depth) _ _ (λ e. absurd cc) (λ e. absurd cc)) (if_never ((len % 2) == 0) _ _ (if_never (nat_lt room len) _ _ (λ e. absurd cc) (if_never (nat_lt level max_depth) _ _ (λ e. absurd cc) (λ e. absurd cc))) (λ e. absurd cc))
 
 mutual
   pub never_elements : (syntax : TransferSyntax) (level : ℕ) (reach : Reach) (from : ℕ) (text : List ℕ) (fault : SetFault) → ElementsFail syntax level reach from text fault → fault ≡ Memory → ⊥

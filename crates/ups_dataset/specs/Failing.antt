@@ -1,12 +1,11 @@
 -- The first fault of bytes that spell no set.
 use Rattle.std.specs.Prelude.{◌≡◌, ◌+◌, ℕ, true, List}
 use Rattle.ups_dataset.specs.declared.tag.Tag.{Tag}
-use Rattle.ups_dataset.specs.declared.tag.TheConstants.{ITEM_DELIMITATION, SEQUENCE_DELIMITATION}
 use Rattle.ups_dataset.specs.declared.vr.Vr.{Vr}
 use Rattle.ups_dataset.specs.declared.syntax.TransferSyntax.{TransferSyntax}
 use Rattle.ups_dataset.specs.declared.head.Reach.{Reach}
 use Rattle.ups_dataset.specs.declared.fault.SetFault.{SetFault}
-use Rattle.ups_dataset.specs.Tag.{number}
+use Rattle.ups_dataset.specs.Tag.{number, item_delimitation, sequence_delimitation}
 use Rattle.ups_dataset.specs.Data.{Data, Elements}
 use Rattle.ups_dataset.specs.Head.{IsKnown, HeadFails, IsItem, ItemHeadFails, Ends, Opens, Spans, is_sequence}
 use Rattle.ups_dataset.specs.Spelling.{inside, SpellsData, SpellsElements}
@@ -15,11 +14,11 @@ use Rattle.ups_dataset.specs.Spelling.{inside, SpellsData, SpellsElements}
 mutual
   pub data ElementsFail : TransferSyntax → ℕ → Reach → ℕ → List ℕ → SetFault → Type 0 where
     at_head : (syntax : TransferSyntax) (level : ℕ) (reach : Reach) (from : ℕ) (text : List ℕ) (fault : SetFault)
-        → ((rest : List ℕ) → Ends ITEM_DELIMITATION reach text rest → ⊥) → HeadFails syntax from text fault → ElementsFail syntax level reach from text fault
+        → ((rest : List ℕ) → Ends item_delimitation reach text rest → ⊥) → HeadFails syntax from text fault → ElementsFail syntax level reach from text fault
     in_value : (syntax : TransferSyntax) (level : ℕ) (reach : Reach) (from : ℕ) (text : List ℕ) (fault : SetFault) (tag : Tag) (vr : Vr) (len : ℕ) (after : List ℕ)
-        → ((rest : List ℕ) → Ends ITEM_DELIMITATION reach text rest → ⊥) → IsKnown syntax from text tag vr len after → ValueFails syntax level vr len after fault → ElementsFail syntax level reach from text fault
+        → ((rest : List ℕ) → Ends item_delimitation reach text rest → ⊥) → IsKnown syntax from text tag vr len after → ValueFails syntax level vr len after fault → ElementsFail syntax level reach from text fault
     behind : (syntax : TransferSyntax) (level : ℕ) (reach : Reach) (from : ℕ) (text : List ℕ) (fault : SetFault) (tag : Tag) (vr : Vr) (len : ℕ) (after : List ℕ) (kept_vr : Vr) (d : Data) (next : List ℕ)
-        → ((rest : List ℕ) → Ends ITEM_DELIMITATION reach text rest → ⊥) → IsKnown syntax from text tag vr len after → SpellsData syntax level vr len after kept_vr d next → ElementsFail syntax level reach (number tag + 1) next fault
+        → ((rest : List ℕ) → Ends item_delimitation reach text rest → ⊥) → IsKnown syntax from text tag vr len after → SpellsData syntax level vr len after kept_vr d next → ElementsFail syntax level reach (number tag + 1) next fault
         → ElementsFail syntax level reach from text fault
 
   pub data ValueFails : TransferSyntax → ℕ → Vr → ℕ → List ℕ → SetFault → Type 0 where
@@ -28,9 +27,9 @@ mutual
 
   pub data ItemsFail : TransferSyntax → ℕ → Reach → List ℕ → SetFault → Type 0 where
     at_item : (syntax : TransferSyntax) (level : ℕ) (reach : Reach) (text : List ℕ) (fault : SetFault)
-        → ((rest : List ℕ) → Ends SEQUENCE_DELIMITATION reach text rest → ⊥) → ItemHeadFails level text fault → ItemsFail syntax level reach text fault
+        → ((rest : List ℕ) → Ends sequence_delimitation reach text rest → ⊥) → ItemHeadFails level text fault → ItemsFail syntax level reach text fault
     in_item : (syntax : TransferSyntax) (level : ℕ) (reach : Reach) (text : List ℕ) (fault : SetFault) (len : ℕ) (after : List ℕ) (within : Reach) (inner : List ℕ)
-        → ((rest : List ℕ) → Ends SEQUENCE_DELIMITATION reach text rest → ⊥) → IsItem level text len after → Opens len after within inner → ElementsFail syntax (level + 1) within 0 inner fault → ItemsFail syntax level reach text fault
+        → ((rest : List ℕ) → Ends sequence_delimitation reach text rest → ⊥) → IsItem level text len after → Opens len after within inner → ElementsFail syntax (level + 1) within 0 inner fault → ItemsFail syntax level reach text fault
     behind_item : (syntax : TransferSyntax) (level : ℕ) (reach : Reach) (text : List ℕ) (fault : SetFault) (len : ℕ) (after : List ℕ) (within : Reach) (inner left next : List ℕ) (es : Elements)
-        → ((rest : List ℕ) → Ends SEQUENCE_DELIMITATION reach text rest → ⊥) → IsItem level text len after → Spans len after within inner left next → SpellsElements syntax (level + 1) within 0 inner es left → ItemsFail syntax level reach next fault
+        → ((rest : List ℕ) → Ends sequence_delimitation reach text rest → ⊥) → IsItem level text len after → Spans len after within inner left next → SpellsElements syntax (level + 1) within 0 inner es left → ItemsFail syntax level reach next fault
         → ItemsFail syntax level reach text fault

@@ -2,8 +2,7 @@
 use Rattle.std.specs.Prelude.{◌≡◌, ◌≢◌, ◌<◌, ◌≤◌, ◌%◌, ◌^◌, ℕ, Bool, true, false, ◌⊎◌, ◌&&◌, List, [], ◌∷◌, ◌++◌, length, ◌==◌, nat_lt, if◌then◌else◌, Option, None, Some}
 use Rattle.std.specs.Int.{w16, w32, to_le_bytes}
 use Rattle.ups_dataset.specs.declared.tag.Tag.{Tag}
-use Rattle.ups_dataset.specs.declared.tag.TheConstants.{ITEM}
-use Rattle.ups_dataset.specs.declared.limits.TheConstants.{MAX_DEPTH, MAX_SHORT_LENGTH, UNDEFINED_LENGTH}
+use Rattle.ups_dataset.specs.Limits.{max_depth, max_short_length, undefined_length}
 use Rattle.ups_dataset.specs.declared.vr.Vr.{Vr}
 use Rattle.ups_dataset.specs.declared.vr.Vr.TheVariants.{Sq, Un}
 use Rattle.ups_dataset.specs.declared.syntax.TransferSyntax.{TransferSyntax}
@@ -14,14 +13,14 @@ use Rattle.ups_dataset.specs.declared.head.Reach.{Reach}
 use Rattle.ups_dataset.specs.declared.head.Reach.TheVariants.{Filled, Ended}
 use Rattle.ups_dataset.specs.declared.fault.SetFault.{SetFault}
 use Rattle.ups_dataset.specs.declared.fault.SetFault.TheVariants.{Short, TagOrder, BadVr, OddLength, Depth, BadItem}
-use Rattle.ups_dataset.specs.Tag.{IsTag, number, tag_bytes, is_mark}
+use Rattle.ups_dataset.specs.Tag.{IsTag, number, tag_bytes, is_mark, item_tag}
 use Rattle.ups_dataset.specs.Vr.{letters, is_long}
 use Rattle.ups_dataset.specs.Dictionary.{vr_of}
 
 -- Without letters (PS3.5 annex A.1) the dictionary's representation; but Unknown where the value is longer than
 -- a header with letters could say for it.
 abbrev pub implicit_vr : Tag → ℕ → Vr
-implicit_vr tag len = if nat_lt MAX_SHORT_LENGTH len && nat_lt len UNDEFINED_LENGTH then (if is_long (vr_of tag) then vr_of tag else Un) else vr_of tag
+implicit_vr tag len = if nat_lt max_short_length len && nat_lt len undefined_length then (if is_long (vr_of tag) then vr_of tag else Un) else vr_of tag
 
 -- a tag, and a length in four bytes
 pub record IsMark (text : List ℕ) (tag : Tag) (len : ℕ) (rest : List ℕ) : Type 0 where
@@ -64,7 +63,7 @@ IsHead Explicit text (Strange tag) rest = (is_mark tag ≡ false) × IsStrange t
 -- items stand behind a header of a sequence, and behind one of an unknown value of undefined length (PS3.5 section 6.2.2)
 abbrev pub is_sequence : Vr → ℕ → Bool
 is_sequence Sq len = true
-is_sequence Un len = len == UNDEFINED_LENGTH
+is_sequence Un len = len == undefined_length
 is_sequence vr len = false
 
 -- the first fault of a length with so many bytes behind it
@@ -73,13 +72,13 @@ length_fault len room = if (len % 2) == 0 then (if nat_lt room len then Some Sho
 
 -- the first fault of a header behind which stand so many bytes, where tags from `from` on may stand
 abbrev pub head_fault : ℕ → Head → ℕ → Option SetFault
-head_fault from (Known tag vr len) room = if nat_lt (number tag) from then Some TagOrder else (if len == UNDEFINED_LENGTH then (if is_sequence vr len then None else Some BadItem) else length_fault len room)
+head_fault from (Known tag vr len) room = if nat_lt (number tag) from then Some TagOrder else (if len == undefined_length then (if is_sequence vr len then None else Some BadItem) else length_fault len room)
 head_fault from (Strange tag) room = if nat_lt (number tag) from then Some TagOrder else Some BadVr
 head_fault from (Mark tag len) room = Some BadItem
 
 -- the first fault of an item's header, inside so many items
 abbrev pub item_fault : ℕ → ℕ → ℕ → Option SetFault
-item_fault level len room = if len == UNDEFINED_LENGTH then (if nat_lt level MAX_DEPTH then None else Some Depth) else (if (len % 2) == 0 then (if nat_lt room len then Some Short else (if nat_lt level MAX_DEPTH then None else Some Depth)) else Some OddLength)
+item_fault level len room = if len == undefined_length then (if nat_lt level max_depth then None else Some Depth) else (if (len % 2) == 0 then (if nat_lt room len then Some Short else (if nat_lt level max_depth then None else Some Depth)) else Some OddLength)
 
 -- why no element of a known representation begins here: no whole header stands here, or it has a fault
 abbrev pub HeadFails : TransferSyntax → ℕ → List ℕ → SetFault → Type 0
@@ -96,12 +95,12 @@ pub record IsKnown (syntax : TransferSyntax) (from : ℕ) (text : List ℕ) (tag
 abbrev pub ItemHeadFails : ℕ → List ℕ → SetFault → Type 0
 ItemHeadFails level text fault =
     ((fault ≡ Short) × (length text < 8))
-    ⊎ (((fault ≡ BadItem) × (tag : Tag) × (len : ℕ) × (rest : List ℕ) × IsMark text tag len rest × (tag ≢ ITEM))
-    ⊎ ((len : ℕ) × (rest : List ℕ) × IsMark text ITEM len rest × (item_fault level len (length rest) ≡ Some fault)))
+    ⊎ (((fault ≡ BadItem) × (tag : Tag) × (len : ℕ) × (rest : List ℕ) × IsMark text tag len rest × (tag ≢ item_tag))
+    ⊎ ((len : ℕ) × (rest : List ℕ) × IsMark text item_tag len rest × (item_fault level len (length rest) ≡ Some fault)))
 
 -- an item begins here
 pub record IsItem (level : ℕ) (text : List ℕ) (len : ℕ) (rest : List ℕ) : Type 0 where
-  pub head : IsMark text ITEM len rest
+  pub head : IsMark text item_tag len rest
   pub good : item_fault level len (length rest) ≡ None
 
 -- how far a set, or the items of a sequence, go: they fill their bytes, or a mark without length stands at the end
@@ -111,13 +110,13 @@ Ends mark Ended text rest = IsMark text mark 0 rest
 
 -- what a length says of the bytes behind it: how far the inside goes, and what it has
 abbrev pub Opens : ℕ → List ℕ → Reach → List ℕ → Type 0
-Opens len after Filled inner = (len < UNDEFINED_LENGTH) × (length inner ≡ len) × (rest : List ℕ) × (after ≡ inner ++ rest)
-Opens len after Ended inner = (len ≡ UNDEFINED_LENGTH) × (inner ≡ after)
+Opens len after Filled inner = (len < undefined_length) × (length inner ≡ len) × (rest : List ℕ) × (after ≡ inner ++ rest)
+Opens len after Ended inner = (len ≡ undefined_length) × (inner ≡ after)
 
 -- the same, with what is left of the inside, and what follows
 abbrev pub Spans : ℕ → List ℕ → Reach → List ℕ → List ℕ → List ℕ → Type 0
-Spans len after Filled inner left rest = (len < UNDEFINED_LENGTH) × ((len % 2) ≡ 0) × (length inner ≡ len) × (after ≡ inner ++ rest) × (left ≡ [])
-Spans len after Ended inner left rest = (len ≡ UNDEFINED_LENGTH) × (inner ≡ after) × (left ≡ rest)
+Spans len after Filled inner left rest = (len < undefined_length) × ((len % 2) ≡ 0) × (length inner ≡ len) × (after ≡ inner ++ rest) × (left ≡ [])
+Spans len after Ended inner left rest = (len ≡ undefined_length) × (inner ≡ after) × (left ≡ rest)
 
 -- what follows the inside: what is left of it where it had a mark at its end
 abbrev pub rest_behind : Reach → List ℕ → List ℕ → List ℕ
@@ -131,7 +130,7 @@ IsLeft Ended left = Unit {0}
 
 -- a length that may stand before so many bytes
 abbrev pub IsLength : ℕ → ℕ → Type 0
-IsLength len room = (len ≡ UNDEFINED_LENGTH) ⊎ ((len < UNDEFINED_LENGTH) × ((len % 2) ≡ 0) × (len ≤ room))
+IsLength len room = (len ≡ undefined_length) ⊎ ((len < undefined_length) × ((len % 2) ≡ 0) × (len ≤ room))
 
 -- the inside of a length, and what follows where it is not left inside
 pub record IsBody (len : ℕ) (after : List ℕ) (reach : Reach) (inner behind : List ℕ) : Type 0 where

@@ -6,6 +6,7 @@ pub mod Failing
 pub mod Falls
 pub mod Head
 pub mod Held
+pub mod Limits
 pub mod Listed
 pub mod Next
 pub mod Reading

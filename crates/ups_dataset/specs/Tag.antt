@@ -19,9 +19,19 @@ is_tag a b = a.group == b.group && a.element == b.element
 abbrev pub tag_bytes : Tag → List ℕ
 tag_bytes tag = to_le_bytes w16 tag.group ++ to_le_bytes w16 tag.element
 
+-- an item, the end of one, and the end of a sequence (PS3.5 section 7.5)
+abbrev pub item_tag : Tag
+item_tag = record { group = 0xfffe; element = 0xe000 }
+
+abbrev pub item_delimitation : Tag
+item_delimitation = record { group = 0xfffe; element = 0xe00d }
+
+abbrev pub sequence_delimitation : Tag
+sequence_delimitation = record { group = 0xfffe; element = 0xe0dd }
+
 -- items and ends: group FFFE (PS3.5 section 7.5)
 abbrev pub is_mark : Tag → Bool
-is_mark tag = tag.group == 65534
+is_mark tag = tag.group == 0xfffe
 
 -- (gggg,0000) (PS3.5 section 7.2)
 abbrev pub is_group_length : Tag → Bool

@@ -2,7 +2,7 @@
 use Rattle.std.specs.Prelude.{ℕ, ◌+◌, ◌%◌, ◌≤◌, ◌≡◌, ◌≢◌, false, max, List, length}
 use Rattle.ups_dataset.specs.declared.vr.Vr.{Vr}
 use Rattle.ups_dataset.specs.declared.vr.Vr.TheVariants.{Sq}
-use Rattle.ups_dataset.specs.declared.limits.TheConstants.{MAX_DEPTH, MAX_SHORT_LENGTH}
+use Rattle.ups_dataset.specs.Limits.{max_depth, max_short_length}
 use Rattle.ups_dataset.specs.Tag.{IsTag, number, is_mark, is_group_length}
 use Rattle.ups_dataset.specs.Vr.{is_long}
 use Rattle.ups_dataset.specs.Data.{Data, bytes, items, Items, no_items, item, Elements, no_elements, element, El, elements_of}
@@ -24,8 +24,8 @@ abbrev mutual
 -- A value of a representation: bytes of even length, as many as the length field can say (PS3.5 section 7.1.2);
 -- or, in a sequence, items that nest at most 8 deep.
 abbrev pub IsValue : Vr → Data → Type 0
-IsValue vr (bytes b) = (vr ≢ Sq) × ((length b % 2) ≡ 0) × (is_long vr ≡ false → length b ≤ MAX_SHORT_LENGTH)
-IsValue vr (items is) = (vr ≡ Sq) × (depth_items is ≤ MAX_DEPTH)
+IsValue vr (bytes b) = (vr ≢ Sq) × ((length b % 2) ≡ 0) × (is_long vr ≡ false → length b ≤ max_short_length)
+IsValue vr (items is) = (vr ≡ Sq) × (depth_items is ≤ max_depth)
 
 -- An element that may stand in a data set: no item or end (PS3.5 section 7.5), no group length (PS3.5 section 7.2).
 pub record IsElement (e : El) : Type 0 where

@@ -2,11 +2,10 @@
 use Rattle.std.specs.Prelude.{◌≡◌, ℕ, Bool, true, false, List, [], ◌++◌, length}
 use Rattle.std.specs.Int.{w16, w32, to_le_bytes}
 use Rattle.ups_dataset.specs.declared.tag.Tag.{Tag}
-use Rattle.ups_dataset.specs.declared.tag.TheConstants.{ITEM}
 use Rattle.ups_dataset.specs.declared.vr.Vr.{Vr}
 use Rattle.ups_dataset.specs.declared.syntax.TransferSyntax.{TransferSyntax}
 use Rattle.ups_dataset.specs.declared.syntax.TransferSyntax.TheVariants.{Implicit, Explicit}
-use Rattle.ups_dataset.specs.Tag.{tag_bytes}
+use Rattle.ups_dataset.specs.Tag.{tag_bytes, item_tag}
 use Rattle.ups_dataset.specs.Vr.{letters, is_long}
 use Rattle.ups_dataset.specs.Data.{Data, bytes, items, Items, no_items, item, Elements, no_elements, element, El, elements_of}
 use Rattle.ups_dataset.specs.Head.{implicit_vr}
@@ -32,7 +31,7 @@ abbrev mutual
 
   pub written_items : TransferSyntax → Items → List ℕ
   written_items syntax no_items = []
-  written_items syntax (item es more) = ((tag_bytes ITEM ++ to_le_bytes w32 (length (written_elements syntax es))) ++ written_elements syntax es) ++ written_items syntax more
+  written_items syntax (item es more) = ((tag_bytes item_tag ++ to_le_bytes w32 (length (written_elements syntax es))) ++ written_elements syntax es) ++ written_items syntax more
 
 -- the bytes of a data set
 abbrev pub written : TransferSyntax → List El → List ℕ
@@ -43,7 +42,7 @@ abbrev pub written_element : TransferSyntax → El → List ℕ
 written_element syntax e = written_head syntax e.tag e.vr (length (written_data syntax e.value)) ++ written_data syntax e.value
 
 abbrev pub written_item : TransferSyntax → List El → List ℕ
-written_item syntax s = (tag_bytes ITEM ++ to_le_bytes w32 (length (written syntax s))) ++ written syntax s
+written_item syntax s = (tag_bytes item_tag ++ to_le_bytes w32 (length (written syntax s))) ++ written syntax s
 
 -- Without letters a reading gives each element, at any depth, the representation that it has.
 abbrev mutual

@@ -6,6 +6,7 @@ ghost use Rattle.ups_dataset.specs.Head.{IsLength, is_sequence};
 ghost use Rattle.ups_dataset.specs.View.{element_view, value_view};
 ghost use Rattle.ups_dataset.specs.Building.{keeps, BuildsValue, BuildsElements, BuildsItems, Gives};
 ghost use Rattle.ups_dataset.specs.Failing.{ElementsFail, ValueFails, ItemsFail};
+ghost use Rattle.ups_dataset.specs.Limits.{max_depth, undefined_length};
 
 use crate::fault::SetFault;
 use crate::head::{Reach, end_at, is_sequence, item_at, known_at};
@@ -29,9 +30,9 @@ fn value_of<A: Allocator + Copy>(
     len: u32,
     after: &[u8],
 ) -> Result<(Value<A>, Vr, &[u8]), SetFault>
-    requires nested { level ≤ MAX_DEPTH }
+    requires nested { level ≤ max_depth }
     requires fits { IsLength len (length after.now) }
-    requires bytes { is_sequence vr len ≡ false → len < UNDEFINED_LENGTH }
+    requires bytes { is_sequence vr len ≡ false → len < undefined_length }
     ensures { Gives result (λ x. BuildsValue syntax level vr len after.now (value_view x.0) x.1 x.2.now) (ValueFails syntax level vr len after.now) }
 {
     if !is_sequence(vr, len) {
@@ -95,7 +96,7 @@ pub(crate) fn set_of<A: Allocator + Copy>(
     reach: Reach,
     text: &[u8],
 ) -> Result<(DataSet<A>, &[u8]), SetFault>
-    requires { level ≤ MAX_DEPTH }
+    requires { level ≤ max_depth }
     ensures { Gives result (λ x. BuildsElements syntax level reach 0 text.now x.0 x.1.now) (ElementsFail syntax level reach 0 text.now) }
 {
     let mut elements = Vec::new(alloc);
@@ -123,7 +124,7 @@ fn items_of<A: Allocator + Copy>(
     reach: Reach,
     text: &[u8],
 ) -> Result<(Vec<DataSet<A>, A>, &[u8]), SetFault>
-    requires { level ≤ MAX_DEPTH }
+    requires { level ≤ max_depth }
     ensures { Gives result (λ x. BuildsItems syntax level reach text.now x.0.items x.1.now) (ItemsFail syntax level reach text.now) }
 {
     let mut sets = Vec::new(alloc);

@@ -23,10 +23,12 @@ mod writing;
 
 pub use dictionary::vr_of;
 pub use fault::SetFault;
-pub use limits::{MAX_DEPTH, MAX_SHORT_LENGTH, UNDEFINED_LENGTH};
+pub use limits::{MAX_DEPTH, MAX_SHORT_LENGTH, UNDEFINED_LENGTH, limits_are_those_of_the_profile};
 pub use reading::read_set;
 pub use set::{DataSet, Element, Value};
 pub use syntax::TransferSyntax;
-pub use tag::{ITEM, ITEM_DELIMITATION, SEQUENCE_DELIMITATION, Tag};
+pub use tag::{
+    ITEM, ITEM_DELIMITATION, SEQUENCE_DELIMITATION, Tag, the_marks_are_those_of_the_standard,
+};
 pub use vr::Vr;
 pub use writing::write_set;

@@ -4,6 +4,7 @@ ghost use Rattle.std.specs.Prelude.{◌≡◌, ◌≤◌};
 ghost use Rattle.ups_dataset.specs.Data.{elements_of};
 ghost use Rattle.ups_dataset.specs.Valid.{depth_data, depth_elements};
 ghost use Rattle.ups_dataset.specs.View.{value_view};
+ghost use Rattle.ups_dataset.specs.Limits.{max_depth};
 
 use crate::limits::MAX_DEPTH;
 use crate::set::{DataSet, Value};
@@ -13,7 +14,7 @@ use std::alloc::Allocator;
 #[cycle(measuring)]
 fn set_depth<A: Allocator + Copy>(set: &DataSet<A>) -> u8
     ensures depth { result ≡ depth_elements (elements_of set.now) }
-    ensures fits { result ≤ MAX_DEPTH }
+    ensures fits { result ≤ max_depth }
 {
     let mut deepest: u8 = 0;
     for element in &set.elements {

@@ -5,6 +5,7 @@ ghost use Rattle.ups_dataset.specs.Data.{Data, Items, Elements};
 ghost use Rattle.ups_dataset.specs.Head.{IsLength, IsBody, is_sequence, rest_behind};
 ghost use Rattle.ups_dataset.specs.Spelling.{inside, SpellsElements, SpellsData, SpellsItems};
 ghost use Rattle.ups_dataset.specs.Failing.{ElementsFail, ValueFails, ItemsFail};
+ghost use Rattle.ups_dataset.specs.Limits.{max_depth, undefined_length};
 
 use crate::fault::SetFault;
 use crate::head::{Reach, end_at, is_sequence, item_at, known_at};
@@ -54,9 +55,9 @@ fn value_end(
     len: u32,
     after: &[u8],
 ) -> Result<&[u8], SetFault>
-    requires nested { level ≤ MAX_DEPTH }
+    requires nested { level ≤ max_depth }
     requires fits { IsLength len (length after.now) }
-    requires bytes { is_sequence vr len ≡ false → len < UNDEFINED_LENGTH }
+    requires bytes { is_sequence vr len ≡ false → len < undefined_length }
     ensures { MatchResult result (λ rest. (kept : Vr) × (d : Data) × SpellsData syntax level vr len after.now kept d rest.now) (ValueFails syntax level vr len after.now) }
 {
     if !is_sequence(vr, len) {
@@ -76,7 +77,7 @@ pub(crate) fn elements_end(
     reach: Reach,
     text: &[u8],
 ) -> Result<&[u8], SetFault>
-    requires { level ≤ MAX_DEPTH }
+    requires { level ≤ max_depth }
     ensures { MatchResult result (λ rest. (es : Elements) × SpellsElements syntax level reach 0 text.now es rest.now) (ElementsFail syntax level reach 0 text.now) }
 {
     let mut from = 0;
@@ -99,7 +100,7 @@ fn items_end(
     reach: Reach,
     text: &[u8],
 ) -> Result<&[u8], SetFault>
-    requires { level ≤ MAX_DEPTH }
+    requires { level ≤ max_depth }
     ensures { MatchResult result (λ rest. (is : Items) × SpellsItems syntax level reach text.now is rest.now) (ItemsFail syntax level reach text.now) }
 {
     let mut rest = text;

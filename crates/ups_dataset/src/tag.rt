@@ -1,7 +1,7 @@
 //! Data element tags.
 
 ghost use Rattle.std.specs.Prelude.{◌≡◌, ◌≢◌, ◌↔◌, ◌++◌, ◌<◌, length, IsTrue, MatchOption, OnOk};
-ghost use Rattle.ups_dataset.specs.Tag.{number, tag_bytes, is_mark, is_group_length};
+ghost use Rattle.ups_dataset.specs.Tag.{number, tag_bytes, is_mark, is_group_length, item_tag, item_delimitation, sequence_delimitation};
 
 use std::alloc::{AllocError, Allocator};
 use ups_pdu::le_u16_at;
@@ -73,3 +73,10 @@ impl Tag {
         Ok(())
     }
 }
+
+/// The tags of items and of ends are those of PS3.5 section 7.5.
+pub fn the_marks_are_those_of_the_standard()
+    ensures item { ITEM ≡ item_tag }
+    ensures item_end { ITEM_DELIMITATION ≡ item_delimitation }
+    ensures sequence_end { SEQUENCE_DELIMITATION ≡ sequence_delimitation }
+{}

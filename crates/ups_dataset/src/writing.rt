@@ -6,6 +6,7 @@ ghost use Rattle.ups_dataset.specs.View.{value_view, element_view};
 ghost use Rattle.ups_dataset.specs.Written.{written, written_length, written_head, written_data, written_element, written_item, KeepsVrs};
 ghost use Rattle.ups_dataset.specs.Vr.{is_long};
 ghost use Rattle.ups_dataset.specs.Spelling.{SpellsSet};
+ghost use Rattle.ups_dataset.specs.Tag.{item_tag};
 
 use crate::set::{DataSet, Element, Value};
 use crate::syntax::TransferSyntax;
@@ -15,7 +16,7 @@ use std::alloc::{AllocError, Allocator};
 
 /// How long a header is.
 fn head_size(syntax: TransferSyntax, vr: Vr) -> u64
-    ensures { result ≡ length (written_head syntax ITEM vr 0) }
+    ensures { result ≡ length (written_head syntax item_tag vr 0) }
 {
     match syntax {
         TransferSyntax::Implicit => 8,

@@ -1,5 +1,5 @@
 -- What is written is read again.
-use Rattle.std.proofs.Common.{◌≡◌, ℕ, suc, ◌+◌, ◌-◌, ◌*◌, ◌^◌, ◌<◌, ◌≤◌, ◌%◌, eqb, cond, Bool, true, false, Option, None, Some, IfSome, List, [], ◌∷◌, ◌++◌, length, refl, sym, ap, subst, ◌∙◌, append_assoc, arith}
+use Rattle.std.proofs.Common.{◌≡◌, ℕ, suc, ◌+◌, ◌^◌, ◌<◌, ◌≤◌, ◌%◌, eqb, cond, Bool, true, false, Option, None, Some, IfSome, List, [], ◌∷◌, ◌++◌, length, refl, sym, ap, subst, ◌∙◌, append_assoc, arith}
 use Rattle.std.specs.Int.{w16, to_le_bytes}
 use Rattle.std.specs.List.{flat_map}
 use Rattle.std.specs.Option.{option_map, unwrap_or}
@@ -8,6 +8,7 @@ use Rattle.std.proofs.lemmas.Option.{none-some}
 use Rattle.ups_pdu.specs.Each.{Each}
 use Rattle.ups_pdu.specs.Identifier.{IsUid}
 use Rattle.ups_dataset.specs.declared.tag.Tag.{Tag}
+use Rattle.ups_dataset.specs.Limits.{undefined_length}
 use Rattle.ups_dataset.specs.Tag.{tag_bytes}
 use Rattle.ups_dimse.specs.declared.command.Command.{Command}
 use Rattle.ups_dimse.specs.declared.command.Command.TheVariants.{Request, Response, Cancel}
@@ -21,6 +22,7 @@ use Rattle.ups_dimse.specs.declared.command.OperationResult.TheVariants as resul
 use Rattle.ups_dimse.specs.declared.message.Message.{Message}
 use Rattle.ups_dimse.specs.declared.message.Message.TheVariants.{GetRequest, GetResponse, SetRequest, SetResponse, ActionRequest, ActionResponse, CreateRequest, CreateResponse, EchoRequest, EchoResponse, FindRequest, FindResponse, CancelRequest}
 use Rattle.ups_dimse.specs.Elements.{CommandElement, IsElement, SpellsElements, value_in}
+use Rattle.ups_dimse.specs.Limits.{max_attributes}
 use Rattle.ups_dimse.specs.Messages.{field_of}
 use Rattle.ups_dimse.specs.Values.{MayHaveUs, HasUid, HasDataSet, IsTagAt}
 use Rattle.ups_dimse.specs.Commands.{request_of, response_of, class_element, HasOperation, HasResult, IsRequest, IsResponse, IsCancel, IsCommand, SpellsCommand}
@@ -32,7 +34,7 @@ use Rattle.ups_dimse.proofs.Sizes.{length-tags}
 -- elements that can stand in a command set, from a number on
 pub record IsGood (e : CommandElement) : Type 0 where
   pub in_group : e.number < 2 ^ 16
-  pub defined : length e.value < 0xffffffff
+  pub defined : length e.value < undefined_length
   pub even : length e.value % 2 ≡ 0
 
 abbrev pub AreGood : ℕ → List CommandElement → Type 0
@@ -61,7 +63,7 @@ good_uid : (from n : ℕ) (o : Option (List ℕ)) (es : List CommandElement) →
 good_uid from n None es small l h g = lower from (n + 1) es (omega (arith, l)) g
 good_uid from n (Some u) es small l h g = (record { in_group = small; defined = omega (arith, padded_short u h); even = padded_even u h }, l, g)
 
-good_tags : (from n : ℕ) (ts : List Tag) → n < 2 ^ 16 → from ≤ n → 4 * length ts < 2 ^ 32 - 256 → AreGood from (tags_element n ts)
+good_tags : (from n : ℕ) (ts : List Tag) → n < 2 ^ 16 → from ≤ n → length ts ≤ max_attributes → AreGood from (tags_element n ts)
 good_tags from n [] small l short = tt
 good_tags from n (t ∷ ts) small l short = (record { in_group = small; defined = omega (arith, short, length-tags (t ∷ ts)); even = omega (arith, length-tags (t ∷ ts)) }, l, tt)
 
@@ -69,7 +71,7 @@ good_only_uid : (from n : ℕ) (o : Option (List ℕ)) → n < 2 ^ 16 → from �
 good_only_uid from n None small l h = tt
 good_only_uid from n (Some u) small l h = (record { in_group = small; defined = omega (arith, padded_short u h); even = padded_even u h }, l, tt)
 
-good_operation : {A : Type 0} (o : Operation A) → 4 * length (tags_of o) < 2 ^ 32 - 256 → IsHeldOperation o → AreGood 0x0801 (operation_elements o)
+good_operation : {A : Type 0} (o : Operation A) → length (tags_of o) ≤ max_attributes → IsHeldOperation o → AreGood 0x0801 (operation_elements o)
 good_operation (operations.Create i) short h = good_only_uid 0x0801 0x1000 i (omega arith) (omega arith) h
 good_operation (operations.Get i ts) short h = good_uid 0x0801 0x1001 i (tags_element 0x1005 ts) (omega arith) (omega arith) h.0 (good_tags 0x1002 0x1005 ts (omega arith) (omega arith) short)
 good_operation (operations.Set i) short h = good_only_uid 0x0801 0x1001 i (omega arith) (omega arith) h

@@ -2,6 +2,7 @@
 use Rattle.std.specs.Prelude.{◌≡◌, ℕ, ◌+◌, ◌<◌, ◌≤◌, ◌%◌, ◌^◌, ◌==◌, if◌then◌else◌, List, [], ◌∷◌, ◌++◌, length, Option, None, Some}
 use Rattle.std.specs.Int.{w32, to_le_bytes}
 use Rattle.ups_dataset.specs.declared.tag.Tag.{Tag}
+use Rattle.ups_dataset.specs.Limits.{undefined_length}
 use Rattle.ups_dataset.specs.Tag.{tag_bytes}
 
 -- an element, by its number in group 0000 and the bytes of its value
@@ -17,7 +18,7 @@ command_tag number = record { group = 0; element = number }
 -- value, which is even and defined, and its value. The rest follows.
 pub record IsElement (bytes : List ℕ) (element : CommandElement) (rest : List ℕ) : Type 0 where
   pub in_group : element.number < 2 ^ 16
-  pub defined : length element.value < 0xffffffff
+  pub defined : length element.value < undefined_length
   pub even : length element.value % 2 ≡ 0
   pub parts : bytes ≡ tag_bytes (command_tag element.number) ++ (to_le_bytes w32 (length element.value) ++ (element.value ++ rest))
 

@@ -1,5 +1,5 @@
 -- The one spelling of a command that is written.
-use Rattle.std.specs.Prelude.{ℕ, ◌-◌, ◌*◌, ◌<◌, ◌%◌, ◌^◌, ◌==◌, Bool, if◌then◌else◌, List, [], ◌∷◌, ◌++◌, length, Option, None, Some}
+use Rattle.std.specs.Prelude.{ℕ, ◌≤◌, ◌%◌, ◌==◌, Bool, if◌then◌else◌, List, [], ◌∷◌, ◌++◌, length, Option, None, Some}
 use Rattle.std.specs.Int.{w16, w32, to_le_bytes}
 use Rattle.std.specs.List.{flat_map}
 use Rattle.ups_dataset.specs.declared.tag.Tag.{Tag}
@@ -15,6 +15,7 @@ use Rattle.ups_dimse.specs.declared.command.Operation.TheVariants as operations
 use Rattle.ups_dimse.specs.declared.command.OperationResult.{OperationResult}
 use Rattle.ups_dimse.specs.declared.command.OperationResult.TheVariants as results
 use Rattle.ups_dimse.specs.Elements.{CommandElement, command_tag}
+use Rattle.ups_dimse.specs.Limits.{max_attributes}
 use Rattle.ups_dimse.specs.Messages.{field_of}
 use Rattle.ups_dimse.specs.Commands.{request_of, response_of, class_element}
 
@@ -113,9 +114,8 @@ tags_of (operations.Action instance action) = []
 tags_of operations.Echo = []
 tags_of (operations.Find priority) = []
 
--- The length of the elements fits the four bytes of Command Group Length, with 256 bytes left for those other than the
--- attributes.
+-- The length of the elements fits the four bytes of Command Group Length.
 abbrev pub Fits : {A : Type 0} → Command A → Type 0
-Fits (Request request) = 4 * length (tags_of request.operation) < 2 ^ 32 - 256
+Fits (Request request) = length (tags_of request.operation) ≤ max_attributes
 Fits (Response response) = Unit {0}
 Fits (Cancel cancel) = Unit {0}

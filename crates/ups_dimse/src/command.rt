@@ -1,5 +1,6 @@
 //! Commands.
 
+use crate::limits::MAX_ATTRIBUTES;
 use crate::message::Message;
 use crate::numbers::{AFFECTED_CLASS, REQUESTED_CLASS};
 use crate::tag_list::Tags;
@@ -131,7 +132,7 @@ impl<A: Allocator + Copy> Command<A> {
         ensures { IsTrue result ↔ Fits self.now }
     {
         match self {
-            Command::Request(request) => request.operation.attributes() < 0x3fff_ffc0,
+            Command::Request(request) => request.operation.attributes() <= MAX_ATTRIBUTES,
             Command::Response(_) => true,
             Command::Cancel(_) => true,
         }

@@ -12,7 +12,7 @@ use crate::fault::DimseFault;
 use crate::numbers::{DATA_SET_TYPE, command_tag};
 use crate::tag_list::Tags;
 use std::alloc::{AllocError, Allocator};
-use ups_dataset::Tag;
+use ups_dataset::{Tag, UNDEFINED_LENGTH};
 use ups_pdu::{Uid, le_u16_at, le_u32_at};
 
 /// The number and the value of the element at the front, and the rest.
@@ -23,7 +23,7 @@ fn element_at(bytes: &[u8]) -> Option<(u16, &[u8], &[u8])>
 {
     let (tag, after) = Tag::at(bytes)?;
     let (len, rest) = le_u32_at(after)?;
-    if tag.group != 0 || len == 0xffff_ffff || len % 2 != 0 || rest.len() < len as usize {
+    if tag.group != 0 || len == UNDEFINED_LENGTH || len % 2 != 0 || rest.len() < len as usize {
         return None;
     }
     let (value, rest) = rest.split_at(len as usize);

@@ -4,6 +4,7 @@
 mod command;
 mod elements;
 mod fault;
+mod limits;
 mod message;
 mod numbers;
 mod reading;
@@ -14,6 +15,7 @@ pub use command::{
     CancelCommand, Command, Operation, OperationResult, RequestCommand, ResponseCommand,
 };
 pub use fault::DimseFault;
+pub use limits::{MAX_ATTRIBUTES, limits_are_those_of_the_profile};
 pub use reading::{command_is_unique, fault_is_unique, read_command};
 pub use tag_list::Tags;
 pub use writing::write_command;

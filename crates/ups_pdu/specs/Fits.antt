@@ -10,6 +10,7 @@ use Rattle.ups_pdu.specs.declared.associate.UserInformation.{UserInformation}
 use Rattle.ups_pdu.specs.declared.pdu.Pdu.{Pdu}
 use Rattle.ups_pdu.specs.declared.pdu.Pdu.TheVariants.{AssociateRq, AssociateAc, Data}
 use Rattle.ups_pdu.specs.Identifier.{IsUid}
+use Rattle.ups_pdu.specs.Limits.{max_data_length, max_body_length}
 use Rattle.ups_pdu.specs.Context.{are_context_ids}
 use Rattle.ups_pdu.specs.Written.{proposed_content, user_content, written_body}
 
@@ -50,11 +51,11 @@ pub record FitsAssociate {A X : Type 0} (FitsContext : X → Type 0) (version : 
 abbrev pub Fits : {A : Type 0} → Pdu A → Type 0
 Fits (AssociateRq rq) =
     FitsAssociate FitsProposed rq.protocol_version rq.called rq.calling rq.application_context rq.contexts (map (λ c. c.id) rq.contexts) rq.user_information
-    × (length (written_body (AssociateRq rq)) ≤ 131072)
+    × (length (written_body (AssociateRq rq)) ≤ max_body_length)
 Fits (AssociateAc ac) =
     FitsAssociate (λ c. FitsAnswer c.answer) ac.protocol_version ac.called ac.calling ac.application_context ac.contexts (map (λ c. c.id) ac.contexts) ac.user_information
-    × (length (written_body (AssociateAc ac)) ≤ 131072)
-Fits (Data pdvs) = (pdvs ≢ []) × (length (written_body (Data pdvs)) ≤ 16384)
+    × (length (written_body (AssociateAc ac)) ≤ max_body_length)
+Fits (Data pdvs) = (pdvs ≢ []) × (length (written_body (Data pdvs)) ≤ max_data_length)
 Fits pdu = Unit {0}
 
 -- The written spelling keeps the lengths within their fields and the limit.
@@ -62,6 +63,6 @@ abbrev pub IsWithin : {A : Type 0} → Pdu A → Type 0
 IsWithin (AssociateRq rq) =
     AllByRecursion (λ c. length (proposed_content c) < 2 ^ 16) rq.contexts
     × (length (user_content rq.user_information) < 2 ^ 16)
-    × (length (written_body (AssociateRq rq)) ≤ 131072)
-IsWithin (AssociateAc ac) = (length (user_content ac.user_information) < 2 ^ 16) × (length (written_body (AssociateAc ac)) ≤ 131072)
+    × (length (written_body (AssociateRq rq)) ≤ max_body_length)
+IsWithin (AssociateAc ac) = (length (user_content ac.user_information) < 2 ^ 16) × (length (written_body (AssociateAc ac)) ≤ max_body_length)
 IsWithin pdu = Unit {0}

@@ -5,6 +5,7 @@ use Rattle.ups_pdu.specs.declared.fault.PduFault.{PduFault}
 use Rattle.ups_pdu.specs.declared.fault.PduFault.TheVariants.{Short, UnknownType, BadLength, BadItem, TooLong, Memory}
 use Rattle.ups_pdu.specs.declared.kind.PduKind.{PduKind}
 use Rattle.ups_pdu.specs.declared.kind.PduKind.TheVariants.{AssociateRq, AssociateAc, AssociateRj, Data, ReleaseRq, ReleaseRp, Abort}
+use Rattle.ups_pdu.specs.Limits.{max_data_length, max_body_length}
 
 -- the type byte (PS3.8 tables 9-11 to 9-26)
 abbrev pub code : PduKind → ℕ
@@ -18,13 +19,13 @@ code Abort = 7
 
 -- how long a body may be
 abbrev pub limit : PduKind → ℕ
-limit AssociateRq = 131072
-limit AssociateAc = 131072
-limit AssociateRj = 131072
-limit Data = 16384
-limit ReleaseRq = 131072
-limit ReleaseRp = 131072
-limit Abort = 131072
+limit AssociateRq = max_body_length
+limit AssociateAc = max_body_length
+limit AssociateRj = max_body_length
+limit Data = max_data_length
+limit ReleaseRq = max_body_length
+limit ReleaseRp = max_body_length
+limit Abort = max_body_length
 
 -- a type byte, a reserved byte, and a length in four bytes; and what follows
 pub record IsHeader (bytes : List ℕ) (byte len : ℕ) (rest : List ℕ) : Type 0 where

@@ -8,6 +8,7 @@ pub mod Identifier
 pub mod InPlace
 pub mod Item
 pub mod Lengths
+pub mod Limits
 pub mod Padding
 pub mod Registered
 pub mod Spelling

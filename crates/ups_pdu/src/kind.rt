@@ -6,6 +6,7 @@ ghost use Rattle.ups_pdu.specs.declared.kind.PduKind.{PduKind};
 ghost use Rattle.ups_pdu.specs.Header.{code, limit, IsHeader, IsWhole, HeaderFails};
 
 use crate::fault::PduFault;
+use crate::limits::{MAX_BODY_LENGTH, MAX_DATA_LENGTH};
 use crate::number::be_u32_at;
 
 /// The type of a PDU.
@@ -57,8 +58,8 @@ impl PduKind {
         ensures { result ≡ limit self }
     {
         match self {
-            PduKind::Data => 16_384,
-            _ => 131_072,
+            PduKind::Data => MAX_DATA_LENGTH as usize,
+            _ => MAX_BODY_LENGTH as usize,
         }
     }
 }

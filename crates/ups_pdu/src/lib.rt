@@ -12,6 +12,7 @@ mod fragment;
 mod item;
 mod kind;
 mod lengths;
+mod limits;
 mod lists;
 mod number;
 mod pdu;
@@ -33,6 +34,7 @@ pub use associate::{
 pub use bytes::Bytes;
 pub use fault::PduFault;
 pub use kind::{PduKind, body_len};
+pub use limits::{MAX_BODY_LENGTH, MAX_DATA_LENGTH, limits_are_those_of_the_profile};
 pub use lists::{AnsweredContexts, ProposedContexts, Roles, Uids};
 pub use number::{be_u16_at, be_u32_at, le_u16_at, le_u32_at};
 pub use pdu::Pdu;
