@@ -41,6 +41,6 @@ impl<T: Drop> From<AllocFailed<T>> for PduFault {
     ghost from_gives = { λ _ e. e ≡ Memory };
 
     fn from(_e: AllocFailed<T>) -> PduFault {
-        PduFault::Memory
+        PduFault::from(AllocError)
     }
 }
