@@ -44,6 +44,6 @@ impl<T: Drop> From<AllocFailed<T>> for SetFault {
     ghost from_gives = { λ _ e. e ≡ Memory };
 
     fn from(_e: AllocFailed<T>) -> SetFault {
-        SetFault::Memory
+        SetFault::from(AllocError)
     }
 }
