@@ -8,6 +8,7 @@ pub mod Existing
 pub mod Fields
 pub mod Joining
 pub mod KeyWalks
+pub mod LanePlaces
 pub mod Offsets
 pub mod PatternRuns
 pub mod Places

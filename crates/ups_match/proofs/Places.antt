@@ -39,6 +39,14 @@ front_to (p ∷ run) (b ∷ bs) left e = go (λ h. front_to run bs left h) (fits
     go more false is h = cc
     go more true is h = fits_both p b run bs is (more h)
 
+-- a run doesn't fit in a text that is shorter
+pub too_short : (run text : List ℕ) → length text < length run → behind_front run text ≡ None
+too_short run text short = go (behind_front run text) refl
+  where
+    go : (o : Option (List ℕ)) → behind_front run text ≡ o → o ≡ None
+    go None is = refl
+    go (Some left) is = absurd (omega (arith, (behind_is run text left is).1))
+
 -- what stands behind the places at which a run doesn't fit
 pub skipped : (run text : List ℕ) (n : ℕ) → n ≤ length text → ((k : ℕ) → k < n → behind_front run (drop k text) ≡ None) → behind_first run (drop n text) ≡ behind_first run text
 skipped run text zero inside none = refl
@@ -70,7 +78,7 @@ no_question (p ∷ run) none j low = go (λ h. no_question run h) (is_question_m
     go more false is h zero low = is
     go more false is h (suc j) low = more h j (omega arith)
 
-fits_same : (p b : ℕ) → is_question_mark p ≡ false → fits p b ≡ true → b ≡ p
+pub fits_same : (p b : ℕ) → is_question_mark p ≡ false → fits p b ≡ true → b ≡ p
 fits_same p b plain h = go (is_question_mark p) plain h
   where
     go : (q : Bool) → q ≡ false → (q || p == b) ≡ true → b ≡ p

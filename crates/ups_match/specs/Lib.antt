@@ -1,4 +1,5 @@
 pub mod KeyCode
+pub mod Lanes
 pub mod Likeness
 pub mod Matching
 pub mod Moments

@@ -6,6 +6,7 @@ mod digits;
 mod fault;
 mod faults;
 mod keys;
+mod lanes;
 mod likeness;
 mod matcher;
 mod matching;

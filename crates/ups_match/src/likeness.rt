@@ -8,8 +8,8 @@ ghost use Rattle.ups_match.specs.Runs.{is_no_star, run_of, behind_run};
 use crate::runs::{behind_first, behind_front};
 
 /// Whether a text is like a pattern, in which `*` stands for any bytes, `?` for any one byte, and any other byte for
-/// itself (PS3.4 section C.2.2.2.4). Without `?` it takes about as many steps as both have bytes; a run with `?` takes at
-/// most about as many as its length times that of the text.
+/// itself (PS3.4 section C.2.2.2.4). Without `?` it takes about as many steps as both have bytes; a run with `?` between two
+/// `*` takes a step for each of its bytes and each 64 of the text.
 pub fn likes(pattern: &[u8], text: &[u8]) -> bool
     ensures like { IsTrue result ↔ IsLike pattern.now text.now }
     ensures value { result ≡ is_like pattern.now text.now }

@@ -1,16 +1,20 @@
 //! Where a run fits in a text: what stands in a pattern between two `*` (PS3.4 section C.2.2.2.4).
 
-ghost use Rattle.std.specs.Prelude.{◌≡◌, false, option_copied};
+ghost use Rattle.std.specs.Prelude.{◌≡◌, ◌<◌, ◌≤◌, ℕ, false, IsTrue, None, drop, length, option_copied};
 ghost use Rattle.std.specs.List.{list_any};
 ghost use Rattle.ups_match.specs.Likeness.{is_question_mark};
 ghost use Rattle.ups_match.specs.Runs.{behind_front, behind_first};
 
+use crate::lanes::{LANES, all_places, has_no_place, places_with};
 use memchr::memmem;
 
 /// What stands in a text behind bytes that those of a run stand for.
 pub(crate) fn behind_front<'a>(run: &[u8], text: &'a [u8]) -> Option<&'a [u8]>
     ensures { option_copied result ≡ behind_front run.now text.now }
 {
+    if text.len() < run.len() {
+        return None;
+    }
     let mut run_left = run;
     let mut left = text;
     while let Some((p, more)) = run_left.split_first() {
@@ -44,8 +48,42 @@ fn behind_first_copy<'a>(run: &[u8], text: &'a [u8]) -> Option<&'a [u8]>
     Some(behind)
 }
 
-/// The same of any run, place by place.
+/// The same of any run. It takes about a step for each byte of the run and each 64 places of the text.
 fn behind_first_fit<'a>(run: &[u8], text: &'a [u8]) -> Option<&'a [u8]>
+    ensures { option_copied result ≡ behind_first run.now text.now }
+{
+    let mut left = text;
+    while fits_nowhere_in_front(run, left) {
+        let (_, after) = left.split_at(LANES);
+        left = after;
+    }
+    behind_first_by_place(run, left)
+}
+
+/// Whether a run fits at none of the first 64 places of a text. Where the text ends before all of them can be tried, it
+/// isn't told.
+fn fits_nowhere_in_front(run: &[u8], text: &[u8]) -> bool
+    ensures nowhere { IsTrue result → (k : ℕ) → k < 64 → behind_front run.now (drop k text.now) ≡ None }
+    ensures long { IsTrue result → 64 ≤ length text.now }
+{
+    if text.len() < run.len() + LANES {
+        return false;
+    }
+    let mut places = all_places();
+    for i in 0..run.len() {
+        if run[i] != b'?' {
+            let (_, there) = text.split_at(i);
+            places = places_with(places, there, run[i]);
+            if has_no_place(places) {
+                return true;
+            }
+        }
+    }
+    false
+}
+
+/// The same as `behind_first`, place by place.
+fn behind_first_by_place<'a>(run: &[u8], text: &'a [u8]) -> Option<&'a [u8]>
     ensures { option_copied result ≡ behind_first run.now text.now }
 {
     let mut left = text;

@@ -110,7 +110,7 @@ fn many_stars_and_a_long_text(rt: HostRuntime) -> Result<(), Fail> {
     Ok(())
 }
 
-/// A front, then many letters A.
+/// A front, many letters A, and an end.
 fn letters(alloc: Global, front: &[u8], count: usize, end: &[u8]) -> Result<Vec<u8>, AllocError> {
     let mut text = Vec::from_slice(alloc, front)?;
     text.resize(text.len().saturating_add(count), b'A')?;
@@ -126,5 +126,31 @@ fn a_long_run_in_a_long_text(rt: HostRuntime) -> Result<(), Fail> {
     assert!(rt; !likes(pattern.as_slice(), other.as_slice()));
     let same = letters(rt.alloc(), b"", 200_000, b"BA")?;
     assert!(rt; likes(pattern.as_slice(), same.as_slice()));
+    Ok(())
+}
+
+/// The same of a run with a `?`, whose places are tried many at a time.
+#[test]
+fn a_long_run_with_a_question_mark(rt: HostRuntime) -> Result<(), Fail> {
+    let pattern = letters(rt.alloc(), b"*?", 100_000, b"B*")?;
+    let other = letters(rt.alloc(), b"", 105_000, b"")?;
+    assert!(rt; !likes(pattern.as_slice(), other.as_slice()));
+    let same = letters(rt.alloc(), b"", 105_000, b"BA")?;
+    assert!(rt; likes(pattern.as_slice(), same.as_slice()));
+    Ok(())
+}
+
+/// Whether a run with a `?` is found at a place of a text of 300 bytes, and nowhere behind it.
+fn is_found_at(alloc: Global, place: usize) -> Result<bool, AllocError> {
+    let text = letters(alloc, b"", place, b"XBYB")?;
+    let text = letters(alloc, text.as_slice(), 300_usize.saturating_sub(place), b"")?;
+    Ok(likes(b"*X?YB*", text.as_slice()) && !likes(b"*X?Y*X*", text.as_slice()))
+}
+
+#[test]
+fn a_run_with_a_question_mark_at_each_place(rt: HostRuntime) -> Result<(), Fail> {
+    for place in 0..300 {
+        assert!(rt; is_found_at(rt.alloc(), place)?, "at place {place}");
+    }
     Ok(())
 }

@@ -1,0 +1,33 @@
+//! Places of a text that stand next to one another, each in a lane of a vector: 255 while a run may fit there, or else 0.
+
+ghost use Rattle.std.specs.Prelude.{◌≡◌, ◌≢◌, ◌<◌, ◌≤◌, ◌==◌, ℕ, IsTrue, if◌then◌else◌, length, slice_index};
+ghost use Rattle.ups_match.specs.Lanes.{HasLanes};
+
+use std::simd::prelude::*;
+
+/// How many places a vector has.
+pub(crate) const LANES: usize = 64;
+
+/// All places.
+pub(crate) fn all_places() -> u8x64
+    ensures { HasLanes result (λ k. 255) }
+{
+    u8x64::splat(255)
+}
+
+/// Those of some places at which a text, from its front on, has a byte.
+pub(crate) fn places_with(places: u8x64, text: &[u8], byte: u8) -> u8x64
+    requires { 64 ≤ length text.now }
+    ensures { HasLanes result (λ k. if slice_index text.now k == byte then slice_index places k else 0) }
+{
+    u8x64::from_slice(text)
+        .simd_eq(u8x64::splat(byte))
+        .select(places, u8x64::splat(0))
+}
+
+/// Whether no place is left.
+pub(crate) fn has_no_place(places: u8x64) -> bool
+    ensures { IsTrue result → (k : ℕ) → k < 64 → slice_index places k ≢ 255 }
+{
+    places.simd_eq(u8x64::splat(255)).to_bitmask() == 0
+}
