@@ -6,7 +6,7 @@ use Rattle.std.specs.Char.{is_ascii_digit}
 use Rattle.std.proofs.lemmas.Bool.Decides.{nat_tests}
 use Rattle.jiff_core.proofs.SignedLemmas.{signed_arith}
 use Rattle.jiff_core.proofs.CalendarLemmas.{days_in_month_bounds}
-use Rattle.ups_match.specs.Moments.{moment, IsOffset, stamp, leading_digits, behind_digits, number, field, year_of, is_date, is_time, date_number, second_of_day, split_fraction, microsecond_of, offset_of, signed_offset, are_four_digits, two_digits, four_digits, date_stamp, time_stamp, offset_stamp, sign_of, day_number, year_on, month_on}
+use Rattle.ups_match.specs.Moments.{moment, IsOffset, stamp, last_moment, leading_digits, behind_digits, number, field, year_of, is_date, is_time, date_number, second_of_day, split_fraction, microsecond_of, offset_of, signed_offset, are_four_digits, two_digits, four_digits, date_stamp, time_stamp, offset_stamp, sign_of, day_number, year_on, month_on}
 use Rattle.ups_match.proofs.Begun.{IsReal}
 use Rattle.ups_match.proofs.Existing.{has_date}
 use Rattle.ups_match.proofs.Days.{AreOf, is_day}
@@ -159,7 +159,7 @@ from_zero : (z : ℤ) → pos 0 ≤ℤ z → pos (unsigned_abs z) ≡ z
 from_zero (pos n) h = refl
 from_zero (negsuc n) h = absurd (omega (arith, signed_arith))
 
-pub read_back : (second : ℕ) (offset configured : ℤ) → second ≤ 253402250399 → IsOffset offset → moment (stamp second offset) configured false ≡ Some (pos (second * 1000000))
+pub read_back : (second : ℕ) (offset configured : ℤ) → second ≤ last_moment → IsOffset offset → moment (stamp second offset) configured false ≡ Some (pos (second * 1000000))
 read_back second offset configured h o =
     let local = unsigned_abs (pos (second + 62135596800) +ℤ pos 60 *ℤ offset) in
     let same : pos local ≡ pos (second + 62135596800) +ℤ pos 60 *ℤ offset = from_zero (pos (second + 62135596800) +ℤ pos 60 *ℤ offset) (omega (arith, signed_arith)) in

@@ -1,7 +1,7 @@
 -- Worked rows: what the definitions say of some texts and moments, computed by the check.
 use Rattle.std.proofs.Common.{◌≡◌, refl, true, false}
 use Rattle.std.specs.Prelude.{Some, None, codes, pos, neg_ℤ}
-use Rattle.ups_match.specs.Moments.{moment, stamp, day_number, days_of_month, field, is_date, is_time, date_number, second_of_day, microsecond_of, offset_of, signed_offset, begun, date_stamp, time_stamp, offset_stamp, year_on, month_on}
+use Rattle.ups_match.specs.Moments.{moment, stamp, last_moment, day_number, days_of_month, field, is_date, is_time, date_number, second_of_day, microsecond_of, offset_of, signed_offset, begun, date_stamp, time_stamp, offset_stamp, year_on, month_on}
 
 first_of_a_year : moment (codes "2024") (pos 0) false ≡ Some (pos 1704067200000000)
 unfolding moment day_number days_of_month field is_date is_time date_number second_of_day microsecond_of offset_of signed_offset
@@ -71,7 +71,7 @@ first_stamp : stamp 0 (neg_ℤ (pos 720)) ≡ codes "19691231120000-1200"
 unfolding stamp day_number begun date_stamp time_stamp offset_stamp year_on month_on
 first_stamp = refl
 
-last_stamp : stamp 253402250399 (pos 840) ≡ codes "99991231235959+1400"
+last_stamp : stamp last_moment (pos 840) ≡ codes "99991231235959+1400"
 unfolding stamp day_number begun date_stamp time_stamp offset_stamp year_on month_on
 last_stamp = refl
 

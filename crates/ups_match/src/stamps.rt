@@ -1,6 +1,6 @@
 //! A moment written as a DT.
 ghost use Rattle.std.specs.Prelude.{◌≡◌, ℕ, ℤ, ◌+◌, ◌*◌, ◌-◌, ◌≤◌, ◌<◌, false, pos, ◌+ℤ◌, ◌*ℤ◌, unsigned_abs};
-ghost use Rattle.ups_match.specs.Moments.{moment, stamp, IsOffset, date_stamp, time_stamp, offset_stamp, two_digits, year_on, month_on, day_number};
+ghost use Rattle.ups_match.specs.Moments.{moment, stamp, last_moment, IsOffset, date_stamp, time_stamp, offset_stamp, two_digits, year_on, month_on, day_number};
 
 use jiff_core::civil::Date;
 
@@ -11,9 +11,10 @@ const EPOCH: i64 = 62_135_596_800;
 const YEAR_ONE: u32 = 3_652_425;
 
 /// A moment, in seconds since 1970 began in UTC, as a DT in the local time of an offset, which is in minutes east of
-/// UTC: YYYYMMDDHHMMSS&ZZXX (PS3.5 section 6.2). The last moment is that at which a clock at +1400 ends the year 9999.
+/// UTC: YYYYMMDDHHMMSS&ZZXX (PS3.5 section 6.2). The last moment is that at which a clock at +1400 shows the last second
+/// of the year 9999.
 pub fn write_dt(moment: u64, offset: i16) -> [u8; 19]
-    requires year { moment ≤ 253402250399 }
+    requires year { moment ≤ last_moment }
     requires offset { IsOffset offset }
     ensures { result ≡ stamp moment offset }
 {
@@ -28,7 +29,7 @@ pub fn write_dt(moment: u64, offset: i16) -> [u8; 19]
 
 /// The seconds from the beginning of the year 1 that a clock shows at a moment.
 fn local_second(moment: u64, offset: i16) -> u64
-    requires year { moment ≤ 253402250399 }
+    requires year { moment ≤ last_moment }
     requires offset { IsOffset offset }
     ensures value { pos result ≡ pos (moment + 62135596800) +ℤ pos 60 *ℤ offset }
     ensures bound { result ≤ 315537897599 }
@@ -99,6 +100,6 @@ fn two_digits(number: u8) -> [u8; 2]
 
 /// What `write_dt` writes is read back as that moment, whatever offset is configured.
 pub fn stamps_are_read_back()
-    ensures { (second : ℕ) → (offset configured : ℤ) → second ≤ 253402250399 → IsOffset offset
+    ensures { (second : ℕ) → (offset configured : ℤ) → second ≤ last_moment → IsOffset offset
         → moment (stamp second offset) configured false ≡ Some (pos (second * 1000000)) }
 {}
