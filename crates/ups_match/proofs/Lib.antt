@@ -9,6 +9,7 @@ pub mod Fields
 pub mod Joining
 pub mod KeyWalks
 pub mod LanePlaces
+pub mod Lengths
 pub mod Offsets
 pub mod PatternRuns
 pub mod Places

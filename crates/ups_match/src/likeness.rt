@@ -1,7 +1,7 @@
 //! Wild cards (PS3.4 section C.2.2.2.4).
 
 ghost use Rattle.std.specs.Prelude.{◌≡◌, ◌↔◌, ◌∷◌, ◌≤◌, length, IsTrue};
-ghost use Rattle.std.specs.List.{AllPass, prefix_len};
+ghost use Rattle.std.specs.List.{AllPass, count_by, prefix_len};
 ghost use Rattle.ups_match.specs.Likeness.{IsLike, is_like};
 ghost use Rattle.ups_match.specs.Runs.{is_no_star, run_of, behind_run};
 
@@ -15,6 +15,13 @@ pub fn likes(pattern: &[u8], text: &[u8]) -> bool
     ensures value { result ≡ is_like pattern.now text.now }
 {
     is_like(pattern, text)
+}
+
+/// How many bytes a text has at least that is like a pattern.
+pub(crate) fn least_len(pattern: &[u8]) -> usize
+    ensures { result ≡ count_by is_no_star pattern.now }
+{
+    pattern.iter().filter(|byte| **byte != b'*').count()
 }
 
 /// Whether a text is like a pattern.

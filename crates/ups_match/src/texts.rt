@@ -1,6 +1,6 @@
 //! Texts of keys, and the stored texts that they match (PS3.4 section C.2.2.2).
 
-ghost use Rattle.std.specs.Prelude.{◌≡◌, false};
+ghost use Rattle.std.specs.Prelude.{◌≡◌, ◌&&◌, false, length, nat_le};
 ghost use Rattle.std.specs.Str.{bytes_eq};
 ghost use Rattle.ups_match.specs.Likeness.{is_like};
 ghost use Rattle.ups_match.specs.Matching.{matches_text};
@@ -8,7 +8,7 @@ ghost use Rattle.ups_match.specs.Ranges.{span_of, spans};
 ghost use Rattle.ups_match.specs.Moments.{moment};
 ghost use Rattle.ups_match.specs.Values.{any_value, is_universal_text, shares_uid};
 
-use crate::likeness::likes;
+use crate::likeness::{least_len, likes};
 use crate::moments::read_dt;
 use crate::ranges::span_of;
 use crate::rule::Rule;
@@ -54,13 +54,23 @@ fn shares_uid(key: &[u8], stored: &[u8]) -> bool
         .any(|uid| is_any_equal(without_padding(uid), stored))
 }
 
-/// Whether one of the stored values is like a pattern.
+/// Whether one of the stored values is like a pattern. A long pattern isn't gone through for each short value.
 fn is_any_like(pattern: &[u8], stored: &[u8]) -> bool
     ensures { result ≡ any_value (is_like pattern.now) stored.now }
 {
-    stored
-        .split(|byte| *byte == b'\\')
-        .any(|value| likes(pattern, without_padding(value)))
+    let least = least_len(pattern);
+    stored.split(|byte| *byte == b'\\').any(|value| is_long_and_like(
+        least,
+        pattern,
+        without_padding(value),
+    ))
+}
+
+/// Whether a value has at least so many bytes, and is like a pattern.
+fn is_long_and_like(least: usize, pattern: &[u8], value: &[u8]) -> bool
+    ensures { result ≡ (nat_le least (length value.now) && is_like pattern.now value.now) }
+{
+    least <= value.len() && likes(pattern, value)
 }
 
 /// Whether one of the stored values is a text.
