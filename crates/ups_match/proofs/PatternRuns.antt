@@ -1,5 +1,5 @@
 -- How the runs of a pattern are found in a text like it.
-use Rattle.std.proofs.Common.{◌≡◌, ◌↔◌, ◌≤◌, ◌-◌, ◌+◌, ◌&&◌, ◌||◌, ℕ, suc, Bool, true, false, not, cond, List, [], ◌∷◌, ◌++◌, length, take, drop, refl, sym, ap, ◌∙◌, subst, arith, append_assoc, length-append, length-drop, append-nil, drop-drop}
+use Rattle.std.proofs.Common.{◌≡◌, ◌↔◌, ◌≤◌, ◌-◌, ◌+◌, ◌&&◌, ◌||◌, ℕ, zero, suc, Bool, true, false, not, cond, List, [], ◌∷◌, ◌++◌, length, replicate, take, drop, refl, sym, ap, ◌∙◌, subst, arith, append_assoc, length-append, length-drop, append-nil, drop-drop}
 use Rattle.std.proofs.lemmas.List.{take-append-drop, nil_from_length}
 use Rattle.std.proofs.Math.Seq.{drop-append-add, drop-append_seam}
 use Rattle.std.specs.Prelude.{Option, None, Some, is_some, IsTrue, ◌==◌}
@@ -86,6 +86,20 @@ left_like (p ∷ run) ps (b ∷ bs) all = go (left_like run ps bs (tail_no_stars
 pub more_before : (ps text : List ℕ) (n : ℕ) → IsLike (42 ∷ ps) (drop n text) → IsLike (42 ∷ ps) text
 more_before ps text n h =
     (take n text ++ h.0, h.1, sym (take-append-drop n text) ∙ ap (λ (x : List ℕ). take n text ++ x) h.2 ∙ sym (append_assoc (take n text) h.0 h.1), tt, h.4)
+
+-- and a * behind a * says no more
+star_again : (ps text : List ℕ) → IsLike (42 ∷ ps) text ↔ IsLike (42 ∷ 42 ∷ ps) text
+star_again ps text = (
+  λ h. ([], text, refl, tt, h),
+  λ h. (h.0 ++ h.4.0, h.4.1, h.2 ∙ ap (λ (x : List ℕ). h.0 ++ x) h.4.2 ∙ sym (append_assoc h.0 h.4.0 h.4.1), tt, h.4.4),
+)
+
+pub stars_again : (n : ℕ) (ps text : List ℕ) → IsLike (42 ∷ ps) text ↔ IsLike (42 ∷ replicate n 42 ++ ps) text
+stars_again zero ps text = (λ h. h, λ h. h)
+stars_again (suc n) ps text =
+    let more = stars_again n ps text in
+    let one = star_again (replicate n 42 ++ ps) text in
+    (λ h. one.0 (more.0 h), λ h. more.1 (one.1 h))
 
 -- a run stands for as many bytes as it has
 pub behind_is : (run text left : List ℕ) → behind_front run text ≡ Some left → (left ≡ drop (length run) text) × (length left + length run ≡ length text)

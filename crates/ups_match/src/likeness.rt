@@ -1,6 +1,6 @@
 //! Wild cards (PS3.4 section C.2.2.2.4).
 
-ghost use Rattle.std.specs.Prelude.{◌≡◌, ◌↔◌, ◌∷◌, ◌≤◌, length, IsTrue};
+ghost use Rattle.std.specs.Prelude.{◌≡◌, ◌↔◌, ◌∷◌, ◌≤◌, ℕ, List, length, IsTrue};
 ghost use Rattle.std.specs.List.{AllPass, count_by, prefix_len};
 ghost use Rattle.ups_match.specs.Likeness.{IsLike, is_like};
 ghost use Rattle.ups_match.specs.Runs.{is_no_star, run_of, behind_run};
@@ -48,7 +48,7 @@ fn likes_anywhere(pattern: &[u8], text: &[u8]) -> bool
     let mut rest = pattern;
     let mut left = text;
     loop {
-        let (run, behind) = split_run(rest);
+        let (run, behind) = split_run(without_stars(rest));
         let Some((_, after)) = behind.split_first() else {
             return ends_with(run, left);
         };
@@ -58,6 +58,18 @@ fn likes_anywhere(pattern: &[u8], text: &[u8]) -> bool
         left = found;
         rest = after;
     }
+}
+
+/// What stands in a pattern behind a `*`, without the `*` at its front but for less than 64: more of them say the same.
+fn without_stars(pattern: &[u8]) -> &[u8]
+    ensures same { (text : List ℕ) → IsLike (42 ∷ pattern.now) text ↔ IsLike (42 ∷ result.now) text }
+    ensures shorter { length result.now ≤ length pattern.now }
+{
+    let mut rest = pattern;
+    while let Some(behind) = rest.strip_prefix(&[b'*'; 64]) {
+        rest = behind;
+    }
+    rest
 }
 
 /// The bytes of a pattern before the first `*`, and the others.

@@ -154,3 +154,19 @@ fn a_run_with_a_question_mark_at_each_place(rt: HostRuntime) -> Result<(), Fail>
     }
     Ok(())
 }
+
+/// Whether some stars and an A are like what ends with an A, and like nothing else.
+fn say_what_one_says(alloc: Global, stars: usize) -> Result<bool, AllocError> {
+    let mut pattern = Vec::new(alloc);
+    pattern.resize(stars, b'*')?;
+    pattern.extend_from_slice(b"A")?;
+    Ok(likes(pattern.as_slice(), b"BA") && !likes(pattern.as_slice(), b"AB"))
+}
+
+#[test]
+fn many_stars_say_what_one_says(rt: HostRuntime) -> Result<(), Fail> {
+    for stars in 1..200 {
+        assert!(rt; say_what_one_says(rt.alloc(), stars)?, "{stars} stars");
+    }
+    Ok(())
+}
