@@ -1,0 +1,120 @@
+#!/usr/bin/env python3
+"""Measures how long one key takes to be matched with one stored value; prints a table.
+
+The program that is measured asks a `Probe` and nothing else. It is no crate of this repository: make one of its text
+for the time of the measuring, over ups_pdu, ups_dataset and ups_match.
+
+Usage: bench/matching.py --source       prints the text of the program
+       bench/matching.py PROGRAM        measures it
+"""
+
+import subprocess
+import sys
+import time
+
+SOURCE = r'''//! Reads a representation, a key and a stored value, a line each, and prints whether the key matches the value.
+#![tactic(auto)]
+
+use std::alloc::{AllocError, Global};
+use std::io::{self, Read};
+use ups_dataset::dictionary::{PROCEDURE_STEP_LABEL, SOP_INSTANCE_UID};
+use ups_dataset::{DataSet, Element, Tag, Vr};
+use ups_match::{Keys, Matcher, Probe};
+use ups_pdu::Bytes;
+
+/// A set with one value, as a peer may write it under any tag: as unknown, and so also a long one.
+fn set_of(alloc: Global, tag: Tag, value: &[u8]) -> Result<DataSet<Global>, AllocError> {
+    let mut set = DataSet::new(alloc);
+    if tag.is_mark() || tag.is_group_length() || value.len() % 2 != 0 || value.len() > 16_000_000 {
+        return Ok(set);
+    }
+    let bytes = Bytes::copy_of(alloc, value)?;
+    set.replace(Element::of_bytes(tag, Vr::Un, bytes))?;
+    Ok(set)
+}
+
+/// Whether a key matches a value under a tag of a representation.
+fn ask(alloc: Global, kind: &[u8], key: &[u8], value: &[u8]) -> Result<bool, AllocError> {
+    let tag = match kind {
+        b"UI" => SOP_INSTANCE_UID,
+        _ => PROCEDURE_STEP_LABEL,
+    };
+    let keys = set_of(alloc, tag, key)?;
+    let row = set_of(alloc, tag, value)?;
+    let Ok(keys) = Keys::of(keys, 0) else {
+        return Ok(false);
+    };
+    let mut probe = Probe::new();
+    Ok(probe.matches(&keys, &row))
+}
+
+fn main(rt: HostRuntime) -> io::Result<()> {
+    let mut input = rt.stdin();
+    let mut all = Vec::new(rt.alloc());
+    input.read_to_end(&mut all)?;
+    let mut lines = all.as_slice().split(|byte| *byte == b'\n');
+    let kind = lines.next().unwrap_or(b"");
+    let key = lines.next().unwrap_or(b"");
+    let value = lines.next().unwrap_or(b"");
+    println!(rt; "{}", ask(rt.alloc(), kind, key, value)?)
+}
+'''
+
+LIMIT = 120
+
+
+def even(value):
+    return value if len(value) % 2 == 0 else value + b" "
+
+
+def seconds(program, representation, key, value):
+    """The best of three runs, or of one that takes long; none where it takes longer than the limit."""
+    stdin = b"\n".join((representation, even(key), even(value), b""))
+    least = None
+    for _ in range(3):
+        began = time.perf_counter()
+        try:
+            done = subprocess.run([program], input=stdin, capture_output=True, timeout=LIMIT)
+        except subprocess.TimeoutExpired:
+            return None
+        if done.returncode != 0 or done.stdout != b"false\n":
+            sys.exit(f"{program}: status {done.returncode}, {done.stderr}")
+        took = time.perf_counter() - began
+        least = took if least is None else min(least, took)
+        if least > 2:
+            break
+    return least
+
+
+def uids(front, count):
+    return b"\\".join(b"%s%d" % (front, 100_000 + i) for i in range(count))
+
+
+# each shape: its representation, and its key and value of so many bytes together
+SHAPES = (
+    ("`*A..AB*` and letters `A`", b"LO", lambda n: (b"*" + b"A" * (n // 3) + b"B*", b"A" * (2 * n // 3))),
+    ("`*?A..AB*` and letters `A`", b"LO", lambda n: (b"*?" + b"A" * (n // 3) + b"B*", b"A" * (2 * n // 3))),
+    ("`A..A` and empty values", b"LO", lambda n: (b"A" * (n // 2), b"\\" * (n // 2))),
+    ("`*..*B` and values `A`", b"LO", lambda n: (b"*" * (n // 2) + b"B", b"A\\" * (n // 4))),
+    ("UIDs of 10 bytes, and others", b"UI", lambda n: (uids(b"1.2.", n // 22), uids(b"1.3.", n // 22))),
+    ("UIDs of 1 byte, and others", b"UI", lambda n: (b"1\\" * (n // 4) + b"1", b"2\\" * (n // 4) + b"2")),
+)
+
+
+def main():
+    if len(sys.argv) != 2 or sys.argv[1] in ("-h", "--help"):
+        sys.exit(__doc__)
+    if sys.argv[1] == "--source":
+        print(SOURCE, end="")
+        return
+    program = sys.argv[1]
+    print("| key and value | bytes | time |\n|---|---|---|")
+    for name, representation, shape in SHAPES:
+        for size in (10_000, 100_000, 1_000_000):
+            took = seconds(program, representation, *shape(size))
+            shown = f"over {LIMIT} s" if took is None else f"{took * 1000:,.0f} ms" if took < 1 else f"{took:.1f} s"
+            print(f"| {name} | {size:,} | {shown} |", flush=True)
+
+
+if __name__ == "__main__":
+    main()
