@@ -1,5 +1,5 @@
 -- The steps held: each was created, and none stands twice.
-use Rattle.std.proofs.Common.{◌≡◌, ℕ, ℤ, Bool, true, false, ◌||◌, List, [], ◌∷◌, ◌++◌, refl, sym, ap, ◌∙◌}
+use Rattle.std.proofs.Common.{◌≡◌, ℕ, Bool, true, false, ◌||◌, List, [], ◌∷◌, ◌++◌, refl, sym, ap, ◌∙◌}
 use Rattle.std.specs.Str.{bytes_eq}
 use Rattle.std.specs.List.{list_any, AllByRecursion}
 use Rattle.ups_life.specs.declared.request.Request.{Request}
@@ -26,18 +26,18 @@ each_push : {X : Type 0} (P : X → Type 0) (us : List X) (u : X) → AllByRecur
 each_push P [] u h p = (p, tt)
 each_push P (v ∷ vs) u (q, more) p = (q, each_push P vs u more p)
 
-used_after : {A : Type 0} (es : List (Entry A)) (r : Request A) → AllByRecursion (λ u. used es u ≡ true) (held es) → AllByRecursion (λ u. (creates u r || used es u) ≡ true) (held_after (held es) r)
-used_after {A} es (Create step attributes) h =
+used_after : {A : Type 0} (es : List (Entry A)) (us : List (List ℕ)) (r : Request A) → AllByRecursion (λ u. used es u ≡ true) us → AllByRecursion (λ u. (creates u r || used es u) ≡ true) (held_after us r)
+used_after {A} es us (Create step attributes) h =
     let r : Request A = Create step attributes in
-    each_push (λ u. (bytes_eq step u || used es u) ≡ true) (held es) step (more_used es r (held es) h) (ap (λ b. b || used es step) (text_is_itself step))
-used_after es (Change step state transaction) h = h
-used_after es (AskCancel step reasons) h = h
-used_after es (Set step transaction attributes) h = h
+    each_push (λ u. (bytes_eq step u || used es u) ≡ true) us step (more_used es r us h) (ap (λ b. b || used es step) (text_is_itself step))
+used_after es us (Change step state transaction) h = h
+used_after es us (AskCancel step reasons) h = h
+used_after es us (Set step transaction attributes) h = h
 
 -- each step that is held was created
-pub held_used : {A : Type 0} (es : List (Entry A)) → AllByRecursion (λ u. used es u ≡ true) (held es)
-held_used [] = tt
-held_used (e ∷ es) = used_after es e.request (held_used es)
+pub held_used : {A : Type 0} (s : Settings) (es : List (Entry A)) → AllByRecursion (λ u. used es u ≡ true) (held s es)
+held_used s [] = tt
+held_used s (e ∷ es) = used_after es (held s es) e.request (held_used s es)
 
 among_used : {A : Type 0} (es : List (Entry A)) (u : List ℕ) (vs : List (List ℕ)) → AllByRecursion (λ v. used es v ≡ true) vs → list_any (λ v. bytes_eq v u) vs ≡ true → used es u ≡ true
 among_used es u [] h any = absurd cc
@@ -47,8 +47,8 @@ among_used es u (v ∷ vs) (h, more) any = here (bytes_eq v u) (list_any (λ w. 
     here true more now later e = now refl
     here false more now later e = later e
 
-pub is_held_used : {A : Type 0} (es : List (Entry A)) (u : List ℕ) → is_held es u ≡ true → used es u ≡ true
-is_held_used es u h = among_used es u (held es) (held_used es) h
+pub is_held_used : {A : Type 0} (s : Settings) (es : List (Entry A)) (u : List ℕ) → is_held s es u ≡ true → used es u ≡ true
+is_held_used s es u h = among_used es u (held s es) (held_used s es) h
 
 -- what was created isn't what was not
 all_other : {A : Type 0} (es : List (Entry A)) (step : List ℕ) (vs : List (List ℕ)) → used es step ≡ false → AllByRecursion (λ v. used es v ≡ true) vs → AllByRecursion (λ v. bytes_eq step v ≡ false) vs
@@ -59,7 +59,7 @@ all_other es step (v ∷ vs) fresh (h, more) = (is_false (bytes_eq step v) (λ e
     is_false true n = absurd (n refl)
     is_false false n = refl
 
-not_among_more : (u step : List ℕ) (us : List (List ℕ)) → list_any (λ v. bytes_eq v u) us ≡ false → bytes_eq step u ≡ false → list_any (λ v. bytes_eq v u) (us ++ step ∷ []) ≡ false
+pub not_among_more : (u step : List ℕ) (us : List (List ℕ)) → list_any (λ v. bytes_eq v u) us ≡ false → bytes_eq step u ≡ false → list_any (λ v. bytes_eq v u) (us ++ step ∷ []) ≡ false
 not_among_more u step [] h n = ap (λ b. b || false) n
 not_among_more u step (v ∷ vs) h n =
     let none = neither (bytes_eq v u) (list_any (λ w. bytes_eq w u) vs) h in
@@ -69,13 +69,13 @@ distinct_push : (us : List (List ℕ)) (step : List ℕ) → Distinct us → All
 distinct_push [] step d others = (refl, tt)
 distinct_push (u ∷ us) step (d, more) (n, others) = (not_among_more u step us d n, distinct_push us step more others)
 
-once_after : {A : Type 0} (offset : ℤ) (es : List (Entry A)) (r : Request A) → verdict (known offset es (step_of r)) (repeats es r) r ≡ Success → Distinct (held es) → Distinct (held_after (held es) r)
-once_after offset es (Create step attributes) d once = distinct_push (held es) step once (all_other es step (held es) (created_fresh offset es step attributes d) (held_used es))
-once_after offset es (Change step state transaction) d once = once
-once_after offset es (AskCancel step reasons) d once = once
-once_after offset es (Set step transaction attributes) d once = once
+once_after : {A : Type 0} (s : Settings) (es : List (Entry A)) (r : Request A) → verdict (known s es (step_of r)) (repeats es r) r ≡ Success → Distinct (held s es) → Distinct (held_after (held s es) r)
+once_after s es (Create step attributes) d once = distinct_push (held s es) step once (all_other es step (held s es) (created_fresh s es step attributes d) (held_used s es))
+once_after s es (Change step state transaction) d once = once
+once_after s es (AskCancel step reasons) d once = once
+once_after s es (Set step transaction attributes) d once = once
 
 -- no step is held twice
-pub held_once : {A : Type 0} (s : Settings) (es : List (Entry A)) → legal s es ≡ true → Distinct (held es)
+pub held_once : {A : Type 0} (s : Settings) (es : List (Entry A)) → legal s es ≡ true → Distinct (held s es)
 held_once s [] h = tt
-held_once s (e ∷ es) h = once_after s.offset es e.request (decided s e es h) (held_once s es (legal_tail s e es h))
+held_once s (e ∷ es) h = once_after s es e.request (decided s e es h) (held_once s es (legal_tail s e es h))

@@ -1,6 +1,6 @@
 -- A step has one holder at most: its claim is the only one, stays, and its Transaction UID is what only the holder
 -- knows.
-use Rattle.std.proofs.Common.{◌≡◌, ℕ, ℤ, ◌≤◌, ◌⊎◌, inl, inr, Bool, true, false, cond, List, [], ◌∷◌, ◌++◌, length, Option, None, Some, refl, sym, ap, ◌∙◌, subst, arith}
+use Rattle.std.proofs.Common.{◌≡◌, ℕ, ◌≤◌, ◌⊎◌, inl, inr, Bool, true, false, cond, List, [], ◌∷◌, ◌++◌, length, Option, None, Some, refl, sym, ap, ◌∙◌, subst, arith}
 use Rattle.std.specs.Option.{option_or, option_map}
 use Rattle.ups_dataset.specs.Data.{El}
 use Rattle.ups_life.specs.declared.request.Request.{Request}
@@ -25,8 +25,8 @@ use Rattle.ups_life.proofs.Accepted.{decided, decided_of, legal_tail, created_fr
 use Rattle.ups_life.proofs.HeldOnce.{is_held_used}
 
 -- an entry on a step that was never created creates it
-not_on : {A : Type 0} (offset : ℤ) (es : List (Entry A)) (u : List ℕ) (r : Request A) → verdict (known offset es (step_of r)) (repeats es r) r ≡ Success → used es u ≡ false → creates u r ≡ false → is_on u r ≡ false
-not_on offset es u r d unused new = is_false (is_on u r) (λ on. differ (used es u) unused (is_held_used es u (on_held offset es u r d on new)))
+not_on : {A : Type 0} (s : Settings) (es : List (Entry A)) (u : List ℕ) (r : Request A) → verdict (known s es (step_of r)) (repeats es r) r ≡ Success → used es u ≡ false → creates u r ≡ false → is_on u r ≡ false
+not_on s es u r d unused new = is_false (is_on u r) (λ on. differ (used es u) unused (is_held_used s es u (on_held s es u r d on new)))
   where
     is_false : (b : Bool) → (b ≡ true → ⊥) → b ≡ false
     is_false true n = absurd (n refl)
@@ -37,7 +37,7 @@ pub unclaimed : {A : Type 0} (s : Settings) (es : List (Entry A)) (u : List ℕ)
 unclaimed s [] u h unused = refl
 unclaimed s (e ∷ es) u h unused =
     let none = neither (creates u e.request) (used es u) unused in
-    ap (λ on. cond on (listed (claimed e)) [] ++ claims es u) (not_on s.offset es u e.request (decided s e es h) none.1 none.0)
+    ap (λ on. cond on (listed (claimed e)) [] ++ claims es u) (not_on s es u e.request (decided s e es h) none.1 none.0)
     ∙ unclaimed s es u (legal_tail s e es h) none.1
 
 -- a cancel request leaves no step SCHEDULED
@@ -48,17 +48,17 @@ not_scheduled Completed e = absurd cc
 not_scheduled Canceled e = absurd cc
 
 -- an entry after which its step is SCHEDULED is no claim, and created the step or found it so
-new_or_so : {A : Type 0} (offset : ℤ) (es : List (Entry A)) (u : List ℕ) (r : Request A) → verdict (known offset es (step_of r)) (repeats es r) r ≡ Success → is_on u r ≡ true → state_then (state es u) r ≡ Scheduled
+new_or_so : {A : Type 0} (s : Settings) (es : List (Entry A)) (u : List ℕ) (r : Request A) → verdict (known s es (step_of r)) (repeats es r) r ≡ Success → is_on u r ≡ true → state_then (state es u) r ≡ Scheduled
     → (taken r ≡ None) × ((used es u ≡ false) ⊎ (state es u ≡ Scheduled))
-new_or_so offset es u (Create step set) d on after = (refl, inl (ap (used es) (sym (same_text step u on)) ∙ created_fresh offset es step set d))
-new_or_so offset es u (Change None to t) d on after = absurd cc
-new_or_so offset es u (Change (Some v) Scheduled t) d on after = absurd (never (was_held (is_held es v) (row_of offset es v) (λ r. change_status r Scheduled t) d).1)
+new_or_so s es u (Create step set) d on after = (refl, inl (ap (used es) (sym (same_text step u on)) ∙ created_fresh s es step set d))
+new_or_so s es u (Change None to t) d on after = absurd cc
+new_or_so s es u (Change (Some v) Scheduled t) d on after = absurd (never (was_held (is_held s es v) (row_of s es v) (λ r. change_status r Scheduled t) d).1)
   where
     never : ScheduledByCreateAlone ≡ Success → ⊥
     never e = absurd cc
-new_or_so offset es u (Change (Some v) to t) d on after = absurd cc
-new_or_so offset es u (AskCancel step reasons) d on after = absurd (not_scheduled (state es u) after)
-new_or_so offset es u (Set step t set) d on after = (refl, inr after)
+new_or_so s es u (Change (Some v) to t) d on after = absurd cc
+new_or_so s es u (AskCancel step reasons) d on after = absurd (not_scheduled (state es u) after)
+new_or_so s es u (Set step t set) d on after = (refl, inr after)
 
 -- a step that is SCHEDULED has no claim
 pub scheduled_unclaimed : {A : Type 0} (s : Settings) (es : List (Entry A)) (u : List ℕ) → legal s es ≡ true → state es u ≡ Scheduled → claims es u ≡ []
@@ -66,7 +66,7 @@ scheduled_unclaimed s [] u h is = refl
 scheduled_unclaimed {A} s (e ∷ es) u h is =
     let before = legal_tail s e es h in
     here (is_on u e.request) (state_then (state es u) e.request) (state es u) (taken e.request) (claim_by e) (claims es u)
-    (new_or_so s.offset es u e.request (decided s e es h)) (unclaimed s es u before) (scheduled_unclaimed s es u before) is
+    (new_or_so s es u e.request (decided s e es h)) (unclaimed s es u before) (scheduled_unclaimed s es u before) is
   where
     claim_by : Entry A → List ℕ → Claim
     claim_by e uid = record { holder = record { caller = e.caller; ae = e.ae }; transaction = uid }
@@ -84,15 +84,15 @@ scheduled_unclaimed {A} s (e ∷ es) u h is =
     here false after before uid f rest way new so is = so is
 
 -- a claim is made on a step that is SCHEDULED
-claims_scheduled : {A : Type 0} (offset : ℤ) (es : List (Entry A)) (u : List ℕ) (r : Request A) (uid : List ℕ) → verdict (known offset es (step_of r)) (repeats es r) r ≡ Success → is_on u r ≡ true → taken r ≡ Some uid → state es u ≡ Scheduled
-claims_scheduled offset es u (Change (Some v) InProgress (Proper x)) uid d on is =
-    ap (state es) (sym (same_text v u on)) ∙ to_claim (state es v) (was_held (is_held es v) (row_of offset es v) (λ r. claim_status r.state) d).1
+claims_scheduled : {A : Type 0} (s : Settings) (es : List (Entry A)) (u : List ℕ) (r : Request A) (uid : List ℕ) → verdict (known s es (step_of r)) (repeats es r) r ≡ Success → is_on u r ≡ true → taken r ≡ Some uid → state es u ≡ Scheduled
+claims_scheduled s es u (Change (Some v) InProgress (Proper x)) uid d on is =
+    ap (state es) (sym (same_text v u on)) ∙ to_claim (state es v) (was_held (is_held s es v) (row_of s es v) (λ r. claim_status r.state) d).1
   where
     to_claim : (before : StepState) → claim_status before ≡ Success → before ≡ Scheduled
     to_claim Scheduled e = refl
     to_claim before e = absurd cc
-claims_scheduled offset es u (Change None to t) uid d on is = absurd cc
-claims_scheduled offset es u r uid d on is = absurd cc
+claims_scheduled s es u (Change None to t) uid d on is = absurd cc
+claims_scheduled s es u r uid d on is = absurd cc
 
 claim_taken : (x : Option (List ℕ)) (f : List ℕ → Claim) (c : Claim) → option_map f x ≡ Some c → (uid : List ℕ) × (x ≡ Some uid)
 claim_taken None f c e = absurd cc
@@ -103,7 +103,7 @@ pub claimed_first : {A : Type 0} (s : Settings) (e : Entry A) (es : List (Entry 
 claimed_first {A} s e es u c h on is =
     let by : List ℕ → Claim = λ uid. record { holder = record { caller = e.caller; ae = e.ae }; transaction = uid } in
     let t = claim_taken (taken e.request) by c is in
-    scheduled_unclaimed s es u (legal_tail s e es h) (claims_scheduled s.offset es u e.request t.0 (decided s e es h) on t.1)
+    scheduled_unclaimed s es u (legal_tail s e es h) (claims_scheduled s es u e.request t.0 (decided s e es h) on t.1)
 
 -- a step has at most one claim
 pub claimed_once : {A : Type 0} (s : Settings) (es : List (Entry A)) (u : List ℕ) → legal s es ≡ true → length (claims es u) ≤ 1
@@ -148,7 +148,7 @@ right_is None t e = absurd cc
 pub sets_with_right : {A : Type 0} (s : Settings) (e : Entry A) (es : List (Entry A)) (u : List ℕ) (t : Transaction) (set : List El) → legal s (e ∷ es) ≡ true → e.request ≡ Set (Some u) t set → state es u ≡ InProgress
     → (uid : List ℕ) × (t ≡ Proper uid) × (right es u ≡ Some uid)
 sets_with_right s e es u t set h is now =
-    let accepted = (was_held (is_held es u) (row_of s.offset es u) (λ r. update_status r t set) (decided_of s e es (Set (Some u) t set) h is)).1 in
+    let accepted = (was_held (is_held s es u) (row_of s es u) (λ r. update_status r t set) (decided_of s e es (Set (Some u) t set) h is)).1 in
     right_is (right es u) t (needs_right (is_right (right es u) t) (is_given t) (state es u) now (no_fault (set_status (is_right (right es u) t) (is_given t) (state es u)) (set_attributes_status set) accepted))
   where
     no_fault : (first later : Status) → unless_fault first later ≡ Success → first ≡ Success
@@ -164,8 +164,8 @@ sets_with_right s e es u t set h is now =
 pub finishes_with_right : {A : Type 0} (s : Settings) (e : Entry A) (es : List (Entry A)) (u : List ℕ) (to : StepState) (t : Transaction) → legal s (e ∷ es) ≡ true → e.request ≡ Change (Some u) to t → is_final to ≡ true
     → (uid : List ℕ) × (t ≡ Proper uid) × (right es u ≡ Some uid)
 finishes_with_right {A} s e es u to t h is final =
-    let accepted = (was_held (is_held es u) (row_of s.offset es u) (λ r. change_status r to t) (decided_of s e es (Change (Some u) to t) h is)).1 in
-    right_is (right es u) t (needs_right (row_of s.offset es u) to final accepted)
+    let accepted = (was_held (is_held s es u) (row_of s es u) (λ r. change_status r to t) (decided_of s e es (Change (Some u) to t) h is)).1 in
+    right_is (right es u) t (needs_right (row_of s es u) to final accepted)
   where
     wrong_is_refused : (proper : Bool) (before : StepState) → wrong_status proper before ≡ Success → ⊥
     wrong_is_refused true Scheduled e = absurd cc

@@ -11,6 +11,7 @@ use Rattle.ups_life.specs.declared.request.Request.{Request}
 use Rattle.ups_life.specs.declared.request.Request.TheVariants.{Create, Change, AskCancel, Set}
 use Rattle.ups_life.specs.declared.state.StepState.{StepState}
 use Rattle.ups_life.specs.declared.state.StepState.TheVariants.{Scheduled, InProgress, Completed, Canceled}
+use Rattle.ups_life.specs.Settings.{Settings}
 use Rattle.ups_life.specs.Steps.{is_on, state, class_element, instance_element, without_transaction, state_element, progress_element, cancel_gives, given, gives, row}
 
 -- the set has no Transaction UID
@@ -57,15 +58,15 @@ either_lacks : (b : Bool) (set : List El) → Lacks set → Lacks (if b then set
 either_lacks false set h = refl
 either_lacks true set h = h
 
-pub row_lacks : {A : Type 0} (offset : ℤ) (es : List (Entry A)) (u : List ℕ) → element_at TRANSACTION_UID (row offset es u) ≡ None
-row_lacks offset [] u = refl
-row_lacks offset (e ∷ es) u =
-    laid_over_lacks (gives offset (state es u) u e) (row offset es u)
-    (either_lacks (is_on u e.request) (given offset e.moment (state es u) e.request) (given_lacks offset e.moment (state es u) e.request))
-    (row_lacks offset es u)
+pub row_lacks : {A : Type 0} (s : Settings) (es : List (Entry A)) (u : List ℕ) → element_at TRANSACTION_UID (row s es u) ≡ None
+row_lacks s [] u = refl
+row_lacks s (e ∷ es) u =
+    laid_over_lacks (gives s.offset (state es u) u e) (row s es u)
+    (either_lacks (is_on u e.request) (given s.offset e.moment (state es u) e.request) (given_lacks s.offset e.moment (state es u) e.request))
+    (row_lacks s es u)
 
-pub answer_lacks : {A : Type 0} (offset : ℤ) (es : List (Entry A)) (u : List ℕ) (key : El) → key.tag ≡ TRANSACTION_UID
-    → answer_to (row offset es u) key ≡ record { tag = key.tag; vr = key.vr; value = without_value key.value }
-answer_lacks offset es u key same =
+pub answer_lacks : {A : Type 0} (s : Settings) (es : List (Entry A)) (u : List ℕ) (key : El) → key.tag ≡ TRANSACTION_UID
+    → answer_to (row s es u) key ≡ record { tag = key.tag; vr = key.vr; value = without_value key.value }
+answer_lacks s es u key same =
     ap (λ o. unwrap_or o (record { tag = key.tag; vr = key.vr; value = without_value key.value }))
-    (ap (λ t. element_at t (row offset es u)) same ∙ row_lacks offset es u)
+    (ap (λ t. element_at t (row s es u)) same ∙ row_lacks s es u)

@@ -1,6 +1,6 @@
 -- Worked rows: what the definitions say of small histories, computed by the check.
 use Rattle.std.proofs.Common.{◌≡◌, ℕ, List, [], ◌∷◌, ◌++◌, refl}
-use Rattle.std.specs.Prelude.{Some, None, Ok, Err, codes, pos}
+use Rattle.std.specs.Prelude.{Some, None, Ok, Err, codes, map, pos}
 use Rattle.ups_pdu.specs.declared.registered.RegisteredUid.TheVariants.{UpsPush, GlobalSubscription}
 use Rattle.ups_pdu.specs.Registered.{text_of}
 use Rattle.ups_dataset.specs.declared.tag.Tag.{Tag}
@@ -12,6 +12,7 @@ use Rattle.ups_life.specs.declared.request.Request.{Request}
 use Rattle.ups_life.specs.declared.request.Request.TheVariants.{Create, Change, AskCancel, Set}
 use Rattle.ups_life.specs.declared.request.Transaction.TheVariants.{Absent, Malformed, Proper}
 use Rattle.ups_life.specs.declared.request.Ask.TheVariants.{Do}
+use Rattle.ups_life.specs.declared.request.Reply.{Reply}
 use Rattle.ups_life.specs.declared.request.Reply.TheVariants.{Status as Answered, Set as Shown}
 use Rattle.ups_life.specs.declared.state.StepState.{StepState}
 use Rattle.ups_life.specs.declared.state.StepState.TheVariants.{Scheduled, InProgress, Completed, Canceled}
@@ -23,7 +24,7 @@ use Rattle.ups_life.specs.Settings.{Settings}
 use Rattle.ups_life.specs.Asking.{asked}
 use Rattle.ups_match.specs.Moments.{moment, day_number, days_of_month, field, is_date, is_time, date_number, second_of_day, microsecond_of, offset_of, signed_offset, stamp, begun, date_stamp, time_stamp, offset_stamp, year_on, month_on}
 use Rattle.ups_life.specs.Steps.{cancellation, row, held, holder, state, final_at}
-use Rattle.ups_life.specs.History.{status, entered, got}
+use Rattle.ups_life.specs.History.{reply, entered, got}
 
 abbrev site : Settings
 site = record { peers = []; keep = 60; offset = pos 0; limit = 1000000 }
@@ -70,52 +71,56 @@ create step attributes = Create step attributes
 abbrev entry : Asked → Entry (Unit {0})
 entry request = record { caller = 0; ae = codes "SCHED1"; moment = 120; request = request }
 
--- the history after some requests, newest first, and the statuses of the requests
+-- the history after some requests, newest first, and the replies to the requests
 abbrev after_all : Settings → List (Entry (Unit {0})) → List Asked → List (Entry (Unit {0}))
 after_all s es [] = es
-after_all s es (r ∷ rs) = after_all s (entered (entry r) (status s es 120 r) ++ es) rs
+after_all s es (r ∷ rs) = after_all s (entered (entry r) (reply s es (entry r)) ++ es) rs
 
-abbrev statuses : Settings → List (Entry (Unit {0})) → List Asked → List Status
-statuses s es [] = []
-statuses s es (r ∷ rs) = status s es 120 r ∷ statuses s (entered (entry r) (status s es 120 r) ++ es) rs
+abbrev replies : Settings → List (Entry (Unit {0})) → List Asked → List (Reply (Unit {0}))
+replies s es [] = []
+replies s es (r ∷ rs) = reply s es (entry r) ∷ replies s (entered (entry r) (reply s es (entry r)) ++ es) rs
+
+-- replies that are statuses
+abbrev answered : List Status → List (Reply (Unit {0}))
+answered = map (λ status. Answered status)
 
 abbrev one_step : List (Entry (Unit {0}))
 one_step = after_all site [] (create step_one a_step ∷ [])
 
 -- a step is created once
-second_create_is_refused : statuses site [] (create step_one a_step ∷ create step_one a_step ∷ []) ≡ Success ∷ DuplicateSopInstance ∷ []
+second_create_is_refused : replies site [] (create step_one a_step ∷ create step_one a_step ∷ []) ≡ answered (Success ∷ DuplicateSopInstance ∷ [])
 unfolding moment day_number days_of_month field is_date is_time date_number second_of_day microsecond_of offset_of signed_offset
 second_create_is_refused = refl
 
 -- it is created as SCHEDULED, with each checked attribute, which has a value, which is a good one
-bad_creates_are_refused : statuses site one_step (
+bad_creates_are_refused : replies site one_step (
     create step_two (start ∷ ready ∷ says PROCEDURE_STEP_STATE Cs (codes "IN PROGRESS ") ∷ priority (codes "MEDIUM") ∷ label ∷ [])
     ∷ create step_two (start ∷ ready ∷ scheduled ∷ label ∷ [])
     ∷ create step_two (start ∷ ready ∷ scheduled ∷ priority [] ∷ label ∷ [])
     ∷ create step_two (start ∷ ready ∷ scheduled ∷ priority (codes "URGENT") ∷ label ∷ [])
     ∷ create step_two []
     ∷ create step_two (record { tag = PROCEDURE_STEP_STATE; vr = Cs; value = items no_items } ∷ []) ∷ [])
-    ≡ NotScheduled ∷ MissingAttribute ∷ MissingAttributeValue ∷ InvalidAttributeValue ∷ NotScheduled ∷ NotScheduled ∷ []
+    ≡ answered (NotScheduled ∷ MissingAttribute ∷ MissingAttributeValue ∷ InvalidAttributeValue ∷ NotScheduled ∷ NotScheduled ∷ [])
 unfolding moment day_number days_of_month field is_date is_time date_number second_of_day microsecond_of offset_of signed_offset
 bad_creates_are_refused = refl
 
 -- each of the checked attributes has to be there (PS3.4 table CC.2.5-3)
-each_checked_attribute_is_required : statuses site [] (
+each_checked_attribute_is_required : replies site [] (
     create step_one (ready ∷ scheduled ∷ priority (codes "MEDIUM") ∷ label ∷ [])
     ∷ create step_one (start ∷ scheduled ∷ priority (codes "MEDIUM") ∷ label ∷ [])
     ∷ create step_one (start ∷ ready ∷ scheduled ∷ label ∷ [])
     ∷ create step_one (start ∷ ready ∷ scheduled ∷ priority (codes "MEDIUM") ∷ []) ∷ [])
-    ≡ MissingAttribute ∷ MissingAttribute ∷ MissingAttribute ∷ MissingAttribute ∷ []
+    ≡ answered (MissingAttribute ∷ MissingAttribute ∷ MissingAttribute ∷ MissingAttribute ∷ [])
 unfolding moment day_number days_of_month field is_date is_time date_number second_of_day microsecond_of offset_of signed_offset
 each_checked_attribute_is_required = refl
 
 -- the first fault by rising tag is told, and the Transaction UID comes before them
-first_fault_is_told : statuses site [] (
+first_fault_is_told : replies site [] (
     create step_one (says INPUT_READINESS_STATE Cs (codes "MAYBE ") ∷ scheduled ∷ [])
     ∷ create step_one (start ∷ says INPUT_READINESS_STATE Cs (codes "MAYBE ") ∷ scheduled ∷ [])
     ∷ create step_one (says TRANSACTION_UID Ui (codes "2.1" ++ 0 ∷ []) ∷ scheduled ∷ [])
     ∷ create step_one (says TRANSACTION_UID Ui (0 ∷ 0 ∷ []) ∷ a_step) ∷ [])
-    ≡ MissingAttribute ∷ InvalidAttributeValue ∷ InvalidAttributeValue ∷ Success ∷ []
+    ≡ answered (MissingAttribute ∷ InvalidAttributeValue ∷ InvalidAttributeValue ∷ Success ∷ [])
 unfolding moment day_number days_of_month field is_date is_time date_number second_of_day microsecond_of offset_of signed_offset
 first_fault_is_told = refl
 
@@ -130,7 +135,7 @@ unfolding moment day_number days_of_month field is_date is_time date_number seco
 uid_of_all_steps_is_none = refl
 
 -- what is held, and shown: the attributes with the class and the instance, never the Transaction UID
-step_is_held : held (after_all site [] (create step_one a_step ∷ create step_two [] ∷ create step_three a_step ∷ [])) ≡ step_one ∷ step_three ∷ []
+step_is_held : held site (after_all site [] (create step_one a_step ∷ create step_two [] ∷ create step_three a_step ∷ [])) ≡ step_one ∷ step_three ∷ []
 unfolding moment day_number days_of_month field is_date is_time date_number second_of_day microsecond_of offset_of signed_offset
 step_is_held = refl
 
@@ -153,7 +158,7 @@ nothing_is_left_to_show : got site one_step (Some step_one) (TRANSACTION_UID ∷
 unfolding moment day_number days_of_month field is_date is_time date_number second_of_day microsecond_of offset_of signed_offset
 nothing_is_left_to_show = refl
 
-transaction_uid_is_not_kept : row (pos 0) (after_all site [] (create step_one (says TRANSACTION_UID Ui [] ∷ a_step) ∷ [])) step_one ≡ shown_step
+transaction_uid_is_not_kept : row site (after_all site [] (create step_one (says TRANSACTION_UID Ui [] ∷ a_step) ∷ [])) step_one ≡ shown_step
 unfolding moment day_number days_of_month field is_date is_time date_number second_of_day microsecond_of offset_of signed_offset
 transaction_uid_is_not_kept = refl
 
@@ -169,8 +174,8 @@ malformed_instance_is_not_shown = refl
 abbrev small_site : Settings
 small_site = record { peers = []; keep = 60; offset = pos 0; limit = 2 }
 
-full_history_takes_no_more : statuses small_site [] (create step_one a_step ∷ create step_two a_step ∷ create step_three a_step ∷ create step_one a_step ∷ [])
-    ≡ Success ∷ Success ∷ ResourceLimitation ∷ DuplicateSopInstance ∷ []
+full_history_takes_no_more : replies small_site [] (create step_one a_step ∷ create step_two a_step ∷ create step_three a_step ∷ create step_one a_step ∷ [])
+    ≡ answered (Success ∷ Success ∷ ResourceLimitation ∷ DuplicateSopInstance ∷ [])
 unfolding moment day_number days_of_month field is_date is_time date_number second_of_day microsecond_of offset_of signed_offset
 full_history_takes_no_more = refl
 
@@ -190,7 +195,7 @@ other = codes "2.2"
 abbrev claimed : List (Entry (Unit {0}))
 claimed = after_all site one_step (claim mine ∷ [])
 
-second_claim_is_refused : statuses site one_step (claim mine ∷ claim other ∷ to Completed other ∷ to Scheduled mine ∷ []) ≡ Success ∷ AlreadyInProgress ∷ WrongTransactionUid ∷ ScheduledByCreateAlone ∷ []
+second_claim_is_refused : replies site one_step (claim mine ∷ claim other ∷ to Completed other ∷ to Scheduled mine ∷ []) ≡ answered (Success ∷ AlreadyInProgress ∷ WrongTransactionUid ∷ ScheduledByCreateAlone ∷ [])
 unfolding moment day_number days_of_month field is_date is_time date_number second_of_day microsecond_of offset_of signed_offset
 second_claim_is_refused = refl
 
@@ -202,14 +207,14 @@ nobody_holds_a_scheduled_step : holder one_step step_one ≡ None
 unfolding moment day_number days_of_month field is_date is_time date_number second_of_day microsecond_of offset_of signed_offset
 nobody_holds_a_scheduled_step = refl
 
-claim_needs_a_uid : statuses site one_step (Change (Some step_one) InProgress Absent ∷ Change (Some step_one) InProgress Malformed ∷ Change (Some step_two) InProgress Absent ∷ Change None InProgress Absent ∷ [])
-    ≡ WrongTransactionUid ∷ WrongTransactionUid ∷ UnknownInstance ∷ UnknownInstance ∷ []
+claim_needs_a_uid : replies site one_step (Change (Some step_one) InProgress Absent ∷ Change (Some step_one) InProgress Malformed ∷ Change (Some step_two) InProgress Absent ∷ Change None InProgress Absent ∷ [])
+    ≡ answered (WrongTransactionUid ∷ WrongTransactionUid ∷ UnknownInstance ∷ UnknownInstance ∷ [])
 unfolding moment day_number days_of_month field is_date is_time date_number second_of_day microsecond_of offset_of signed_offset
 claim_needs_a_uid = refl
 
 -- nobody finishes a step that is not claimed
-scheduled_step_is_not_finished : statuses site one_step (to Completed mine ∷ to Canceled mine ∷ Change (Some step_one) Completed Absent ∷ Change (Some step_one) Canceled Malformed ∷ [])
-    ≡ NotInProgress ∷ NotInProgress ∷ WrongTransactionUid ∷ WrongTransactionUid ∷ []
+scheduled_step_is_not_finished : replies site one_step (to Completed mine ∷ to Canceled mine ∷ Change (Some step_one) Completed Absent ∷ Change (Some step_one) Canceled Malformed ∷ [])
+    ≡ answered (NotInProgress ∷ NotInProgress ∷ WrongTransactionUid ∷ WrongTransactionUid ∷ [])
 unfolding moment day_number days_of_month field is_date is_time date_number second_of_day microsecond_of offset_of signed_offset
 scheduled_step_is_not_finished = refl
 
@@ -223,19 +228,19 @@ one_performed = says PERFORMED_PROCEDURE_STEP_START_DATE_TIME Dt (codes "2024022
 abbrev update : List ℕ → List El → Asked
 update uid set = Set (Some step_one) (Proper uid) set
 
-completed_after_what_was_performed_is_told : statuses site claimed (
+completed_after_what_was_performed_is_told : replies site claimed (
     to Completed other ∷ to Completed mine ∷ update mine (performed (one_performed ∷ []) ∷ []) ∷ to Completed mine ∷ to Completed mine ∷ to Canceled mine
     ∷ Change (Some step_one) Completed Absent ∷ AskCancel (Some step_one) [] ∷ claim other ∷ update mine [] ∷ [])
-    ≡ WrongTransactionUid ∷ FinalStateNotMet ∷ Success ∷ Success ∷ AlreadyCompleted ∷ NoLongerUpdatable ∷ WrongTransactionUid ∷ TooLateToCancel ∷ NoLongerUpdatable ∷ NoLongerUpdatable ∷ []
+    ≡ answered (WrongTransactionUid ∷ FinalStateNotMet ∷ Success ∷ Success ∷ AlreadyCompleted ∷ NoLongerUpdatable ∷ WrongTransactionUid ∷ TooLateToCancel ∷ NoLongerUpdatable ∷ NoLongerUpdatable ∷ [])
 unfolding moment day_number days_of_month field is_date is_time date_number second_of_day microsecond_of offset_of signed_offset
 completed_after_what_was_performed_is_told = refl
 
-one_performed_procedure_is_needed : statuses site claimed (
+one_performed_procedure_is_needed : replies site claimed (
     update mine (performed [] ∷ []) ∷ to Completed mine
     ∷ update mine (performed (one_performed ∷ one_performed ∷ []) ∷ []) ∷ to Completed mine
     ∷ update mine (performed ((says PERFORMED_PROCEDURE_STEP_START_DATE_TIME Dt (codes "20240229120100") ∷ []) ∷ []) ∷ []) ∷ to Completed mine
     ∷ update mine (performed ((says PERFORMED_PROCEDURE_STEP_START_DATE_TIME Dt (32 ∷ 32 ∷ []) ∷ says PERFORMED_PROCEDURE_STEP_END_DATE_TIME Dt (codes "20240229120200") ∷ []) ∷ []) ∷ []) ∷ to Completed mine ∷ [])
-    ≡ Success ∷ FinalStateNotMet ∷ Success ∷ FinalStateNotMet ∷ Success ∷ FinalStateNotMet ∷ Success ∷ FinalStateNotMet ∷ []
+    ≡ answered (Success ∷ FinalStateNotMet ∷ Success ∷ FinalStateNotMet ∷ Success ∷ FinalStateNotMet ∷ Success ∷ FinalStateNotMet ∷ [])
 unfolding moment day_number days_of_month field is_date is_time date_number second_of_day microsecond_of offset_of signed_offset
 one_performed_procedure_is_needed = refl
 
@@ -243,8 +248,8 @@ one_performed_procedure_is_needed = refl
 abbrev given_up : El
 given_up = record { tag = PROCEDURE_STEP_PROGRESS_INFORMATION_SEQUENCE; vr = Sq; value = items (items_of ((says PROCEDURE_STEP_CANCELLATION_DATE_TIME Dt (codes "20240229120300") ∷ []) ∷ [])) }
 
-canceled_after_its_time_is_told : statuses site claimed (to Canceled mine ∷ update mine (given_up ∷ []) ∷ to Canceled mine ∷ to Canceled mine ∷ to Completed mine ∷ AskCancel (Some step_one) [] ∷ update mine [] ∷ [])
-    ≡ FinalStateNotMet ∷ Success ∷ Success ∷ AlreadyCanceled ∷ NoLongerUpdatable ∷ AlreadyCanceled ∷ NoLongerUpdatable ∷ []
+canceled_after_its_time_is_told : replies site claimed (to Canceled mine ∷ update mine (given_up ∷ []) ∷ to Canceled mine ∷ to Canceled mine ∷ to Completed mine ∷ AskCancel (Some step_one) [] ∷ update mine [] ∷ [])
+    ≡ answered (FinalStateNotMet ∷ Success ∷ Success ∷ AlreadyCanceled ∷ NoLongerUpdatable ∷ AlreadyCanceled ∷ NoLongerUpdatable ∷ [])
 unfolding moment day_number days_of_month field is_date is_time date_number second_of_day microsecond_of offset_of signed_offset
 canceled_after_its_time_is_told = refl
 
@@ -252,7 +257,7 @@ canceled_after_its_time_is_told = refl
 abbrev stopped : List (Entry (Unit {0}))
 stopped = after_all site one_step (AskCancel (Some step_one) (says REASON_FOR_CANCELLATION Lt (codes "stop") ∷ []) ∷ [])
 
-canceled_by_request_has_no_right_uid : statuses site stopped (claim mine ∷ to Canceled mine ∷ to Completed mine ∷ AskCancel (Some step_one) [] ∷ []) ≡ NoLongerUpdatable ∷ WrongTransactionUid ∷ WrongTransactionUid ∷ AlreadyCanceled ∷ []
+canceled_by_request_has_no_right_uid : replies site stopped (claim mine ∷ to Canceled mine ∷ to Completed mine ∷ AskCancel (Some step_one) [] ∷ []) ≡ answered (NoLongerUpdatable ∷ WrongTransactionUid ∷ WrongTransactionUid ∷ AlreadyCanceled ∷ [])
 unfolding cancellation moment day_number days_of_month field is_date is_time date_number second_of_day microsecond_of offset_of signed_offset stamp begun date_stamp time_stamp offset_stamp year_on month_on
 canceled_by_request_has_no_right_uid = refl
 
@@ -261,19 +266,19 @@ unfolding cancellation moment day_number days_of_month field is_date is_time dat
 canceled_by_request_is_final = refl
 
 -- a claimed step goes on after a request to cancel it: its performer is to be asked
-claimed_step_goes_on : statuses site claimed (AskCancel (Some step_one) [] ∷ to Canceled mine ∷ []) ≡ Success ∷ FinalStateNotMet ∷ []
+claimed_step_goes_on : replies site claimed (AskCancel (Some step_one) [] ∷ to Canceled mine ∷ []) ≡ answered (Success ∷ FinalStateNotMet ∷ [])
 unfolding moment day_number days_of_month field is_date is_time date_number second_of_day microsecond_of offset_of signed_offset
 claimed_step_goes_on = refl
 
-request_to_cancel_changes_nothing_of_a_claimed_step : row (pos 0) (after_all site claimed (AskCancel (Some step_one) (says REASON_FOR_CANCELLATION Lt (codes "stop") ∷ []) ∷ [])) step_one ≡ row (pos 0) claimed step_one
+request_to_cancel_changes_nothing_of_a_claimed_step : row site (after_all site claimed (AskCancel (Some step_one) (says REASON_FOR_CANCELLATION Lt (codes "stop") ∷ []) ∷ [])) step_one ≡ row site claimed step_one
 unfolding moment day_number days_of_month field is_date is_time date_number second_of_day microsecond_of offset_of signed_offset
 request_to_cancel_changes_nothing_of_a_claimed_step = refl
 
 -- who may set what, and when
-sets_are_refused : statuses site one_step (update mine (label ∷ []) ∷ Set (Some step_one) Malformed (label ∷ []) ∷ Set (Some step_two) Absent [] ∷ Set (Some step_one) Absent (priority (codes "HIGH") ∷ []) ∷ claim mine
+sets_are_refused : replies site one_step (update mine (label ∷ []) ∷ Set (Some step_one) Malformed (label ∷ []) ∷ Set (Some step_two) Absent [] ∷ Set (Some step_one) Absent (priority (codes "HIGH") ∷ []) ∷ claim mine
     ∷ Set (Some step_one) Absent (label ∷ []) ∷ update other (label ∷ []) ∷ update mine (scheduled ∷ []) ∷ update mine (says SOP_INSTANCE_UID Ui (codes "1.2") ∷ [])
     ∷ update mine (says PROCEDURE_STEP_LABEL Lo [] ∷ []) ∷ update mine (priority (codes "URGENT") ∷ []) ∷ update mine (start ∷ []) ∷ update mine [] ∷ [])
-    ≡ NotInProgress ∷ NotInProgress ∷ UnknownInstance ∷ Success ∷ Success ∷ WrongTransactionUid ∷ WrongTransactionUid ∷ InvalidAttributeValue ∷ InvalidAttributeValue ∷ MissingAttributeValue ∷ InvalidAttributeValue ∷ Success ∷ Success ∷ []
+    ≡ answered (NotInProgress ∷ NotInProgress ∷ UnknownInstance ∷ Success ∷ Success ∷ WrongTransactionUid ∷ WrongTransactionUid ∷ InvalidAttributeValue ∷ InvalidAttributeValue ∷ MissingAttributeValue ∷ InvalidAttributeValue ∷ Success ∷ Success ∷ [])
 unfolding moment day_number days_of_month field is_date is_time date_number second_of_day microsecond_of offset_of signed_offset
 sets_are_refused = refl
 

@@ -1,9 +1,6 @@
 -- What a message asks (PS3.4 CC.2.1, CC.2.2, CC.2.5 to CC.2.8).
-use Rattle.std.specs.Prelude.{ℕ, ℤ, Bool, false, ◌||◌, ◌&&◌, ◌==◌, nat_lt, nat_le, List, length, Option, None, Some, Result, Ok, Err, if◌then◌else◌}
+use Rattle.std.specs.Prelude.{ℕ, ℤ, Bool, ◌&&◌, ◌==◌, nat_lt, nat_le, List, length, Option, None, Some, Result, Ok, Err, if◌then◌else◌}
 use Rattle.std.specs.List.{list_all, slice_split}
-use Rattle.std.specs.Str.{bytes_eq}
-use Rattle.ups_pdu.specs.declared.registered.RegisteredUid.TheVariants.{GlobalSubscription, FilteredGlobalSubscription}
-use Rattle.ups_pdu.specs.Registered.{text_of}
 use Rattle.ups_pdu.specs.Padding.{without_padding}
 use Rattle.ups_pdu.specs.Identifier.{is_component, is_dot}
 use Rattle.ups_dataset.specs.declared.dictionary.TheConstants.{PROCEDURE_STEP_STATE, TRANSACTION_UID}
@@ -21,14 +18,7 @@ use Rattle.ups_life.specs.declared.request.Ask.TheVariants.{Do, Get, Find}
 use Rattle.ups_life.specs.declared.status.Status.{Status}
 use Rattle.ups_life.specs.declared.status.Status.TheVariants.{InvalidArgumentValue, InvalidObjectInstance, NoSuchActionType, UnrecognizedOperation, IdentifierMismatch, ActionNotAppropriate}
 use Rattle.ups_life.specs.States.{state_of}
-
--- the instances that stand for global subscriptions, and are no steps (PS3.4 CC.2.3)
-abbrev pub is_well_known : List ℕ → Bool
-is_well_known uid = bytes_eq uid (text_of GlobalSubscription) || bytes_eq uid (text_of FilteredGlobalSubscription)
-
-abbrev pub is_subscription : Option (List ℕ) → Bool
-is_subscription None = false
-is_subscription (Some uid) = is_well_known uid
+use Rattle.ups_life.specs.Instances.{is_subscription, step_in}
 
 -- digits and dots, 1 to 64 (PS3.5 section 9.1)
 abbrev pub is_uid : List ℕ → Bool
@@ -55,10 +45,10 @@ abbrev pub named_state : Option El → Option StepState
 named_state None = None
 named_state (Some e) = state_value e.value
 
--- a step is created under a UID of its own
+-- a step is created under a UID of its own (PS3.4 CC.2.5)
 abbrev pub created : {A : Type 0} → Option (List ℕ) → List El → Result (Ask A) Status
 created None attributes = Err InvalidObjectInstance
-created (Some step) attributes = if is_well_known step then Err InvalidObjectInstance else Ok (Do (Create step attributes))
+created (Some step) attributes = Ok (Do (Create step attributes))
 
 abbrev pub changed_to : {A : Type 0} → Option (List ℕ) → Option StepState → Transaction → Result (Ask A) Status
 changed_to step None transaction = Err InvalidArgumentValue
@@ -66,14 +56,14 @@ changed_to step (Some state) transaction = Ok (Do (Change step state transaction
 
 -- an action is on a step, and no subscription; a change names one of the four states (PS3.4 table CC.2.1-1)
 abbrev pub changed : {A : Type 0} → Option (List ℕ) → List El → Result (Ask A) Status
-changed step attributes = if is_subscription step then Err ActionNotAppropriate else changed_to step (named_state (element_at PROCEDURE_STEP_STATE attributes)) (transaction_of (element_at TRANSACTION_UID attributes))
+changed instance attributes = if is_subscription instance then Err ActionNotAppropriate else changed_to (step_in instance) (named_state (element_at PROCEDURE_STEP_STATE attributes)) (transaction_of (element_at TRANSACTION_UID attributes))
 
 abbrev pub canceled : {A : Type 0} → Option (List ℕ) → List El → Result (Ask A) Status
-canceled step attributes = if is_subscription step then Err ActionNotAppropriate else Ok (Do (AskCancel step attributes))
+canceled instance attributes = if is_subscription instance then Err ActionNotAppropriate else Ok (Do (AskCancel (step_in instance) attributes))
 
 -- action types 1, Change UPS State, and 2, Request UPS Cancel (PS3.4 table CC.2-1); there are no others yet
 abbrev pub acted : {A : Type 0} → Option (List ℕ) → ℕ → List El → Result (Ask A) Status
-acted step action attributes = if action == 1 then changed step attributes else (if action == 2 then canceled step attributes else Err NoSuchActionType)
+acted instance action attributes = if action == 1 then changed instance attributes else (if action == 2 then canceled instance attributes else Err NoSuchActionType)
 
 -- the worklist is asked for by keys that can be read (PS3.4 section C.4.1.1.4)
 abbrev pub finds : {A : Type 0} → ℤ → List El → Option KeyFault → Result (Ask A) Status
@@ -83,9 +73,9 @@ finds offset attributes (Some fault) = Err IdentifierMismatch
 -- What a message asks; `offset` is that of a key's DT which says none, in minutes east of UTC. A C-ECHO is none of the
 -- services of the UPS SOP classes: it asks nothing of a step.
 abbrev pub asked : {A : Type 0} → ℤ → Operation A → List El → Result (Ask A) Status
-asked offset (operations.Create instance) attributes = created instance attributes
-asked offset (operations.Get instance listed) attributes = Ok (Get instance listed)
-asked offset (operations.Set instance) attributes = Ok (Do (Set instance (transaction_of (element_at TRANSACTION_UID attributes)) attributes))
+asked offset (operations.Create instance) attributes = created (step_in instance) attributes
+asked offset (operations.Get instance listed) attributes = Ok (Get (step_in instance) listed)
+asked offset (operations.Set instance) attributes = Ok (Do (Set (step_in instance) (transaction_of (element_at TRANSACTION_UID attributes)) attributes))
 asked offset (operations.Action instance action) attributes = acted instance action attributes
 asked offset (operations.Find priority) attributes = finds offset attributes (fault_of offset attributes)
 asked offset operations.Echo attributes = Err UnrecognizedOperation

@@ -1,12 +1,25 @@
 -- Why no row is made of what a request gives.
-use Rattle.std.specs.Prelude.{◌<◌, List}
-use Rattle.ups_dataset.specs.declared.limits.TheConstants.{MAX_DEPTH}
-use Rattle.ups_dataset.specs.Data.{El, elements_of}
-use Rattle.ups_dataset.specs.Valid.{depth_elements}
+use Rattle.std.specs.Prelude.{◌<◌, ◌≤◌, ◌+◌, nat_lt, nat_le, Bool, ◌&&◌, List, filter}
+use Rattle.ups_dataset.specs.Limits.{max_depth}
+use Rattle.ups_dataset.specs.Data.{El, elements_of, is_listed}
+use Rattle.ups_dataset.specs.Valid.{depth_data, depth_elements}
 use Rattle.ups_life.specs.declared.changing.ChangeFault.{ChangeFault}
 use Rattle.ups_life.specs.declared.changing.ChangeFault.TheVariants.{TooDeep, Memory}
+use Rattle.ups_life.specs.Steps.{REASONS}
 
--- its items nest too deep for a data set; or memory ran out, for whatever is given
+-- its items nest no deeper than those of a data set may
+abbrev pub IsShallow : List El → Type 0
+IsShallow set = depth_elements (elements_of set) ≤ max_depth
+
+-- its items nest too deep for a data set; or they don't, and memory ran out
 abbrev pub ChangeFails : List El → ChangeFault → Type 0
-ChangeFails given TooDeep = MAX_DEPTH < depth_elements (elements_of given)
-ChangeFails given Memory = Unit {0}
+ChangeFails given TooDeep = max_depth < depth_elements (elements_of given)
+ChangeFails given Memory = IsShallow given
+
+-- the reasons of a cancel request nest too deep to stand in an item
+abbrev pub nest_too_deep : List El → Bool
+nest_too_deep reasons = nat_lt max_depth (depth_elements (elements_of (filter (λ e. is_listed e.tag REASONS) reasons)) + 1)
+
+-- a reason that does
+abbrev pub is_deep_reason : El → Bool
+is_deep_reason e = is_listed e.tag REASONS && nat_le max_depth (depth_data e.value)

@@ -4,34 +4,41 @@ use Rattle.std.specs.List.{list_all}
 use Rattle.std.specs.Option.{unwrap_or}
 use Rattle.ups_dataset.specs.declared.tag.Tag.{Tag}
 use Rattle.ups_dataset.specs.declared.syntax.TransferSyntax.TheVariants.{Explicit}
-use Rattle.ups_dataset.specs.declared.limits.TheConstants.{MAX_DEPTH}
+use Rattle.ups_dataset.specs.Limits.{max_depth}
 use Rattle.ups_dataset.specs.Data.{El, element_at, elements_of, is_listed}
 use Rattle.ups_dataset.specs.Valid.{depth_elements}
 use Rattle.ups_dataset.specs.Written.{written}
 use Rattle.ups_life.specs.declared.request.Request.{Request}
 use Rattle.ups_life.specs.declared.request.Request.TheVariants.{Create, Change, AskCancel, Set}
 use Rattle.ups_life.specs.declared.request.Reply.{Reply}
-use Rattle.ups_life.specs.declared.request.Reply.TheVariants.{Status as Answered, Set as Shown}
+use Rattle.ups_life.specs.declared.request.Reply.TheVariants.{Status as Answered, Set as Shown, Sets as Found}
 use Rattle.ups_life.specs.declared.entry.Entry.{Entry}
 use Rattle.ups_life.specs.declared.row.Row.{Row}
 use Rattle.ups_life.specs.declared.status.Status.{Status}
 use Rattle.ups_life.specs.declared.status.Status.TheVariants.{Success, AttributesNotSupported, ResourceLimitation, UnknownInstance}
+use Rattle.ups_life.specs.Limits.{row_limit}
 use Rattle.ups_life.specs.Settings.{Settings}
 use Rattle.ups_life.specs.Verdict.{verdict}
 use Rattle.ups_life.specs.Steps.{used, step_of, row_after, nothing, known}
 
--- the request is accepted
-abbrev pub accepts : Status → Bool
-accepts Success = true
-accepts status = false
+-- the request is done
+abbrev pub is_done : Status → Bool
+is_done Success = true
+is_done status = false
 
--- what would be held of the step of a request at this moment
-abbrev pub row_then : {A : Type 0} → Settings → List (Entry A) → ℕ → Request A → Row A
-row_then s es moment request = row_after s.offset moment (unwrap_or (known s.offset es (step_of request)) nothing) request
+-- only what is done is accepted: what is shown or found changes nothing
+abbrev pub accepts : {A : Type 0} → Reply A → Bool
+accepts (Answered status) = is_done status
+accepts (Shown status set) = false
+accepts (Found sets) = false
 
--- a row has at most 1,048,576 bytes, and its items nest at most 8 deep
+-- what would be held of the step of an entry
+abbrev pub row_then : {A : Type 0} → Settings → List (Entry A) → Entry A → Row A
+row_then s es e = row_after s.offset e.moment (unwrap_or (known s es (step_of e.request)) nothing) e.request
+
+-- a row has no more bytes than it may have, and its items nest at most 8 deep
 abbrev pub fits : List El → Bool
-fits set = not (nat_lt 1048576 (length (written Explicit set))) && not (nat_lt MAX_DEPTH (depth_elements (elements_of set)))
+fits set = not (nat_lt row_limit (length (written Explicit set))) && not (nat_lt max_depth (depth_elements (elements_of set)))
 
 -- of which requests the row has to fit
 abbrev pub is_sized : {A : Type 0} → Request A → Bool
@@ -41,30 +48,33 @@ is_sized (AskCancel step reasons) = true
 is_sized (Set step transaction attributes) = true
 
 abbrev pub sized : {A : Type 0} → Request A → List El → Status → Status
-sized request set status = if accepts status && is_sized request && not (fits set) then ResourceLimitation else status
-
--- no request is entered where the history is full
-abbrev pub in_room : {A : Type 0} → Settings → List (Entry A) → Status → Status
-in_room s es status = if accepts status && not (nat_lt (length es) s.limit) then ResourceLimitation else status
+sized request set status = if is_done status && is_sized request && not (fits set) then ResourceLimitation else status
 
 -- the request creates a step under a UID that is used
 abbrev pub repeats : {A : Type 0} → List (Entry A) → Request A → Bool
 repeats es (Create step attributes) = used es step
 repeats es request = false
 
--- the status of a request at a moment after these entries
-abbrev pub status : {A : Type 0} → Settings → List (Entry A) → ℕ → Request A → Status
-status s es moment request =
-    in_room s es (sized request (row_then s es moment request).attributes (verdict (known s.offset es (step_of request)) (repeats es request) request))
+-- the status of what would be entered after these entries, where there is room for it
+abbrev pub status : {A : Type 0} → Settings → List (Entry A) → Entry A → Status
+status s es e = sized e.request (row_then s es e).attributes (verdict (known s es (step_of e.request)) (repeats es e.request) e.request)
+
+-- nothing is entered where the history is full
+abbrev pub in_room : {A : Type 0} → Settings → List (Entry A) → Reply A → Reply A
+in_room s es reply = if accepts reply && not (nat_lt (length es) s.limit) then Answered ResourceLimitation else reply
+
+-- the reply to what would be entered after these entries
+abbrev pub reply : {A : Type 0} → Settings → List (Entry A) → Entry A → Reply A
+reply s es e = in_room s es (Answered (status s es e))
 
 -- each entry was accepted after those before it
 abbrev pub legal : {A : Type 0} → Settings → List (Entry A) → Bool
 legal s [] = true
-legal s (e ∷ es) = accepts (status s es e.moment e.request) && legal s es
+legal s (e ∷ es) = accepts (reply s es e) && legal s es
 
 -- what a call enters: its request, where it was accepted
-abbrev pub entered : {A : Type 0} → Entry A → Status → List (Entry A)
-entered e status = if accepts status then e ∷ [] else []
+abbrev pub entered : {A : Type 0} → Entry A → Reply A → List (Entry A)
+entered e reply = if accepts reply then e ∷ [] else []
 
 -- all of these tags have a value in the row
 abbrev pub has_all : List El → List Tag → Bool
@@ -81,4 +91,4 @@ shown_of (Some r) tags = shown r.attributes tags
 
 -- the reply to an N-GET
 abbrev pub got : {A : Type 0} → Settings → List (Entry A) → Option (List ℕ) → List Tag → Reply A
-got s es step tags = shown_of (known s.offset es step) tags
+got s es step tags = shown_of (known s es step) tags

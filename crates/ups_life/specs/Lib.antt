@@ -1,13 +1,17 @@
 pub mod Asking
+pub mod CheckedAttributes
 pub mod Claims
 pub mod Deep
 pub mod Distinct
 pub mod History
+pub mod Instances
+pub mod Limits
 pub mod SetsCode
 pub mod Settings
 pub mod States
 pub mod Statuses
 pub mod Steps
+pub mod Telling
 pub mod Values
 pub mod Verdict
 pub mod Worklist

@@ -20,6 +20,7 @@ use Rattle.ups_life.specs.declared.state.StepState.TheVariants.{Scheduled, InPro
 use Rattle.ups_life.specs.declared.row.Row.{Row}
 use Rattle.ups_life.specs.declared.row.Holder.{Holder}
 use Rattle.ups_life.specs.declared.entry.Entry.{Entry}
+use Rattle.ups_life.specs.Settings.{Settings}
 use Rattle.ups_life.specs.States.{is_final, state_text}
 use Rattle.ups_life.specs.Values.{uid_value, text_value}
 
@@ -151,13 +152,13 @@ abbrev pub gives : {A : Type 0} → ℤ → StepState → List ℕ → Entry A �
 gives offset before u e = if is_on u e.request then given offset e.moment before e.request else []
 
 -- the attributes of u: each has the value of the last entry that gives it (PS3.4 CC.2.5, CC.2.6)
-abbrev pub row : {A : Type 0} → ℤ → List (Entry A) → List ℕ → List El
-row offset [] u = []
-row offset (e ∷ es) u = laid_over (gives offset (state es u) u e) (row offset es u)
+abbrev pub row : {A : Type 0} → Settings → List (Entry A) → List ℕ → List El
+row s [] u = []
+row s (e ∷ es) u = laid_over (gives s.offset (state es u) u e) (row s es u)
 
 -- all that is held of u
-abbrev pub row_of : {A : Type 0} → ℤ → List (Entry A) → List ℕ → Row A
-row_of offset es u = record { attributes = row offset es u; state = state es u; transaction = right es u; final_at = final_at es u }
+abbrev pub row_of : {A : Type 0} → Settings → List (Entry A) → List ℕ → Row A
+row_of s es u = record { attributes = row s es u; state = state es u; transaction = right es u; final_at = final_at es u }
 
 -- what there is of a step before it is created
 abbrev pub nothing : {A : Type 0} → Row A
@@ -178,18 +179,18 @@ held_after steps (Create step attributes) = steps ++ step ∷ []
 held_after steps request = steps
 
 -- the steps held, in order of creation
-abbrev pub held : {A : Type 0} → List (Entry A) → List (List ℕ)
-held [] = []
-held (e ∷ es) = held_after (held es) e.request
+abbrev pub held : {A : Type 0} → Settings → List (Entry A) → List (List ℕ)
+held s [] = []
+held s (e ∷ es) = held_after (held s es) e.request
 
 -- the step is held
-abbrev pub is_held : {A : Type 0} → List (Entry A) → List ℕ → Bool
-is_held es u = list_any (λ v. bytes_eq v u) (held es)
+abbrev pub is_held : {A : Type 0} → Settings → List (Entry A) → List ℕ → Bool
+is_held s es u = list_any (λ v. bytes_eq v u) (held s es)
 
 -- what is known of the step of a request
-abbrev pub known : {A : Type 0} → ℤ → List (Entry A) → Option (List ℕ) → Option (Row A)
-known offset es None = None
-known offset es (Some u) = if is_held es u then Some (row_of offset es u) else None
+abbrev pub known : {A : Type 0} → Settings → List (Entry A) → Option (List ℕ) → Option (Row A)
+known s es None = None
+known s es (Some u) = if is_held s es u then Some (row_of s es u) else None
 
 -- who holds a step: whoever has claimed it
 abbrev pub holder : {A : Type 0} → List (Entry A) → List ℕ → Option Holder

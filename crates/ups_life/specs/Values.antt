@@ -1,6 +1,6 @@
 -- What the values of attributes say, and which of them are checked.
-use Rattle.std.specs.Prelude.{ℕ, pos, ◌%◌, ◌==◌, Bool, true, false, not, ◌||◌, List, [], ◌∷◌, ◌++◌, length, Option, None, Some, is_some, codes, if◌then◌else◌}
-use Rattle.std.specs.List.{list_all}
+use Rattle.std.specs.Prelude.{ℕ, pos, ◌%◌, ◌==◌, Bool, true, false, not, List, [], ◌∷◌, ◌++◌, length, Option, None, Some, is_some, codes, if◌then◌else◌}
+use Rattle.std.specs.List.{list_all, list_any}
 use Rattle.std.specs.Str.{bytes_eq}
 use Rattle.ups_pdu.specs.Padding.{without_padding}
 use Rattle.ups_dataset.specs.declared.tag.Tag.{Tag}
@@ -24,13 +24,20 @@ uid_value uid = padded 0 uid
 abbrev pub text_value : List ℕ → List ℕ
 text_value text = padded 32 text
 
+-- the Input Readiness States, and the priorities (PS3.3 C.30.2)
+abbrev pub READINESS_STATES : List (List ℕ)
+READINESS_STATES = codes "INCOMPLETE" ∷ codes "UNAVAILABLE" ∷ codes "READY" ∷ []
+
+abbrev pub PRIORITIES : List (List ℕ)
+PRIORITIES = codes "HIGH" ∷ codes "MEDIUM" ∷ codes "LOW" ∷ []
+
 -- which texts an attribute may have (PS3.3 C.30.2); whether one is a DT (PS3.5 section 6.2) is the same whatever the
 -- offset
 abbrev pub allows : ValueRule → List ℕ → Bool
 allows AnyText text = true
 allows DateTime text = is_some (moment text (pos 0) false)
-allows Readiness text = bytes_eq text (codes "INCOMPLETE") || bytes_eq text (codes "UNAVAILABLE") || bytes_eq text (codes "READY")
-allows Priority text = bytes_eq text (codes "HIGH") || bytes_eq text (codes "MEDIUM") || bytes_eq text (codes "LOW")
+allows Readiness text = list_any (bytes_eq text) READINESS_STATES
+allows Priority text = list_any (bytes_eq text) PRIORITIES
 
 abbrev pub text_status : ValueRule → List ℕ → Status
 text_status rule [] = MissingAttributeValue

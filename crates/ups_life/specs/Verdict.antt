@@ -4,7 +4,6 @@ use Rattle.std.specs.Prelude.{Bool, true, false, ◌||◌, List, [], ◌∷◌, 
 use Rattle.std.specs.Str.{bytes_eq}
 use Rattle.ups_dataset.specs.Data.{El, element_at}
 use Rattle.ups_dataset.specs.declared.dictionary.TheConstants.{SOP_CLASS_UID, SOP_INSTANCE_UID, PROCEDURE_STEP_STATE, TRANSACTION_UID, UNIFIED_PROCEDURE_STEP_PERFORMED_PROCEDURE_SEQUENCE, PROCEDURE_STEP_PROGRESS_INFORMATION_SEQUENCE, PERFORMED_PROCEDURE_STEP_START_DATE_TIME, PERFORMED_PROCEDURE_STEP_END_DATE_TIME, PROCEDURE_STEP_CANCELLATION_DATE_TIME}
-use Rattle.ups_life.specs.declared.checks.TheConstants.{CHECKED}
 use Rattle.ups_life.specs.declared.status.Status.{Status}
 use Rattle.ups_life.specs.declared.status.Status.TheVariants.{Success, InvalidAttributeValue, DuplicateSopInstance, UnknownInstance, NotScheduled, NoLongerUpdatable, WrongTransactionUid, AlreadyInProgress, ScheduledByCreateAlone, FinalStateNotMet, NotInProgress, TooLateToCancel, AlreadyCanceled, AlreadyCompleted}
 use Rattle.ups_life.specs.declared.state.StepState.{StepState}
@@ -14,6 +13,7 @@ use Rattle.ups_life.specs.declared.request.Transaction.TheVariants.{Absent, Malf
 use Rattle.ups_life.specs.declared.request.Request.{Request}
 use Rattle.ups_life.specs.declared.request.Request.TheVariants.{Create, Change, AskCancel, Set}
 use Rattle.ups_life.specs.declared.row.Row.{Row}
+use Rattle.ups_life.specs.CheckedAttributes.{checked_attributes}
 use Rattle.ups_life.specs.Values.{says, is_blank, first_fault, first_given_fault, unless_fault, has_item_with}
 
 -- the attributes of a new step: SCHEDULED, without a Transaction UID, then the checked attributes by rising tag
@@ -21,7 +21,7 @@ use Rattle.ups_life.specs.Values.{says, is_blank, first_fault, first_given_fault
 abbrev pub create_status : List El → Status
 create_status set =
     if says (codes "SCHEDULED") (element_at PROCEDURE_STEP_STATE set) then (
-    if is_blank (element_at TRANSACTION_UID set) then first_fault CHECKED set else InvalidAttributeValue) else NotScheduled
+    if is_blank (element_at TRANSACTION_UID set) then first_fault checked_attributes set else InvalidAttributeValue) else NotScheduled
 
 -- THE LIFE CYCLE (PS3.4 CC.1.1, CC.2.1, CC.2.2): each function is a row of its table, each line a cell.
 
@@ -103,7 +103,7 @@ abbrev pub gives_fixed : List El → Bool
 gives_fixed set = is_some (element_at SOP_CLASS_UID set) || is_some (element_at SOP_INSTANCE_UID set) || is_some (element_at PROCEDURE_STEP_STATE set)
 
 abbrev pub set_attributes_status : List El → Status
-set_attributes_status set = if gives_fixed set then InvalidAttributeValue else first_given_fault CHECKED set
+set_attributes_status set = if gives_fixed set then InvalidAttributeValue else first_given_fault checked_attributes set
 
 -- an N-SET on a step (PS3.4 CC.2.6)
 abbrev pub update_status : {A : Type 0} → Row A → Transaction → List El → Status

@@ -1,5 +1,5 @@
 -- The worklist: which steps match keys, and what is told of them (PS3.4 sections CC.2.8 and C.4.1).
-use Rattle.std.specs.Prelude.{ℤ, Bool, List, map, filter}
+use Rattle.std.specs.Prelude.{Bool, List, map, filter}
 use Rattle.ups_dataset.specs.Data.{El, answer}
 use Rattle.ups_match.specs.Matching.{KeySet, is_match}
 use Rattle.ups_life.specs.declared.entry.Entry.{Entry}
@@ -7,14 +7,14 @@ use Rattle.ups_life.specs.Settings.{Settings}
 use Rattle.ups_life.specs.Steps.{row, held}
 
 -- the attributes of the steps held, in order of creation
-abbrev pub rows : {A : Type 0} → ℤ → List (Entry A) → List (List El)
-rows offset es = map (row offset es) (held es)
+abbrev pub rows : {A : Type 0} → Settings → List (Entry A) → List (List El)
+rows s es = map (row s es) (held s es)
 
 -- what those are answered to which a test says yes
-abbrev pub found : {A : Type 0} → (KeySet → List El → Bool) → ℤ → List (Entry A) → KeySet → List (List El)
-found says offset es keys = map (λ r. answer r keys.attributes) (filter (says keys) (rows offset es))
+abbrev pub found : {A : Type 0} → (KeySet → List El → Bool) → Settings → List (Entry A) → KeySet → List (List El)
+found says s es keys = map (λ r. answer r keys.attributes) (filter (says keys) (rows s es))
 
 -- THE WORKLIST (PS3.4 sections CC.2.8 and C.4.1): the steps held that match, in order of creation, each with the
 -- keys' attributes. The Transaction UID is in no row, and so is never told.
 abbrev pub worklist : {A : Type 0} → Settings → List (Entry A) → KeySet → List (List El)
-worklist s es keys = found is_match s.offset es keys
+worklist s es keys = found is_match s es keys

@@ -1,6 +1,7 @@
 //! What a request makes of the row of its step.
 
-ghost use Rattle.std.specs.Prelude.{◌≡◌, ◌%◌, ◌&&◌, not, ◌∷◌, [], length, None, Some, IfOk, IfErr, if◌then◌else◌};
+ghost use Rattle.std.specs.Prelude.{◌≡◌, ◌%◌, ◌&&◌, not, ◌∷◌, [], length, false, None, Some, IfOk, IfErr, OnOk, if◌then◌else◌};
+ghost use Rattle.std.specs.List.{list_any};
 ghost use Rattle.std.specs.Option.{option_copied, unwrap_or};
 ghost use Rattle.ups_dataset.specs.declared.vr.Vr.TheVariants.{Ui};
 ghost use Rattle.ups_dataset.specs.Data.{bytes, put, laid_over};
@@ -9,7 +10,7 @@ ghost use Rattle.ups_dataset.specs.View.{element_view};
 ghost use Rattle.ups_life.specs.Settings.{IsMoment, IsOffset};
 ghost use Rattle.ups_life.specs.declared.changing.ChangeFault.TheVariants.{Memory};
 ghost use Rattle.ups_life.specs.declared.state.StepState.TheVariants.{Scheduled};
-ghost use Rattle.ups_life.specs.Deep.{ChangeFails};
+ghost use Rattle.ups_life.specs.Deep.{IsShallow, ChangeFails, nest_too_deep, is_deep_reason};
 ghost use Rattle.ups_life.specs.States.{is_final};
 ghost use Rattle.ups_life.specs.Values.{padded, uid_value, text_value};
 ghost use Rattle.ups_life.specs.Steps.{new_row, state_element, cancellation, progress_element, cancel_gives, given, state_then, taken, nothing, row_after};
@@ -17,6 +18,7 @@ ghost use Rattle.ups_life.specs.Steps.{new_row, state_element, cancellation, pro
 use crate::request::{Request, Transaction};
 use crate::row::Row;
 use crate::state::StepState;
+use crate::step::StepUid;
 use std::alloc::{AllocError, Allocator};
 use thiserror::Error;
 use ups_dataset::dictionary::{
@@ -27,6 +29,12 @@ use ups_dataset::dictionary::{
 use ups_dataset::{DataSet, Element, MAX_DEPTH, Tag, Vr};
 use ups_match::write_dt;
 use ups_pdu::{Bytes, RegisteredUid, Uid};
+
+/// What is kept of a cancel request: its reason, as a code and as a text (PS3.4 CC.2.2).
+const REASONS: [Tag; 2] = [
+    PROCEDURE_STEP_DISCONTINUATION_REASON_CODE_SEQUENCE,
+    REASON_FOR_CANCELLATION,
+];
 
 /// Why no row is made.
 #[derive(Clone, Copy, Debug, PartialEq, Eq, Error)]
@@ -88,7 +96,7 @@ fn text_element<A: Allocator + Copy>(
 /// UIDs (PS3.4 CC.2.5).
 fn new_row<A: Allocator + Copy>(
     alloc: A,
-    step: Uid,
+    step: StepUid,
     attributes: &DataSet<A>,
 ) -> Result<DataSet<A>, AllocError>
     ensures { IfOk result (λ row. row ≡ new_row step attributes.now) }
@@ -128,10 +136,7 @@ fn cancellation<A: Allocator + Copy>(
     requires offset { IsOffset offset }
     ensures { IfOk result (λ set. set ≡ cancellation offset moment reasons.now) }
 {
-    let mut item = reasons.project(&[
-        PROCEDURE_STEP_DISCONTINUATION_REASON_CODE_SEQUENCE,
-        REASON_FOR_CANCELLATION,
-    ])?;
+    let mut item = reasons.project(&REASONS)?;
     let text = write_dt(moment, offset);
     item.replace(text_element(alloc, PROCEDURE_STEP_CANCELLATION_DATE_TIME, Vr::Dt, &text)?)?;
     Ok(item)
@@ -179,9 +184,48 @@ fn state_over<A: Allocator + Copy>(
     Ok(set)
 }
 
+/// Whether an element is a reason for a cancellation that nests too deep to stand in an item.
+fn is_deep_reason<A: Allocator + Copy>(element: &Element<A>) -> bool
+    ensures { result ≡ is_deep_reason (element_view element.now) }
+{
+    REASONS.iter().any(|tag| *tag == element.tag) && element.value.depth() >= MAX_DEPTH
+}
+
+/// Whether one of these elements is such a reason.
+fn has_deep_reason<A: Allocator + Copy>(elements: &[Element<A>]) -> bool
+    ensures { result ≡ list_any (λ e. is_deep_reason (element_view e)) elements.now }
+{
+    elements.iter().any(|element| is_deep_reason(element))
+}
+
+/// Whether the reasons of a cancel request nest too deep to stand in an item.
+fn nest_too_deep<A: Allocator + Copy>(reasons: &DataSet<A>) -> bool
+    ensures { result ≡ nest_too_deep reasons.now }
+{
+    has_deep_reason(reasons.elements())
+}
+
 /// What a request to cancel gives to a step that nobody has claimed: CANCELED, and when and why.
+#[tactic(auto, using(crate::proofs::Cancels::good))]
+fn canceled<A: Allocator + Copy>(
+    alloc: A,
+    moment: u64,
+    offset: i16,
+    reasons: &DataSet<A>,
+) -> Result<DataSet<A>, AllocError>
+    requires moment { IsMoment moment }
+    requires offset { IsOffset offset }
+    requires shallow { nest_too_deep reasons.now ≡ false }
+    ensures { IfOk result (λ set. set ≡ cancel_gives Scheduled offset moment reasons.now) }
+{
+    let progress = progress_element(alloc, moment, offset, reasons)?;
+    state_over(alloc, StepState::Canceled, progress)
+}
+
+/// The same, where the items of the reasons do not nest too deep.
 ///
 /// Errors: TooDeep where the items of the reasons nest 8 deep; Memory.
+#[tactic(auto, using(crate::proofs::Cancels::too_deep, crate::proofs::Cancels::not_too_deep))]
 fn canceled_by_request<A: Allocator + Copy>(
     alloc: A,
     moment: u64,
@@ -191,16 +235,17 @@ fn canceled_by_request<A: Allocator + Copy>(
     requires moment { IsMoment moment }
     requires offset { IsOffset offset }
     ensures given { IfOk result (λ set. set ≡ cancel_gives Scheduled offset moment reasons.now) }
+    ensures shallow { OnOk result (IsShallow (cancel_gives Scheduled offset moment reasons.now)) }
     ensures deep { IfErr result (ChangeFails (cancel_gives Scheduled offset moment reasons.now)) }
 {
-    let progress = progress_element(alloc, moment, offset, reasons)?;
-    if progress.value.depth() > MAX_DEPTH {
+    if nest_too_deep(reasons) {
         return Err(ChangeFault::TooDeep);
     }
-    Ok(state_over(alloc, StepState::Canceled, progress)?)
+    Ok(canceled(alloc, moment, offset, reasons)?)
 }
 
 /// What a request at a moment gives to its step, which was in this state.
+#[tactic(auto, using(crate::proofs::Cancels::new_shallow, crate::proofs::Cancels::set_shallow))]
 fn given<A: Allocator + Copy>(
     alloc: A,
     moment: u64,
@@ -211,8 +256,10 @@ fn given<A: Allocator + Copy>(
     requires moment { IsMoment moment }
     requires offset { IsOffset offset }
     ensures given { IfOk result (λ set. set ≡ given offset moment before request.now) }
+    ensures shallow { OnOk result (IsShallow (given offset moment before request.now)) }
     ensures deep { IfErr result (ChangeFails (given offset moment before request.now)) }
 {
+    request.is_well_formed();
     match request {
         Request::Create { step, attributes } => Ok(new_row(alloc, *step, attributes)?),
         Request::Change { state, .. } => Ok(state_alone(alloc, *state)?),
@@ -309,7 +356,8 @@ fn over<A: Allocator + Copy>(
 /// `moment` is in seconds since 1970-01-01 UTC, `offset` that of the local time from UTC in minutes, east of it
 /// above 0.
 ///
-/// Errors: TooDeep where the items that a cancel request gives would nest more than 8 deep; Memory.
+/// Errors: TooDeep where the items that a cancel request gives would nest more than 8 deep, and only there; else Memory
+/// where memory runs out.
 pub fn change<A: Allocator + Copy>(
     alloc: A,
     row: Option<&Row<A>>,
@@ -320,6 +368,7 @@ pub fn change<A: Allocator + Copy>(
     requires moment { IsMoment moment }
     requires offset { IsOffset offset }
     ensures row { IfOk result (λ after. after ≡ row_after offset moment (unwrap_or (option_copied row.entry) nothing) request.now) }
+    ensures shallow { OnOk result (IsShallow (given offset moment (unwrap_or (option_copied row.entry) nothing).state request.now)) }
     ensures deep { IfErr result (ChangeFails (given offset moment (unwrap_or (option_copied row.entry) nothing).state request.now)) }
 {
     let before = state_of(row);

@@ -1,6 +1,7 @@
-//! What the life cycle of a step owes (PS3.4 CC.1.1): laws, each the contract of a function that does nothing.
+//! What the life cycle of a step owes (PS3.4 CC.1.1), and which tables it stands on: laws, each the contract of a
+//! function that does nothing.
 
-ghost use Rattle.std.specs.Prelude.{◌≡◌, ◌≤◌, ℕ, ℤ, List, ◌∷◌, length, true, None, Some};
+ghost use Rattle.std.specs.Prelude.{◌≡◌, ◌≤◌, ℕ, List, ◌∷◌, length, true, None, Some};
 ghost use Rattle.ups_dataset.specs.declared.dictionary.TheConstants.{TRANSACTION_UID};
 ghost use Rattle.ups_dataset.specs.Data.{El, element_at, answer_to, without_value};
 ghost use Rattle.ups_life.specs.declared.entry.Entry.{Entry};
@@ -9,13 +10,33 @@ ghost use Rattle.ups_life.specs.declared.request.Transaction.{Transaction};
 ghost use Rattle.ups_life.specs.declared.request.Transaction.TheVariants.{Proper};
 ghost use Rattle.ups_life.specs.declared.state.StepState.{StepState};
 ghost use Rattle.ups_life.specs.declared.state.StepState.TheVariants.{InProgress};
+ghost use Rattle.ups_life.specs.CheckedAttributes.{checked_attributes};
+ghost use Rattle.ups_life.specs.Limits.{last_moment, row_limit, history_limit, peer_limit, least_offset, greatest_offset};
 ghost use Rattle.ups_life.specs.Settings.{Settings};
 ghost use Rattle.ups_life.specs.States.{is_final};
 ghost use Rattle.ups_life.specs.Steps.{Claim, past, state, claim, right, row};
+ghost use Rattle.ups_life.specs.Telling.{EachRowTells};
 ghost use Rattle.ups_life.specs.Claims.{claims};
 ghost use Rattle.ups_life.specs.History.{legal};
 
+use crate::checks::CHECKED;
+use crate::entry::Entry;
+use crate::limits::{MAX_HISTORY, MAX_MOMENT, MAX_OFFSET, MAX_PEERS, MAX_ROW_BYTES, MIN_OFFSET};
 use std::alloc::Allocator;
+
+/// The attributes that are checked are those of PS3.4 table CC.2.5-3, each with its rule.
+pub fn checked_attributes_are_those_defined()
+    ensures { CHECKED ≡ checked_attributes }
+{}
+
+/// The limits are those of the definitions.
+pub fn limits_are_those_defined()
+    ensures moment { MAX_MOMENT ≡ last_moment }
+    ensures row { MAX_ROW_BYTES ≡ row_limit }
+    ensures history { MAX_HISTORY ≡ history_limit }
+    ensures peers { MAX_PEERS ≡ peer_limit }
+    ensures offsets { (MIN_OFFSET ≡ least_offset) × (MAX_OFFSET ≡ greatest_offset) }
+{}
 
 /// In a history of accepted requests a step is claimed at most once.
 pub fn a_step_is_claimed_once<A: Allocator + Copy>()
@@ -44,7 +65,17 @@ pub fn only_the_holder_finishes<A: Allocator + Copy>()
 /// No step shows its Transaction UID, whatever was asked of it (PS3.4 CC.2.5): its attributes have none, and a query that
 /// asks for it is answered without a value.
 pub fn a_transaction_uid_is_never_told<A: Allocator + Copy>()
-    ensures shown { (offset : ℤ) → (es : List (Entry A)) → (u : List ℕ) → element_at TRANSACTION_UID (row offset es u) ≡ None }
-    ensures found { (offset : ℤ) → (es : List (Entry A)) → (u : List ℕ) → (key : El) → key.tag ≡ TRANSACTION_UID
-        → answer_to (row offset es u) key ≡ record { tag = key.tag; vr = key.vr; value = without_value key.value } }
+    ensures shown { (s : Settings) → (es : List (Entry A)) → (u : List ℕ) → element_at TRANSACTION_UID (row s es u) ≡ None }
+    ensures found { (s : Settings) → (es : List (Entry A)) → (u : List ℕ) → (key : El) → key.tag ≡ TRANSACTION_UID
+        → answer_to (row s es u) key ≡ record { tag = key.tag; vr = key.vr; value = without_value key.value } }
 {}
+
+/// The row of each step held tells its state, which step it is, of which class, and one of the three Input Readiness
+/// States (PS3.4 table CC.2.5-3).
+pub fn a_row_tells_its_state<A: Allocator + Copy>(history: &[Entry<A>])
+    ensures { (s : Settings) → legal s (past history.now) ≡ true → EachRowTells s (past history.now) }
+{
+    for entry in history {
+        entry.request.is_well_formed();
+    }
+}

@@ -18,6 +18,7 @@ mod sets;
 mod showing;
 mod state;
 mod status;
+mod step;
 mod values;
 
 pub use actions::{CHANGE_STATE, REQUEST_CANCEL};
@@ -26,7 +27,7 @@ pub use checks::{CHECKED, Checked, ValueRule};
 pub use configuration::Configuration;
 pub use deciding::verdict;
 pub use entry::{Entry, Peer};
-pub use limits::MAX_MOMENT;
+pub use limits::{MAX_HISTORY, MAX_MOMENT, MAX_OFFSET, MAX_PEERS, MAX_ROW_BYTES, MIN_OFFSET};
 pub use plain::{plain_find, repeats, used};
 pub use reading::read_request;
 pub use request::{Ask, Reply, Request, Transaction};
@@ -35,6 +36,7 @@ pub use sets::Sets;
 pub use showing::shown;
 pub use state::StepState;
 pub use status::Status;
+pub use step::StepUid;
 
 #[cfg(test)]
 mod tests;

@@ -1,6 +1,6 @@
 //! The questions to a history, answered by walking it: plain and slow.
 
-ghost use Rattle.std.specs.Prelude.{◌≡◌, ◌∷◌, ◌++◌, [], ℕ, map, filter, All, IfOk, OnOk, if◌then◌else◌};
+ghost use Rattle.std.specs.Prelude.{◌≡◌, ◌∷◌, ◌++◌, [], map, filter, All, IfOk, OnOk, if◌then◌else◌};
 ghost use Rattle.std.specs.Option.{unwrap_or};
 ghost use Rattle.ups_dataset.specs.Data.{answer};
 ghost use Rattle.ups_match.specs.Matching.{is_match};
@@ -10,16 +10,17 @@ ghost use Rattle.ups_life.specs.History.{repeats};
 ghost use Rattle.ups_life.specs.Worklist.{worklist};
 
 use crate::changing::{ChangeFault, change};
-use crate::entry::{Entry, Peer};
+use crate::configuration::Configuration;
+use crate::entry::Entry;
 use crate::request::Request;
 use crate::row::Row;
 use crate::sets::Sets;
+use crate::step::StepUid;
 use std::alloc::{AllocError, Allocator};
 use ups_dataset::DataSet;
 use ups_match::{Keys, Matcher, Probe};
-use ups_pdu::Uid;
 
-fn creates<A: Allocator + Copy>(uid: Uid, request: &Request<A>) -> bool
+fn creates<A: Allocator + Copy>(uid: StepUid, request: &Request<A>) -> bool
     ensures { result ≡ creates uid request.now }
 {
     match request {
@@ -29,7 +30,7 @@ fn creates<A: Allocator + Copy>(uid: Uid, request: &Request<A>) -> bool
 }
 
 /// Whether a step with this UID was created.
-pub fn used<A: Allocator + Copy>(history: &[Entry<A>], uid: Uid) -> bool
+pub fn used<A: Allocator + Copy>(history: &[Entry<A>], uid: StepUid) -> bool
     ensures { result ≡ used (past history.now) uid }
 {
     let mut found = false;
@@ -50,7 +51,7 @@ pub fn repeats<A: Allocator + Copy>(history: &[Entry<A>], request: &Request<A>) 
 }
 
 /// Whether a request is on this step.
-fn is_on<A: Allocator + Copy>(uid: Uid, request: &Request<A>) -> bool
+fn is_on<A: Allocator + Copy>(uid: StepUid, request: &Request<A>) -> bool
     ensures { result ≡ is_on uid request.now }
 {
     match request.step() {
@@ -64,18 +65,19 @@ fn is_on<A: Allocator + Copy>(uid: Uid, request: &Request<A>) -> bool
 /// Errors: those of `change`.
 fn after_entry<A: Allocator + Copy>(
     alloc: A,
+    configuration: &Configuration<A>,
     row: Option<Row<A>>,
     entry: &Entry<A>,
-    offset: i16,
-    step: Uid,
+    step: StepUid,
 ) -> Result<Option<Row<A>>, ChangeFault>
     requires moment { IsMoment entry.now.moment }
-    requires offset { IsOffset offset }
-    ensures { IfOk result (λ after. unwrap_or after nothing ≡ (if is_on step entry.now.request then row_after offset entry.now.moment (unwrap_or row nothing) entry.now.request else unwrap_or row nothing)) }
+    requires offset { IsOffset configuration.now.offset }
+    ensures { IfOk result (λ after. unwrap_or after nothing ≡ (if is_on step entry.now.request then row_after configuration.now.offset entry.now.moment (unwrap_or row nothing) entry.now.request else unwrap_or row nothing)) }
 {
     if !is_on(step, &entry.request) {
         return Ok(row);
     }
+    let offset = configuration.offset();
     let after = change(alloc, row.as_ref(), &entry.request, entry.moment, offset)?;
     Ok(Some(after))
 }
@@ -85,17 +87,17 @@ fn after_entry<A: Allocator + Copy>(
 /// Errors: TooDeep where an entry gives items that nest too deep, which no accepted request does; Memory.
 fn row<A: Allocator + Copy>(
     alloc: A,
+    configuration: &Configuration<A>,
     entries: &[Entry<A>],
-    offset: i16,
-    step: Uid,
+    step: StepUid,
 ) -> Result<DataSet<A>, ChangeFault>
     requires moments { All (λ e. IsMoment e.moment) entries.now }
-    requires offset { IsOffset offset }
-    ensures { IfOk result (λ set. set ≡ row offset (past entries.now) step) }
+    requires offset { IsOffset configuration.now.offset }
+    ensures { IfOk result (λ set. set ≡ row configuration.now (past entries.now) step) }
 {
     let mut row: Option<Row<A>> = None;
     for entry in entries {
-        row = after_entry(alloc, row, entry, offset, step)?;
+        row = after_entry(alloc, configuration, row, entry, step)?;
     }
     match row {
         Some(row) => Ok(row.attributes),
@@ -123,27 +125,25 @@ fn add_answer<A: Allocator + Copy>(
 /// Errors: those of `row`.
 fn add_created<A: Allocator + Copy>(
     alloc: A,
+    configuration: &Configuration<A>,
     sets: &mut Sets<A>,
     keys: &Keys<A>,
     entries: &[Entry<A>],
-    offset: i16,
     request: &Request<A>,
 ) -> Result<(), ChangeFault>
     requires moments { All (λ e. IsMoment e.moment) entries.now }
-    requires offset { IsOffset offset }
-    ensures { OnOk result (sets.new ≡ sets.old ++ map (λ r. answer r keys.now.attributes) (filter (is_match keys.now) (map (row offset (past entries.now)) (held_after [] request.now)))) }
+    requires offset { IsOffset configuration.now.offset }
+    ensures { OnOk result (sets.new ≡ sets.old ++ map (λ r. answer r keys.now.attributes) (filter (is_match keys.now) (map (row configuration.now (past entries.now)) (held_after [] request.now)))) }
 {
     if let Request::Create { step, .. } = request {
-        let row = row(alloc, entries, offset, *step)?;
+        let row = row(alloc, configuration, entries, *step)?;
         add_answer(sets, keys, &row)?;
     }
     Ok(())
 }
 
 /// The worklist (PS3.4 sections CC.2.8 and C.4.1): of each step that matches the keys, in order of creation, the keys'
-/// attributes. `offset` is that of the local time from UTC in minutes, east of it above 0. No step is removed yet, so
-/// that the peers and for how many seconds a finished step is kept do not matter. It is slow: for each step it walks the
-/// entries again.
+/// attributes. It is slow: for each step it walks the entries again.
 ///
 /// # Errors
 ///
@@ -151,19 +151,24 @@ fn add_created<A: Allocator + Copy>(
 /// `Memory` where memory runs out.
 pub fn plain_find<A: Allocator + Copy>(
     alloc: A,
+    configuration: &Configuration<A>,
     entries: &[Entry<A>],
-    peers: &[Peer],
-    keep: u32,
-    offset: i16,
     keys: &Keys<A>,
 ) -> Result<Sets<A>, ChangeFault>
     requires moments { All (λ e. IsMoment e.moment) entries.now }
-    requires offset { IsOffset offset }
-    ensures { IfOk result (λ sets. (limit : ℕ) → sets ≡ worklist (record { peers = peers.now; keep = keep; offset = offset; limit = limit }) (past entries.now) keys.now) }
+    requires offset { IsOffset configuration.now.offset }
+    ensures { IfOk result (λ sets. sets ≡ worklist configuration.now (past entries.now) keys.now) }
 {
     let mut sets = Sets::new(alloc);
     for entry in entries {
-        add_created(alloc, &mut sets, keys, entries, offset, &entry.request)?;
+        add_created(
+            alloc,
+            configuration,
+            &mut sets,
+            keys,
+            entries,
+            &entry.request,
+        )?;
     }
     Ok(sets)
 }

@@ -1,33 +1,26 @@
 //! Asks from messages.
 
 ghost use Rattle.std.specs.Prelude.{◌≡◌, ◌⊎◌, List, Option, Ok, Err, IfErr, MatchResult};
-ghost use Rattle.std.specs.Str.{bytes_eq};
 ghost use Rattle.ups_dataset.specs.Data.{El, element_at};
 ghost use Rattle.ups_dataset.specs.View.{value_view};
 ghost use Rattle.ups_dimse.specs.declared.command.Operation.{Operation};
 ghost use Rattle.ups_match.specs.Matching.{fault_of};
 ghost use Rattle.ups_life.specs.declared.request.Ask.{Ask};
-ghost use Rattle.ups_life.specs.Asking.{is_well_known, is_subscription, transaction_value, transaction_of, named_state, changed, canceled, acted, finds, asked};
+ghost use Rattle.ups_life.specs.Asking.{transaction_value, transaction_of, named_state, changed, canceled, acted, finds, asked};
+ghost use Rattle.ups_life.specs.Instances.{is_subscription, step_in};
 ghost use Rattle.ups_life.specs.declared.status.Status.TheVariants.{ResourceLimitation};
 
 use crate::actions::{CHANGE_STATE, REQUEST_CANCEL};
 use crate::request::{Ask, Request, Transaction};
 use crate::state::StepState;
 use crate::status::Status;
+use crate::step::{StepUid, is_well_known};
 use std::alloc::Allocator;
 use ups_dataset::dictionary::{PROCEDURE_STEP_STATE, TRANSACTION_UID};
 use ups_dataset::{DataSet, Value};
 use ups_dimse::{Operation, Tags};
 use ups_match::Keys;
-use ups_pdu::{RegisteredUid, Uid, without_padding};
-
-/// Whether a UID is that of an instance that is no step (PS3.4 CC.2.3).
-fn is_well_known(uid: Uid) -> bool
-    ensures { result ≡ is_well_known uid }
-{
-    uid.as_bytes() == RegisteredUid::GlobalSubscription.text()
-        || uid.as_bytes() == RegisteredUid::FilteredGlobalSubscription.text()
-}
+use ups_pdu::{Uid, without_padding};
 
 /// Whether an instance is none but that of a global subscription.
 fn is_subscription(instance: &Option<Uid>) -> bool
@@ -36,6 +29,16 @@ fn is_subscription(instance: &Option<Uid>) -> bool
     match instance {
         Some(uid) => is_well_known(*uid),
         None => false,
+    }
+}
+
+/// The step that an instance is; None where it is absent, malformed or well known.
+fn step_in(instance: &Option<Uid>) -> Option<StepUid>
+    ensures { result ≡ step_in instance.now }
+{
+    match instance {
+        Some(uid) => StepUid::of(*uid),
+        None => None,
     }
 }
 
@@ -79,19 +82,19 @@ fn named_state<A: Allocator + Copy>(attributes: &DataSet<A>) -> Option<StepState
 ///
 /// Errors: C314H for a global subscription, which is no step; 0115H where no state is named.
 fn changed<A: Allocator + Copy>(
-    step: &Option<Uid>,
+    instance: &Option<Uid>,
     attributes: &DataSet<A>,
 ) -> Result<Ask<A>, Status>
-    ensures { result ≡ changed step.now attributes.now }
+    ensures { result ≡ changed instance.now attributes.now }
 {
-    if is_subscription(step) {
+    if is_subscription(instance) {
         return Err(Status::ActionNotAppropriate);
     }
     let Some(state) = named_state(attributes) else {
         return Err(Status::InvalidArgumentValue);
     };
     Ok(Ask::Do(Request::Change {
-        step: *step,
+        step: step_in(instance),
         state,
         transaction: transaction_of(attributes),
     }))
@@ -100,29 +103,32 @@ fn changed<A: Allocator + Copy>(
 /// What a Request UPS Cancel asks (PS3.4 CC.2.2).
 ///
 /// Errors: C314H for a global subscription, which is no step.
-fn canceled<A: Allocator + Copy>(step: &Option<Uid>, reasons: DataSet<A>) -> Result<Ask<A>, Status>
-    ensures { result ≡ canceled step.now reasons }
+fn canceled<A: Allocator + Copy>(
+    instance: &Option<Uid>,
+    reasons: DataSet<A>,
+) -> Result<Ask<A>, Status>
+    ensures { result ≡ canceled instance.now reasons }
 {
-    if is_subscription(step) {
+    if is_subscription(instance) {
         return Err(Status::ActionNotAppropriate);
     }
     Ok(Ask::Do(Request::AskCancel {
-        step: *step,
+        step: step_in(instance),
         reasons,
     }))
 }
 
 /// What an N-ACTION asks. Errors: 0123H for another type than these two, and theirs.
 fn acted<A: Allocator + Copy>(
-    step: &Option<Uid>,
+    instance: &Option<Uid>,
     action: u16,
     attributes: DataSet<A>,
 ) -> Result<Ask<A>, Status>
-    ensures { result ≡ acted step.now action attributes }
+    ensures { result ≡ acted instance.now action attributes }
 {
     match action {
-        CHANGE_STATE => changed(step, &attributes),
-        REQUEST_CANCEL => canceled(step, attributes),
+        CHANGE_STATE => changed(instance, &attributes),
+        REQUEST_CANCEL => canceled(instance, attributes),
         _ => Err(Status::NoSuchActionType),
     }
 }
@@ -158,12 +164,9 @@ pub fn read_request<A: Allocator + Copy>(
         ⊎ (asked offset operation.now attributes ≡ Err status)) }
 {
     match operation {
-        Operation::Create { instance } => match instance {
-            Some(step) if !is_well_known(*step) => Ok(Ask::Do(Request::Create {
-                step: *step,
-                attributes,
-            })),
-            _ => Err(Status::InvalidObjectInstance),
+        Operation::Create { instance } => match step_in(instance) {
+            Some(step) => Ok(Ask::Do(Request::Create { step, attributes })),
+            None => Err(Status::InvalidObjectInstance),
         },
         Operation::Get {
             instance,
@@ -173,12 +176,12 @@ pub fn read_request<A: Allocator + Copy>(
                 |_| Status::ResourceLimitation,
             )?;
             Ok(Ask::Get {
-                step: *instance,
+                step: step_in(instance),
                 attributes: Tags::from_vec(listed),
             })
         }
         Operation::Set { instance } => Ok(Ask::Do(Request::Set {
-            step: *instance,
+            step: step_in(instance),
             transaction: transaction_of(&attributes),
             attributes,
         })),

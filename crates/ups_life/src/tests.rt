@@ -35,6 +35,10 @@ fn uid(text: &str) -> Result<Uid, Fail> {
     Ok(Uid::of(text.as_bytes()).ok_or("a UID")?)
 }
 
+fn step_uid(text: &str) -> Result<StepUid, Fail> {
+    Ok(StepUid::of(uid(text)?).ok_or("the UID of a step")?)
+}
+
 /// A text that stands for a sequence without items.
 const NO_ITEMS: &str = "[]";
 
@@ -117,7 +121,7 @@ fn step_with<A: Allocator + Copy>(alloc: A, tag: Tag, text: &str) -> Result<Data
 /// A request that creates a step with these attributes.
 fn create<A: Allocator + Copy>(step: &str, attributes: DataSet<A>) -> Result<Request<A>, Fail> {
     Ok(Request::Create {
-        step: uid(step)?,
+        step: step_uid(step)?,
         attributes,
     })
 }
@@ -224,7 +228,7 @@ fn asked_of<A: Allocator + Copy>(
     text: &str,
 ) -> Result<Request<A>, Fail> {
     let transaction = transaction(text);
-    let step = Some(uid(step)?);
+    let step = Some(step_uid(step)?);
     Ok(match asked {
         Asked::Make => create("1.2.3.1", a_step(alloc)?)?,
         Asked::To(state) => Request::Change {
@@ -275,15 +279,15 @@ fn cancel<A: Allocator + Copy>(alloc: A, reasons: &[(Tag, &str)]) -> Result<Requ
         &[&[(CODE_VALUE, "110513")]],
     )?;
     Ok(Request::AskCancel {
-        step: Some(uid("1.2.3.1")?),
+        step: Some(step_uid("1.2.3.1")?),
         reasons: set,
     })
 }
 
-/// A UID as text, or none.
-fn add_uid(text: &mut String, uid: Option<Uid>) -> Result<(), Fail> {
-    match uid {
-        Some(uid) => add_bytes(text, uid.as_bytes()),
+/// The UID of a step as text, or none.
+fn add_step(text: &mut String, step: Option<StepUid>) -> Result<(), Fail> {
+    match step {
+        Some(step) => add_bytes(text, step.as_bytes()),
         None => Ok(text.push_str("none")?),
     }
 }
@@ -294,7 +298,7 @@ fn asked_text<A: Allocator + Copy>(ask: &Ask<A>, rt: &impl AllocGlobal) -> Resul
         return Err("no request".into());
     };
     let mut text = String::new(rt.alloc());
-    add_uid(&mut text, request.step())?;
+    add_step(&mut text, request.step())?;
     match request {
         Request::Create { .. } => return Err("an N-CREATE".into()),
         Request::Change {
@@ -396,6 +400,8 @@ fn a_configuration_has_what_it_was_given(rt: HostRuntime) -> Result<(), Fail> {
 
 #[test]
 fn the_laws_are_of_each_allocator() {
+    laws::checked_attributes_are_those_defined();
+    laws::limits_are_those_defined();
     laws::a_step_is_claimed_once::<Global>();
     laws::a_claim_stays::<Global>();
     laws::only_the_holder_sets::<Global>();

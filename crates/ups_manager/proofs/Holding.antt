@@ -1,5 +1,5 @@
 -- The steps held after a history, and after one more entry.
-use Rattle.std.proofs.Common.{◌≡◌, ℕ, ℤ, Bool, true, false, ◌||◌, cond, List, [], ◌∷◌, ◌++◌, map, Option, None, Some, refl, sym, ap, ◌∙◌}
+use Rattle.std.proofs.Common.{◌≡◌, ℕ, Bool, true, false, ◌||◌, cond, List, [], ◌∷◌, ◌++◌, map, Option, None, Some, refl, sym, ap, ◌∙◌}
 use Rattle.std.specs.Option.{option_or, option_map, unwrap_or}
 use Rattle.std.specs.Str.{bytes_eq}
 use Rattle.std.specs.List.{list_any}
@@ -21,49 +21,49 @@ use Rattle.ups_manager.specs.declared.rows.HeldStep.{HeldStep}
 use Rattle.ups_manager.specs.Held.{held_step, held_steps, step_at, row_in, row_of_step, holder_in, holder_of, put_step}
 
 -- a step is found exactly where it is held
-found_among : {A : Type 0} (offset : ℤ) (es : List (Entry A)) (u : List ℕ) (vs : List (List ℕ))
-    → step_at u (map (held_step offset es) vs) ≡ cond (list_any (λ v. bytes_eq v u) vs) (Some (held_step offset es u)) None
-found_among offset es u [] = refl
-found_among {A} offset es u (v ∷ vs) = here (bytes_eq v u) (list_any (λ w. bytes_eq w u) vs) _ (λ e. ap (λ w. Some (held_step offset es w)) (same_text v u e)) (found_among offset es u vs)
+found_among : {A : Type 0} (s : Settings) (es : List (Entry A)) (u : List ℕ) (vs : List (List ℕ))
+    → step_at u (map (held_step s es) vs) ≡ cond (list_any (λ v. bytes_eq v u) vs) (Some (held_step s es u)) None
+found_among s es u [] = refl
+found_among {A} s es u (v ∷ vs) = here (bytes_eq v u) (list_any (λ w. bytes_eq w u) vs) _ (λ e. ap (λ w. Some (held_step s es w)) (same_text v u e)) (found_among s es u vs)
   where
-    here : (b more : Bool) (rest : Option (HeldStep A)) → (b ≡ true → Some (held_step offset es v) ≡ Some (held_step offset es u)) → rest ≡ cond more (Some (held_step offset es u)) None
-        → cond b (Some (held_step offset es v)) rest ≡ cond (b || more) (Some (held_step offset es u)) None
+    here : (b more : Bool) (rest : Option (HeldStep A)) → (b ≡ true → Some (held_step s es v) ≡ Some (held_step s es u)) → rest ≡ cond more (Some (held_step s es u)) None
+        → cond b (Some (held_step s es v)) rest ≡ cond (b || more) (Some (held_step s es u)) None
     here true more rest same later = same refl
     here false more rest same later = later
 
-pub step_at-held_steps : {A : Type 0} (offset : ℤ) (es : List (Entry A)) (u : List ℕ) → step_at u (held_steps offset es) ≡ cond (is_held es u) (Some (held_step offset es u)) None
-step_at-held_steps offset es u = found_among offset es u (held es)
+pub step_at-held_steps : {A : Type 0} (s : Settings) (es : List (Entry A)) (u : List ℕ) → step_at u (held_steps s es) ≡ cond (is_held s es u) (Some (held_step s es u)) None
+step_at-held_steps s es u = found_among s es u (held s es)
 
 -- what is known of it is its row
-pub row_in-held_steps : {A : Type 0} (offset : ℤ) (es : List (Entry A)) (u : List ℕ) → row_in u (held_steps offset es) ≡ known offset es (Some u)
-row_in-held_steps {A} offset es u = ap (option_map (λ (h : HeldStep A). h.row)) (step_at-held_steps offset es u) ∙ here (is_held es u)
+pub row_in-held_steps : {A : Type 0} (s : Settings) (es : List (Entry A)) (u : List ℕ) → row_in u (held_steps s es) ≡ known s es (Some u)
+row_in-held_steps {A} s es u = ap (option_map (λ (h : HeldStep A). h.row)) (step_at-held_steps s es u) ∙ here (is_held s es u)
   where
-    here : (b : Bool) → option_map (λ (h : HeldStep A). h.row) (cond b (Some (held_step offset es u)) None) ≡ cond b (Some (row_of offset es u)) None
+    here : (b : Bool) → option_map (λ (h : HeldStep A). h.row) (cond b (Some (held_step s es u)) None) ≡ cond b (Some (row_of s es u)) None
     here true = refl
     here false = refl
 
-pub row_of_step-held_steps : {A : Type 0} (offset : ℤ) (es : List (Entry A)) (step : Option (List ℕ)) → row_of_step step (held_steps offset es) ≡ known offset es step
-row_of_step-held_steps offset es None = refl
-row_of_step-held_steps offset es (Some u) = row_in-held_steps offset es u
+pub row_of_step-held_steps : {A : Type 0} (s : Settings) (es : List (Entry A)) (step : Option (List ℕ)) → row_of_step step (held_steps s es) ≡ known s es step
+row_of_step-held_steps s es None = refl
+row_of_step-held_steps s es (Some u) = row_in-held_steps s es u
 
 -- and who holds it
-pub holder_in-held_steps : {A : Type 0} (offset : ℤ) (es : List (Entry A)) (u : List ℕ) → holder_in (step_at u (held_steps offset es)) ≡ holder_of es u
-holder_in-held_steps {A} offset es u = ap (holder_in {A = A}) (step_at-held_steps offset es u) ∙ here (is_held es u)
+pub holder_in-held_steps : {A : Type 0} (s : Settings) (es : List (Entry A)) (u : List ℕ) → holder_in (step_at u (held_steps s es)) ≡ holder_of s es u
+holder_in-held_steps {A} s es u = ap (holder_in {A = A}) (step_at-held_steps s es u) ∙ here (is_held s es u)
   where
-    here : (b : Bool) → holder_in {A = A} (cond b (Some (held_step offset es u)) None) ≡ cond b (holder es u) None
+    here : (b : Bool) → holder_in {A = A} (cond b (Some (held_step s es u)) None) ≡ cond b (holder es u) None
     here true = refl
     here false = refl
 
 -- an entry on another step leaves what is held of u
-on_another : {A : Type 0} (offset : ℤ) (e : Entry A) (es : List (Entry A)) (u : List ℕ) → is_on u e.request ≡ false → held_step offset (e ∷ es) u ≡ held_step offset es u
-on_another offset e es u off = rw off refl
+on_another : {A : Type 0} (s : Settings) (e : Entry A) (es : List (Entry A)) (u : List ℕ) → is_on u e.request ≡ false → held_step s (e ∷ es) u ≡ held_step s es u
+on_another s e es u off = rw off refl
 
 -- of a step that was never created there is nothing, and nobody holds it
-never : {A : Type 0} (s : Settings) (es : List (Entry A)) (u : List ℕ) → legal s es ≡ true → used es u ≡ false → held_step s.offset es u ≡ record { step = u; row = nothing; holder = None }
+never : {A : Type 0} (s : Settings) (es : List (Entry A)) (u : List ℕ) → legal s es ≡ true → used es u ≡ false → held_step s es u ≡ record { step = u; row = nothing; holder = None }
 never s [] u l f = refl
 never {A} s (e ∷ es) u l f =
     let fresh = neither (creates u e.request) (used es u) f in
-    on_another s.offset e es u (is_off (is_on u e.request) (λ on. differ (used es u) fresh.1 (is_held_used es u (on_held s.offset es u e.request (decided s e es l) on fresh.0))))
+    on_another s e es u (is_off (is_on u e.request) (λ on. differ (used es u) fresh.1 (is_held_used s es u (on_held s es u e.request (decided s e es l) on fresh.0))))
     ∙ never s es u (legal_tail s e es l) fresh.1
   where
     is_off : (b : Bool) → (b ≡ true → ⊥) → b ≡ false
@@ -72,22 +72,22 @@ never {A} s (e ∷ es) u l f =
 
 -- what is known of the step of a request that is allowed, and who holds it
 record Seen {A : Type 0} (s : Settings) (es : List (Entry A)) (u : List ℕ) : Type 0 where
-  pub row : unwrap_or (known s.offset es (Some u)) nothing ≡ row_of {A = A} s.offset es u
-  pub holder : holder_of es u ≡ holder es u
+  pub row : unwrap_or (known s es (Some u)) nothing ≡ row_of {A = A} s es u
+  pub holder : holder_of s es u ≡ holder es u
 
-creates_on : {A : Type 0} (es : List (Entry A)) (offset : ℤ) (u : List ℕ) (r : Request A) → verdict (known offset es (step_of r)) (repeats es r) r ≡ Success → is_on u r ≡ true → is_held es u ≡ false → used es u ≡ false
-creates_on es offset u (Create step set) d on free = ap (used es) (sym (same_text step u on)) ∙ created_fresh offset es step set d
-creates_on es offset u (Change step to t) d on free = absurd (differ (is_held es u) free (on_held offset es u (Change step to t) d on refl))
-creates_on es offset u (AskCancel step reasons) d on free = absurd (differ (is_held es u) free (on_held offset es u (AskCancel step reasons) d on refl))
-creates_on es offset u (Set step t set) d on free = absurd (differ (is_held es u) free (on_held offset es u (Set step t set) d on refl))
+creates_on : {A : Type 0} (es : List (Entry A)) (s : Settings) (u : List ℕ) (r : Request A) → verdict (known s es (step_of r)) (repeats es r) r ≡ Success → is_on u r ≡ true → is_held s es u ≡ false → used es u ≡ false
+creates_on es s u (Create step set) d on free = ap (used es) (sym (same_text step u on)) ∙ created_fresh s es step set d
+creates_on es s u (Change step to t) d on free = absurd (differ (is_held s es u) free (on_held s es u (Change step to t) d on refl))
+creates_on es s u (AskCancel step reasons) d on free = absurd (differ (is_held s es u) free (on_held s es u (AskCancel step reasons) d on refl))
+creates_on es s u (Set step t set) d on free = absurd (differ (is_held s es u) free (on_held s es u (Set step t set) d on refl))
 
-seen : {A : Type 0} (s : Settings) (es : List (Entry A)) (u : List ℕ) (r : Request A) → legal s es ≡ true → verdict (known s.offset es (step_of r)) (repeats es r) r ≡ Success → is_on u r ≡ true → Seen s es u
-seen {A} s es u r l d on = by (is_held es u) refl
+seen : {A : Type 0} (s : Settings) (es : List (Entry A)) (u : List ℕ) (r : Request A) → legal s es ≡ true → verdict (known s es (step_of r)) (repeats es r) r ≡ Success → is_on u r ≡ true → Seen s es u
+seen {A} s es u r l d on = by (is_held s es u) refl
   where
-    by : (b : Bool) → is_held es u ≡ b → Seen s es u
+    by : (b : Bool) → is_held s es u ≡ b → Seen s es u
     by true e = record { row = rw e refl; holder = rw e refl }
     by false e =
-        let nobody = never s es u l (creates_on es s.offset u r d on e) in
+        let nobody = never s es u l (creates_on es s u r d on e) in
         record {
           row = rw e (sym (ap (λ (h : HeldStep A). h.row) nobody));
           holder = rw e (sym (ap (λ (h : HeldStep A). h.holder) nobody));
@@ -109,9 +109,9 @@ abbrev pub claims_it : {A : Type 0} → Entry A → Option Holder
 claims_it e = option_map (λ uid. record { caller = e.caller; ae = e.ae }) (taken e.request)
 
 -- what is held of a step after an entry on it
-on_it : {A : Type 0} (offset : ℤ) (e : Entry A) (es : List (Entry A)) (u : List ℕ) → is_on u e.request ≡ true
-    → held_step offset (e ∷ es) u ≡ record { step = u; row = row_after offset e.moment (row_of offset es u) e.request; holder = option_or (claims_it e) (holder es u) }
-on_it offset e es u on =
+on_it : {A : Type 0} (s : Settings) (e : Entry A) (es : List (Entry A)) (u : List ℕ) → is_on u e.request ≡ true
+    → held_step s (e ∷ es) u ≡ record { step = u; row = row_after s.offset e.moment (row_of s es u) e.request; holder = option_or (claims_it e) (holder es u) }
+on_it s e es u on =
     let by : Holder = record { caller = e.caller; ae = e.ae } in
     rw (on, first_claim (taken e.request) by (claim es u), first_holder (taken e.request) by (claim es u)) refl
 
@@ -123,89 +123,89 @@ other_text v u n = is_off (bytes_eq u v) (λ e. differ (bytes_eq v u) n (ap (λ 
     is_off true n = absurd (n refl)
     is_off false n = refl
 
-leaves : {A : Type 0} (offset : ℤ) (e : Entry A) (es : List (Entry A)) (u v : List ℕ) → step_of e.request ≡ Some u → bytes_eq v u ≡ false → held_step offset (e ∷ es) v ≡ held_step offset es v
-leaves offset e es u v is n = on_another offset e es v (ap (is_step v) is ∙ other_text v u n)
+leaves : {A : Type 0} (s : Settings) (e : Entry A) (es : List (Entry A)) (u v : List ℕ) → step_of e.request ≡ Some u → bytes_eq v u ≡ false → held_step s (e ∷ es) v ≡ held_step s es v
+leaves s e es u v is n = on_another s e es v (ap (is_step v) is ∙ other_text v u n)
 
-unchanged : {A : Type 0} (offset : ℤ) (e : Entry A) (es : List (Entry A)) (u : List ℕ) (vs : List (List ℕ)) → step_of e.request ≡ Some u → list_any (λ v. bytes_eq v u) vs ≡ false
-    → map (held_step offset (e ∷ es)) vs ≡ map (held_step offset es) vs
-unchanged offset e es u [] is none = refl
-unchanged {A} offset e es u (v ∷ vs) is none =
+unchanged : {A : Type 0} (s : Settings) (e : Entry A) (es : List (Entry A)) (u : List ℕ) (vs : List (List ℕ)) → step_of e.request ≡ Some u → list_any (λ v. bytes_eq v u) vs ≡ false
+    → map (held_step s (e ∷ es)) vs ≡ map (held_step s es) vs
+unchanged s e es u [] is none = refl
+unchanged {A} s e es u (v ∷ vs) is none =
     let both = neither (bytes_eq v u) (list_any (λ w. bytes_eq w u) vs) none in
-    let rest = unchanged offset e es u vs is both.1 in
-    ap (λ (h : HeldStep A). h ∷ map (held_step offset (e ∷ es)) vs) (leaves offset e es u v is both.0) ∙ ap (λ (l : List (HeldStep A)). held_step offset es v ∷ l) rest
+    let rest = unchanged s e es u vs is both.1 in
+    ap (λ (h : HeldStep A). h ∷ map (held_step s (e ∷ es)) vs) (leaves s e es u v is both.0) ∙ ap (λ (l : List (HeldStep A)). held_step s es v ∷ l) rest
 
-added : {A : Type 0} (offset : ℤ) (es : List (Entry A)) (x : HeldStep A) (vs : List (List ℕ)) → list_any (λ v. bytes_eq v x.step) vs ≡ false → put_step x (map (held_step offset es) vs) ≡ map (held_step offset es) vs ++ x ∷ []
-added offset es x [] none = refl
-added {A} offset es x (v ∷ vs) none =
+added : {A : Type 0} (s : Settings) (es : List (Entry A)) (x : HeldStep A) (vs : List (List ℕ)) → list_any (λ v. bytes_eq v x.step) vs ≡ false → put_step x (map (held_step s es) vs) ≡ map (held_step s es) vs ++ x ∷ []
+added s es x [] none = refl
+added {A} s es x (v ∷ vs) none =
     let both = neither (bytes_eq v x.step) (list_any (λ w. bytes_eq w x.step) vs) none in
-    ap (λ b. cond b (x ∷ map (held_step offset es) vs) (held_step offset es v ∷ put_step x (map (held_step offset es) vs))) both.0 ∙ ap (λ (l : List (HeldStep A)). held_step offset es v ∷ l) (added offset es x vs both.1)
+    ap (λ b. cond b (x ∷ map (held_step s es) vs) (held_step s es v ∷ put_step x (map (held_step s es) vs))) both.0 ∙ ap (λ (l : List (HeldStep A)). held_step s es v ∷ l) (added s es x vs both.1)
 
-replaced : {A : Type 0} (offset : ℤ) (e : Entry A) (es : List (Entry A)) (u : List ℕ) (vs : List (List ℕ)) → step_of e.request ≡ Some u → Distinct vs → list_any (λ v. bytes_eq v u) vs ≡ true
-    → map (held_step offset (e ∷ es)) vs ≡ put_step (held_step offset (e ∷ es) u) (map (held_step offset es) vs)
-replaced offset e es u [] is once there = absurd cc
-replaced {A} offset e es u (v ∷ vs) is (once, more) there =
-    here (bytes_eq v u) refl there (replaced offset e es u vs is more)
+replaced : {A : Type 0} (s : Settings) (e : Entry A) (es : List (Entry A)) (u : List ℕ) (vs : List (List ℕ)) → step_of e.request ≡ Some u → Distinct vs → list_any (λ v. bytes_eq v u) vs ≡ true
+    → map (held_step s (e ∷ es)) vs ≡ put_step (held_step s (e ∷ es) u) (map (held_step s es) vs)
+replaced s e es u [] is once there = absurd cc
+replaced {A} s e es u (v ∷ vs) is (once, more) there =
+    here (bytes_eq v u) refl there (replaced s e es u vs is more)
   where
     new : List ℕ → HeldStep A
-    new = held_step offset (e ∷ es)
+    new = held_step s (e ∷ es)
 
     old : List ℕ → HeldStep A
-    old = held_step offset es
+    old = held_step s es
 
     here : (b : Bool) → bytes_eq v u ≡ b → b || list_any (λ w. bytes_eq w u) vs ≡ true → (list_any (λ w. bytes_eq w u) vs ≡ true → map new vs ≡ put_step (new u) (map old vs))
         → new v ∷ map new vs ≡ cond b (new u ∷ map old vs) (old v ∷ put_step (new u) (map old vs))
     here true same any later =
         let is_u = same_text v u same in
-        ap (λ w. new w ∷ map new vs) is_u ∙ ap (λ (l : List (HeldStep A)). new u ∷ l) (unchanged offset e es u vs is (ap (λ w. list_any (λ x. bytes_eq x w) vs) (sym is_u) ∙ once))
-    here false other any later = ap (λ (h : HeldStep A). h ∷ map new vs) (leaves offset e es u v is other) ∙ ap (λ (l : List (HeldStep A)). old v ∷ l) (later any)
+        ap (λ w. new w ∷ map new vs) is_u ∙ ap (λ (l : List (HeldStep A)). new u ∷ l) (unchanged s e es u vs is (ap (λ w. list_any (λ x. bytes_eq x w) vs) (sym is_u) ∙ once))
+    here false other any later = ap (λ (h : HeldStep A). h ∷ map new vs) (leaves s e es u v is other) ∙ ap (λ (l : List (HeldStep A)). old v ∷ l) (later any)
 
 map_push : {X Y : Type 0} (f : X → Y) (xs : List X) (x : X) → map f (xs ++ x ∷ []) ≡ map f xs ++ f x ∷ []
 map_push f [] x = refl
 map_push f (y ∷ ys) x = ap (λ l. f y ∷ l) (map_push f ys x)
 
-not_held : {A : Type 0} (es : List (Entry A)) (u : List ℕ) → used es u ≡ false → is_held es u ≡ false
-not_held es u fresh = is_off (is_held es u) (λ e. differ (used es u) fresh (is_held_used es u e))
+not_held : {A : Type 0} (s : Settings) (es : List (Entry A)) (u : List ℕ) → used es u ≡ false → is_held s es u ≡ false
+not_held s es u fresh = is_off (is_held s es u) (λ e. differ (used es u) fresh (is_held_used s es u e))
   where
     is_off : (b : Bool) → (b ≡ true → ⊥) → b ≡ false
     is_off true n = absurd (n refl)
     is_off false n = refl
 
 put_after : {A : Type 0} (s : Settings) (e : Entry A) (es : List (Entry A)) (u : List ℕ) (r : Request A) → e.request ≡ r → step_of r ≡ Some u → legal s es ≡ true
-    → verdict (known s.offset es (step_of r)) (repeats es r) r ≡ Success → map (held_step s.offset (e ∷ es)) (held_after (held es) r) ≡ put_step (held_step s.offset (e ∷ es) u) (held_steps s.offset es)
+    → verdict (known s es (step_of r)) (repeats es r) r ≡ Success → map (held_step s (e ∷ es)) (held_after (held s es) r) ≡ put_step (held_step s (e ∷ es) u) (held_steps s es)
 put_after {A} s e es u (Create step set) is on l d =
     let same : step ≡ u = cc in
-    let fresh = created_fresh s.offset es step set d in
-    let none = not_held es u (ap (used es) (sym same) ∙ fresh) in
+    let fresh = created_fresh s es step set d in
+    let none = not_held s es u (ap (used es) (sym same) ∙ fresh) in
     let there : step_of e.request ≡ Some u = ap step_of is ∙ on in
-    ap (λ v. map (held_step s.offset (e ∷ es)) (held es ++ v ∷ [])) same
-    ∙ map_push (held_step s.offset (e ∷ es)) (held es) u
-    ∙ ap (λ (l : List (HeldStep A)). l ++ held_step s.offset (e ∷ es) u ∷ []) (unchanged s.offset e es u (held es) there none)
-    ∙ sym (added s.offset es (held_step s.offset (e ∷ es) u) (held es) none)
+    ap (λ v. map (held_step s (e ∷ es)) (held s es ++ v ∷ [])) same
+    ∙ map_push (held_step s (e ∷ es)) (held s es) u
+    ∙ ap (λ (l : List (HeldStep A)). l ++ held_step s (e ∷ es) u ∷ []) (unchanged s e es u (held s es) there none)
+    ∙ sym (added s es (held_step s (e ∷ es) u) (held s es) none)
 put_after s e es u (Change step to t) is on l d =
-    replaced s.offset e es u (held es) (ap step_of is ∙ on) (held_once s es l) (on_held s.offset es u (Change step to t) d (ap (is_step u) on ∙ text_is_itself u) refl)
+    replaced s e es u (held s es) (ap step_of is ∙ on) (held_once s es l) (on_held s es u (Change step to t) d (ap (is_step u) on ∙ text_is_itself u) refl)
 put_after s e es u (AskCancel step reasons) is on l d =
-    replaced s.offset e es u (held es) (ap step_of is ∙ on) (held_once s es l) (on_held s.offset es u (AskCancel step reasons) d (ap (is_step u) on ∙ text_is_itself u) refl)
+    replaced s e es u (held s es) (ap step_of is ∙ on) (held_once s es l) (on_held s es u (AskCancel step reasons) d (ap (is_step u) on ∙ text_is_itself u) refl)
 put_after s e es u (Set step t set) is on l d =
-    replaced s.offset e es u (held es) (ap step_of is ∙ on) (held_once s es l) (on_held s.offset es u (Set step t set) d (ap (is_step u) on ∙ text_is_itself u) refl)
+    replaced s e es u (held s es) (ap step_of is ∙ on) (held_once s es l) (on_held s es u (Set step t set) d (ap (is_step u) on ∙ text_is_itself u) refl)
 
 -- What is held after a request that is allowed: its step, in its place or behind the others, with what the request makes
 -- of what was held of it.
 pub held_steps-after : {A : Type 0} (s : Settings) (e : Entry A) (es : List (Entry A)) (x : HeldStep A) → legal s es ≡ true
     → step_of e.request ≡ Some x.step
-    → verdict (row_in x.step (held_steps s.offset es)) (repeats es e.request) e.request ≡ Success
-    → x.row ≡ row_after s.offset e.moment (unwrap_or (row_in x.step (held_steps s.offset es)) nothing) e.request
-    → x.holder ≡ option_or (claims_it e) (holder_in (step_at x.step (held_steps s.offset es)))
-    → held_steps s.offset (e ∷ es) ≡ put_step x (held_steps s.offset es)
+    → verdict (row_in x.step (held_steps s es)) (repeats es e.request) e.request ≡ Success
+    → x.row ≡ row_after s.offset e.moment (unwrap_or (row_in x.step (held_steps s es)) nothing) e.request
+    → x.holder ≡ option_or (claims_it e) (holder_in (step_at x.step (held_steps s es)))
+    → held_steps s (e ∷ es) ≡ put_step x (held_steps s es)
 held_steps-after {A} s e es x l on d row by =
-    let known_row = row_in-held_steps s.offset es x.step in
-    let allowed : verdict (known s.offset es (step_of e.request)) (repeats es e.request) e.request ≡ Success =
-    ap (λ o. verdict (known s.offset es o) (repeats es e.request) e.request) on ∙ ap (λ k. verdict k (repeats es e.request) e.request) (sym known_row) ∙ d in
+    let known_row = row_in-held_steps s es x.step in
+    let allowed : verdict (known s es (step_of e.request)) (repeats es e.request) e.request ≡ Success =
+    ap (λ o. verdict (known s es o) (repeats es e.request) e.request) on ∙ ap (λ k. verdict k (repeats es e.request) e.request) (sym known_row) ∙ d in
     let is_on_it = ap (is_step x.step) on ∙ text_is_itself x.step in
     let was = seen s es x.step e.request l allowed is_on_it in
-    let row_is : x.row ≡ row_after s.offset e.moment (row_of s.offset es x.step) e.request =
+    let row_is : x.row ≡ row_after s.offset e.moment (row_of s es x.step) e.request =
     row ∙ ap (λ k. row_after s.offset e.moment (unwrap_or k nothing) e.request) known_row ∙ ap (λ k. row_after s.offset e.moment k e.request) was.row in
-    let holder_is : x.holder ≡ option_or (claims_it e) (holder es x.step) = by ∙ ap (option_or (claims_it e)) (holder_in-held_steps s.offset es x.step ∙ was.holder) in
+    let holder_is : x.holder ≡ option_or (claims_it e) (holder es x.step) = by ∙ ap (option_or (claims_it e)) (holder_in-held_steps s es x.step ∙ was.holder) in
     let made : List ℕ → Row A → Option Holder → HeldStep A = λ v k h. record { step = v; row = k; holder = h } in
-    let same : held_step s.offset (e ∷ es) x.step ≡ x =
-    on_it s.offset e es x.step is_on_it ∙ ap (λ k. made x.step k (option_or (claims_it e) (holder es x.step))) (sym row_is) ∙ ap (made x.step x.row) (sym holder_is) in
-    put_after s e es x.step e.request refl on l allowed ∙ ap (λ h. put_step h (held_steps s.offset es)) same
+    let same : held_step s (e ∷ es) x.step ≡ x =
+    on_it s e es x.step is_on_it ∙ ap (λ k. made x.step k (option_or (claims_it e) (holder es x.step))) (sym row_is) ∙ ap (made x.step x.row) (sym holder_is) in
+    put_after s e es x.step e.request refl on l allowed ∙ ap (λ h. put_step h (held_steps s es)) same

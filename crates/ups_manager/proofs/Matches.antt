@@ -1,11 +1,14 @@
 -- What is found among the steps, and which they are.
-use Rattle.std.proofs.Common.{◌≡◌, ℕ, ℤ, ◌<◌, ◌+◌, Bool, true, false, if◌then◌else◌, List, [], ◌∷◌, ◌++◌, length, map, filter, take, get_or, Result, Ok, Err, IfOk, Vec, refl, sym, ap, ◌∙◌}
+use Rattle.std.proofs.Common.{◌≡◌, ℕ, ◌<◌, ◌+◌, Bool, true, false, if◌then◌else◌, List, [], ◌∷◌, ◌++◌, length, map, filter, take, get_or, Result, Ok, Err, IfOk, Vec, refl, sym, ap, ◌∙◌, ◌⊎◌, inl, inr}
+use Rattle.std.specs.List.{AllByRecursion}
 use Rattle.std.proofs.lemmas.List.{take_more, map-append}
 use Rattle.ups_dataset.specs.Data.{El, answer}
-use Rattle.ups_match.specs.Matching.{KeySet}
+use Rattle.ups_match.specs.Matching.{KeySet, is_match}
 use Rattle.ups_life.specs.declared.entry.Entry.{Entry}
 use Rattle.ups_life.specs.Steps.{row, held}
-use Rattle.ups_life.specs.Worklist.{found}
+use Rattle.ups_life.specs.Settings.{Settings}
+use Rattle.ups_life.specs.Worklist.{rows, found, worklist}
+use Rattle.ups_manager.specs.Finding.{IsAmong, AreFound}
 use Rattle.ups_manager.specs.declared.rows.HeldStep.{HeldStep}
 use Rattle.ups_manager.specs.Held.{held_step, held_steps, attributes_in}
 
@@ -37,23 +40,56 @@ found_more {A} says keys hs i h low is =
     ap (λ l. answered says keys (attributes_in l)) more ∙ ap (answered says keys) (map-append (λ (x : HeldStep A). x.row.attributes) (take i hs) (h ∷ [])) ∙ behind says keys (attributes_in (take i hs)) h.row.attributes
 
 -- the rows of the steps held
-rows_of : {A : Type 0} (offset : ℤ) (es : List (Entry A)) (us : List (List ℕ)) → attributes_in (map (held_step offset es) us) ≡ map (row offset es) us
-rows_of offset es [] = refl
-rows_of offset es (u ∷ us) = ap (λ l. row offset es u ∷ l) (rows_of offset es us)
+rows_of : {A : Type 0} (s : Settings) (es : List (Entry A)) (us : List (List ℕ)) → attributes_in (map (held_step s es) us) ≡ map (row s es) us
+rows_of s es [] = refl
+rows_of s es (u ∷ us) = ap (λ l. row s es u ∷ l) (rows_of s es us)
 
-pub found_is : {A : Type 0} (says : KeySet → List El → Bool) (offset : ℤ) (es : List (Entry A)) (keys : KeySet) (hs steps : List (HeldStep A)) → hs ≡ held_steps offset es → steps ≡ hs
-    → answered (says keys) keys.attributes (attributes_in steps) ≡ found says offset es keys
-found_is says offset es keys hs steps kept all = ap (λ l. answered (says keys) keys.attributes (attributes_in l)) (all ∙ kept) ∙ ap (answered (says keys) keys.attributes) (rows_of offset es (held es))
+pub found_is : {A : Type 0} (says : KeySet → List El → Bool) (s : Settings) (es : List (Entry A)) (keys : KeySet) (hs steps : List (HeldStep A)) → hs ≡ held_steps s es → steps ≡ hs
+    → answered (says keys) keys.attributes (attributes_in steps) ≡ found says s es keys
+found_is says s es keys hs steps kept all = ap (λ l. answered (says keys) keys.attributes (attributes_in l)) (all ∙ kept) ∙ ap (answered (says keys) keys.attributes) (rows_of s es (held s es))
 
 -- their UIDs
-uids_of : {A : Type 0} (offset : ℤ) (es : List (Entry A)) (us : List (List ℕ)) → map (λ (h : HeldStep A). h.step) (map (held_step offset es) us) ≡ us
-uids_of offset es [] = refl
-uids_of offset es (u ∷ us) = ap (λ l. u ∷ l) (uids_of offset es us)
+uids_of : {A : Type 0} (s : Settings) (es : List (Entry A)) (us : List (List ℕ)) → map (λ (h : HeldStep A). h.step) (map (held_step s es) us) ≡ us
+uids_of s es [] = refl
+uids_of s es (u ∷ us) = ap (λ l. u ∷ l) (uids_of s es us)
 
-uids_are : {A : Type 0} (offset : ℤ) (es : List (Entry A)) (hs steps : List (HeldStep A)) → hs ≡ held_steps offset es → steps ≡ hs → map (λ (h : HeldStep A). h.step) steps ≡ held es
-uids_are {A} offset es hs steps kept all = ap (map (λ (h : HeldStep A). h.step)) (all ∙ kept) ∙ uids_of offset es (held es)
+uids_are : {A : Type 0} (s : Settings) (es : List (Entry A)) (hs steps : List (HeldStep A)) → hs ≡ held_steps s es → steps ≡ hs → map (λ (h : HeldStep A). h.step) steps ≡ held s es
+uids_are {A} s es hs steps kept all = ap (map (λ (h : HeldStep A). h.step)) (all ∙ kept) ∙ uids_of s es (held s es)
 
-pub uids_if_ok : {A E : Type 0} (offset : ℤ) (es : List (Entry A)) (hs steps : List (HeldStep A)) (r : Result (Vec (List ℕ) A) E) → hs ≡ held_steps offset es → steps ≡ hs
-    → IfOk r (λ v. v.items ≡ map (λ (h : HeldStep A). h.step) steps) → IfOk r (λ v. v.items ≡ held es)
-uids_if_ok offset es hs steps (Ok v) kept all is = is ∙ uids_are offset es hs steps kept all
-uids_if_ok offset es hs steps (Err e) kept all is = is
+pub uids_if_ok : {A E : Type 0} (s : Settings) (es : List (Entry A)) (hs steps : List (HeldStep A)) (r : Result (Vec (List ℕ) A) E) → hs ≡ held_steps s es → steps ≡ hs
+    → IfOk r (λ v. v.items ≡ map (λ (h : HeldStep A). h.step) steps) → IfOk r (λ v. v.items ≡ held s es)
+uids_if_ok s es hs steps (Ok v) kept all is = is ∙ uids_are s es hs steps kept all
+uids_if_ok s es hs steps (Err e) kept all is = is
+
+-- those of a list that pass a test are some of it, in its order, and each passes
+still_among : {X : Type 0} (some : List X) (x : X) (all : List X) → IsAmong some all → IsAmong some (x ∷ all)
+still_among [] x all h = tt
+still_among (y ∷ some) x all h = inr h
+
+filter_among : {X : Type 0} (p : X → Bool) (xs : List X) → IsAmong (filter p xs) xs
+filter_among p [] = tt
+filter_among {X} p (x ∷ xs) = here (p x) (filter_among p xs)
+  where
+    here : (b : Bool) → IsAmong (filter p xs) xs → IsAmong (if b then x ∷ filter p xs else filter p xs) (x ∷ xs)
+    here true h = inl (refl, h)
+    here false h = still_among (filter p xs) x xs h
+
+each_passes : {X : Type 0} (p : X → Bool) (xs : List X) → AllByRecursion (λ x. p x ≡ true) (filter p xs)
+each_passes p [] = tt
+each_passes {X} p (x ∷ xs) = here (p x) refl (each_passes p xs)
+  where
+    here : (b : Bool) → p x ≡ b → AllByRecursion (λ y. p y ≡ true) (filter p xs) → AllByRecursion (λ y. p y ≡ true) (if b then x ∷ filter p xs else filter p xs)
+    here true e h = (e, h)
+    here false e h = h
+
+filter_alike : {X : Type 0} (p q : X → Bool) (xs : List X) → ((x : X) → p x ≡ q x) → filter p xs ≡ filter q xs
+filter_alike p q [] same = refl
+filter_alike {X} p q (x ∷ xs) same = ap (λ b. if b then x ∷ filter p xs else filter p xs) (same x) ∙ ap (λ l. if q x then x ∷ l else l) (filter_alike p q xs same)
+
+-- what is found
+pub are_found : {A : Type 0} (says : KeySet → List El → Bool) (s : Settings) (es : List (Entry A)) (keys : KeySet) (sets : List (List El)) → sets ≡ found says s es keys → AreFound (says keys) keys.attributes (rows s es) sets
+are_found says s es keys sets is = (filter (says keys) (rows s es), filter_among (says keys) (rows s es), each_passes (says keys) (rows s es), is)
+
+-- by a test that says what the rules say it is the worklist
+pub found_worklist : {A : Type 0} (says : KeySet → List El → Bool) (s : Settings) (es : List (Entry A)) (keys : KeySet) → ((r : List El) → says keys r ≡ is_match keys r) → found says s es keys ≡ worklist s es keys
+found_worklist says s es keys same = ap (map (λ r. answer r keys.attributes)) (filter_alike (says keys) (is_match keys) (rows s es) same)

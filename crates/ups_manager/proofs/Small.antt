@@ -7,7 +7,7 @@ use Rattle.std.specs.List.{AllByRecursion}
 use Rattle.std.proofs.lemmas.Bool.Decides.{nat_tests}
 use Rattle.std.proofs.lemmas.List.{length-append}
 use Rattle.ups_dataset.specs.declared.syntax.TransferSyntax.TheVariants.{Explicit}
-use Rattle.ups_dataset.specs.declared.limits.TheConstants.{MAX_DEPTH}
+use Rattle.ups_dataset.specs.Limits.{max_depth}
 use Rattle.ups_dataset.specs.Tag.{number, is_tag}
 use Rattle.ups_dataset.specs.Data.{El, put, elements_of}
 use Rattle.ups_dataset.specs.Valid.{depth_elements}
@@ -23,6 +23,7 @@ use Rattle.ups_life.specs.declared.status.Status.TheVariants.{Success, WrongTran
 use Rattle.ups_life.specs.Settings.{Settings}
 use Rattle.ups_life.specs.Steps.{state_element, row_after, nothing}
 use Rattle.ups_life.specs.Verdict.{verdict, if_held, change_status, claim_status, complete_status, discontinue_status, wrong_status, is_proper, is_right, is_performed, is_discontinued}
+use Rattle.ups_life.specs.Limits.{row_limit}
 use Rattle.ups_life.specs.History.{fits, is_sized}
 use Rattle.ups_manager.specs.declared.rows.HeldStep.{HeldStep}
 use Rattle.ups_manager.specs.Held.{slack, HasSmallRow, IsSmallStep, step_at, row_in, put_step}
@@ -107,7 +108,7 @@ no_more n m h = grind (arith, nat_tests)
 
 fitting : {A : Type 0} (r : Row A) → fits r.attributes ≡ true → HasSmallRow r
 fitting r h =
-    let small = no_more (length (written Explicit r.attributes)) 1048576 (left (not (nat_lt 1048576 (length (written Explicit r.attributes)))) (not (nat_lt MAX_DEPTH (depth_elements (elements_of r.attributes)))) h) in
+    let small = no_more (length (written Explicit r.attributes)) row_limit (left (not (nat_lt row_limit (length (written Explicit r.attributes)))) (not (nat_lt max_depth (depth_elements (elements_of r.attributes)))) h) in
     omega (arith, small)
 
 -- what is found among small ones is small

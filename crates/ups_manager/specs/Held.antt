@@ -1,5 +1,5 @@
 -- The steps that are held, as the definitions see them.
-use Rattle.std.specs.Prelude.{◌≤◌, ◌+◌, ℕ, ℤ, suc, List, [], ◌∷◌, length, map, Option, None, Some, if◌then◌else◌}
+use Rattle.std.specs.Prelude.{◌≤◌, ◌+◌, ℕ, suc, List, [], ◌∷◌, length, map, Option, None, Some, if◌then◌else◌}
 use Rattle.std.specs.Option.{option_map}
 use Rattle.std.specs.Str.{bytes_eq}
 use Rattle.ups_dataset.specs.declared.syntax.TransferSyntax.TheVariants.{Explicit}
@@ -10,17 +10,19 @@ use Rattle.ups_life.specs.declared.row.Row.{Row}
 use Rattle.ups_life.specs.declared.state.StepState.{StepState}
 use Rattle.ups_life.specs.declared.state.StepState.TheVariants.{Scheduled, InProgress, Completed, Canceled}
 use Rattle.ups_life.specs.declared.row.Holder.{Holder}
+use Rattle.ups_life.specs.Limits.{row_limit}
+use Rattle.ups_life.specs.Settings.{Settings}
 use Rattle.ups_life.specs.Steps.{taken, held, is_held, holder, row_of}
 use Rattle.ups_manager.specs.declared.call.Call.{Call}
 use Rattle.ups_manager.specs.declared.rows.HeldStep.{HeldStep}
 
 -- what is held of u, and who holds it
-abbrev pub held_step : {A : Type 0} → ℤ → List (Entry A) → List ℕ → HeldStep A
-held_step offset es u = record { step = u; row = row_of offset es u; holder = holder es u }
+abbrev pub held_step : {A : Type 0} → Settings → List (Entry A) → List ℕ → HeldStep A
+held_step s es u = record { step = u; row = row_of s es u; holder = holder es u }
 
 -- the steps held, in order of creation
-abbrev pub held_steps : {A : Type 0} → ℤ → List (Entry A) → List (HeldStep A)
-held_steps offset es = map (held_step offset es) (held es)
+abbrev pub held_steps : {A : Type 0} → Settings → List (Entry A) → List (HeldStep A)
+held_steps s es = map (held_step s es) (held s es)
 
 -- their attributes
 abbrev pub attributes_in : {A : Type 0} → List (HeldStep A) → List (List El)
@@ -59,10 +61,10 @@ abbrev pub claimed_by : {A : Type 0} → Call A → Option Holder
 claimed_by call = option_map (λ uid. record { caller = call.caller; ae = call.ae }) (taken call.request)
 
 -- who holds u after a history; nobody holds what is not held
-abbrev pub holder_of : {A : Type 0} → List (Entry A) → List ℕ → Option Holder
-holder_of es u = if is_held es u then holder es u else None
+abbrev pub holder_of : {A : Type 0} → Settings → List (Entry A) → List ℕ → Option Holder
+holder_of s es u = if is_held s es u then holder es u else None
 
--- By how many bytes a row may pass 1,048,576: a change of state takes 20 bytes at most, and isn't refused for them.
+-- By how many bytes a row may pass the limit: a change of state takes 20 bytes at most, and isn't refused for them.
 abbrev pub slack : StepState → ℕ
 slack Scheduled = 0
 slack InProgress = 20
@@ -70,7 +72,7 @@ slack Completed = 40
 slack Canceled = 40
 
 abbrev pub HasSmallRow : {A : Type 0} → Row A → Type 0
-HasSmallRow row = length (written Explicit row.attributes) ≤ 1048576 + slack row.state
+HasSmallRow row = length (written Explicit row.attributes) ≤ row_limit + slack row.state
 
 abbrev pub IsSmallStep : {A : Type 0} → HeldStep A → Type 0
 IsSmallStep h = HasSmallRow h.row

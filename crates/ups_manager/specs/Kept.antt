@@ -13,5 +13,5 @@ pub record IsKept {A : Type 0} (m : Inside A) : Type 0 where
   pub offset : IsOffset m.configuration.offset
   pub legal : is_legal m.configuration m.history.items
   pub moments : All (λ (e : Entry A). IsMoment e.moment) m.history.items
-  pub steps : m.steps.items ≡ held_steps m.configuration.offset (past m.history.items)
+  pub steps : m.steps.items ≡ held_steps m.configuration (past m.history.items)
   pub small : AllByRecursion IsSmallStep m.steps.items

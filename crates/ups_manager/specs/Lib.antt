@@ -1,3 +1,5 @@
+pub mod Faults
+pub mod Finding
 pub mod Held
 pub mod Kept
 pub mod Law

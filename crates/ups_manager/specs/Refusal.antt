@@ -1,9 +1,10 @@
 -- With which settings no manager is made.
-use Rattle.std.specs.Prelude.{ℕ, ℤ, pos, negsuc, nat_lt, ◌==◌, Bool, false, ◌||◌, List, [], ◌∷◌, Option, None, Some, if◌then◌else◌}
+use Rattle.std.specs.Prelude.{ℕ, ℤ, nat_lt, ◌==◌, Bool, false, ◌||◌, List, [], ◌∷◌, Option, None, Some, if◌then◌else◌}
 use lib.Signed.{lt_z}
 use Rattle.std.specs.List.{list_any}
 use Rattle.std.specs.Str.{bytes_eq}
 use Rattle.ups_life.specs.declared.entry.Peer.{Peer}
+use Rattle.ups_life.specs.Limits.{history_limit, least_offset, greatest_offset}
 use Rattle.ups_manager.specs.declared.fault.ManagerFault.{ManagerFault}
 use Rattle.ups_manager.specs.declared.fault.ManagerFault.TheVariants.{TwicePeer, BadLimit, BadOffset}
 
@@ -16,13 +17,13 @@ abbrev pub is_twice : List Peer → Bool
 is_twice [] = false
 is_twice (p ∷ ps) = is_named p.ae ps || is_twice ps
 
--- the history takes from 1 to 1,000,000 requests
+-- the history takes a request at least, and no more than the limit of all histories
 abbrev pub is_bad_limit : ℕ → Bool
-is_bad_limit limit = (limit == 0) || nat_lt 1000000 limit
+is_bad_limit limit = (limit == 0) || nat_lt history_limit limit
 
 -- an offset is from 12 hours west of UTC to 14 hours east of it (PS3.5 section 6.2, DT), in minutes
 abbrev pub is_bad_offset : ℤ → Bool
-is_bad_offset offset = lt_z offset (negsuc 719) || lt_z (pos 840) offset
+is_bad_offset offset = lt_z offset least_offset || lt_z greatest_offset offset
 
 -- the first of the faults of the settings
 abbrev pub refusal : List Peer → ℤ → ℕ → Option ManagerFault

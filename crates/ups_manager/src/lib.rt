@@ -9,6 +9,7 @@ mod manager;
 mod rows;
 mod service;
 mod starting;
+mod submitting;
 mod worklist;
 
 pub use call::Call;

@@ -5,20 +5,19 @@ ghost use Rattle.std.specs.Option.{option_copied, option_map};
 ghost use Rattle.ups_manager.specs.Held.{step_at, place_in, put_step};
 
 use std::alloc::{AllocError, Allocator};
-use ups_life::{Holder, Row};
-use ups_pdu::Uid;
+use ups_life::{Holder, Row, StepUid};
 
 /// A step that is held.
 #[derive(Drop)]
 pub(crate) struct HeldStep<A: Allocator + Copy> {
-    pub step: Uid,
+    pub step: StepUid,
     pub row: Row<A>,
     /// Who has claimed it.
     pub holder: Option<Holder>,
 }
 
 /// How many steps stand before this one; all of them where it is not held.
-fn place_of<A: Allocator + Copy>(steps: &[HeldStep<A>], step: Uid) -> usize
+fn place_of<A: Allocator + Copy>(steps: &[HeldStep<A>], step: StepUid) -> usize
     ensures { result ≡ place_in step steps.now }
 {
     for (place, held) in steps.iter().enumerate() {
@@ -30,7 +29,10 @@ fn place_of<A: Allocator + Copy>(steps: &[HeldStep<A>], step: Uid) -> usize
 }
 
 /// What is held of a step; None where it is not held.
-pub(crate) fn find<A: Allocator + Copy>(steps: &[HeldStep<A>], step: Uid) -> Option<&HeldStep<A>>
+pub(crate) fn find<A: Allocator + Copy>(
+    steps: &[HeldStep<A>],
+    step: StepUid,
+) -> Option<&HeldStep<A>>
     ensures { option_copied result ≡ step_at step steps.now }
 {
     for held in steps {
@@ -57,7 +59,7 @@ pub(crate) fn row_of<A: Allocator + Copy>(held: Option<&HeldStep<A>>) -> Option<
 pub(crate) fn uids_of<A: Allocator + Copy>(
     alloc: A,
     steps: &[HeldStep<A>],
-) -> Result<Vec<Uid, A>, AllocError>
+) -> Result<Vec<StepUid, A>, AllocError>
     ensures { IfOk result (λ v. v.items ≡ map (λ h. h.step) steps.now) }
 {
     let mut uids = Vec::with_capacity(alloc, steps.len())?;

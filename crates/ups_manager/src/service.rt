@@ -3,13 +3,11 @@
 ghost use Rattle.std.specs.Prelude.{◌≡◌, ℕ, true, is_some};
 ghost use Rattle.std.specs.Option.{IfSome};
 ghost use Rattle.ups_life.specs.Settings.{IsMoment};
-ghost use Rattle.ups_manager.specs.Law.{Serves, SmallReply};
+ghost use Rattle.ups_manager.specs.Law.{Others, nobody, Serves, SmallReply};
 
-use crate::call::Call;
 use crate::manager::Manager;
 use std::alloc::Allocator;
 use ups_life::{Ask, Reply};
-use ups_match::Probe;
 use ups_pdu::Ae;
 
 /// What answers a session: the manager, or a pass to one that others share. It has what was fixed at the start,
@@ -19,9 +17,12 @@ pub trait Service<A: Allocator + Copy> {
     ghost use Rattle.std.specs.Option.{IfSome};
     ghost use Rattle.ups_life.specs.declared.entry.Entry.{Entry};
     ghost use Rattle.ups_life.specs.Settings.{Settings, IsMoment};
-    ghost use Rattle.ups_manager.specs.Law.{Serves, SmallReply};
+    ghost use Rattle.ups_manager.specs.Law.{Others, Serves, SmallReply};
 
     ghost settings: { Self → Settings };
+
+    /// Who else enters requests between two calls.
+    ghost others: { Self → Others };
 
     ghost caller: { Self → ℕ };
 
@@ -32,16 +33,16 @@ pub trait Service<A: Allocator + Copy> {
     fn answer(&mut self, ae: Ae, moment: u64, ask: &mut Option<Ask<A>>) -> Reply<A>
         requires given { is_some ask.old ≡ true }
         requires moment { IsMoment moment }
-        ensures same { (settings self.new ≡ settings self.old) × (caller self.new ≡ caller self.old) }
-        ensures serves { IfSome ask.old (λ asked. Serves (settings self.old) (caller self.old) (seen self.old) ae moment asked result (seen self.new)) }
+        ensures same { (settings self.new ≡ settings self.old) × (others self.new ≡ others self.old) × (caller self.new ≡ caller self.old) }
+        ensures serves { IfSome ask.old (λ asked. Serves (settings self.old) (others self.old) (caller self.old) (seen self.old) ae moment asked result (seen self.new)) }
         ensures small { SmallReply result };
 
     /// Answers what an application entity asks, and enters it where it is a request that is accepted. `moment`
     /// is in seconds since 1970-01-01 UTC.
     final fn call(&mut self, ae: Ae, moment: u64, ask: Ask<A>) -> Reply<A>
         requires moment { IsMoment moment }
-        ensures same { (settings self.new ≡ settings self.old) × (caller self.new ≡ caller self.old) }
-        ensures serves { Serves (settings self.old) (caller self.old) (seen self.old) ae moment ask result (seen self.new) }
+        ensures same { (settings self.new ≡ settings self.old) × (others self.new ≡ others self.old) × (caller self.new ≡ caller self.old) }
+        ensures serves { Serves (settings self.old) (others self.old) (caller self.old) (seen self.old) ae moment ask result (seen self.new) }
         ensures small { SmallReply result }
     {
         self.answer(ae, moment, &mut Some(ask))
@@ -51,6 +52,8 @@ pub trait Service<A: Allocator + Copy> {
 impl<A: Allocator + Copy> Service<A> for Manager<A> {
     ghost settings = { λ m. m.settings };
 
+    ghost others = { λ _. nobody };
+
     ghost caller = { λ _. 0 };
 
     ghost seen = { λ m. m.history };
@@ -58,22 +61,13 @@ impl<A: Allocator + Copy> Service<A> for Manager<A> {
     fn answer(&mut self, ae: Ae, moment: u64, ask: &mut Option<Ask<A>>) -> Reply<A>
         requires given { is_some ask.old ≡ true }
         requires moment { IsMoment moment }
-        ensures same { (self.new.settings ≡ self.old.settings) × (◌≡◌ {A = ℕ} 0 0) }
-        ensures serves { IfSome ask.old (λ asked. Serves self.old.settings 0 self.old.history ae moment asked result self.new.history) }
+        ensures same { (self.new.settings ≡ self.old.settings) × (◌≡◌ {A = Others} nobody nobody) × (◌≡◌ {A = ℕ} 0 0) }
+        ensures serves { IfSome ask.old (λ asked. Serves self.old.settings nobody 0 self.old.history ae moment asked result self.new.history) }
         ensures small { SmallReply result }
     {
         let Some(ask) = ask.take() else {
             unreachable!();
         };
-        match ask {
-            Ask::Do(request) => self.submit(Call {
-                caller: 0,
-                ae,
-                moment,
-                request,
-            }),
-            Ask::Get { step, attributes } => self.get(step, attributes.as_slice()),
-            Ask::Find(keys) => self.find(&keys, &mut Probe::new()),
-        }
+        self.answer_as(0, ae, moment, ask)
     }
 }

@@ -4,17 +4,8 @@ ghost use Rattle.std.specs.Prelude.{◌≡◌};
 ghost use Rattle.ups_manager.specs.Refusal.{is_named, is_twice, refusal};
 
 use crate::fault::ManagerFault;
-use ups_life::Peer;
+use ups_life::{MAX_HISTORY, MAX_OFFSET, MIN_OFFSET, Peer};
 use ups_pdu::Ae;
-
-/// How many requests a history may take at most.
-const HISTORY_LIMIT: u64 = 1_000_000;
-
-/// The least offset of a local time from UTC, in minutes (PS3.5 section 6.2, DT).
-const LEAST_OFFSET: i16 = -720;
-
-/// The greatest offset of a local time from UTC, in minutes.
-const GREATEST_OFFSET: i16 = 840;
 
 /// Whether one of the peers has this title.
 fn is_named(ae: Ae, peers: &[Peer]) -> bool
@@ -42,10 +33,10 @@ pub(crate) fn refusal(peers: &[Peer], offset: i16, limit: u64) -> Option<Manager
     if is_twice(peers) {
         return Some(ManagerFault::TwicePeer);
     }
-    if limit == 0 || limit > HISTORY_LIMIT {
+    if limit == 0 || limit > MAX_HISTORY {
         return Some(ManagerFault::BadLimit);
     }
-    if offset < LEAST_OFFSET || offset > GREATEST_OFFSET {
+    if offset < MIN_OFFSET || offset > MAX_OFFSET {
         return Some(ManagerFault::BadOffset);
     }
     None

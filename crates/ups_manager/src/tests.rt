@@ -8,7 +8,7 @@ use std::process::Abort;
 use std::test::Fail;
 use ups_dataset::dictionary::*;
 use ups_dataset::{DataSet, Element, MAX_DEPTH, MAX_SHORT_LENGTH, Tag, Value, Vr, vr_of};
-use ups_life::{Ask, Entry, MAX_MOMENT, Peer, Reply, Request, StepState, Transaction};
+use ups_life::{Ask, Entry, MAX_MOMENT, Peer, Reply, Request, StepState, StepUid, Transaction};
 use ups_pdu::{Ae, Bytes, Uid};
 
 mod entries;
@@ -113,6 +113,16 @@ pub(crate) fn uid(text: &str) -> Result<Uid, Fail> {
     Ok(Uid::of(text.as_bytes()).ok_or("a UID")?)
 }
 
+/// The UID of a step.
+pub(crate) fn step_uid(text: &str) -> Result<StepUid, Fail> {
+    Ok(StepUid::of(uid(text)?).ok_or("the UID of a step")?)
+}
+
+/// The step that a text names; none where it is no UID.
+pub(crate) fn step_named(text: &str) -> Option<StepUid> {
+    StepUid::of(Uid::of(text.as_bytes())?)
+}
+
 pub(crate) fn title(text: &str) -> Result<Ae, Fail> {
     Ok(Ae::of(text.as_bytes()).ok_or("a title")?)
 }
@@ -210,20 +220,20 @@ fn with<A: Allocator + Copy>(
 pub(crate) fn request_of<A: Allocator + Copy>(alloc: A, asked: Asked) -> Result<Request<A>, Fail> {
     Ok(match asked {
         Asked::Create(step, sent) => Request::Create {
-            step: uid(step)?,
+            step: step_uid(step)?,
             attributes: with(alloc, a_step(alloc)?, sent)?,
         },
         Asked::Change(step, state, text) => Request::Change {
-            step: Uid::of(step.as_bytes()),
+            step: step_named(step),
             state,
             transaction: transaction(text),
         },
         Asked::Cancel(step, sent) => Request::AskCancel {
-            step: Uid::of(step.as_bytes()),
+            step: step_named(step),
             reasons: with(alloc, DataSet::new(alloc), sent)?,
         },
         Asked::Set(step, text, sent) => Request::Set {
-            step: Uid::of(step.as_bytes()),
+            step: step_named(step),
             transaction: transaction(text),
             attributes: with(alloc, DataSet::new(alloc), sent)?,
         },
@@ -306,7 +316,7 @@ fn asked_of<A: Allocator + Copy, S: Service<A>>(
     ask: Ask<A>,
 ) -> Reply<A>
     requires { IsMoment moment }
-    ensures { Calls (S.settings service.old) (S.caller service.old) (S.seen service.old) ae (ask ∷ []) (moment ∷ []) (result ∷ []) (S.seen service.new) }
+    ensures { Calls (S.settings service.old) (S.others service.old) (S.caller service.old) (S.seen service.old) ae (ask ∷ []) (moment ∷ []) (result ∷ []) (S.seen service.new) }
 {
     service.call(ae, moment, ask)
 }
@@ -380,7 +390,7 @@ pub(crate) fn shown_of<A: Allocator + Copy>(
     step: &str,
     rt: &impl AllocGlobal,
 ) -> Result<String, Fail> {
-    let (_, text) = told(&manager.get(Some(uid(step)?), &[]), rt)?;
+    let (_, text) = told(&manager.get(Some(step_uid(step)?), &[]), rt)?;
     Ok(text)
 }
 
@@ -457,7 +467,7 @@ pub(crate) fn holder_of<A: Allocator + Copy>(
     step: &str,
     rt: &impl AllocGlobal,
 ) -> Result<String, Fail> {
-    match manager.holder(uid(step)?) {
+    match manager.holder(step_uid(step)?) {
         Some(holder) => {
             let mut text = format!(in rt.alloc(); "{} ", holder.caller)?;
             add_bytes(&mut text, holder.ae.as_bytes())?;

@@ -4,7 +4,8 @@ ghost use Rattle.ups_life.specs.Settings.{IsMoment};
 
 use crate::attributes::{Attribute, attributes_of};
 use crate::fault::LineFault;
-use crate::line::{Heading, MAX_LINE, Verb};
+use crate::limits::MAX_LINE;
+use crate::line::{Heading, Verb};
 use crate::spelling::spelled;
 use crate::words::{Text, Words, tag_of};
 use std::alloc::Allocator;

@@ -5,6 +5,7 @@
 mod asking;
 mod attributes;
 mod fault;
+mod limits;
 mod line;
 mod paths;
 mod printing;
@@ -13,4 +14,5 @@ mod spelling;
 mod words;
 
 pub use fault::ScriptFault;
+pub use limits::limits_are_as_defined;
 pub use running::{answer_lines, run};

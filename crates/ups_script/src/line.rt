@@ -10,9 +10,6 @@ use std::alloc::Allocator;
 use ups_life::MAX_MOMENT;
 use ups_pdu::Ae;
 
-/// How many bytes a line has at most, without its line feed.
-pub(crate) const MAX_LINE: usize = 16_777_216;
-
 /// What a line asks for.
 #[derive(Clone, Copy, Debug, PartialEq, Eq)]
 pub(crate) enum Verb {

@@ -3,11 +3,9 @@
 ghost use Rattle.std.specs.Prelude.{◌<◌, length};
 ghost use Rattle.std.specs.Option.{IfSome};
 
+use crate::limits::MAX_ITEMS;
 use crate::words::{number_of, tag_of};
 use ups_dataset::Tag;
-
-/// How many items a line may make. No item has a greater number.
-pub(crate) const MAX_ITEMS: u32 = 131_072;
 
 /// A part of a path: an element, and the number of its item in which the path goes on, counted from 1. There is none
 /// where the path ends at the element.

@@ -3,8 +3,8 @@
 use std::alloc::Allocator;
 use std::io::{self, Write};
 use ups_dataset::{DataSet, Element, Tag, Value};
-use ups_life::{Reply, Status};
-use ups_pdu::{Ae, Uid, without_padding};
+use ups_life::{Reply, Status, StepUid};
+use ups_pdu::{Ae, without_padding};
 
 /// An item of a sequence round what is printed.
 #[derive(Clone, Copy)]
@@ -107,9 +107,9 @@ impl<'w, W: Write> Printed<'w, W> {
         self.writer.write_all(b"]")
     }
 
-    fn uid(&mut self, uid: Uid) -> io::Result<()> {
+    fn step(&mut self, step: StepUid) -> io::Result<()> {
         self.part()?;
-        self.text(uid.as_bytes())
+        self.text(step.as_bytes())
     }
 }
 
@@ -178,10 +178,10 @@ fn put_sets<A: Allocator + Copy, W: Write>(writer: &mut W, sets: &[DataSet<A>]) 
 }
 
 /// Writes the steps that are held.
-pub(crate) fn put_steps<W: Write>(writer: &mut W, steps: &[Uid]) -> io::Result<()> {
+pub(crate) fn put_steps<W: Write>(writer: &mut W, steps: &[StepUid]) -> io::Result<()> {
     let mut line = Printed::new(writer, Status::Success)?;
     for step in steps {
-        line.uid(*step)?;
+        line.step(*step)?;
     }
     line.end()
 }

@@ -3,25 +3,21 @@
 ghost use Rattle.std.specs.Prelude.{◌≡◌, ◌≤◌, length, None, IfErr};
 ghost use Rattle.ups_life.specs.Settings.{IsMoment};
 ghost use Rattle.ups_manager.specs.Refusal.{refusal};
+ghost use Rattle.ups_life.specs.Limits.{history_limit, peer_limit};
+ghost use Rattle.ups_script.specs.Limits.{max_lines};
 ghost use Rattle.ups_script.specs.Running.{TellsLine};
 
 use crate::asking::{Asked, Question, asked_by};
 use crate::fault::{LineFault, ScriptFault};
-use crate::line::MAX_LINE;
+use crate::limits::{MAX_LINE, MAX_LINES};
 use crate::printing::{put_holder, put_reply, put_steps};
 use std::alloc::{AllocError, Allocator};
 use std::io::{self, BufRead, ErrorKind, Read, Write};
 use ups_dataset::{SetFault, TransferSyntax, read_set};
 use ups_dimse::Operation;
-use ups_life::{Ask, Peer, Reply, Status, read_request};
+use ups_life::{Ask, MAX_HISTORY, Peer, Reply, Status, StepUid, read_request};
 use ups_manager::{Manager, Service};
 use ups_pdu::Ae;
-
-/// How many lines a script has at most.
-const MAX_LINES: u64 = 1_000_000;
-
-/// How many requests may be entered in the history.
-const HISTORY_LIMIT: u64 = 1_000_000;
 
 /// Why a message asks nothing of the manager.
 enum Unasked {
@@ -120,7 +116,7 @@ fn reply_to<A: Allocator + Copy>(
 
 /// Tells that a line is none, and gives the fault that ends its script.
 fn bad_line<W: Write>(writer: &mut W, number: u64) -> ScriptFault
-    requires number { (1 ≤ number) × (number ≤ 1000000) }
+    requires number { (1 ≤ number) × (number ≤ max_lines) }
     ensures { TellsLine result }
 {
     match put_bad_line(writer, number) {
@@ -157,7 +153,9 @@ fn put_answer<A: Allocator + Copy, W: Write>(
         }
         Question::Held => put_steps(writer, &manager.held()?),
         Question::Holder(step) => {
-            let holder = step.and_then(|step| manager.holder(step));
+            let holder = step
+                .and_then(StepUid::of)
+                .and_then(|step| manager.holder(step));
             put_holder(writer, holder.map(|holder| holder.ae))
         }
     };
@@ -179,7 +177,7 @@ fn answer<A: Allocator + Copy, W: Write>(
     number: u64,
     line: Vec<u8, A>,
 ) -> Result<(), ScriptFault>
-    requires number { (1 ≤ number) × (number ≤ 1000000) }
+    requires number { (1 ≤ number) × (number ≤ max_lines) }
     ensures { IfErr result TellsLine }
 {
     match asked_of(alloc, line) {
@@ -201,7 +199,7 @@ pub fn answer_lines<A: Allocator + Copy, R: BufRead, W: Write>(
     writer: &mut W,
     limit: u64,
 ) -> Result<(), ScriptFault>
-    requires { limit ≤ 1000000 }
+    requires { limit ≤ max_lines }
     ensures { IfErr result TellsLine }
 {
     for number in 1..=limit {
@@ -235,11 +233,11 @@ pub fn run<A: Allocator + Copy, R: BufRead, W: Write>(
     keep: u32,
     offset: i16,
 ) -> Result<(), ScriptFault>
-    requires few { length peers.now ≤ 1000 }
-    requires allowed { refusal peers.now offset 1000000 ≡ None }
+    requires few { length peers.now ≤ peer_limit }
+    requires allowed { refusal peers.now offset history_limit ≡ None }
     ensures { IfErr result TellsLine }
 {
-    let Ok(mut manager) = Manager::new(alloc, peers, keep, offset, HISTORY_LIMIT) else {
+    let Ok(mut manager) = Manager::new(alloc, peers, keep, offset, MAX_HISTORY) else {
         return Err(ScriptFault::Memory);
     };
     answer_lines(alloc, &mut manager, reader, writer, MAX_LINES)

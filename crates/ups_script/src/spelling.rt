@@ -3,7 +3,8 @@
 
 use crate::attributes::Attribute;
 use crate::fault::LineFault;
-use crate::paths::{MAX_ITEMS, Part, Path};
+use crate::limits::MAX_ITEMS;
+use crate::paths::{Part, Path};
 use crate::words::Text;
 use std::alloc::{AllocError, Allocator};
 use ups_dataset::{

@@ -1,5 +1,5 @@
 -- What comes of one thing that happens.
-use Rattle.std.proofs.Common.{◌≡◌, ℕ, List, [], ◌∷◌, ◌++◌, refl, sym, append-nil, Option, Some, Result, Ok, Err, map, take, drop, ◌+◌, ◌<◌, length, get_or, ap, ◌∙◌, subst, take-append-drop}
+use Rattle.std.proofs.Common.{◌≡◌, false, ℕ, List, [], ◌∷◌, ◌++◌, refl, sym, append-nil, Option, Some, Result, Ok, Err, map, take, drop, ◌+◌, ◌<◌, length, get_or, ap, ◌∙◌, subst, take-append-drop}
 use Rattle.std.proofs.lemmas.List.{map-append, take_more}
 use Rattle.std.specs.Io.KnownBytes.{Appends}
 use Rattle.ups_pdu.specs.declared.pdu.Pdu.{Pdu}
@@ -8,11 +8,11 @@ use Rattle.ups_assoc.specs.declared.negotiating.Config.{Config}
 use Rattle.ups_life.specs.Settings.{Settings}
 use Rattle.ups_life.specs.declared.entry.Entry.{Entry}
 use Rattle.ups_life.specs.declared.request.Reply.{Reply}
-use Rattle.ups_manager.specs.Law.{Serves}
+use Rattle.ups_manager.specs.Law.{Others, Serves}
 use Rattle.ups_session.specs.declared.deed.Waiting.{Waiting}
 use Rattle.ups_session.specs.declared.fault.SessionFault.{SessionFault}
 use Rattle.ups_session.specs.declared.live.Live.{Live}
-use Rattle.ups_session.specs.Tells.{Tells}
+use Rattle.ups_session.specs.Tells.{Told, Tells}
 use Rattle.ups_session.specs.Wire.{Says, spelled}
 use Rattle.ups_session.specs.Fold.{Happening, fragment, Talk, Happens}
 use Rattle.ups_session.specs.Acceptor.{saying, acceptor, Reacts}
@@ -25,12 +25,12 @@ use Rattle.ups_session.proofs.Telling.{Tells-trans}
 
 did_one : {A X Y : Type 0} (live : Live A) (h : X) (said : List (Pdu A)) (sent : List ℕ) (r : Result Y SessionFault) → Says (spelled said) sent r → Did live live (h ∷ []) (h ∷ []) sent (spelled said) r
 did_one live h said sent (Ok y) is = (refl, refl, is)
-did_one live h said sent (Err e) (why, part) = (why, ([], append-nil (h ∷ [])), part)
+did_one live h said sent (Err e) is = (is, ([], append-nil (h ∷ [])))
 
 -- something is said
-pub says_on : {A Y : Type 0} (config : Config) (from live : Live A) (h : Happening A) (said : List (Pdu A)) (c0 c1 m0 m1 : Option (List ℕ)) (s : Settings) (k : ℕ) (seen : List (Entry A)) (sent : List ℕ) (r : Result Y SessionFault)
-    → Reacts config from h (saying live said) → Appends c0 c1 sent → Says (spelled said) sent r → Tells m0 m1 [] → Goes (Happens (acceptor config)) (h ∷ []) from live (world c0 m0 s k seen) (world c1 m1 s k seen) r
-says_on {A} config from live h said c0 c1 m0 m1 s k seen sent r reacts writes is tells =
+pub says_on : {A Y : Type 0} (config : Config) (from live : Live A) (h : Happening A) (said : List (Pdu A)) (c0 c1 : Option (List ℕ)) (m0 m1 : Told) (s : Settings) (o : Others) (k : ℕ) (seen : List (Entry A)) (sent : List ℕ) (r : Result Y SessionFault)
+    → Reacts false config from h (saying live said) → Appends c0 c1 sent → Says (spelled said) sent r → Tells m0 m1 [] → Goes (Happens (acceptor config)) (h ∷ []) from live (world c0 m0 s o k seen) (world c1 m1 s o k seen) r
+says_on {A} config from live h said c0 c1 m0 m1 s o k seen sent r reacts writes is tells =
     let talk : Talk A = record { said = said; asks = []; replies = [] } in
     record {
       some = h ∷ [];
@@ -40,6 +40,7 @@ says_on {A} config from live h said c0 c1 m0 m1 s k seen sent r reacts writes is
       moments = [];
       ran = chain_one (Happens (acceptor config)) h from live talk (saying live said, reacts, (refl, refl, refl, refl));
       settings = refl;
+      others = refl;
       caller = refl;
       writes = writes;
       tells = tells;
@@ -48,10 +49,10 @@ says_on {A} config from live h said c0 c1 m0 m1 s k seen sent r reacts writes is
     }
 
 -- something is asked, and the reply is said
-pub asks_on : {A Y : Type 0} (config : Config) (from live : Live A) (h : Happening A) (w : Waiting A) (m : ℕ) (q : Reply A) (c0 c1 m0 m1 m2 : Option (List ℕ)) (s s2 : Settings) (k k2 : ℕ) (seen seen2 : List (Entry A)) (sent : List ℕ) (r : Result Y SessionFault)
-    → Reacts config from h (record { live = live; say = []; waiting = Some w }) → Tells m0 m1 (m ∷ []) → Tells m1 m2 [] → s2 ≡ s → k2 ≡ k → Serves s k seen w.ae m w.ask q seen2
-    → Appends c0 c1 sent → Says (spelled (response w.max w.context w.command q)) sent r → Goes (Happens (acceptor config)) (h ∷ []) from live (world c0 m0 s k seen) (world c1 m2 s2 k2 seen2) r
-asks_on {A} config from live h w m q c0 c1 m0 m1 m2 s s2 k k2 seen seen2 sent r reacts told quiet same one serves writes is =
+pub asks_on : {A Y : Type 0} (config : Config) (from live : Live A) (h : Happening A) (w : Waiting A) (m : ℕ) (q : Reply A) (c0 c1 : Option (List ℕ)) (m0 m1 m2 : Told) (s s2 : Settings) (o o2 : Others) (k k2 : ℕ) (seen seen2 : List (Entry A)) (sent : List ℕ) (r : Result Y SessionFault)
+    → Reacts false config from h (record { live = live; say = []; waiting = Some w }) → Tells m0 m1 (m ∷ []) → Tells m1 m2 [] → s2 ≡ s → o2 ≡ o → k2 ≡ k → Serves s o k seen w.ae m w.ask q seen2
+    → Appends c0 c1 sent → Says (spelled (response w.max w.context w.command q)) sent r → Goes (Happens (acceptor config)) (h ∷ []) from live (world c0 m0 s o k seen) (world c1 m2 s2 o2 k2 seen2) r
+asks_on {A} config from live h w m q c0 c1 m0 m1 m2 s s2 o o2 k k2 seen seen2 sent r reacts told quiet same shared one serves writes is =
     let said : List (Pdu A) = response w.max w.context w.command q in
     let talk : Talk A = record { said = said; asks = record { ae = w.ae; ask = w.ask } ∷ []; replies = q ∷ [] } in
     record {
@@ -63,6 +64,7 @@ asks_on {A} config from live h w m q c0 c1 m0 m1 m2 s s2 k k2 seen seen2 sent r 
       ran = chain_one (Happens (acceptor config)) h from live talk
           (record { live = live; say = []; waiting = Some w }, reacts, (w, saying live said, said, [], refl, refl, (refl, refl, refl, refl), refl, refl));
       settings = same;
+      others = shared;
       caller = one;
       writes = writes;
       tells = Tells-trans m0 m1 m2 (m ∷ []) [] told quiet;

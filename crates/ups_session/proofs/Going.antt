@@ -8,9 +8,10 @@ use Rattle.ups_session.specs.declared.fault.SessionFault.{SessionFault}
 use Rattle.ups_session.specs.declared.fault.SessionFault.TheVariants.{Memory}
 use Rattle.ups_session.specs.Wire.{IsPrefix, spelled}
 use Rattle.ups_session.specs.Fold.{Asked, Talk, silence, joined, Chain}
+use Rattle.ups_manager.specs.Law.{Others}
 use Rattle.ups_session.specs.World.{World, Calls, Did, Goes}
 use Rattle.ups_session.proofs.Chains.{chain_on, chain_none}
-use Rattle.ups_session.proofs.Spoken.{spelled-append}
+use Rattle.ups_session.proofs.Spoken.{short_after, spelled-append}
 use Rattle.ups_session.proofs.Telling.{Tells-nil, Tells-trans}
 
 pub prefix_after : {X : Type 0} (front part all : List X) → IsPrefix part all → IsPrefix (front ++ part) (front ++ all)
@@ -22,29 +23,31 @@ prefix_of xs more = (more, refl)
 pub prefix_trans : {X : Type 0} (xs ys zs : List X) → IsPrefix xs ys → IsPrefix ys zs → IsPrefix xs zs
 prefix_trans xs ys zs (p, e) (q, f) = (p ++ q, sym (append_assoc xs p q) ∙ ap (λ l. l ++ q) e ∙ f)
 
-pub Calls-append : {A : Type 0} (s : Settings) (c : ℕ) (s0 s1 s2 : List (Entry A)) (us : List (Asked A)) (ms : List ℕ) (rs : List (Reply A)) (bs : List (Asked A)) (ns : List ℕ) (qs : List (Reply A))
-    → Calls s c s0 us ms rs s1 → Calls s c s1 bs ns qs s2 → Calls s c s0 (us ++ bs) (ms ++ ns) (rs ++ qs) s2
-Calls-append {A} s c s0 s1 s2 [] [] [] bs ns qs p q = subst (λ (seen : List (Entry A)). Calls s c seen bs ns qs s2) p q
-Calls-append s c s0 s1 s2 (a ∷ us) (m ∷ ms) (r ∷ rs) bs ns qs (mid, p, ps) q = (mid, p, Calls-append s c mid s1 s2 us ms rs bs ns qs ps q)
-Calls-append s c s0 s1 s2 [] [] (r ∷ rs) bs ns qs p q = absurd p
-Calls-append s c s0 s1 s2 [] (m ∷ ms) [] bs ns qs p q = absurd p
-Calls-append s c s0 s1 s2 [] (m ∷ ms) (r ∷ rs) bs ns qs p q = absurd p
-Calls-append s c s0 s1 s2 (a ∷ us) [] [] bs ns qs p q = absurd p
-Calls-append s c s0 s1 s2 (a ∷ us) [] (r ∷ rs) bs ns qs p q = absurd p
-Calls-append s c s0 s1 s2 (a ∷ us) (m ∷ ms) [] bs ns qs p q = absurd p
+pub Calls-append : {A : Type 0} (s : Settings) (o : Others) (c : ℕ) (s0 s1 s2 : List (Entry A)) (us : List (Asked A)) (ms : List ℕ) (rs : List (Reply A)) (bs : List (Asked A)) (ns : List ℕ) (qs : List (Reply A))
+    → Calls s o c s0 us ms rs s1 → Calls s o c s1 bs ns qs s2 → Calls s o c s0 (us ++ bs) (ms ++ ns) (rs ++ qs) s2
+Calls-append {A} s o c s0 s1 s2 [] [] [] bs ns qs p q = subst (λ (seen : List (Entry A)). Calls s o c seen bs ns qs s2) p q
+Calls-append s o c s0 s1 s2 (a ∷ us) (m ∷ ms) (r ∷ rs) bs ns qs (mid, p, ps) q = (mid, p, Calls-append s o c mid s1 s2 us ms rs bs ns qs ps q)
+Calls-append s o c s0 s1 s2 [] [] (r ∷ rs) bs ns qs p q = absurd p
+Calls-append s o c s0 s1 s2 [] (m ∷ ms) [] bs ns qs p q = absurd p
+Calls-append s o c s0 s1 s2 [] (m ∷ ms) (r ∷ rs) bs ns qs p q = absurd p
+Calls-append s o c s0 s1 s2 (a ∷ us) [] [] bs ns qs p q = absurd p
+Calls-append s o c s0 s1 s2 (a ∷ us) [] (r ∷ rs) bs ns qs p q = absurd p
+Calls-append s o c s0 s1 s2 (a ∷ us) (m ∷ ms) [] bs ns qs p q = absurd p
 
-pub Calls-more : {A : Type 0} (s t : Settings) (c d : ℕ) (s0 s1 s2 : List (Entry A)) (us : List (Asked A)) (ms : List ℕ) (rs : List (Reply A)) (bs : List (Asked A)) (ns : List ℕ) (qs : List (Reply A))
-    → t ≡ s → d ≡ c → Calls s c s0 us ms rs s1 → Calls t d s1 bs ns qs s2 → Calls s c s0 (us ++ bs) (ms ++ ns) (rs ++ qs) s2
-Calls-more s t c d s0 s1 s2 us ms rs bs ns qs same one p q =
-    Calls-append s c s0 s1 s2 us ms rs bs ns qs p (subst (λ (x : Settings). Calls x c s1 bs ns qs s2) same (subst (λ (y : ℕ). Calls t y s1 bs ns qs s2) one q))
+pub Calls-more : {A : Type 0} (s t : Settings) (o p : Others) (c d : ℕ) (s0 s1 s2 : List (Entry A)) (us : List (Asked A)) (ms : List ℕ) (rs : List (Reply A)) (bs : List (Asked A)) (ns : List ℕ) (qs : List (Reply A))
+    → t ≡ s → p ≡ o → d ≡ c → Calls s o c s0 us ms rs s1 → Calls t p d s1 bs ns qs s2 → Calls s o c s0 (us ++ bs) (ms ++ ns) (rs ++ qs) s2
+Calls-more {A} s t o p c d s0 s1 s2 us ms rs bs ns qs same shared one first then =
+    let kept : Calls t p c s1 bs ns qs s2 = subst (λ (y : ℕ). Calls t p y s1 bs ns qs s2) one then in
+    let alike : Calls t o c s1 bs ns qs s2 = subst (λ (y : Others). Calls t y c s1 bs ns qs s2) shared kept in
+    Calls-append s o c s0 s1 s2 us ms rs bs ns qs first (subst (λ (x : Settings). Calls x o c s1 bs ns qs s2) same alike)
 
 did_on : {A L X Y Z : Type 0} (Step : L → X → Talk A → L → Type 0) (xs ys : List X) (from mid after : L) (u v w : World A) (y : Y) (r : Result Z SessionFault)
     → (g : Goes Step xs from mid u v (Ok y)) → (h : Goes Step ys mid after v w r) → Did h.end after (xs ++ h.some) (xs ++ ys) (g.sent ++ h.sent) (spelled (g.talk.said ++ h.talk.said)) r
 did_on Step xs ys from mid after u v w y (Ok z) g h =
     (h.did.0, ap (λ l. xs ++ l) h.did.1, ap (λ l. l ++ h.sent) g.did.2 ∙ ap (λ l. spelled g.talk.said ++ l) h.did.2 ∙ sym (spelled-append g.talk.said h.talk.said))
 did_on Step xs ys from mid after u v w y (Err e) g h =
-    let sent = prefix_after (spelled g.talk.said) h.sent (spelled h.talk.said) h.did.2 in
-    (h.did.0, prefix_after xs h.some ys h.did.1, rw (g.did.2, spelled-append g.talk.said h.talk.said) sent)
+    let short = short_after (spelled g.talk.said) (spelled h.talk.said) h.sent e h.did.0 in
+    (rw (g.did.2, spelled-append g.talk.said h.talk.said) short, prefix_after xs h.some ys h.did.1)
 
 -- some things happened whole, and then more
 pub goes_on : {A L X Y Z : Type 0} (Step : L → X → Talk A → L → Type 0) (xs ys : List X) (from mid after : L) (u v w : World A) (y : Y) (r : Result Z SessionFault)
@@ -59,10 +62,11 @@ goes_on {A} {L} {X} Step xs ys from mid after u v w y r g h =
       moments = g.moments ++ h.moments;
       ran = chain_on Step xs h.some from mid h.end g.talk h.talk first h.ran;
       settings = h.settings ∙ g.settings;
+      others = h.others ∙ g.others;
       caller = h.caller ∙ g.caller;
       writes = Appends-trans _ _ _ _ _ g.writes h.writes;
       tells = Tells-trans _ _ _ _ _ g.tells h.tells;
-      calls = Calls-more u.settings v.settings u.caller v.caller u.seen v.seen w.seen g.talk.asks g.moments g.talk.replies h.talk.asks h.moments h.talk.replies g.settings g.caller g.calls h.calls;
+      calls = Calls-more u.settings v.settings u.others v.others u.caller v.caller u.seen v.seen w.seen g.talk.asks g.moments g.talk.replies h.talk.asks h.moments h.talk.replies g.settings g.others g.caller g.calls h.calls;
       did = did_on Step xs ys from mid after u v w y r g h;
     }
 
@@ -81,11 +85,12 @@ goes_cut Step xs ys from mid after u v e g = record {
   moments = g.moments;
   ran = g.ran;
   settings = g.settings;
+  others = g.others;
   caller = g.caller;
   writes = g.writes;
   tells = g.tells;
   calls = g.calls;
-  did = (g.did.0, prefix_trans g.some xs (xs ++ ys) g.did.1 (prefix_of xs ys), g.did.2);
+  did = (g.did.0, prefix_trans g.some xs (xs ++ ys) g.did.1 (prefix_of xs ys));
 }
 
 -- nothing has happened
@@ -98,9 +103,10 @@ goes_nowhere Step live w y = record {
   moments = [];
   ran = chain_none Step live;
   settings = refl;
+  others = refl;
   caller = refl;
   writes = Appends-nil w.written;
-  tells = Tells-nil w.moments;
+  tells = Tells-nil w.told;
   calls = refl;
   did = (refl, refl, refl);
 }
@@ -115,9 +121,10 @@ goes_short Step all live after w = record {
   moments = [];
   ran = chain_none Step live;
   settings = refl;
+  others = refl;
   caller = refl;
   writes = Appends-nil w.written;
-  tells = Tells-nil w.moments;
+  tells = Tells-nil w.told;
   calls = refl;
-  did = (inr refl, (all, refl), ([], refl));
+  did = (inr (refl, ([], refl)), (all, refl));
 }

@@ -2,6 +2,7 @@ pub mod Accepting
 pub mod Bodies
 pub mod Carrying
 pub mod Chains
+pub mod Closing
 pub mod Coming
 pub mod Filling
 pub mod Going

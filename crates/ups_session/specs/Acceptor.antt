@@ -1,12 +1,12 @@
 -- What is made of an association that a peer opens (PS3.8 section 9.2).
-use Rattle.std.specs.Prelude.{◌≡◌, ◌⊎◌, ℕ, ℤ, Bool, true, false, not, ◌==◌, List, [], ◌∷◌, map, Option, None, Some, if◌then◌else◌}
+use Rattle.std.specs.Prelude.{◌≡◌, ◌⊎◌, ℕ, ℤ, Bool, true, false, not, ◌==◌, List, [], ◌∷◌, map, find, Option, None, Some, if◌then◌else◌}
 use Rattle.std.specs.Option.{unwrap_or}
 use Rattle.ups_ulstate.specs.declared.state.UlState.{UlState}
 use Rattle.ups_ulstate.specs.declared.state.UlState.TheVariants.{Sta2}
 use Rattle.ups_ulstate.specs.declared.state.UlEvent.{UlEvent}
 use Rattle.ups_ulstate.specs.declared.state.UlEvent.TheVariants as events
 use Rattle.ups_ulstate.specs.declared.state.UlAction.{UlAction}
-use Rattle.ups_ulstate.specs.declared.state.UlAction.TheVariants.{Ae4, Ae6, Ae8, Ar2, Ar3, Ar4, Ar9, Ar10, Dt2, Aa1, Aa2, Aa3, Aa4, Aa5, Aa7, Aa8}
+use Rattle.ups_ulstate.specs.declared.state.UlAction.TheVariants.{Ae4, Ae6, Ae8, Ar2, Ar3, Ar4, Ar8, Ar9, Ar10, Dt2, Aa1, Aa2, Aa3, Aa4, Aa5, Aa7, Aa8}
 use Rattle.ups_ulstate.specs.Table.{next_of}
 use Rattle.ups_pdu.specs.declared.fault.PduFault.{PduFault}
 use Rattle.ups_pdu.specs.declared.fault.PduFault.TheVariants.{UnknownType}
@@ -74,8 +74,8 @@ abbrev pub does_at : {A : Type 0} → Live A → UlEvent → Option (UlAction ×
 does_at live e None = live
 does_at live e (Some cell) = moved live e cell.0 cell.1
 
-abbrev pub does : {A : Type 0} → UlEvent → Live A → Live A
-does e live = does_at live e (next_of false true e live.state)
+abbrev pub does : {A : Type 0} → Bool → UlEvent → Live A → Live A
+does requestor e live = does_at live e (next_of requestor true e live.state)
 
 -- what an action sends to the peer; the reason is of an abort by the service provider (PS3.8 table 9-26)
 abbrev pub sends : {A : Type 0} → ℕ → UlAction → List (Pdu A)
@@ -84,15 +84,23 @@ sends reason Aa7 = Abort 2 reason ∷ []
 sends reason Aa8 = Abort 2 reason ∷ []
 sends reason action = []
 
--- a release is answered at once (PS3.8 section 7.2)
-abbrev pub acts : {A : Type 0} → ℕ → Live A → UlAction → TurnOf A
-acts reason live Ar2 = saying (does events.ReleaseResponse live) (ReleaseRp ∷ [])
-acts reason live action = saying live (sends reason action)
+-- a release is answered where the table has a cell for that
+abbrev pub releases : {A : Type 0} → Live A → Option (UlAction × UlState) → TurnOf A
+releases live None = saying live []
+releases live (Some cell) = saying (moved live events.ReleaseResponse cell.0 cell.1) (ReleaseRp ∷ [])
+
+-- A release is answered at once (PS3.8 section 7.2). Where both sides asked for it, the side that asked for the
+-- association answers first, and the other one once it has that answer (PS3.8 section 7.2.2.7).
+abbrev pub acts : {A : Type 0} → Bool → ℕ → Live A → UlAction → TurnOf A
+acts requestor reason live Ar2 = releases live (next_of requestor true events.ReleaseResponse live.state)
+acts requestor reason live Ar8 = releases live (next_of requestor true events.ReleaseResponse live.state)
+acts requestor reason live Ar10 = releases live (next_of requestor true events.ReleaseResponse live.state)
+acts requestor reason live action = saying live (sends reason action)
 
 -- a cell of the table that brings nothing with it
-abbrev pub plainly : {A : Type 0} → ℕ → Live A → UlEvent → Option (UlAction × UlState) → TurnOf A
-plainly reason live e None = saying live []
-plainly reason live e (Some cell) = acts reason (moved live e cell.0 cell.1) cell.0
+abbrev pub plainly : {A : Type 0} → Bool → ℕ → Live A → UlEvent → Option (UlAction × UlState) → TurnOf A
+plainly requestor reason live e None = saying live []
+plainly requestor reason live e (Some cell) = acts requestor reason (moved live e cell.0 cell.1) cell.0
 
 -- 1: unrecognized PDU; 2: unexpected PDU; 6: invalid PDU parameter value
 abbrev pub unexpected : ℕ
@@ -120,37 +128,36 @@ abbrev pub agreeing : {A : Type 0} → Acceptance A → Live A → Live A
 agreeing a live = record { state = live.state; agreed = Some (record { terms = record { ae = a.ae; contexts = a.contexts; max = a.max }; assembler = record { ids = ids a.contexts; begun = Nothing } }); ending = live.ending }
 
 -- an association request is accepted or rejected at once (PS3.8 section 7.1)
-abbrev pub answers : {A : Type 0} → Live A → Outcome A → TurnOf A
-answers live (Accept a) = saying (agreeing a (does events.LocalAccept live)) (AssociateAc a.ac ∷ [])
-answers live (Reject r) = saying (if is_acceptable {A = Unit {0}} (Reject r) then does events.LocalReject live else ended Rejected live) (rejecting r ∷ [])
+abbrev pub answers : {A : Type 0} → Bool → Live A → Outcome A → TurnOf A
+answers requestor live (Accept a) = saying (agreeing a (does requestor events.LocalAccept live)) (AssociateAc a.ac ∷ [])
+answers requestor live (Reject r) = saying (if is_acceptable {A = Unit {0}} (Reject r) then does requestor events.LocalReject live else ended Rejected live) (rejecting r ∷ [])
 
-abbrev pub requested_at : {A : Type 0} → Live A → Outcome A → Option (UlAction × UlState) → TurnOf A
-requested_at live o None = saying live []
-requested_at live o (Some (Ae6, state)) = answers (moved live events.AssociateRq Ae6 state) o
-requested_at live o (Some (action, state)) = acts unexpected (moved live events.AssociateRq action state) action
+abbrev pub requested_at : {A : Type 0} → Bool → Live A → Outcome A → Option (UlAction × UlState) → TurnOf A
+requested_at requestor live o None = saying live []
+requested_at requestor live o (Some (Ae6, state)) = answers requestor (moved live events.AssociateRq Ae6 state) o
+requested_at requestor live o (Some (action, state)) = acts requestor unexpected (moved live events.AssociateRq action state) action
 
-abbrev pub requested : {A : Type 0} → Live A → Outcome A → TurnOf A
-requested live o = requested_at live o (next_of false (is_acceptable o) events.AssociateRq live.state)
+abbrev pub requested : {A : Type 0} → Bool → Live A → Outcome A → TurnOf A
+requested requestor live o = requested_at requestor live o (next_of requestor (is_acceptable o) events.AssociateRq live.state)
 
 -- this side aborts the association (PS3.8 section 7.3)
-abbrev pub aborting : {A : Type 0} → Live A → TurnOf A
-aborting live = saying (does events.AbortRequest live) (Abort 0 0 ∷ [])
+abbrev pub aborting : {A : Type 0} → Bool → Live A → TurnOf A
+aborting requestor live = saying (does requestor events.AbortRequest live) (Abort 0 0 ∷ [])
 
 abbrev pub with_begun : {A : Type 0} → Live A → Agreed A → Begun A → Live A
 with_begun live agreed begun = record { state = live.state; agreed = Some (record { terms = agreed.terms; assembler = record { ids = agreed.assembler.ids; begun = begun } }); ending = live.ending }
 
 -- the context with an id
 abbrev pub context_at : ℕ → List AcceptedContext → Option AcceptedContext
-context_at id [] = None
-context_at id (c ∷ cs) = if c.id == id then Some c else context_at id cs
+context_at id contexts = find (λ c. c.id == id) contexts
 
 -- what a message comes to: something is said, or a reply is awaited; None where the association is aborted
 abbrev pub Heard : Type 0 → Type 0
 Heard A = Option (List (Pdu A) × Option (Waiting A))
 
-abbrev pub heard : {A : Type 0} → Live A → Heard A → TurnOf A
-heard live None = aborting live
-heard live (Some (say, waiting)) = record { live = live; say = say; waiting = waiting }
+abbrev pub heard : {A : Type 0} → Bool → Live A → Heard A → TurnOf A
+heard requestor live None = aborting requestor live
+heard requestor live (Some (say, waiting)) = record { live = live; say = say; waiting = waiting }
 
 -- a request is answered at once, or its reply is awaited
 abbrev pub decides : {A : Type 0} → Terms A → AcceptedContext → RequestCommand A → Decision A → Heard A
@@ -173,34 +180,35 @@ Understands {A} offset terms message h =
     ⊎ (((command : Command A) → SpellsCommand message.command command → ⊥) × (h ≡ None))
 
 -- a fragment: a message goes on, or is whole; or there is none, and the association is aborted
-abbrev pub Continues : {A : Type 0} → ℤ → Live A → Agreed A → Fed A → TurnOf A → Type 0
-Continues offset live agreed (more begun) turn = turn ≡ saying (with_begun live agreed begun) []
-Continues {A} offset live agreed (whole message) turn = (h : Heard A) × Understands offset agreed.terms message h × (turn ≡ heard (with_begun live agreed Nothing) h)
-Continues offset live agreed (fault why) turn = turn ≡ aborting (with_begun live agreed Failed)
+abbrev pub Continues : {A : Type 0} → Bool → ℤ → Live A → Agreed A → Fed A → TurnOf A → Type 0
+Continues requestor offset live agreed (more begun) turn = turn ≡ saying (with_begun live agreed begun) []
+Continues {A} requestor offset live agreed (whole message) turn = (h : Heard A) × Understands offset agreed.terms message h × (turn ≡ heard requestor (with_begun live agreed Nothing) h)
+Continues requestor offset live agreed (fault why) turn = turn ≡ aborting requestor (with_begun live agreed Failed)
 
-abbrev pub Received : {A : Type 0} → ℤ → Live A → Option (Agreed A) → Pdv A → TurnOf A → Type 0
-Received offset live None pdv turn = turn ≡ saying live []
-Received offset live (Some agreed) pdv turn = Continues offset live agreed (fed agreed.assembler.ids agreed.assembler.begun pdv) turn
+abbrev pub Received : {A : Type 0} → Bool → ℤ → Live A → Option (Agreed A) → Pdv A → TurnOf A → Type 0
+Received requestor offset live None pdv turn = turn ≡ saying live []
+Received requestor offset live (Some agreed) pdv turn = Continues requestor offset live agreed (fed agreed.assembler.ids agreed.assembler.begun pdv) turn
 
-abbrev pub Indicated : {A : Type 0} → ℤ → Live A → Pdv A → Option (UlAction × UlState) → TurnOf A → Type 0
-Indicated offset live pdv None turn = turn ≡ saying live []
-Indicated offset live pdv (Some (Dt2, state)) turn = Received offset (moved live events.Data Dt2 state) live.agreed pdv turn
-Indicated offset live pdv (Some (action, state)) turn = turn ≡ acts unexpected (moved live events.Data action state) action
+abbrev pub Indicated : {A : Type 0} → Bool → ℤ → Live A → Pdv A → Option (UlAction × UlState) → TurnOf A → Type 0
+Indicated requestor offset live pdv None turn = turn ≡ saying live []
+Indicated requestor offset live pdv (Some (Dt2, state)) turn = Received requestor offset (moved live events.Data Dt2 state) live.agreed pdv turn
+Indicated requestor offset live pdv (Some (action, state)) turn = turn ≡ acts requestor unexpected (moved live events.Data action state) action
 
--- What is made of each thing that happens, by the title of this application entity and its offset from UTC in minutes.
-abbrev pub Reacts : {A : Type 0} → Config → Live A → Happening A → TurnOf A → Type 0
-Reacts config live (event e) turn = turn ≡ plainly unexpected live e (next_of false true e live.state)
-Reacts config live (request rq) turn = turn ≡ requested live (outcome config.ae rq)
-Reacts config live (fragment pdv) turn = Indicated config.offset live pdv (next_of false true events.Data live.state) turn
-Reacts config live (invalid f) turn = turn ≡ plainly (reason_of f) live events.Invalid (next_of false true events.Invalid live.state)
+-- What is made of each thing that happens, by the side that asked for the association or the other one, the title of
+-- this application entity and its offset from UTC in minutes.
+abbrev pub Reacts : {A : Type 0} → Bool → Config → Live A → Happening A → TurnOf A → Type 0
+Reacts requestor config live (event e) turn = turn ≡ plainly requestor unexpected live e (next_of requestor true e live.state)
+Reacts requestor config live (request rq) turn = turn ≡ requested requestor live (outcome config.ae rq)
+Reacts requestor config live (fragment pdv) turn = Indicated requestor config.offset live pdv (next_of requestor true events.Data live.state) turn
+Reacts requestor config live (invalid f) turn = turn ≡ plainly requestor (reason_of f) live events.Invalid (next_of requestor true events.Invalid live.state)
 
 -- a reply of the service is what the request is answered
 abbrev pub HearsReply : {A : Type 0} → Live A → Waiting A → Reply A → TurnOf A → Type 0
 HearsReply live w reply turn = turn ≡ saying live (response w.max w.context w.command reply)
 
--- the side that a peer opens an association with
+-- the side that a peer opens an association with: it does nothing before anything comes
 abbrev pub acceptor : {A : Type 0} → Config → Side A (Live A) (Waiting A)
-acceptor config = record { state = λ live. live.state; Reacts = Reacts config; asked = λ w. record { ae = w.ae; ask = w.ask }; Hears = HearsReply }
+acceptor config = record { state = λ live. live.state; first = []; Reacts = Reacts false config; asked = λ w. record { ae = w.ae; ask = w.ask }; Hears = HearsReply }
 
 -- a transport connection was opened, and an A-ASSOCIATE-RQ is awaited
 abbrev pub opened : {A : Type 0} → Live A

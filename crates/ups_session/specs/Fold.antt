@@ -58,10 +58,11 @@ pub record Turn (A L W : Type 0) : Type 0 where
   pub say : List (Pdu A)
   pub waiting : Option W
 
--- A side of an association: the state of the table that it is in, what it makes of each thing that happens, what it
--- asks, and what it makes of each reply.
+-- A side of an association: the state of the table that it is in, what it does before anything comes, what it makes of
+-- each thing that happens, what it asks, and what it makes of each reply.
 pub record Side (A L W : Type 0) : Type 1 where
   pub state : L → UlState
+  pub first : List (Happening A)
   pub Reacts : L → Happening A → Turn A L W → Type 0
   pub asked : W → Asked A
   pub Hears : L → W → Reply A → Turn A L W → Type 0

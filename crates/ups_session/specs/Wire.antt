@@ -1,5 +1,5 @@
 -- What is read from a reader, and what is written to a writer.
-use Rattle.std.specs.Prelude.{◌≡◌, ◌⊎◌, ℕ, ◌<◌, ◌≤◌, List, ◌++◌, length, take, Option, None, Some, Result, Ok, Err}
+use Rattle.std.specs.Prelude.{◌≡◌, ◌≢◌, ◌⊎◌, ℕ, ◌<◌, ◌≤◌, List, [], ◌++◌, length, take, Option, None, Some, Result, Ok, Err}
 use Rattle.std.specs.List.{flat_map}
 use Rattle.std.specs.Io.KnownBytes.{Keeps, Appends, Consumes, IsAtEnd}
 use Rattle.ups_pdu.specs.declared.pdu.Pdu.{Pdu}
@@ -20,15 +20,22 @@ Taking old new buf (Some n) = (n ≤ length buf) × Appends old new (take n buf)
 abbrev pub IsPrefix : {X : Type 0} → List X → List X → Type 0
 IsPrefix {X} xs ys = (rest : List X) × (xs ++ rest ≡ ys)
 
--- what was sent is the bytes; or some of the first of them, where the writer failed
+-- some of the first of the bytes, and not all
+abbrev pub IsCut : List ℕ → List ℕ → Type 0
+IsCut sent bytes = (rest : List ℕ) × (rest ≢ []) × (sent ++ rest ≡ bytes)
+
+-- what was sent is the bytes; or, where the writer failed, not all of them
 abbrev pub Sent : {X : Type 0} → List ℕ → List ℕ → Result X SessionFault → Type 0
 Sent bytes sent (Ok x) = sent ≡ bytes
-Sent bytes sent (Err e) = (e ≡ Write) × IsPrefix sent bytes
+Sent bytes sent (Err e) = (e ≡ Write) × IsCut sent bytes
 
--- the same, where memory may run out too
+-- at a failed write not all of the bytes were sent, and some of the first where memory ran out
+abbrev pub FallsShort : SessionFault → List ℕ → List ℕ → Type 0
+FallsShort fault bytes sent = ((fault ≡ Write) × IsCut sent bytes) ⊎ ((fault ≡ Memory) × IsPrefix sent bytes)
+
 abbrev pub Says : {X : Type 0} → List ℕ → List ℕ → Result X SessionFault → Type 0
 Says bytes sent (Ok x) = sent ≡ bytes
-Says bytes sent (Err e) = ((e ≡ Write) ⊎ (e ≡ Memory)) × IsPrefix sent bytes
+Says bytes sent (Err e) = FallsShort e bytes sent
 
 -- the bytes of what is said
 abbrev pub spelled : {A : Type 0} → List (Pdu A) → List ℕ

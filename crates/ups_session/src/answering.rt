@@ -1,6 +1,6 @@
 //! A session from a reader to a writer.
 
-ghost use Rattle.std.specs.Prelude.{◌≡◌, ◌≤◌, [], ◌∷◌, ℕ, List, Option, None, Some, OnOk, map};
+ghost use Rattle.std.specs.Prelude.{◌≡◌, ◌≤◌, false, [], ◌∷◌, ℕ, List, Option, None, Some, OnOk, map};
 ghost use Rattle.std.specs.Io.KnownBytes.{Appends, Consumes};
 ghost use Rattle.ups_pdu.specs.declared.pdu.Pdu.TheVariants as pdus;
 ghost use Rattle.ups_pdu.specs.Spelling.{SpellsPdu};
@@ -38,10 +38,10 @@ fn respond<A: Allocator + Copy, W: Write, S: Service<A>, G: Gate>(
     waiting: Waiting<A>,
 ) -> Result<(), SessionFault>
     requires { 8 ≤ waiting.max }
-    ensures { (config : Config) → (from : Live A) → (live : Live A) → (h : Happening A) → Reacts config from h (record { live = live; say = []; waiting = Some waiting })
+    ensures { (config : Config) → (from : Live A) → (live : Live A) → (h : Happening A) → Reacts false config from h (record { live = live; say = []; waiting = Some waiting })
         → Goes (Happens (acceptor config)) (h ∷ []) from live
-        (world (W.contents writer.old) (G.moments gate.old) (S.settings service.old) (S.caller service.old) (S.seen service.old))
-        (world (W.contents writer.new) (G.moments gate.new) (S.settings service.new) (S.caller service.new) (S.seen service.new)) result }
+        (world (W.contents writer.old) (G.told gate.old) (S.settings service.old) (S.others service.old) (S.caller service.old) (S.seen service.old))
+        (world (W.contents writer.new) (G.told gate.new) (S.settings service.new) (S.others service.new) (S.caller service.new) (S.seen service.new)) result }
 {
     let Waiting {
         ae,
@@ -66,10 +66,10 @@ fn carry<A: Allocator + Copy, W: Write, S: Service<A>, G: Gate>(
     deed: Deed<A>,
 ) -> Result<(), SessionFault>
     requires { IsWritable deed }
-    ensures { (config : Config) → (from : Live A) → (live : Live A) → (h : Happening A) → Reacts config from h (turn_of live deed)
+    ensures { (config : Config) → (from : Live A) → (live : Live A) → (h : Happening A) → Reacts false config from h (turn_of live deed)
         → Goes (Happens (acceptor config)) (h ∷ []) from live
-        (world (W.contents writer.old) (G.moments gate.old) (S.settings service.old) (S.caller service.old) (S.seen service.old))
-        (world (W.contents writer.new) (G.moments gate.new) (S.settings service.new) (S.caller service.new) (S.seen service.new)) result }
+        (world (W.contents writer.old) (G.told gate.old) (S.settings service.old) (S.others service.old) (S.caller service.old) (S.seen service.old))
+        (world (W.contents writer.new) (G.told gate.new) (S.settings service.new) (S.others service.new) (S.caller service.new) (S.seen service.new)) result }
 {
     match deed {
         Deed::Say(said) => say(alloc, writer, gate, said.as_slice()),
@@ -89,8 +89,8 @@ fn on_event<A: Allocator + Copy, W: Write, S: Service<A>, G: Gate>(
     event: UlEvent,
 ) -> Result<(), SessionFault>
     ensures goes { (config : Config) → Goes (Happens (acceptor config)) (happened event ∷ []) live.old live.new
-        (world (W.contents writer.old) (G.moments gate.old) (S.settings service.old) (S.caller service.old) (S.seen service.old))
-        (world (W.contents writer.new) (G.moments gate.new) (S.settings service.new) (S.caller service.new) (S.seen service.new)) result }
+        (world (W.contents writer.old) (G.told gate.old) (S.settings service.old) (S.others service.old) (S.caller service.old) (S.seen service.old))
+        (world (W.contents writer.new) (G.told gate.new) (S.settings service.new) (S.others service.new) (S.caller service.new) (S.seen service.new)) result }
     ensures agreed { live.new.agreed ≡ live.old.agreed }
 {
     let deed = live.plainly(alloc, UNEXPECTED, event)?;
@@ -109,8 +109,8 @@ fn on_invalid<A: Allocator + Copy, W: Write, S: Service<A>, G: Gate>(
     fault: PduFault,
 ) -> Result<(), SessionFault>
     ensures goes { (config : Config) → Goes (Happens (acceptor config)) (arrived fault ∷ []) live.old live.new
-        (world (W.contents writer.old) (G.moments gate.old) (S.settings service.old) (S.caller service.old) (S.seen service.old))
-        (world (W.contents writer.new) (G.moments gate.new) (S.settings service.new) (S.caller service.new) (S.seen service.new)) result }
+        (world (W.contents writer.old) (G.told gate.old) (S.settings service.old) (S.others service.old) (S.caller service.old) (S.seen service.old))
+        (world (W.contents writer.new) (G.told gate.new) (S.settings service.new) (S.others service.new) (S.caller service.new) (S.seen service.new)) result }
     ensures agreed { live.new.agreed ≡ live.old.agreed }
 {
     let deed = live.invalid(alloc, fault)?;
@@ -131,8 +131,8 @@ fn on_request<A: Allocator + Copy, W: Write, S: Service<A>, G: Gate>(
 ) -> Result<(), SessionFault>
     requires spelled { (bytes : List ℕ) × SpellsPdu bytes (pdus.AssociateRq request.now) }
     ensures goes { Goes (Happens (acceptor config.now)) (requested request.now ∷ []) live.old live.new
-        (world (W.contents writer.old) (G.moments gate.old) (S.settings service.old) (S.caller service.old) (S.seen service.old))
-        (world (W.contents writer.new) (G.moments gate.new) (S.settings service.new) (S.caller service.new) (S.seen service.new)) result }
+        (world (W.contents writer.old) (G.told gate.old) (S.settings service.old) (S.others service.old) (S.caller service.old) (S.seen service.old))
+        (world (W.contents writer.new) (G.told gate.new) (S.settings service.new) (S.others service.new) (S.caller service.new) (S.seen service.new)) result }
     ensures roomy { IsRoomy live.old.agreed → IsRoomy live.new.agreed }
 {
     let deed = live.request(alloc, config, request)?;
@@ -153,8 +153,8 @@ fn on_fragment<A: Allocator + Copy, W: Write, S: Service<A>, G: Gate>(
 ) -> Result<(), SessionFault>
     requires roomy { IsRoomy live.old.agreed }
     ensures goes { Goes (Happens (acceptor config.now)) (came pdv.now ∷ []) live.old live.new
-        (world (W.contents writer.old) (G.moments gate.old) (S.settings service.old) (S.caller service.old) (S.seen service.old))
-        (world (W.contents writer.new) (G.moments gate.new) (S.settings service.new) (S.caller service.new) (S.seen service.new)) result }
+        (world (W.contents writer.old) (G.told gate.old) (S.settings service.old) (S.others service.old) (S.caller service.old) (S.seen service.old))
+        (world (W.contents writer.new) (G.told gate.new) (S.settings service.new) (S.others service.new) (S.caller service.new) (S.seen service.new)) result }
     ensures roomy { OnOk result (IsRoomy live.new.agreed) }
 {
     let deed = live.fragment(alloc, config, pdv)?;
@@ -175,8 +175,8 @@ fn on_fragments<A: Allocator + Copy, W: Write, S: Service<A>, G: Gate>(
 ) -> Result<(), SessionFault>
     requires roomy { IsRoomy live.old.agreed }
     ensures goes { Goes (Happens (acceptor config.now)) (map came pdvs.now) live.old live.new
-        (world (W.contents writer.old) (G.moments gate.old) (S.settings service.old) (S.caller service.old) (S.seen service.old))
-        (world (W.contents writer.new) (G.moments gate.new) (S.settings service.new) (S.caller service.new) (S.seen service.new)) result }
+        (world (W.contents writer.old) (G.told gate.old) (S.settings service.old) (S.others service.old) (S.caller service.old) (S.seen service.old))
+        (world (W.contents writer.new) (G.told gate.new) (S.settings service.new) (S.others service.new) (S.caller service.new) (S.seen service.new)) result }
     ensures roomy { OnOk result (IsRoomy live.new.agreed) }
 {
     for pdv in pdvs {
@@ -200,8 +200,8 @@ fn on_pdu<A: Allocator + Copy, W: Write, S: Service<A>, G: Gate>(
     requires roomy { IsRoomy live.old.agreed }
     requires spelled { (bytes : List ℕ) × SpellsPdu bytes pdu.now }
     ensures goes { Goes (Happens (acceptor config.now)) (happenings pdu.now) live.old live.new
-        (world (W.contents writer.old) (G.moments gate.old) (S.settings service.old) (S.caller service.old) (S.seen service.old))
-        (world (W.contents writer.new) (G.moments gate.new) (S.settings service.new) (S.caller service.new) (S.seen service.new)) result }
+        (world (W.contents writer.old) (G.told gate.old) (S.settings service.old) (S.others service.old) (S.caller service.old) (S.seen service.old))
+        (world (W.contents writer.new) (G.told gate.new) (S.settings service.new) (S.others service.new) (S.caller service.new) (S.seen service.new)) result }
     ensures roomy { OnOk result (IsRoomy live.new.agreed) }
 {
     let event = match pdu {
@@ -235,8 +235,8 @@ fn turn<A: Allocator + Copy, R: Read, W: Write, S: Service<A>, G: Gate>(
     requires roomy { IsRoomy live.old.agreed }
     ensures turned { (input : List ℕ) × Consumes (R.remaining reader.old) (R.remaining reader.new) input
         × Turned (acceptor config.now) live.old live.new (R.remaining reader.new) input
-        (world (W.contents writer.old) (G.moments gate.old) (S.settings service.old) (S.caller service.old) (S.seen service.old))
-        (world (W.contents writer.new) (G.moments gate.new) (S.settings service.new) (S.caller service.new) (S.seen service.new)) result }
+        (world (W.contents writer.old) (G.told gate.old) (S.settings service.old) (S.others service.old) (S.caller service.old) (S.seen service.old))
+        (world (W.contents writer.new) (G.told gate.new) (S.settings service.new) (S.others service.new) (S.caller service.new) (S.seen service.new)) result }
     ensures roomy { OnOk result (IsRoomy live.new.agreed) }
 {
     match read_one(alloc, reader)? {
@@ -266,8 +266,8 @@ pub fn serve<A: Allocator + Copy, R: Read, W: Write, S: Service<A>, G: Gate>(
 ) -> Result<End, SessionFault>
     ensures session { (input : List ℕ) × Consumes (R.remaining reader.old) (R.remaining reader.new) input
         × IsSession (acceptor config.now) (λ live. live.ending) opened turns (R.remaining reader.new) input
-        (world (W.contents writer.old) (G.moments gate.old) (S.settings service.old) (S.caller service.old) (S.seen service.old))
-        (world (W.contents writer.new) (G.moments gate.new) (S.settings service.new) (S.caller service.new) (S.seen service.new)) result }
+        (world (W.contents writer.old) (G.told gate.old) (S.settings service.old) (S.others service.old) (S.caller service.old) (S.seen service.old))
+        (world (W.contents writer.new) (G.told gate.new) (S.settings service.new) (S.others service.new) (S.caller service.new) (S.seen service.new)) result }
 {
     let mut live = Live::opened();
     let mut left = turns;

@@ -1,6 +1,6 @@
 //! A reader, a writer and a gate over memory, which tell what they did.
 
-ghost use Rattle.std.specs.Prelude.{◌≡◌, ◌≤◌, [], ℕ, List, Some, None, take, false};
+ghost use Rattle.std.specs.Prelude.{◌≡◌, [], false};
 
 use crate::gate::Gate;
 use std::alloc::Allocator;
@@ -85,7 +85,7 @@ impl<A: Allocator + Copy> Write for CutWriter<A> {
     }
 }
 
-/// Gives the moments of a list, and after them moment 0, of which it tells nothing.
+/// Gives the moments of a list and tells them, and after them moment 0, of which it tells nothing.
 #[derive(Drop)]
 pub struct ListGate<'a> {
     moments: &'a [u64],
@@ -109,12 +109,12 @@ impl<'a> ListGate<'a> {
 }
 
 impl<'a> Gate for ListGate<'a> {
-    ghost use Rattle.std.specs.Prelude.{Some, None, take, if◌then◌else◌};
+    ghost use Rattle.ups_session.specs.Tells.{listed};
 
-    ghost moments = { λ g. if g.over then None else Some (take g.given g.moments.now) };
+    ghost told = { λ g. listed g.moments.now g.given g.over };
 
     fn now(&mut self) -> u64 {
-        if self.given < self.moments.len() {
+        if !self.over && self.given < self.moments.len() {
             let moment = self.moments[self.given];
             if moment <= MAX_MOMENT {
                 self.given += 1;

@@ -24,11 +24,7 @@ use ups_dimse::{Command, DimseFault, RequestCommand, read_command};
 fn context_at(id: u8, contexts: &[AcceptedContext]) -> Option<AcceptedContext>
     ensures { result ≡ context_at id contexts.now }
 {
-    let (first, rest) = contexts.split_first()?;
-    if first.id == id {
-        return Some(*first);
-    }
-    context_at(id, rest)
+    contexts.iter().copied().find(|context| context.id == id)
 }
 
 /// What is done with a request: it is answered at once, or its reply is awaited.

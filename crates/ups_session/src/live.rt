@@ -3,7 +3,7 @@
 ghost use Rattle.std.specs.Prelude.{◌≡◌, ◌≢◌, ◌≤◌, [], ◌∷◌, ℕ, List, Option, None, Some, MatchOption, IfOk, IfErr, OnOk, true, false};
 ghost use Rattle.ups_ulstate.specs.Table.{next_of};
 ghost use Rattle.ups_ulstate.specs.declared.state.UlEvent.TheVariants as events;
-ghost use Rattle.ups_ulstate.specs.declared.state.UlAction.TheVariants.{Ar2, Dt2};
+ghost use Rattle.ups_ulstate.specs.declared.state.UlAction.TheVariants.{Ar2, Ar8, Ar10, Dt2};
 ghost use Rattle.ups_pdu.specs.declared.pdu.Pdu.{Pdu};
 ghost use Rattle.ups_pdu.specs.declared.pdu.Pdu.TheVariants as pdus;
 ghost use Rattle.ups_pdu.specs.Spelling.{SpellsPdu};
@@ -13,7 +13,7 @@ ghost use Rattle.ups_assoc.specs.declared.negotiating.Outcome.TheVariants.{Accep
 ghost use Rattle.ups_assoc.specs.Negotiation.{outcome};
 ghost use Rattle.ups_assoc.specs.Feeding.{fed};
 ghost use Rattle.ups_session.specs.declared.fault.SessionFault.TheVariants.{Memory};
-ghost use Rattle.ups_session.specs.Acceptor.{ending_of, moved, does, acts, plainly, reason_of, is_acceptable, rejecting, answers, requested, aborting, heard, Continues, Received, Indicated, opened};
+ghost use Rattle.ups_session.specs.Acceptor.{ending_of, moved, does, releases, acts, plainly, reason_of, is_acceptable, rejecting, answers, requested, aborting, heard, Continues, Received, Indicated, opened};
 ghost use Rattle.ups_session.specs.Fold.{IsOpen};
 ghost use Rattle.ups_session.specs.Deeds.{turn_of, heard_of, IsWritable, AreWritable, IsRoomy, IsAccepting};
 
@@ -29,6 +29,9 @@ use ups_ulstate::{UlAction, UlEvent, UlState, next};
 
 /// The reason of an abort by the service provider for a PDU that doesn't fit the state (PS3.8 table 9-26).
 pub(crate) const UNEXPECTED: u8 = 2;
+
+/// Whether this side asks for the association: it accepts one.
+const REQUESTOR: bool = false;
 
 /// What was agreed on with a peer.
 #[derive(Drop)]
@@ -117,7 +120,7 @@ fn sent<A: Allocator + Copy>(
     reason: u8,
     action: UlAction,
 ) -> Result<Deed<A>, SessionFault>
-    ensures said { (live : Live A) → action ≢ Ar2 → IfOk result (λ deed. turn_of live deed ≡ acts reason live action) }
+    ensures said { (live : Live A) → action ≢ Ar2 → action ≢ Ar8 → action ≢ Ar10 → IfOk result (λ deed. turn_of live deed ≡ acts false reason live action) }
     ensures writable { IfOk result IsWritable }
     ensures memory { IfErr result (λ e. e ≡ Memory) }
 {
@@ -170,27 +173,41 @@ impl<A: Allocator + Copy> Live<A> {
 
     /// This side does something of itself.
     fn does(&mut self, event: UlEvent)
-        ensures { self.new ≡ does event self.old }
+        ensures { self.new ≡ does false event self.old }
     {
-        if let Some((action, state)) = next(self.state, event, false, true) {
+        if let Some((action, state)) = next(self.state, event, REQUESTOR, true) {
             self.moved(event, action, state);
         }
+    }
+
+    /// Answers a release, where the table has a cell for that (PS3.8 section 7.2).
+    ///
+    /// Errors: want of memory.
+    fn release(&mut self, alloc: A) -> Result<Deed<A>, SessionFault>
+        ensures turn { IfOk result (λ deed. turn_of self.new deed ≡ releases self.old (next_of false true events.ReleaseResponse self.old.state)) }
+        ensures writable { IfOk result IsWritable }
+        ensures agreed { self.new.agreed ≡ self.old.agreed }
+        ensures memory { IfErr result (λ e. e ≡ Memory) }
+    {
+        let event = UlEvent::ReleaseResponse;
+        let Some((action, state)) = next(self.state, event, REQUESTOR, true) else {
+            return Ok(Deed::nothing(alloc));
+        };
+        self.moved(event, action, state);
+        Deed::say(alloc, Pdu::ReleaseRp)
     }
 
     /// Does an action that brings nothing with it.
     ///
     /// Errors: want of memory.
     fn act(&mut self, alloc: A, reason: u8, action: UlAction) -> Result<Deed<A>, SessionFault>
-        ensures turn { IfOk result (λ deed. turn_of self.new deed ≡ acts reason self.old action) }
+        ensures turn { IfOk result (λ deed. turn_of self.new deed ≡ acts false reason self.old action) }
         ensures writable { IfOk result IsWritable }
         ensures agreed { self.new.agreed ≡ self.old.agreed }
         ensures memory { IfErr result (λ e. e ≡ Memory) }
     {
         match action {
-            UlAction::Ar2 => {
-                self.does(UlEvent::ReleaseResponse);
-                Deed::say(alloc, Pdu::ReleaseRp)
-            }
+            UlAction::Ar2 | UlAction::Ar8 | UlAction::Ar10 => self.release(alloc),
             _ => sent(alloc, reason, action),
         }
     }
@@ -199,12 +216,12 @@ impl<A: Allocator + Copy> Live<A> {
     ///
     /// Errors: want of memory.
     pub fn plainly(&mut self, alloc: A, reason: u8, event: UlEvent) -> Result<Deed<A>, SessionFault>
-        ensures turn { IfOk result (λ deed. turn_of self.new deed ≡ plainly reason self.old event (next_of false true event self.old.state)) }
+        ensures turn { IfOk result (λ deed. turn_of self.new deed ≡ plainly false reason self.old event (next_of false true event self.old.state)) }
         ensures writable { IfOk result IsWritable }
         ensures agreed { self.new.agreed ≡ self.old.agreed }
         ensures memory { IfErr result (λ e. e ≡ Memory) }
     {
-        let Some((action, state)) = next(self.state, event, false, true) else {
+        let Some((action, state)) = next(self.state, event, REQUESTOR, true) else {
             return Ok(Deed::nothing(alloc));
         };
         self.moved(event, action, state);
@@ -215,7 +232,7 @@ impl<A: Allocator + Copy> Live<A> {
     ///
     /// Errors: want of memory.
     pub fn invalid(&mut self, alloc: A, fault: PduFault) -> Result<Deed<A>, SessionFault>
-        ensures turn { IfOk result (λ deed. turn_of self.new deed ≡ plainly (reason_of fault) self.old events.Invalid (next_of false true events.Invalid self.old.state)) }
+        ensures turn { IfOk result (λ deed. turn_of self.new deed ≡ plainly false (reason_of fault) self.old events.Invalid (next_of false true events.Invalid self.old.state)) }
         ensures writable { IfOk result IsWritable }
         ensures agreed { self.new.agreed ≡ self.old.agreed }
         ensures memory { IfErr result (λ e. e ≡ Memory) }
@@ -229,7 +246,7 @@ impl<A: Allocator + Copy> Live<A> {
     fn accept(&mut self, alloc: A, acceptance: Acceptance<A>) -> Result<Deed<A>, SessionFault>
         requires roomy { 8 ≤ acceptance.max }
         requires writable { Fits (pdus.AssociateAc acceptance.ac) }
-        ensures turn { IfOk result (λ deed. turn_of self.new deed ≡ answers self.old (Accept acceptance)) }
+        ensures turn { IfOk result (λ deed. turn_of self.new deed ≡ answers false self.old (Accept acceptance)) }
         ensures writable { IfOk result IsWritable }
         ensures roomy { IsRoomy self.old.agreed → IsRoomy self.new.agreed }
         ensures memory { IfErr result (λ e. e ≡ Memory) }
@@ -253,7 +270,7 @@ impl<A: Allocator + Copy> Live<A> {
     ///
     /// Errors: want of memory.
     fn reject(&mut self, alloc: A, rejection: Rejection) -> Result<Deed<A>, SessionFault>
-        ensures turn { IfOk result (λ deed. turn_of self.new deed ≡ answers self.old (Reject rejection)) }
+        ensures turn { IfOk result (λ deed. turn_of self.new deed ≡ answers false self.old (Reject rejection)) }
         ensures writable { IfOk result IsWritable }
         ensures agreed { self.new.agreed ≡ self.old.agreed }
         ensures memory { IfErr result (λ e. e ≡ Memory) }
@@ -278,7 +295,7 @@ impl<A: Allocator + Copy> Live<A> {
     /// Errors: want of memory.
     fn answer(&mut self, alloc: A, outcome: Outcome<A>) -> Result<Deed<A>, SessionFault>
         requires accepting { IsAccepting outcome }
-        ensures turn { IfOk result (λ deed. turn_of self.new deed ≡ answers self.old outcome) }
+        ensures turn { IfOk result (λ deed. turn_of self.new deed ≡ answers false self.old outcome) }
         ensures writable { IfOk result IsWritable }
         ensures roomy { IsRoomy self.old.agreed → IsRoomy self.new.agreed }
         ensures memory { IfErr result (λ e. e ≡ Memory) }
@@ -299,7 +316,7 @@ impl<A: Allocator + Copy> Live<A> {
         request: &AssociateRq<A>,
     ) -> Result<Deed<A>, SessionFault>
         requires spelled { (bytes : List ℕ) × SpellsPdu bytes (pdus.AssociateRq request.now) }
-        ensures turn { IfOk result (λ deed. turn_of self.new deed ≡ requested self.old (outcome config.now.ae request.now)) }
+        ensures turn { IfOk result (λ deed. turn_of self.new deed ≡ requested false self.old (outcome config.now.ae request.now)) }
         ensures writable { IfOk result IsWritable }
         ensures roomy { IsRoomy self.old.agreed → IsRoomy self.new.agreed }
         ensures memory { IfErr result (λ e. e ≡ Memory) }
@@ -308,7 +325,8 @@ impl<A: Allocator + Copy> Live<A> {
             return Err(SessionFault::Memory);
         };
         let acceptable = is_acceptable(&outcome);
-        let Some((action, state)) = next(self.state, UlEvent::AssociateRq, false, acceptable) else {
+        let Some((action, state)) = next(self.state, UlEvent::AssociateRq, REQUESTOR, acceptable)
+        else {
             return Ok(Deed::nothing(alloc));
         };
         self.moved(UlEvent::AssociateRq, action, state);
@@ -322,7 +340,7 @@ impl<A: Allocator + Copy> Live<A> {
     ///
     /// Errors: want of memory.
     fn abort(&mut self, alloc: A) -> Result<Deed<A>, SessionFault>
-        ensures turn { IfOk result (λ deed. turn_of self.new deed ≡ aborting self.old) }
+        ensures turn { IfOk result (λ deed. turn_of self.new deed ≡ aborting false self.old) }
         ensures writable { IfOk result IsWritable }
         ensures agreed { self.new.agreed ≡ self.old.agreed }
         ensures memory { IfErr result (λ e. e ≡ Memory) }
@@ -348,7 +366,7 @@ impl<A: Allocator + Copy> Live<A> {
     ) -> Result<Deed<A>, SessionFault>
         requires roomy { 8 ≤ agreed.terms.max }
         requires writable { AreWritable found }
-        ensures turn { IfOk result (λ deed. turn_of self.new deed ≡ heard (record { state = self.old.state; agreed = Some agreed; ending = self.old.ending }) (heard_of found)) }
+        ensures turn { IfOk result (λ deed. turn_of self.new deed ≡ heard false (record { state = self.old.state; agreed = Some agreed; ending = self.old.ending }) (heard_of found)) }
         ensures writable { IfOk result IsWritable }
         ensures roomy { IsRoomy self.new.agreed }
         ensures memory { IfErr result (λ e. e ≡ Memory) }
@@ -371,7 +389,7 @@ impl<A: Allocator + Copy> Live<A> {
         pdv: &Pdv<A>,
     ) -> Result<Deed<A>, SessionFault>
         requires roomy { 8 ≤ agreed.terms.max }
-        ensures turn { IfOk result (λ deed. Continues config.now.offset self.old agreed (fed agreed.assembler.ids agreed.assembler.begun pdv.now) (turn_of self.new deed)) }
+        ensures turn { IfOk result (λ deed. Continues false config.now.offset self.old agreed (fed agreed.assembler.ids agreed.assembler.begun pdv.now) (turn_of self.new deed)) }
         ensures writable { IfOk result IsWritable }
         ensures roomy { OnOk result (IsRoomy self.new.agreed) }
         ensures memory { IfErr result (λ e. e ≡ Memory) }
@@ -398,7 +416,7 @@ impl<A: Allocator + Copy> Live<A> {
     /// Errors: want of memory.
     fn indicate(&mut self, alloc: A, config: &Config, pdv: &Pdv<A>) -> Result<Deed<A>, SessionFault>
         requires roomy { IsRoomy self.old.agreed }
-        ensures turn { IfOk result (λ deed. Received config.now.offset self.old self.old.agreed pdv.now (turn_of self.new deed)) }
+        ensures turn { IfOk result (λ deed. Received false config.now.offset self.old self.old.agreed pdv.now (turn_of self.new deed)) }
         ensures writable { IfOk result IsWritable }
         ensures roomy { OnOk result (IsRoomy self.new.agreed) }
         ensures memory { IfErr result (λ e. e ≡ Memory) }
@@ -419,12 +437,12 @@ impl<A: Allocator + Copy> Live<A> {
         pdv: &Pdv<A>,
     ) -> Result<Deed<A>, SessionFault>
         requires roomy { IsRoomy self.old.agreed }
-        ensures turn { IfOk result (λ deed. Indicated config.now.offset self.old pdv.now (next_of false true events.Data self.old.state) (turn_of self.new deed)) }
+        ensures turn { IfOk result (λ deed. Indicated false config.now.offset self.old pdv.now (next_of false true events.Data self.old.state) (turn_of self.new deed)) }
         ensures writable { IfOk result IsWritable }
         ensures roomy { OnOk result (IsRoomy self.new.agreed) }
         ensures memory { IfErr result (λ e. e ≡ Memory) }
     {
-        let Some((action, state)) = next(self.state, UlEvent::Data, false, true) else {
+        let Some((action, state)) = next(self.state, UlEvent::Data, REQUESTOR, true) else {
             return Ok(Deed::nothing(alloc));
         };
         self.moved(UlEvent::Data, action, state);

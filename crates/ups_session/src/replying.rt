@@ -34,7 +34,7 @@ fn say_status<A: Allocator + Copy, W: Write, G: Gate>(
 ) -> Result<(), SessionFault>
     requires max { 8 ≤ max }
     ensures sent { (sent : List ℕ) × Appends (W.contents writer.old) (W.contents writer.new) sent × Says (spelled (bare_response max context.now request.now status)) sent result }
-    ensures gate { Tells (G.moments gate.old) (G.moments gate.new) [] }
+    ensures gate { Tells (G.told gate.old) (G.told gate.new) [] }
 {
     let said = bare_response(alloc, max, context, request, status)?;
     say(alloc, writer, gate, said.as_slice())
@@ -55,7 +55,7 @@ fn say_match<A: Allocator + Copy, W: Write, G: Gate>(
 ) -> Result<(), SessionFault>
     requires max { 8 ≤ max }
     ensures sent { (sent : List ℕ) × Appends (W.contents writer.old) (W.contents writer.new) sent × Says (spelled (set_response max context.now request.now Pending set.now)) sent result }
-    ensures gate { Tells (G.moments gate.old) (G.moments gate.new) [] }
+    ensures gate { Tells (G.told gate.old) (G.told gate.new) [] }
 {
     if set.size() > u64::from(u32::MAX) {
         return Err(SessionFault::Memory);
@@ -78,7 +78,7 @@ fn say_matches<A: Allocator + Copy, W: Write, G: Gate>(
 ) -> Result<(), SessionFault>
     requires max { 8 ≤ max }
     ensures sent { (sent : List ℕ) × Appends (W.contents writer.old) (W.contents writer.new) sent × Says (spelled (flat_map (set_response max context.now request.now Pending) sets.now)) sent result }
-    ensures gate { Tells (G.moments gate.old) (G.moments gate.new) [] }
+    ensures gate { Tells (G.told gate.old) (G.told gate.new) [] }
 {
     for set in sets {
         say_match(alloc, writer, gate, max, context, request, set)?;
@@ -101,7 +101,7 @@ pub(crate) fn say_reply<A: Allocator + Copy, W: Write, G: Gate>(
     requires max { 8 ≤ max }
     requires small { SmallReply reply.now }
     ensures sent { (sent : List ℕ) × Appends (W.contents writer.old) (W.contents writer.new) sent × Says (spelled (response max context.now request.now reply.now)) sent result }
-    ensures gate { Tells (G.moments gate.old) (G.moments gate.new) [] }
+    ensures gate { Tells (G.told gate.old) (G.told gate.new) [] }
 {
     match reply {
         Reply::Status(status) => { say_status(alloc, writer, gate, max, context, request, *status) }

@@ -26,7 +26,7 @@ fn say_one<A: Allocator + Copy, W: Write, G: Gate>(
 ) -> Result<(), SessionFault>
     requires { Fits pdu.now }
     ensures sent { (sent : List ℕ) × Appends (W.contents writer.old) (W.contents writer.new) sent × Says (written pdu.now) sent result }
-    ensures gate { Tells (G.moments gate.old) (G.moments gate.new) [] }
+    ensures gate { Tells (G.told gate.old) (G.told gate.new) [] }
 {
     let bytes = write_pdu(alloc, pdu)?;
     gate.before_write();
@@ -46,7 +46,7 @@ pub(crate) fn say<A: Allocator + Copy, W: Write, G: Gate>(
 ) -> Result<(), SessionFault>
     requires { AllByRecursion (λ p. Fits p) said.now }
     ensures sent { (sent : List ℕ) × Appends (W.contents writer.old) (W.contents writer.new) sent × Says (spelled said.now) sent result }
-    ensures gate { Tells (G.moments gate.old) (G.moments gate.new) [] }
+    ensures gate { Tells (G.told gate.old) (G.told gate.new) [] }
 {
     for pdu in said {
         say_one(alloc, writer, gate, pdu)?;

@@ -1,9 +1,11 @@
 -- Peers that are named one after the other.
-use Rattle.std.proofs.Common.{◌≡◌, ℕ, ℤ, Bool, true, false, ◌||◌, List, [], ◌∷◌, ◌++◌, None, pos, refl, sym, ◌∙◌}
+use Rattle.std.proofs.Common.{◌≡◌, ℕ, ℤ, Bool, true, false, ◌||◌, List, [], ◌∷◌, ◌++◌, None, refl, sym, ◌∙◌}
 use Rattle.std.specs.Str.{bytes_eq}
 use Rattle.std.proofs.lemmas.Slice.Eq.{bytes_eq-Decides}
 use Rattle.ups_life.specs.declared.entry.Peer.{Peer}
 use Rattle.ups_manager.specs.Refusal.{is_named, is_twice, is_bad_offset, refusal}
+use Rattle.ups_life.specs.Limits.{history_limit}
+use Rattle.upsd.specs.Limits.{local_offset}
 
 no : true ≡ false → ⊥
 no e = cc
@@ -37,8 +39,8 @@ twice_on (q ∷ peers) p e f =
     let (c, d) = neither (bytes_eq q.ae p.ae) (is_named p.ae peers) f in
     none_of (is_named q.ae (peers ++ p ∷ [])) (is_twice (peers ++ p ∷ [])) (named_on q.ae peers p a (apart q.ae p.ae c)) (twice_on peers p b d)
 
-pub unrefused_at : (peers : List Peer) (offset : ℤ) → is_twice peers ≡ false → is_bad_offset offset ≡ false → refusal peers offset 1000000 ≡ None
+pub unrefused_at : (peers : List Peer) (offset : ℤ) → is_twice peers ≡ false → is_bad_offset offset ≡ false → refusal peers offset history_limit ≡ None
 unrefused_at peers offset e f = rw (e, f) refl
 
-pub unrefused : (peers : List Peer) → is_twice peers ≡ false → refusal peers (pos 0) 1000000 ≡ None
-unrefused peers e = unrefused_at peers (pos 0) e refl
+pub unrefused : (peers : List Peer) → is_twice peers ≡ false → refusal peers local_offset history_limit ≡ None
+unrefused peers e = unrefused_at peers local_offset e refl

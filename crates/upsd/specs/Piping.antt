@@ -1,14 +1,20 @@
 -- How the service is set up for one association (PS3.4 annex CC).
-use Rattle.std.specs.Prelude.{ℕ, List, pos}
+use Rattle.std.specs.Prelude.{ℕ, List, [], Some, false}
 use Rattle.ups_assoc.specs.declared.negotiating.Config.{Config}
 use Rattle.ups_life.specs.declared.entry.Peer.{Peer}
 use Rattle.ups_life.specs.Settings.{Settings}
+use Rattle.ups_session.specs.Tells.{Told}
+use Rattle.ups_life.specs.Limits.{history_limit}
+use Rattle.upsd.specs.Limits.{keep_seconds, local_offset}
 
--- these peers may watch steps; a finished step is kept for a minute, the local time is UTC, and a million requests are
--- entered at most
+-- these peers may watch steps
 abbrev pub settings : List Peer → Settings
-settings peers = record { peers = peers; keep = 60; offset = pos 0; limit = 1000000 }
+settings peers = record { peers = peers; keep = keep_seconds; offset = local_offset; limit = history_limit }
 
--- what a session is told of this application entity: its title, and that its local time is UTC
+-- each moment is 1970-01-01, 00:00 UTC
+abbrev pub epoch : Told
+epoch = record { moments = []; all = false; always = Some 0 }
+
+-- what a session is told of this application entity: its title, and its local time
 abbrev pub config : List ℕ → Config
-config ae = record { ae = ae; offset = pos 0 }
+config ae = record { ae = ae; offset = local_offset }

@@ -2,15 +2,13 @@
 
 ghost use Rattle.std.specs.Prelude.{◌≡◌, ◌≤◌, length, IfOk, false};
 ghost use Rattle.ups_manager.specs.Refusal.{is_named, is_twice, is_bad_offset};
+ghost use Rattle.ups_life.specs.Limits.{peer_limit};
 
 use clap::{Arg, ArgAction, Command};
 use std::alloc::{AllocError, AllocFailed, Allocator, Global};
 use thiserror::Error;
-use ups_life::Peer;
+use ups_life::{MAX_PEERS, Peer};
 use ups_pdu::Ae;
-
-/// How many peers may be named at most.
-pub(crate) const PEERS_LIMIT: usize = 1_000;
 
 /// Why the words of a command line are refused.
 #[derive(Clone, Copy, Debug, PartialEq, Eq, Error)]
@@ -166,11 +164,11 @@ pub(crate) fn peers_of<A: Allocator + Copy>(
     alloc: A,
     words: &[&str],
 ) -> Result<Vec<Peer, A>, ArgumentFault>
-    ensures few { IfOk result (λ peers. length peers.items ≤ 1000) }
+    ensures few { IfOk result (λ peers. length peers.items ≤ peer_limit) }
     ensures once { IfOk result (λ peers. is_twice peers.items ≡ false) }
 {
     let mut peers = Vec::new(alloc);
-    if words.len() > PEERS_LIMIT {
+    if words.len() > MAX_PEERS {
         return Err(ArgumentFault::TooMany);
     }
     for word in words {

@@ -1,7 +1,5 @@
 //! The clock of an association whose answers are to be the same at every run.
 
-ghost use Rattle.std.specs.Prelude.{◌≡◌};
-
 use ups_session::Gate;
 
 /// Each moment that it gives is 1970-01-01, 00:00 UTC.
@@ -9,9 +7,11 @@ use ups_session::Gate;
 pub(crate) struct Epoch;
 
 impl Gate for Epoch {
-    fn now(&mut self) -> u64
-        ensures { result ≡ 0 }
-    {
+    ghost use Rattle.upsd.specs.Piping.{epoch};
+
+    ghost told = { λ _. epoch };
+
+    fn now(&mut self) -> u64 {
         0
     }
 

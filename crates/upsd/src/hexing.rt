@@ -1,9 +1,7 @@
 //! Bytes as hex digits: what a session reads and writes where it is to be read by people.
 
+use crate::limits::WHITE_SPACE_LIMIT;
 use std::io::{self, Error, ErrorKind, Read, Write};
-
-/// How many white space characters may stand in a row.
-const WHITE_SPACE_LIMIT: u32 = 1_000_000;
 
 /// Reads bytes that another reader gives as hex digits, with white space among them.
 ///

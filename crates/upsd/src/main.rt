@@ -1,20 +1,25 @@
 //! `upsd`, a DICOM Unified Procedure Step manager.
 #![tactic(auto)]
 
-ghost use Rattle.std.specs.Prelude.{◌≡◌, ◌≤◌, length, None, IfOk, pos};
+ghost use Rattle.std.specs.Prelude.{◌≡◌, ◌≤◌, length, None, IfOk};
 ghost use Rattle.ups_manager.specs.Refusal.{refusal};
+ghost use Rattle.ups_life.specs.Limits.{history_limit, peer_limit};
+ghost use Rattle.upsd.specs.Limits.{local_offset};
 
 mod arguments;
 mod gate;
 mod hexing;
+mod limits;
 mod piping;
 mod scripting;
 #[cfg(test)]
 mod tests;
 
 use crate::arguments::{ArgumentFault, ae_of, command, peers_of};
+use crate::limits::TURNS;
 use crate::scripting::{answer_script, script_arguments};
 use clap::ArgMatches;
+pub use limits::limits_are_as_defined;
 pub use piping::pipe;
 pub use scripting::script;
 use std::alloc::{AllocError, Global};
@@ -33,9 +38,6 @@ const STOPPED: u8 = 2;
 /// The exit status where memory ran out.
 const MEMORY: u8 = 3;
 
-/// How many PDUs one association may have.
-const TURNS: u64 = 1_000_000;
-
 /// What a command line asks of `pipe`.
 #[derive(Drop)]
 struct PipeArguments {
@@ -49,8 +51,8 @@ struct PipeArguments {
 /// Errors: those of its words.
 #[tactic(auto, using(crate::proofs::Naming::unrefused))]
 fn pipe_arguments(alloc: Global, matches: &ArgMatches<'_>) -> Result<PipeArguments, ArgumentFault>
-    ensures few { IfOk result (λ asked. length asked.peers.items ≤ 1000) }
-    ensures allowed { IfOk result (λ asked. refusal asked.peers.items (pos 0) 1000000 ≡ None) }
+    ensures few { IfOk result (λ asked. length asked.peers.items ≤ peer_limit) }
+    ensures allowed { IfOk result (λ asked. refusal asked.peers.items local_offset history_limit ≡ None) }
 {
     Ok(PipeArguments {
         ae: ae_of(matches.get_str("ae").unwrap_or(""))?,
@@ -61,8 +63,8 @@ fn pipe_arguments(alloc: Global, matches: &ArgMatches<'_>) -> Result<PipeArgumen
 
 /// Answers one association, and gives the exit status.
 fn answer(rt: &HostRuntime, asked: &PipeArguments) -> Result<u8, AllocError>
-    requires few { length asked.now.peers.items ≤ 1000 }
-    requires allowed { refusal asked.now.peers.items (pos 0) 1000000 ≡ None }
+    requires few { length asked.now.peers.items ≤ peer_limit }
+    requires allowed { refusal asked.now.peers.items local_offset history_limit ≡ None }
 {
     let alloc = rt.alloc();
     let Ok(mut reader) = BufReader::new(alloc, rt.reader()) else {

@@ -4,21 +4,17 @@ ghost use Rattle.std.specs.Prelude.{◌≡◌, ◌≤◌, length, None, Result, 
 ghost use Rattle.ups_manager.specs.Refusal.{refusal};
 ghost use Rattle.ups_script.specs.declared.fault.ScriptFault.{ScriptFault};
 ghost use Rattle.ups_script.specs.Running.{TellsLine};
+ghost use Rattle.ups_life.specs.Limits.{history_limit, peer_limit};
 ghost use Rattle.upsd.specs.Scripting.{status_of};
 
 use crate::arguments::{ArgumentFault, keep_of, offset_of, peers_of};
+use crate::limits::{KEEP, OFFSET};
 use crate::{MEMORY, STOPPED};
 use clap::ArgMatches;
 use std::alloc::{AllocError, Allocator, Global};
 use std::io::{self, BufRead, BufReader, BufWriter, Write};
 use ups_life::Peer;
 use ups_script::{ScriptFault, run};
-
-/// For how many seconds a finished step is kept at least, where the command line doesn't say.
-const KEEP: u32 = 60;
-
-/// The offset of the local time from UTC in minutes, where the command line doesn't say.
-const OFFSET: i16 = 0;
 
 /// What a command line asks of `script`.
 #[derive(Drop)]
@@ -36,8 +32,8 @@ pub(crate) fn script_arguments(
     alloc: Global,
     matches: &ArgMatches<'_>,
 ) -> Result<ScriptArguments, ArgumentFault>
-    ensures few { IfOk result (λ asked. length asked.peers.items ≤ 1000) }
-    ensures allowed { IfOk result (λ asked. refusal asked.peers.items asked.offset 1000000 ≡ None) }
+    ensures few { IfOk result (λ asked. length asked.peers.items ≤ peer_limit) }
+    ensures allowed { IfOk result (λ asked. refusal asked.peers.items asked.offset history_limit ≡ None) }
 {
     let peers = peers_of(alloc, matches.get_strs("peer").unwrap_or(&[]))?;
     let keep = match matches.get_str("keep") {
@@ -58,8 +54,8 @@ pub(crate) fn script_arguments(
 /// Answers a script from standard input, tells its fault, and gives the exit status. A line that is none is told among
 /// the replies.
 pub(crate) fn answer_script(rt: &HostRuntime, asked: &ScriptArguments) -> Result<u8, AllocError>
-    requires few { length asked.now.peers.items ≤ 1000 }
-    requires allowed { refusal asked.now.peers.items asked.now.offset 1000000 ≡ None }
+    requires few { length asked.now.peers.items ≤ peer_limit }
+    requires allowed { refusal asked.now.peers.items asked.now.offset history_limit ≡ None }
 {
     let alloc = rt.alloc();
     let Ok(mut reader) = BufReader::new(alloc, rt.reader()) else {
@@ -108,8 +104,8 @@ pub fn script<A: Allocator + Copy, R: BufRead, W: Write>(
     keep: u32,
     offset: i16,
 ) -> u8
-    requires few { length peers.now ≤ 1000 }
-    requires allowed { refusal peers.now offset 1000000 ≡ None }
+    requires few { length peers.now ≤ peer_limit }
+    requires allowed { refusal peers.now offset history_limit ≡ None }
     ensures { (ended : Result Unit ScriptFault) × IfErr ended TellsLine × (result ≡ status_of ended) }
 {
     status_of(&run(alloc, reader, writer, peers, keep, offset))

@@ -5,7 +5,7 @@ use super::*;
 #[test]
 fn a_created_step_is_shown(rt: HostRuntime) -> Result<(), Fail> {
     let request = create("1.2.3.1", a_step(rt.alloc())?)?;
-    assert!(rt; request.step() == Some(uid("1.2.3.1")?));
+    assert!(rt; request.step() == Some(step_uid("1.2.3.1")?));
     assert_eq!(rt; verdict(None, false, &request), Status::Success);
     let row = change(rt.alloc(), None, &request, 0, 0)?;
     let (status, text) = told(&shown(&row.attributes, &[])?, &rt)?;
@@ -59,7 +59,7 @@ fn the_transaction_uid_is_never_shown(rt: HostRuntime) -> Result<(), Fail> {
 #[test]
 fn only_the_uids_of_created_steps_are_used(rt: HostRuntime) -> Result<(), Fail> {
     let mut history = Vec::new(rt.alloc());
-    assert!(rt; !used(history.as_slice(), uid("1.2.3.1")?));
+    assert!(rt; !used(history.as_slice(), step_uid("1.2.3.1")?));
     for step in ["1.2.3.1", "1.2.3.22"] {
         history.push(Entry {
             caller: 0,
@@ -74,6 +74,7 @@ fn only_the_uids_of_created_steps_are_used(rt: HostRuntime) -> Result<(), Fail> 
         moment: 0,
         request: asked_of(rt.alloc(), Asked::Update, "1.2.3.2", "")?,
     })?;
+    laws::a_row_tells_its_state(history.as_slice());
     for (step, expected) in [
         ("1.2.3.1", true),
         ("1.2.3.22", true),
@@ -82,7 +83,11 @@ fn only_the_uids_of_created_steps_are_used(rt: HostRuntime) -> Result<(), Fail> 
         ("1.2.3.1.1", false),
         ("1.2.3.23", false),
     ] {
-        assert_eq!(rt; used(history.as_slice(), uid(step)?), expected, "at {step}");
+        assert_eq!(rt;
+            used(history.as_slice(), step_uid(step)?),
+            expected,
+            "at {step}"
+        );
         let request = create(step, DataSet::new(rt.alloc()))?;
         assert_eq!(rt;
             repeats(history.as_slice(), &request),

@@ -110,7 +110,7 @@ fn the_life_cycle_is_that_of_the_table(rt: HostRuntime) -> Result<(), Fail> {
 fn finished_by<A: Allocator + Copy>(state: StepState, attributes: DataSet<A>) -> Result<u16, Fail> {
     let row = row_in(StepState::InProgress, "2.1", attributes);
     let request = Request::Change {
-        step: Some(uid("1.2.3.1")?),
+        step: Some(step_uid("1.2.3.1")?),
         state,
         transaction: transaction("2.1"),
     };
@@ -239,7 +239,7 @@ fn the_ninth_level_of_items_is_not_held(rt: HostRuntime) -> Result<(), Fail> {
     ] {
         let row = row_in(state, "", DataSet::new(rt.alloc()));
         let request = Request::AskCancel {
-            step: Some(uid("1.2.3.1")?),
+            step: Some(step_uid("1.2.3.1")?),
             reasons: nested(rt.alloc(), depth)?,
         };
         assert_eq!(rt;
@@ -257,5 +257,26 @@ fn the_ninth_level_of_items_is_not_held(rt: HostRuntime) -> Result<(), Fail> {
     );
     let memory = format!(in rt.alloc(); "{}", ChangeFault::Memory)?;
     assert_eq!(rt; memory.as_str(), "out of memory");
+    Ok(())
+}
+
+#[test]
+fn items_that_nest_too_deep_are_told_without_memory(rt: HostRuntime) -> Result<(), Fail> {
+    let heap = Refusing::new(rt.alloc());
+    let row = row_in(StepState::Scheduled, "", DataSet::new(&heap));
+    for (depth, fault, takes) in [
+        (7, ChangeFault::Memory, true),
+        (8, ChangeFault::TooDeep, false),
+    ] {
+        let request = Request::AskCancel {
+            step: Some(step_uid("1.2.3.1")?),
+            reasons: nested(&heap, depth)?,
+        };
+        heap.refuse(1);
+        let found = change(&heap, Some(&row), &request, 120, 0).err();
+        assert_eq!(rt; found, Some(fault), "at {depth}");
+        assert_eq!(rt; heap.is_armed(), !takes, "at {depth}");
+        heap.refuse(0);
+    }
     Ok(())
 }

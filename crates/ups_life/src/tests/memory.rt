@@ -201,7 +201,7 @@ fn a_decision_takes_no_memory(rt: HostRuntime) -> Result<(), Fail> {
         request,
     })?;
     heap.refuse(1);
-    assert!(rt; used(history.as_slice(), uid("1.2.3.1")?));
+    assert!(rt; used(history.as_slice(), step_uid("1.2.3.1")?));
     assert_eq!(rt; verdict(None, false, &history[0].request).code(), 0x0000);
     assert!(rt; heap.is_armed());
     Ok(())

@@ -9,7 +9,7 @@ fn a_create_asks_for_a_step_of_its_own_uid(rt: HostRuntime) -> Result<(), Fail> 
     };
     match read_request(rt.alloc(), &operation, a_step(rt.alloc())?, 0) {
         Ok(Ask::Do(request)) => {
-            assert!(rt; request.step() == Some(uid("1.2.3.1")?));
+            assert!(rt; request.step() == Some(step_uid("1.2.3.1")?));
             let row = change(rt.alloc(), None, &request, 0, 0)?;
             assert_eq!(rt; described(&row.attributes, &rt)?.as_str(), ROW);
         }
@@ -32,12 +32,28 @@ fn a_create_asks_for_a_step_of_its_own_uid(rt: HostRuntime) -> Result<(), Fail> 
 }
 
 #[test]
+fn a_step_has_a_uid_of_its_own(rt: HostRuntime) -> Result<(), Fail> {
+    let step = step_uid("1.2.3.1")?;
+    assert!(rt; step.as_bytes() == b"1.2.3.1".as_slice());
+    assert!(rt; step.uid() == uid("1.2.3.1")?);
+    assert!(rt; step == step_uid("1.2.3.1")?);
+    assert!(rt; step != step_uid("1.2.3.2")?);
+    for text in ["1.2.840.10008.5.1.4.34.5", "1.2.840.10008.5.1.4.34.5.1"] {
+        assert!(rt; StepUid::of(uid(text)?).is_none(), "at {text}");
+    }
+    assert!(rt; StepUid::of(uid("1.2.840.10008.5.1.4.34.5.2")?).is_some());
+    Ok(())
+}
+
+#[test]
 fn a_get_asks_for_the_listed_attributes(rt: HostRuntime) -> Result<(), Fail> {
     let tags = [PROCEDURE_STEP_STATE, TRANSACTION_UID];
-    for (instance, listed) in [
-        (Uid::of(b"1.2.3.1"), tags.as_slice()),
-        (None, [].as_slice()),
-        (Uid::of(b"1.2.840.10008.5.1.4.34.5"), [].as_slice()),
+    let step = Some(step_uid("1.2.3.1")?);
+    for (instance, expected, listed) in [
+        (Uid::of(b"1.2.3.1"), step, tags.as_slice()),
+        (None, None, [].as_slice()),
+        (Uid::of(b"1.2.840.10008.5.1.4.34.5"), None, [].as_slice()),
+        (Uid::of(b"1.2.840.10008.5.1.4.34.5.1"), None, [].as_slice()),
     ] {
         let operation = Operation::Get {
             instance,
@@ -45,7 +61,7 @@ fn a_get_asks_for_the_listed_attributes(rt: HostRuntime) -> Result<(), Fail> {
         };
         match read_request(rt.alloc(), &operation, DataSet::new(rt.alloc()), 0) {
             Ok(Ask::Get { step, attributes }) => {
-                assert!(rt; step == instance);
+                assert!(rt; step == expected);
                 assert_eq!(rt; attributes.as_slice(), listed);
             }
             Ok(Ask::Do(_) | Ask::Find(_)) => return Err("no N-GET".into()),
@@ -98,15 +114,16 @@ fn a_set_is_read(rt: HostRuntime) -> Result<(), Fail> {
         let attributes = [(TRANSACTION_UID, text), (PROCEDURE_STEP_LABEL, "CT READ ")];
         assert_eq!(rt; read_text(&rt, &operation, &attributes)?.as_str(), expected);
     }
-    for (instance, expected) in [
-        (None, "none set by absent to "),
-        (
-            Uid::of(b"1.2.840.10008.5.1.4.34.5"),
-            "1.2.840.10008.5.1.4.34.5 set by absent to ",
-        ),
+    for instance in [
+        None,
+        Uid::of(b"1.2.840.10008.5.1.4.34.5"),
+        Uid::of(b"1.2.840.10008.5.1.4.34.5.1"),
     ] {
         let operation = Operation::Set { instance };
-        assert_eq!(rt; read_text(&rt, &operation, &[])?.as_str(), expected);
+        assert_eq!(rt;
+            read_text(&rt, &operation, &[])?.as_str(),
+            "none set by absent to "
+        );
     }
     Ok(())
 }

@@ -56,7 +56,8 @@ fn find<A: Allocator + Copy>(
             return Err(ChangeFault::TooDeep);
         }
     }
-    plain_find(alloc, entries, &[], 60, 0, keys)
+    let configuration = Configuration::new(Vec::new(alloc), 60, 0, 1_000_000);
+    plain_find(alloc, &configuration, entries, keys)
 }
 
 /// Data sets as text.

@@ -2,7 +2,7 @@ use super::Asked::{Cancel, Change, Create, Set};
 use super::Sent::{Nothing, Performed, Text};
 use super::{
     Asker, NOON, PERFORMER, RIVAL, ROW, SCHEDULER, STEPS, a_manager, ask_of, entry_of, holder_of,
-    request_of, run, shown_of, status_of, told, uid, with_a_step,
+    request_of, run, shown_of, status_of, step_named, step_uid, told, with_a_step,
 };
 use crate::*;
 use std::test::Fail;
@@ -10,7 +10,6 @@ use ups_dataset::dictionary::*;
 use ups_dimse::Tags;
 use ups_life::Ask;
 use ups_life::StepState::{Completed, InProgress};
-use ups_pdu::Uid;
 
 #[test]
 fn an_entry_says_who_asked_and_when_and_what(rt: HostRuntime) -> Result<(), Fail> {
@@ -75,7 +74,7 @@ fn each_step_is_shown_as_it_was_created(rt: HostRuntime) -> Result<(), Fail> {
         ([PATIENT_NAME, PROCEDURE_STEP_LABEL].as_slice(), 0x0001),
         ([PROCEDURE_STEP_LABEL, TRANSACTION_UID].as_slice(), 0x0001),
     ] {
-        let (status, text) = told(&manager.get(Some(uid("1.2.3.2")?), listed), &rt)?;
+        let (status, text) = told(&manager.get(Some(step_uid("1.2.3.2")?), listed), &rt)?;
         assert_eq!(rt; status, number);
         assert_eq!(rt; text.as_str(), "00741204=MR_READ_ ");
     }
@@ -88,7 +87,7 @@ fn an_unknown_step_is_not_shown(rt: HostRuntime) -> Result<(), Fail> {
     assert_eq!(rt; status_of(&manager.get(None, &[])), 0xc307);
     for step in ["1.2.3", "1.2.3.2", "1.2.3.11"] {
         for listed in [[].as_slice(), [PROCEDURE_STEP_STATE].as_slice()] {
-            let reply = manager.get(Some(uid(step)?), listed);
+            let reply = manager.get(Some(step_uid(step)?), listed);
             assert_eq!(rt; status_of(&reply), 0xc307, "at {step}");
         }
     }
@@ -111,7 +110,7 @@ fn a_service_answers_and_enters_as_caller_0(rt: HostRuntime) -> Result<(), Fail>
     let mut attributes = Vec::new(rt.alloc());
     attributes.push(PROCEDURE_STEP_STATE)?;
     let ask = Ask::Get {
-        step: Uid::of(b"1.2.3.1"),
+        step: step_named("1.2.3.1"),
         attributes: Tags::from_vec(attributes),
     };
     let (status, text) = told(&ask_of(&mut manager, SCHEDULER, ask)?, &rt)?;

@@ -1,6 +1,6 @@
 use super::Asked::{Cancel, Change, Create, Set};
 use super::Sent::{Nothing, Performed};
-use super::{Asker, PERFORMER, RIVAL, SCHEDULER, STEPS, holder_of, run, uid, with_a_step};
+use super::{Asker, PERFORMER, RIVAL, SCHEDULER, STEPS, holder_of, run, step_uid, with_a_step};
 use crate::*;
 use std::test::Fail;
 use ups_life::StepState::{Completed, InProgress};
@@ -29,7 +29,7 @@ fn each_step_has_the_holder_that_claimed_it(rt: HostRuntime) -> Result<(), Fail>
             "at {step}"
         );
     }
-    assert!(rt; manager.holder(uid("1.2.3.4")?).is_none());
-    assert!(rt; manager.holder(uid("1.2.3")?).is_none());
+    assert!(rt; manager.holder(step_uid("1.2.3.4")?).is_none());
+    assert!(rt; manager.holder(step_uid("1.2.3")?).is_none());
     Ok(())
 }

@@ -3,7 +3,7 @@ use super::Sent::{GivenUp, Nothing, Text};
 use super::worklists::{found_by, keys_of};
 use super::{
     PERFORMER, RIVAL, ROW, SCHEDULER, a_manager, a_step, holder_of, put_bytes, put_item,
-    request_of, run, shown_of, status_of, submit, uid, with_a_step,
+    request_of, run, shown_of, status_of, step_uid, submit, with_a_step,
 };
 use crate::*;
 use std::alloc::Allocator;
@@ -34,7 +34,7 @@ fn create_with<A: Allocator + Copy>(alloc: A, length: usize) -> Result<Request<A
     let mut attributes = a_step(alloc)?;
     put_bytes(alloc, &mut attributes, PRIVATE, Vr::Un, value.as_slice())?;
     Ok(Request::Create {
-        step: uid("1.2.3.1")?,
+        step: step_uid("1.2.3.1")?,
         attributes,
     })
 }
@@ -53,14 +53,14 @@ fn cancel_of_depth<A: Allocator + Copy>(alloc: A, depth: u8) -> Result<Request<A
         reasons = outer;
     }
     Ok(Request::AskCancel {
-        step: Some(uid("1.2.3.1")?),
+        step: Some(step_uid("1.2.3.1")?),
         reasons,
     })
 }
 
 /// How many bytes the row of the step 1.2.3.1 takes.
 fn size_of_row<A: Allocator + Copy>(manager: &Manager<A>) -> Result<u64, Fail> {
-    match manager.get(Some(uid("1.2.3.1")?), &[]) {
+    match manager.get(Some(step_uid("1.2.3.1")?), &[]) {
         Reply::Set(_, set) => Ok(set.size()),
         Reply::Status(_) | Reply::Sets(_) => Err("no set".into()),
     }
@@ -81,7 +81,7 @@ fn a_full_history_takes_no_request(rt: HostRuntime) -> Result<(), Fail> {
     ];
     run(&rt, rt.alloc(), &mut manager, &lines)?;
     assert_eq!(rt; shown_of(&manager, "1.2.3.1", &rt)?.as_str(), ROW);
-    let reply = manager.get(Some(uid("1.2.3.2")?), &[PROCEDURE_STEP_STATE]);
+    let reply = manager.get(Some(step_uid("1.2.3.2")?), &[PROCEDURE_STEP_STATE]);
     assert_eq!(rt; status_of(&reply), 0x0000);
     let keys = keys_of(rt.alloc(), &[(SOP_INSTANCE_UID, "")])?;
     assert_eq!(rt;
@@ -97,7 +97,10 @@ fn a_row_over_the_limit_is_not_created(rt: HostRuntime) -> Result<(), Fail> {
     let larger = create_with(rt.alloc(), LARGEST_VALUE + 2)?;
     assert_eq!(rt; submit(&mut manager, SCHEDULER, larger)?, 0x0213);
     assert!(rt; manager.history().is_empty());
-    assert_eq!(rt; status_of(&manager.get(Some(uid("1.2.3.1")?), &[])), 0xc307);
+    assert_eq!(rt;
+        status_of(&manager.get(Some(step_uid("1.2.3.1")?), &[])),
+        0xc307
+    );
     let largest = create_with(rt.alloc(), LARGEST_VALUE)?;
     assert_eq!(rt; submit(&mut manager, SCHEDULER, largest)?, 0x0000);
     assert_eq!(rt; size_of_row(&manager)?, 1_048_576);

@@ -1,8 +1,8 @@
 use super::Asked::{Cancel, Change, Create, Set};
 use super::Sent::{Nothing, Performed, Text};
 use super::{
-    Asked, Asker, RIVAL, ROW, SCHEDULER, a_manager, ask_of, picture, request_of, status_of, submit,
-    told, with_a_step,
+    Asked, Asker, RIVAL, ROW, SCHEDULER, a_manager, ask_of, picture, request_of, status_of,
+    step_named, submit, told, with_a_step,
 };
 use crate::*;
 use fixtures::Refusing;
@@ -13,7 +13,6 @@ use ups_dataset::dictionary::*;
 use ups_dimse::Tags;
 use ups_life::StepState::{Completed, InProgress};
 use ups_life::{Ask, Reply};
-use ups_pdu::Uid;
 
 /// The greatest number of growths that a test refuses in turn.
 const GROWTHS: u64 = 100;
@@ -85,7 +84,7 @@ fn get_in_turn<'a>(
     as_service: bool,
 ) -> Result<(Reply<&'a Refusing<Global>>, u64), Fail> {
     for growth in 1..GROWTHS {
-        let step = Uid::of(b"1.2.3.1");
+        let step = step_named("1.2.3.1");
         heap.refuse(growth);
         let reply = if as_service {
             let attributes = Tags::new(heap);

@@ -1,18 +1,22 @@
+ghost use Rattle.std.specs.Prelude.{IfOk};
+ghost use Rattle.ups_life.specs.Settings.{IsOffset};
+
 use super::Asked::{Cancel, Change, Create, Set};
 use super::Sent::{GivenUp, Nothing, Performed, Text};
 use super::{
     Asker, Line, NOON, PERFORMER, PROGRESS, SCHEDULER, Sent, a_manager, a_step, add_bytes, add_set,
-    ask_of, picture, put_item, run, set_of, status_of, submit, transaction, uid, with, with_a_step,
+    ask_of, picture, put_item, run, set_of, status_of, step_uid, submit, transaction, with,
+    with_a_step,
 };
 use crate::*;
 use fixtures::Refusing;
-use std::alloc::{Allocator, Global};
+use std::alloc::{AllocError, Allocator, Global};
 use std::process::Abort;
 use std::test::Fail;
 use ups_dataset::dictionary::*;
 use ups_dataset::{DataSet, Tag, TransferSyntax, write_set};
 use ups_life::StepState::{Canceled, Completed, InProgress};
-use ups_life::{Ask, Reply, Request, Sets, plain_find};
+use ups_life::{Ask, Configuration, Reply, Request, Sets, plain_find};
 use ups_match::{Keys, Probe};
 
 /// Which step it is.
@@ -253,7 +257,7 @@ const KEYS: [[(Tag, &str); 2]; 12] = [
 
 /// A request on one of 40 steps.
 fn any_request(rt: &impl AllocGlobal, dice: &mut Dice) -> Result<Request<Global>, Fail> {
-    let step = uid(format!(in rt.alloc(); "1.2.3.{}", dice.roll(40))?.as_str())?;
+    let step = step_uid(format!(in rt.alloc(); "1.2.3.{}", dice.roll(40))?.as_str())?;
     let sent = dice.one_of(&SENT).ok_or("what is sent")?;
     let transaction = transaction(dice.one_of(&["", "2.1", "2.1", "2.2"]).ok_or("a UID")?);
     let set = DataSet::new(rt.alloc());
@@ -294,6 +298,17 @@ fn spelled(rt: &impl AllocGlobal, sets: &Sets<Global>) -> Result<Vec<u8>, Fail> 
     Ok(bytes)
 }
 
+/// What was fixed at the start of a manager.
+fn settings_of(
+    alloc: Global,
+    manager: &Manager<Global>,
+) -> Result<Configuration<Global>, AllocError>
+    ensures { IfOk result (λ settings. IsOffset settings.offset) }
+{
+    let peers = Vec::from_slice(alloc, manager.peers())?;
+    Ok(Configuration::new(peers, manager.keep(), manager.offset(), manager.limit()))
+}
+
 /// Finds by the manager and by the plain program: how many sets both found.
 fn found_by_both<R: Abort + AllocGlobal>(
     rt: &R,
@@ -303,13 +318,10 @@ fn found_by_both<R: Abort + AllocGlobal>(
     let Reply::Sets(sets) = manager.find(keys, &mut Probe::new()) else {
         return Err("a status alone".into());
     };
-    let (entries, peers) = (manager.history(), manager.peers());
     let plain = plain_find(
         rt.alloc(),
-        entries,
-        peers,
-        manager.keep(),
-        manager.offset(),
+        &settings_of(rt.alloc(), manager)?,
+        manager.history(),
         keys,
     )?;
     assert_eq!(rt;

@@ -1,6 +1,4 @@
 use Rattle.std.proofs.Common.{◌∙◌}
-use Rattle.std.specs.Int.{w16}
-use Rattle.std.proofs.lemmas.Int.{to_z-of_z}
 use Rattle.std.specs.Option.{unwrap_or}
 use Rattle.ups_life.specs.Steps.{nothing}
 use Rattle.ups_life.proofs.Rows.{row_step, row_found, row_empty}
@@ -8,12 +6,12 @@ use Rattle.ups_life.proofs.plain.row.Goals as goal
 
 pub loop-entry-preserved : goal.loop-entry-preserved
 loop-entry-preserved g c =
-    row_step _ c.args.entries.now c.loop-entry.entry-index c.entry-item.result c.args.step (unwrap_or c.loop-entry.row nothing) (unwrap_or c.in_ok-row.row nothing) c.loop-entry-test.true c.entry-item.is c.loop-entry.invariant c.in_ok-row.ensures
+    row_step c.args.configuration.now c.args.entries.now c.loop-entry.entry-index c.entry-item.result c.args.step (unwrap_or c.loop-entry.row nothing) (unwrap_or c.in_ok-row.row nothing) c.loop-entry-test.true c.entry-item.is c.loop-entry.invariant c.in_ok-row.ensures
 
 pub returns-in-Some : goal.returns-in-Some
 returns-in-Some g c =
-    row_found _ _ c.args.entries.now c.loop-entry.entry-index c.args.step c.loop-entry.row c.in-Some.row (to_z-of_z w16 c.args.offset c.ranges.offset) c.loop-entry-test.false c.in-Some.is c.loop-entry.invariant
+    row_found c.args.configuration.now c.args.entries.now c.loop-entry.entry-index c.args.step c.loop-entry.row c.in-Some.row c.loop-entry-test.false c.in-Some.is c.loop-entry.invariant
 
 pub returns-in-None : goal.returns-in-None
 returns-in-None g c =
-    c.new.ensures ∙ row_empty _ _ c.args.entries.now c.loop-entry.entry-index c.args.step c.loop-entry.row (to_z-of_z w16 c.args.offset c.ranges.offset) c.loop-entry-test.false c.in-None.is c.loop-entry.invariant
+    c.new.ensures ∙ row_empty c.args.configuration.now c.args.entries.now c.loop-entry.entry-index c.args.step c.loop-entry.row c.loop-entry-test.false c.in-None.is c.loop-entry.invariant

@@ -4,4 +4,4 @@ use Rattle.ups_life.specs.Steps.{past, row_of, nothing}
 use Rattle.ups_life.proofs.plain.row.Given as goal
 
 abbrev pub invariant-loop-entry : goal.invariant-loop-entry
-invariant-loop-entry g l = unwrap_or l.row nothing ≡ row_of l.offset (past (take l.entry-index l.entries)) l.step
+invariant-loop-entry g l = unwrap_or l.row nothing ≡ row_of l.configuration (past (take l.entry-index l.entries)) l.step

@@ -28,6 +28,6 @@ loop-pdv-preserved g c = (
 pub returns-clause-goes : goal.returns-clause-goes
 returns-clause-goes g c =
     subst (λ (l : List (Pdv g.row.A.Denot)). Goes (Happens (acceptor c.args.config.now)) (map fragment l) c.args.live.now c.loop-pdv.live
-    (world (g.W.Write.contents c.args.writer.now) (g.G.Gate.moments c.args.gate.now) (g.S.Service.settings c.args.service.now) (g.S.Service.caller c.args.service.now) (g.S.Service.seen c.args.service.now))
-    (world (g.W.Write.contents c.loop-pdv.writer) (g.G.Gate.moments c.loop-pdv.gate) (g.S.Service.settings c.loop-pdv.service) (g.S.Service.caller c.loop-pdv.service) (g.S.Service.seen c.loop-pdv.service)) okay)
+    (world (g.W.Write.contents c.args.writer.now) (g.G.Gate.told c.args.gate.now) (g.S.Service.settings c.args.service.now) (g.S.Service.others c.args.service.now) (g.S.Service.caller c.args.service.now) (g.S.Service.seen c.args.service.now))
+    (world (g.W.Write.contents c.loop-pdv.writer) (g.G.Gate.told c.loop-pdv.gate) (g.S.Service.settings c.loop-pdv.service) (g.S.Service.others c.loop-pdv.service) (g.S.Service.caller c.loop-pdv.service) (g.S.Service.seen c.loop-pdv.service)) okay)
     (take_all c.loop-pdv.pdv-index c.args.pdvs.now (search rules)) c.loop-pdv.invariant.1

@@ -1,3 +1,4 @@
+use Rattle.std.proofs.Common.{refl}
 use Rattle.std.proofs.lemmas.Result.{err_from_is_err_and}
 use Rattle.ups_session.specs.Fold.{pdu, bad, closed}
 use Rattle.ups_session.specs.Acceptor.{acceptor}
@@ -36,9 +37,9 @@ pub returns-in_err-on_event-in-Closed-clause-turned : goal.returns-in_err-on_eve
 returns-in_err-on_event-in-Closed-clause-turned g c =
     let (input, consumed, t) = c.in_ok-pdu.ensures in
     let p = err_from_is_err_and c.from_residual-in_err-on_event-in-Closed.result c.from_residual-in_err-on_event-in-Closed.ensures.1 in
-    (input, consumed, rw (p.1, p.2) (turned_part (acceptor c.args.config.now) c.args.live.now c.on_event.new.live (g.R.Read.remaining c.read_one.new.reader) input closed _ _ c.in_err-on_event-in-Closed.field-0.0 (got_closed g.row.A.Denot (g.R.Read.remaining c.read_one.new.reader) input _ c.in-Closed.is t).0 (got_closed g.row.A.Denot (g.R.Read.remaining c.read_one.new.reader) input _ c.in-Closed.is t).1 (c.in_err-on_event-in-Closed.ensures.goes c.args.config.now)))
+    (input, consumed, rw (p.1, p.2) (turned_part (acceptor c.args.config.now) c.args.live.now c.on_event.new.live (g.R.Read.remaining c.read_one.new.reader) input closed _ _ c.in_err-on_event-in-Closed.field-0.0 (got_closed g.row.A.Denot (g.R.Read.remaining c.read_one.new.reader) input _ c.in-Closed.is t).0 (refl, (got_closed g.row.A.Denot (g.R.Read.remaining c.read_one.new.reader) input _ c.in-Closed.is t).1) (c.in_err-on_event-in-Closed.ensures.goes c.args.config.now)))
 
 pub returns-in_ok-on_event-in-Closed-clause-turned : goal.returns-in_ok-on_event-in-Closed-clause-turned
 returns-in_ok-on_event-in-Closed-clause-turned g c =
     let (input, consumed, t) = c.in_ok-pdu.ensures in
-    (input, consumed, (closed, (got_closed g.row.A.Denot (g.R.Read.remaining c.read_one.new.reader) input _ c.in-Closed.is t).0, (got_closed g.row.A.Denot (g.R.Read.remaining c.read_one.new.reader) input _ c.in-Closed.is t).1, (c.in_ok-on_event-in-Closed.ensures.goes c.args.config.now)))
+    (input, consumed, (closed, (got_closed g.row.A.Denot (g.R.Read.remaining c.read_one.new.reader) input _ c.in-Closed.is t).0, (refl, (got_closed g.row.A.Denot (g.R.Read.remaining c.read_one.new.reader) input _ c.in-Closed.is t).1), (c.in_ok-on_event-in-Closed.ensures.goes c.args.config.now)))

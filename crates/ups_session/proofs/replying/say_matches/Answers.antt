@@ -12,12 +12,12 @@ use Rattle.ups_session.proofs.replying.say_matches.Goals as goal
 pub returns-in_err-say_match-clause-sent : goal.returns-in_err-say_match-clause-sent
 returns-in_err-say_match-clause-sent g c =
     let ((sent, app, is), quiet) = c.loop-set.invariant in
-    let (more, then, (why, part)) = c.in_err-say_match.ensures.sent in
+    let (more, then, short) = c.in_err-say_match.ensures.sent in
     let f = set_response c.args.max c.args.context.now c.args.request.now Pending in
     let p = err_from_is_err_and c.from_residual.result c.from_residual.ensures.1 in (
       sent ++ more,
       Appends-trans _ _ _ _ _ app then,
-      rw (p.1, p.2, is) (why, each_part f c.args.sets.now c.loop-set.set-index c.set-item.result more c.loop-set-test.true c.set-item.is part),
+      rw (p.1, p.2, is) (each_part f c.args.sets.now c.loop-set.set-index c.set-item.result more c.in_err-say_match.field-0.0 c.loop-set-test.true c.set-item.is short),
     )
 
 pub returns-in_err-say_match-clause-gate : goal.returns-in_err-say_match-clause-gate

@@ -9,4 +9,4 @@ use Rattle.ups_session.proofs.replying.say_matches.Given as goal
 
 abbrev pub invariant-loop-set : goal.invariant-loop-set
 invariant-loop-set g l = ((sent : List ℕ) × Appends (g.W.Write.contents l.initial.writer) (g.W.Write.contents l.writer) sent × (sent ≡ spelled (flat_map (set_response l.max l.context l.request Pending) (take l.set-index l.sets))))
-    × Tells (g.G.Gate.moments l.initial.gate) (g.G.Gate.moments l.gate) []
+    × Tells (g.G.Gate.told l.initial.gate) (g.G.Gate.told l.gate) []

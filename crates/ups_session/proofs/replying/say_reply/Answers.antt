@@ -13,7 +13,7 @@ use Rattle.ups_session.proofs.replying.say_reply.Goals as goal
 pub returns-in_err-said-in-Set-clause-sent : goal.returns-in_err-said-in-Set-clause-sent
 returns-in_err-said-in-Set-clause-sent g c =
     let p = err_from_is_err_and c.from_residual.result c.from_residual.ensures.1 in
-    ([], Appends-nil _, rw (p.1, p.2, c.in_err-said-in-Set.ensures.memory) (inr refl, (_, refl)))
+    ([], Appends-nil _, rw (p.1, p.2, c.in_err-said-in-Set.ensures.memory) (inr (refl, (_, refl))))
 
 pub returns-in_err-say_matches-in-Sets-clause-sent : goal.returns-in_err-say_matches-in-Sets-clause-sent
 returns-in_err-say_matches-in-Sets-clause-sent g c =

@@ -9,11 +9,11 @@ use Rattle.ups_session.proofs.saying.say.Goals as goal
 pub returns-in_err-say_one-clause-sent : goal.returns-in_err-say_one-clause-sent
 returns-in_err-say_one-clause-sent g c =
     let ((sent, app, is), quiet) = c.loop-pdu.invariant in
-    let (more, then, (why, part)) = c.in_err-say_one.ensures.sent in
+    let (more, then, short) = c.in_err-say_one.ensures.sent in
     let p = err_from_is_err_and c.from_residual.result c.from_residual.ensures.1 in (
       sent ++ more,
       Appends-trans _ _ _ _ _ app then,
-      rw (p.1, p.2, is) (why, spelled_part c.args.said.now c.loop-pdu.pdu-index c.pdu-item.result more c.loop-pdu-test.true c.pdu-item.is part),
+      rw (p.1, p.2, is) (spelled_part c.args.said.now c.loop-pdu.pdu-index c.pdu-item.result more c.in_err-say_one.field-0.0 c.loop-pdu-test.true c.pdu-item.is short),
     )
 
 pub returns-in_err-say_one-clause-gate : goal.returns-in_err-say_one-clause-gate

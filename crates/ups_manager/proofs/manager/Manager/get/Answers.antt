@@ -1,6 +1,6 @@
-use Rattle.std.proofs.Common.{inl}
+use Rattle.std.proofs.Common.{inl, inr, refl}
 use Rattle.ups_life.specs.Steps.{past}
-use Rattle.ups_manager.proofs.Finding.{shown_is_got, shown_is_small, unknown_is_got}
+use Rattle.ups_manager.proofs.Finding.{shown_is_got, got_granted, shown_is_small, unknown_is_got}
 use Rattle.ups_manager.proofs.manager.Manager.get.Goals as goal
 
 pub returns-in_default-find-clause-answer : goal.returns-in_default-find-clause-answer
@@ -18,3 +18,8 @@ returns-in-Ok-clause-answer g c =
 pub returns-in-Ok-clause-small : goal.returns-in-Ok-clause-small
 returns-in-Ok-clause-small g c =
     shown_is_small c.in-Ok.reply c.in-Some.step c.args.attributes.now c.in-Some-find.held.now _ _ c.self.invariant.small c.as_slice-steps.ensures.value c.in-Some-find.ensures c.in-Ok.ensures
+
+pub returns-in-Err-clause-answer : goal.returns-in-Err-clause-answer
+returns-in-Err-clause-answer g c =
+    let m = c.self.inside in
+    rw (← c.self.view_is) (inr (got_granted m.configuration (past m.history.items) c.args.step c.in-Some.step c.args.attributes.now c.in-Some-find.held.now _ _ c.in-Some.is c.self.invariant.steps c.as_slice-steps.ensures.value c.in-Some-find.ensures, refl))

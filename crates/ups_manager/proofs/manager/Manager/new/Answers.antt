@@ -28,6 +28,6 @@ invariant_of-result g c = record {
   offset = subst (λ (s : Settings). IsOffset s.offset) (sym (returns-clause-settings g c)) (good_offset c.args.peers.now c.args.offset c.args.limit (returns-clause-allowed g c));
   legal = subst (λ (l : List (Entry g.row.A.Denot)). is_legal c.new.result l) (sym c.new-2.ensures.items) refl;
   moments = subst HaveDates (sym c.new-2.ensures.items) no_moments;
-  steps = c.new-3.ensures.items ∙ ap (λ (l : List (Entry g.row.A.Denot)). held_steps c.new.result.offset (past l)) (sym c.new-2.ensures.items);
+  steps = c.new-3.ensures.items ∙ ap (λ (l : List (Entry g.row.A.Denot)). held_steps c.new.result (past l)) (sym c.new-2.ensures.items);
   small = subst (λ (l : List (HeldStep g.row.A.Denot)). AllByRecursion IsSmallStep l) (sym c.new-3.ensures.items) tt;
 }

@@ -6,9 +6,10 @@ use Rattle.ups_life.specs.declared.request.Reply.TheVariants.{Status as Answered
 use Rattle.ups_life.specs.Settings.{IsOffset}
 use Rattle.ups_life.specs.Steps.{past}
 use Rattle.ups_manager.specs.declared.rows.HeldStep.{HeldStep}
+use Rattle.ups_manager.specs.Faults.{status_of}
 use Rattle.ups_manager.specs.Held.{held_steps, put_step, IsSmallStep}
 use Rattle.ups_manager.specs.Law.{entry, is_legal}
-use Rattle.ups_manager.proofs.Entering.{Accepted, accepted, succeeds, legal_after, steps_after, small_kept, answers_refusal, HaveDates, moments_after}
+use Rattle.ups_manager.proofs.Entering.{Accepted, accepted, succeeds, legal_after, steps_after, small_kept, answers_fault, answers_full, none_entered, step_not_done, room_not_done, HaveDates, moments_after}
 use Rattle.ups_manager.proofs.manager.Manager.submit.Given as given
 use Rattle.ups_manager.proofs.manager.Manager.submit.Goals as goal
 
@@ -18,7 +19,24 @@ step_for-requires-clause-offset g c = subst IsOffset (sym (to_z-of_z w16 c.offse
 pub returns-in-Err-clause-answer : goal.returns-in-Err-clause-answer
 returns-in-Err-clause-answer g c =
     let m = c.self.inside in
-    rw (← c.self.view_is) (answers_refusal m.configuration m.history.items _ m.steps.items _ c.args.call c.in-Err.status c.as_slice.ensures.value c.as_slice-2.ensures.value c.self.invariant.steps c.in-Err.ensures.error c.in-Err.ensures.refused)
+    rw (← c.self.view_is, c.status.ensures) (answers_fault m.configuration m.history.items _ m.steps.items _ c.args.call _ c.in-Err.fault c.as_slice.ensures.value c.as_slice-2.ensures.value c.self.invariant.steps c.in-Err.ensures.fault)
+
+pub returns-in-Err-clause-history : goal.returns-in-Err-clause-history
+returns-in-Err-clause-history g c =
+    let m = c.self.inside in
+    rw (← c.self.view_is, c.status.ensures) (none_entered m.history.items c.args.call (status_of c.in-Err.fault) (step_not_done _ _ _ _ c.args.call.request c.in-Err.fault c.in-Err.ensures.fault))
+
+pub returns-in-Err-make_room-clause-history : goal.returns-in-Err-make_room-clause-history
+returns-in-Err-make_room-clause-history g c =
+    let m = c.self.inside in
+    rw (← c.self.view_is, c.status-in-Err-make_room.ensures) (c.make_room.ensures.history
+    ∙ none_entered m.history.items c.args.call (status_of c.in-Err-make_room.fault) (room_not_done _ _ c.in-Err-make_room.fault c.in-Err-make_room.ensures.fault))
+
+pub returns-in-Err-make_room-clause-answer : goal.returns-in-Err-make_room-clause-answer
+returns-in-Err-make_room-clause-answer g c =
+    let m = c.self.inside in
+    rw (← c.self.view_is, c.status-in-Err-make_room.ensures) (answers_full m.configuration m.history.items _ m.steps.items _ c.args.call c.in-Ok.held _ c.in-Err-make_room.fault c.as_slice.ensures.value c.as_slice-2.ensures.value c.self.invariant.steps
+    c.in-Ok.ensures.step c.in-Ok.ensures.allowed c.in-Err-make_room.ensures.fault)
 
 pub invariant_of-self-in-Err-make_room : goal.invariant_of-self-in-Err-make_room
 invariant_of-self-in-Err-make_room g c =
@@ -27,7 +45,7 @@ invariant_of-self-in-Err-make_room g c =
       offset = c.self.invariant.offset;
       legal = subst (is_legal m.configuration) (sym c.make_room.ensures.history) c.self.invariant.legal;
       moments = subst HaveDates (sym c.make_room.ensures.history) c.self.invariant.moments;
-      steps = c.make_room.ensures.steps ∙ c.self.invariant.steps ∙ ap (λ l. held_steps m.configuration.offset (past l)) (sym c.make_room.ensures.history);
+      steps = c.make_room.ensures.steps ∙ c.self.invariant.steps ∙ ap (λ l. held_steps m.configuration (past l)) (sym c.make_room.ensures.history);
       small = subst (λ (l : List (HeldStep g.row.A.Denot)). AllByRecursion IsSmallStep l) (sym c.make_room.ensures.steps) c.self.invariant.small;
     }
 
@@ -63,4 +81,4 @@ invariant_of-self-2 g c =
 pub returns-clause-answer : goal.returns-clause-answer
 returns-clause-answer g c =
     let m = c.self.inside in
-    rw (← c.self.view_is) (inl (ap Answered (sym (succeeds m.configuration m.history.items m.steps.items c.args.call c.in-Ok.held c.self.invariant.steps (entered g c)))))
+    rw (← c.self.view_is) (inl (sym (succeeds m.configuration m.history.items m.steps.items c.args.call c.in-Ok.held c.self.invariant.steps (entered g c))))

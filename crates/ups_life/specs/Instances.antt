@@ -1,0 +1,28 @@
+-- The instances that a request may name: steps, and the two that stand for global subscriptions (PS3.4 CC.2.3).
+use Rattle.std.specs.Prelude.{◌≡◌, ℕ, Bool, false, ◌||◌, List, Option, None, Some, if◌then◌else◌}
+use Rattle.std.specs.Str.{bytes_eq}
+use Rattle.ups_pdu.specs.declared.registered.RegisteredUid.TheVariants.{GlobalSubscription, FilteredGlobalSubscription}
+use Rattle.ups_pdu.specs.Registered.{text_of}
+use Rattle.ups_pdu.specs.Identifier.{IsUid}
+
+-- the instances that stand for global subscriptions, and are no steps (PS3.4 CC.2.3)
+abbrev pub is_well_known : List ℕ → Bool
+is_well_known uid = bytes_eq uid (text_of GlobalSubscription) || bytes_eq uid (text_of FilteredGlobalSubscription)
+
+abbrev pub is_subscription : Option (List ℕ) → Bool
+is_subscription None = false
+is_subscription (Some uid) = is_well_known uid
+
+-- a UID under which there may be a step
+pub record IsStepUid (uid : List ℕ) : Type 0 where
+  pub is_uid : IsUid uid
+  pub not_well_known : is_well_known uid ≡ false
+
+-- the step that has a UID
+abbrev pub step_under : List ℕ → Option (List ℕ)
+step_under uid = if is_well_known uid then None else Some uid
+
+-- the step that an instance is
+abbrev pub step_in : Option (List ℕ) → Option (List ℕ)
+step_in None = None
+step_in (Some uid) = step_under uid

@@ -1,0 +1,42 @@
+-- What the row of a step tells of it.
+use Rattle.std.specs.Prelude.{◌≡◌, ℕ, Bool, true, List, Option}
+use Rattle.std.specs.List.{list_any, AllByRecursion}
+use Rattle.ups_pdu.specs.declared.registered.RegisteredUid.TheVariants.{UpsPush}
+use Rattle.ups_pdu.specs.Registered.{text_of}
+use Rattle.ups_dataset.specs.declared.dictionary.TheConstants.{SOP_CLASS_UID, SOP_INSTANCE_UID, PROCEDURE_STEP_STATE, INPUT_READINESS_STATE}
+use Rattle.ups_dataset.specs.Data.{El, element_at}
+use Rattle.ups_dataset.specs.Valid.{IsDataSet}
+use Rattle.ups_life.specs.declared.request.Request.{Request}
+use Rattle.ups_life.specs.declared.request.Request.TheVariants.{Create, Change, AskCancel, Set}
+use Rattle.ups_life.specs.declared.entry.Entry.{Entry}
+use Rattle.ups_life.specs.declared.state.StepState.{StepState}
+use Rattle.ups_life.specs.Settings.{Settings}
+use Rattle.ups_life.specs.States.{state_text}
+use Rattle.ups_life.specs.Values.{READINESS_STATES, says}
+use Rattle.ups_life.specs.Instances.{IsStepUid}
+use Rattle.ups_life.specs.Steps.{state, row, is_held}
+
+-- the attribute is there, and says one of these texts
+abbrev pub says_one_of : List (List ℕ) → Option El → Bool
+says_one_of texts attribute = list_any (λ text. says text attribute) texts
+
+-- the row of u tells its state, that it is u, of the Push class, and whether its input is ready (PS3.4 table CC.2.5-3)
+pub record TellsStep (u : List ℕ) (now : StepState) (set : List El) : Type 0 where
+  pub state : says (state_text now) (element_at PROCEDURE_STEP_STATE set) ≡ true
+  pub step : says u (element_at SOP_INSTANCE_UID set) ≡ true
+  pub class : says (text_of UpsPush) (element_at SOP_CLASS_UID set) ≡ true
+  pub readiness : says_one_of READINESS_STATES (element_at INPUT_READINESS_STATE set) ≡ true
+
+-- so does the row of each step held
+abbrev pub EachRowTells : {A : Type 0} → Settings → List (Entry A) → Type 0
+EachRowTells s es = (u : List ℕ) → is_held s es u ≡ true → TellsStep u (state es u) (row s es u)
+
+-- what is sent with a request is a data set, and a new step has the UID of a step
+abbrev pub IsWellFormed : {A : Type 0} → Request A → Type 0
+IsWellFormed (Create step attributes) = IsStepUid step × IsDataSet attributes
+IsWellFormed (Change step state transaction) = Unit {0}
+IsWellFormed (AskCancel step reasons) = IsDataSet reasons
+IsWellFormed (Set step transaction attributes) = IsDataSet attributes
+
+abbrev pub AreWellFormed : {A : Type 0} → List (Entry A) → Type 0
+AreWellFormed es = AllByRecursion (λ e. IsWellFormed e.request) es

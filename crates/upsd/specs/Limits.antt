@@ -1,0 +1,18 @@
+-- What the service takes at most, and how it is set up where nothing else is said.
+use Rattle.std.specs.Prelude.{ℕ, ℤ, pos}
+
+-- the PDUs of one association
+abbrev pub turns_limit : ℕ
+turns_limit = 1000000
+
+-- the white space characters in a row, among hex digits
+abbrev pub white_space_limit : ℕ
+white_space_limit = 1000000
+
+-- the seconds for which a finished step is kept at least
+abbrev pub keep_seconds : ℕ
+keep_seconds = 60
+
+-- the offset of the local time from UTC, in minutes
+abbrev pub local_offset : ℤ
+local_offset = pos 0
