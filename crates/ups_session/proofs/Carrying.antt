@@ -9,9 +9,9 @@ use Rattle.ups_life.specs.Settings.{Settings}
 use Rattle.ups_life.specs.declared.entry.Entry.{Entry}
 use Rattle.ups_life.specs.declared.request.Reply.{Reply}
 use Rattle.ups_manager.specs.Law.{Others, Serves}
-use Rattle.ups_session.specs.declared.deed.Waiting.{Waiting}
+use Rattle.ups_session.specs.Association.{Association}
+use Rattle.ups_session.specs.Meaning.{Awaited}
 use Rattle.ups_session.specs.declared.fault.SessionFault.{SessionFault}
-use Rattle.ups_session.specs.declared.live.Live.{Live}
 use Rattle.ups_session.specs.Tells.{Told, Tells}
 use Rattle.ups_session.specs.Wire.{Says, spelled}
 use Rattle.ups_session.specs.Fold.{Happening, fragment, Talk, Happens}
@@ -23,12 +23,12 @@ use Rattle.ups_session.proofs.Chains.{chain_one}
 use Rattle.ups_session.proofs.Going.{goes_on, goes_cut}
 use Rattle.ups_session.proofs.Telling.{Tells-trans}
 
-did_one : {A X Y : Type 0} (live : Live A) (h : X) (said : List (Pdu A)) (sent : List ℕ) (r : Result Y SessionFault) → Says (spelled said) sent r → Did live live (h ∷ []) (h ∷ []) sent (spelled said) r
+did_one : {A X Y : Type 0} (live : Association A) (h : X) (said : List (Pdu A)) (sent : List ℕ) (r : Result Y SessionFault) → Says (spelled said) sent r → Did live live (h ∷ []) (h ∷ []) sent (spelled said) r
 did_one live h said sent (Ok y) is = (refl, refl, is)
 did_one live h said sent (Err e) is = (is, ([], append-nil (h ∷ [])))
 
 -- something is said
-pub says_on : {A Y : Type 0} (config : Config) (from live : Live A) (h : Happening A) (said : List (Pdu A)) (c0 c1 : Option (List ℕ)) (m0 m1 : Told) (s : Settings) (o : Others) (k : ℕ) (seen : List (Entry A)) (sent : List ℕ) (r : Result Y SessionFault)
+pub says_on : {A Y : Type 0} (config : Config) (from live : Association A) (h : Happening A) (said : List (Pdu A)) (c0 c1 : Option (List ℕ)) (m0 m1 : Told) (s : Settings) (o : Others) (k : ℕ) (seen : List (Entry A)) (sent : List ℕ) (r : Result Y SessionFault)
     → Reacts false config from h (saying live said) → Appends c0 c1 sent → Says (spelled said) sent r → Tells m0 m1 [] → Goes (Happens (acceptor config)) (h ∷ []) from live (world c0 m0 s o k seen) (world c1 m1 s o k seen) r
 says_on {A} config from live h said c0 c1 m0 m1 s o k seen sent r reacts writes is tells =
     let talk : Talk A = record { said = said; asks = []; replies = [] } in
@@ -49,7 +49,7 @@ says_on {A} config from live h said c0 c1 m0 m1 s o k seen sent r reacts writes 
     }
 
 -- something is asked, and the reply is said
-pub asks_on : {A Y : Type 0} (config : Config) (from live : Live A) (h : Happening A) (w : Waiting A) (m : ℕ) (q : Reply A) (c0 c1 : Option (List ℕ)) (m0 m1 m2 : Told) (s s2 : Settings) (o o2 : Others) (k k2 : ℕ) (seen seen2 : List (Entry A)) (sent : List ℕ) (r : Result Y SessionFault)
+pub asks_on : {A Y : Type 0} (config : Config) (from live : Association A) (h : Happening A) (w : Awaited A) (m : ℕ) (q : Reply A) (c0 c1 : Option (List ℕ)) (m0 m1 m2 : Told) (s s2 : Settings) (o o2 : Others) (k k2 : ℕ) (seen seen2 : List (Entry A)) (sent : List ℕ) (r : Result Y SessionFault)
     → Reacts false config from h (record { live = live; say = []; waiting = Some w }) → Tells m0 m1 (m ∷ []) → Tells m1 m2 [] → s2 ≡ s → o2 ≡ o → k2 ≡ k → Serves s o k seen w.ae m w.ask q seen2
     → Appends c0 c1 sent → Says (spelled (response w.max w.context w.command q)) sent r → Goes (Happens (acceptor config)) (h ∷ []) from live (world c0 m0 s o k seen) (world c1 m2 s2 o2 k2 seen2) r
 asks_on {A} config from live h w m q c0 c1 m0 m1 m2 s s2 o o2 k k2 seen seen2 sent r reacts told quiet same shared one serves writes is =
@@ -82,13 +82,13 @@ came_all k xs = ap (map fragment) (sym (take-append-drop k xs)) ∙ map-append f
 one_more : {A : Type 0} (k : ℕ) (xs : List (Pdv A)) (p : Pdv A) → k < length xs → p ≡ get_or xs k p → take (k + 1) xs ≡ take k xs ++ p ∷ []
 one_more k xs p lt e = take_more xs k p lt ∙ ap (λ q. take k xs ++ q ∷ []) (sym e)
 
-pub fragments_on : {A : Type 0} (config : Config) (k : ℕ) (xs : List (Pdv A)) (p : Pdv A) (live mid after : Live A) (u v w : World A) → k < length xs → p ≡ get_or xs k p
+pub fragments_on : {A : Type 0} (config : Config) (k : ℕ) (xs : List (Pdv A)) (p : Pdv A) (live mid after : Association A) (u v w : World A) → k < length xs → p ≡ get_or xs k p
     → Goes (Happens (acceptor config)) (map fragment (take k xs)) live mid u v okay → Goes (Happens (acceptor config)) (fragment p ∷ []) mid after v w okay → Goes (Happens (acceptor config)) (map fragment (take (k + 1) xs)) live after u w okay
 fragments_on {A} config k xs p live mid after u v w lt e g h =
     subst (λ (hs : List (Happening A)). Goes (Happens (acceptor config)) hs live after u w okay) (sym (came_more k xs p (one_more k xs p lt e)))
     (goes_on (Happens (acceptor config)) (map fragment (take k xs)) (fragment p ∷ []) live mid after u v w tt okay g h)
 
-pub fragments_cut : {A : Type 0} (config : Config) (k : ℕ) (xs : List (Pdv A)) (p : Pdv A) (live mid after : Live A) (u v w : World A) (e : SessionFault) → k < length xs → p ≡ get_or xs k p
+pub fragments_cut : {A : Type 0} (config : Config) (k : ℕ) (xs : List (Pdv A)) (p : Pdv A) (live mid after : Association A) (u v w : World A) (e : SessionFault) → k < length xs → p ≡ get_or xs k p
     → Goes (Happens (acceptor config)) (map fragment (take k xs)) live mid u v okay → Goes (Happens (acceptor config)) (fragment p ∷ []) mid after v w (failing e) → Goes (Happens (acceptor config)) (map fragment xs) live after u w (failing e)
 fragments_cut {A} config k xs p live mid after u v w e lt is g h =
     let some : Goes (Happens (acceptor config)) (map fragment (take (k + 1) xs)) live after u w (failing e) =

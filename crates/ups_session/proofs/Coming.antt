@@ -9,12 +9,13 @@ use Rattle.ups_pdu.specs.Spelling.{SpellsPdu}
 use Rattle.ups_session.specs.declared.fault.End.{End}
 use Rattle.ups_session.specs.Fold.{Side, Arrival, pdu, bad, closed, brings, Chain, Happens, Takes, IsOpen}
 use Rattle.ups_session.specs.World.{World, Goes}
-use Rattle.ups_session.specs.Session.{Spells, SpellsAll, AtEnd, NoEnd, Tail, cut, failed, lost, within, GoesOn, okay, failing, Came, IsSession}
+use Rattle.ups_session.specs.Session.{Spells, SpellsAll, AtEnd, NoEnd, cut, failed, lost, within, GoesOn, okay, failing, Came, IsSession}
 use Rattle.ups_session.specs.Wire.{FallsShort, spelled}
 use Rattle.ups_session.specs.Turned.{Turned}
 use Rattle.ups_session.proofs.Chains.{chain_one}
 use Rattle.ups_session.specs.declared.taking.Got.{Got}
 use Rattle.ups_session.specs.declared.taking.Got.TheVariants as gots
+use Rattle.ups_session.specs.Broken.{IsBad}
 use Rattle.ups_session.specs.Takes as takes
 use Rattle.ups_session.proofs.Going.{goes_on, goes_nowhere, goes_short}
 
@@ -134,7 +135,7 @@ turned_part side live after left input a u v Turns s end g = absurd (no_turns g.
 pub got_pdu : (A : Type 0) (left : Option (List ℕ)) (input : List ℕ) (x : Got A) (p : Pdu A) → x ≡ gots.Pdu p → takes.Takes left input (got A x) → SpellsPdu input p
 got_pdu A left input x p is t = subst (λ (y : Got A). takes.Takes left input (got A y)) is t
 
-pub got_bad : (A : Type 0) (left : Option (List ℕ)) (input : List ℕ) (x : Got A) (f : PduFault) → x ≡ gots.Bad f → takes.Takes left input (got A x) → takes.IsBad A input f
+pub got_bad : (A : Type 0) (left : Option (List ℕ)) (input : List ℕ) (x : Got A) (f : PduFault) → x ≡ gots.Bad f → takes.Takes left input (got A x) → IsBad A input f
 got_bad A left input x f is t = subst (λ (y : Got A). takes.Takes left input (got A y)) is t
 
 pub got_closed : (A : Type 0) (left : Option (List ℕ)) (input : List ℕ) (x : Got A) → x ≡ gots.Closed → takes.Takes left input (got A x) → (input ≡ []) × IsAtEnd left

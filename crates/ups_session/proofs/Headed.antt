@@ -16,7 +16,8 @@ use Rattle.ups_session.specs.declared.fault.SessionFault.{SessionFault}
 use Rattle.ups_session.specs.declared.fault.SessionFault.TheVariants.{Memory}
 use Rattle.ups_session.specs.declared.taking.Got.{Got}
 use Rattle.ups_session.specs.declared.taking.Got.TheVariants as gots
-use Rattle.ups_session.specs.Takes.{IsBegun, IsBad, Takes}
+use Rattle.ups_session.specs.Broken.{IsBad, IsBegun}
+use Rattle.ups_session.specs.Takes.{Takes}
 
 header_more : (bytes more : List ℕ) (byte n : ℕ) (rest : List ℕ) → IsHeader bytes byte n rest → IsHeader (bytes ++ more) byte n (rest ++ more)
 header_more bytes more byte n rest h = record {

@@ -1,6 +1,9 @@
 pub mod Acceptor
+pub mod Association
+pub mod Broken
 pub mod Deeds
 pub mod Fold
+pub mod Meaning
 pub mod Responses
 pub mod Rules
 pub mod Session

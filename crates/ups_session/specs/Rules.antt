@@ -17,8 +17,7 @@ use Rattle.ups_life.specs.declared.request.Ask.{Ask}
 use Rattle.ups_life.specs.declared.status.Status.{Status}
 use Rattle.ups_life.specs.declared.status.Status.TheVariants.{Success, UnrecognizedOperation, NoSuchSopClass, NoSuchActionType, ProcessingFailure, UnableToProcess}
 use Rattle.ups_life.specs.Asking.{asked}
-use Rattle.ups_session.specs.declared.deciding.Decision.{Decision}
-use Rattle.ups_session.specs.declared.deciding.Decision.TheVariants.{Answer, Question}
+use Rattle.ups_session.specs.Meaning.{Meaning, answered, asking}
 
 -- the services of each SOP class (PS3.4 annexes A and CC.2)
 abbrev pub offers : {A : Type 0} → SopClass → Operation A → Bool
@@ -70,24 +69,24 @@ unread operation = ProcessingFailure
 
 -- A C-ECHO is answered at once; any other request asks something, or is refused. The offset is that of the local time
 -- from UTC, in minutes.
-abbrev pub question : {A : Type 0} → Result (Ask A) Status → Decision A
-question (Ok ask) = Question ask
-question (Err status) = Answer status
+abbrev pub question : {A : Type 0} → Result (Ask A) Status → Meaning A
+question (Ok ask) = asking ask
+question (Err status) = answered status
 
-abbrev pub decided : {A : Type 0} → ℤ → Operation A → List El → Decision A
-decided offset operations.Echo set = Answer Success
+abbrev pub decided : {A : Type 0} → ℤ → Operation A → List El → Meaning A
+decided offset operations.Echo set = answered Success
 decided offset operation set = question (asked offset operation set)
 
 -- What comes of a request with its data set on a context. It is refused, in this order, where its service is none of
 -- the context's SOP class (0211H), where it names another SOP class (0118H), where it is an N-ACTION of a type that the
 -- class doesn't have (0123H), and where its data set can't be read (0110H, of a C-FIND C000H).
-abbrev pub Decides : {A : Type 0} → ℤ → AcceptedContext → RequestCommand A → Option (List ℕ) → Decision A → Type 0
-Decides offset context request body decision =
+abbrev pub Decides : {A : Type 0} → ℤ → AcceptedContext → RequestCommand A → Option (List ℕ) → Meaning A → Type 0
+Decides offset context request body meaning =
     MatchBool (offers context.sop_class request.operation) (
     MatchBool (takes context.sop_class request.operation request.sop_class) (
     MatchBool (acts context.sop_class request.operation) (
-    ((set : List El) × HasSet context.transfer_syntax body set × (decision ≡ decided offset request.operation set))
-    ⊎ (((set : List El) → HasSet context.transfer_syntax body set → ⊥) × (decision ≡ Answer (unread request.operation))))
-    (decision ≡ Answer NoSuchActionType))
-    (decision ≡ Answer NoSuchSopClass))
-    (decision ≡ Answer UnrecognizedOperation)
+    ((set : List El) × HasSet context.transfer_syntax body set × (meaning ≡ decided offset request.operation set))
+    ⊎ (((set : List El) → HasSet context.transfer_syntax body set → ⊥) × (meaning ≡ answered (unread request.operation))))
+    (meaning ≡ answered NoSuchActionType))
+    (meaning ≡ answered NoSuchSopClass))
+    (meaning ≡ answered UnrecognizedOperation)

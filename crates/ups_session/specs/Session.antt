@@ -6,7 +6,7 @@ use Rattle.ups_pdu.specs.Spelling.{SpellsPdu, IsFault}
 use Rattle.ups_session.specs.declared.fault.End.{End}
 use Rattle.ups_session.specs.declared.fault.SessionFault.{SessionFault}
 use Rattle.ups_session.specs.declared.fault.SessionFault.TheVariants.{Read, Write, Turns, Memory}
-use Rattle.ups_session.specs.Takes.{IsBad, IsBegun}
+use Rattle.ups_session.specs.Broken.{IsBad, IsBegun}
 use Rattle.ups_session.specs.Fold.{Side, Happening, Arrival, pdu, bad, closed, brings, Happens, Takes, IsOpen}
 use Rattle.ups_session.specs.World.{World, Goes}
 

@@ -7,8 +7,8 @@ ghost use Rattle.ups_pdu.specs.Spelling.{SpellsPdu};
 ghost use Rattle.ups_assoc.specs.declared.negotiating.Config.{Config};
 ghost use Rattle.ups_session.specs.Fold.{Happening, event as happened, request as requested, fragment as came, invalid as arrived, happenings, Happens};
 ghost use Rattle.ups_session.specs.Acceptor.{acceptor, opened, Reacts};
-ghost use Rattle.ups_session.specs.Deeds.{turn_of, IsWritable, IsRoomy};
-ghost use Rattle.ups_session.specs.declared.live.Live.{Live};
+ghost use Rattle.ups_session.specs.Deeds.{association, awaited, turn_of, IsWritable, IsRoomy};
+ghost use Rattle.ups_session.specs.Association.{Association};
 ghost use Rattle.ups_session.specs.World.{world, Goes};
 ghost use Rattle.ups_session.specs.Turned.{Turned};
 ghost use Rattle.ups_session.specs.Session.{IsSession};
@@ -38,7 +38,7 @@ fn respond<A: Allocator + Copy, W: Write, S: Service<A>, G: Gate>(
     waiting: Waiting<A>,
 ) -> Result<(), SessionFault>
     requires { 8 ≤ waiting.max }
-    ensures { (config : Config) → (from : Live A) → (live : Live A) → (h : Happening A) → Reacts false config from h (record { live = live; say = []; waiting = Some waiting })
+    ensures { (config : Config) → (from : Association A) → (live : Association A) → (h : Happening A) → Reacts false config from h (record { live = live; say = []; waiting = Some (awaited waiting) })
         → Goes (Happens (acceptor config)) (h ∷ []) from live
         (world (W.contents writer.old) (G.told gate.old) (S.settings service.old) (S.others service.old) (S.caller service.old) (S.seen service.old))
         (world (W.contents writer.new) (G.told gate.new) (S.settings service.new) (S.others service.new) (S.caller service.new) (S.seen service.new)) result }
@@ -66,7 +66,7 @@ fn carry<A: Allocator + Copy, W: Write, S: Service<A>, G: Gate>(
     deed: Deed<A>,
 ) -> Result<(), SessionFault>
     requires { IsWritable deed }
-    ensures { (config : Config) → (from : Live A) → (live : Live A) → (h : Happening A) → Reacts false config from h (turn_of live deed)
+    ensures { (config : Config) → (from : Association A) → (live : Association A) → (h : Happening A) → Reacts false config from h (turn_of live deed)
         → Goes (Happens (acceptor config)) (h ∷ []) from live
         (world (W.contents writer.old) (G.told gate.old) (S.settings service.old) (S.others service.old) (S.caller service.old) (S.seen service.old))
         (world (W.contents writer.new) (G.told gate.new) (S.settings service.new) (S.others service.new) (S.caller service.new) (S.seen service.new)) result }
@@ -88,7 +88,7 @@ fn on_event<A: Allocator + Copy, W: Write, S: Service<A>, G: Gate>(
     gate: &mut G,
     event: UlEvent,
 ) -> Result<(), SessionFault>
-    ensures goes { (config : Config) → Goes (Happens (acceptor config)) (happened event ∷ []) live.old live.new
+    ensures goes { (config : Config) → Goes (Happens (acceptor config)) (happened event ∷ []) (association live.old) (association live.new)
         (world (W.contents writer.old) (G.told gate.old) (S.settings service.old) (S.others service.old) (S.caller service.old) (S.seen service.old))
         (world (W.contents writer.new) (G.told gate.new) (S.settings service.new) (S.others service.new) (S.caller service.new) (S.seen service.new)) result }
     ensures agreed { live.new.agreed ≡ live.old.agreed }
@@ -108,7 +108,7 @@ fn on_invalid<A: Allocator + Copy, W: Write, S: Service<A>, G: Gate>(
     gate: &mut G,
     fault: PduFault,
 ) -> Result<(), SessionFault>
-    ensures goes { (config : Config) → Goes (Happens (acceptor config)) (arrived fault ∷ []) live.old live.new
+    ensures goes { (config : Config) → Goes (Happens (acceptor config)) (arrived fault ∷ []) (association live.old) (association live.new)
         (world (W.contents writer.old) (G.told gate.old) (S.settings service.old) (S.others service.old) (S.caller service.old) (S.seen service.old))
         (world (W.contents writer.new) (G.told gate.new) (S.settings service.new) (S.others service.new) (S.caller service.new) (S.seen service.new)) result }
     ensures agreed { live.new.agreed ≡ live.old.agreed }
@@ -130,7 +130,7 @@ fn on_request<A: Allocator + Copy, W: Write, S: Service<A>, G: Gate>(
     request: &AssociateRq<A>,
 ) -> Result<(), SessionFault>
     requires spelled { (bytes : List ℕ) × SpellsPdu bytes (pdus.AssociateRq request.now) }
-    ensures goes { Goes (Happens (acceptor config.now)) (requested request.now ∷ []) live.old live.new
+    ensures goes { Goes (Happens (acceptor config.now)) (requested request.now ∷ []) (association live.old) (association live.new)
         (world (W.contents writer.old) (G.told gate.old) (S.settings service.old) (S.others service.old) (S.caller service.old) (S.seen service.old))
         (world (W.contents writer.new) (G.told gate.new) (S.settings service.new) (S.others service.new) (S.caller service.new) (S.seen service.new)) result }
     ensures roomy { IsRoomy live.old.agreed → IsRoomy live.new.agreed }
@@ -152,7 +152,7 @@ fn on_fragment<A: Allocator + Copy, W: Write, S: Service<A>, G: Gate>(
     pdv: &Pdv<A>,
 ) -> Result<(), SessionFault>
     requires roomy { IsRoomy live.old.agreed }
-    ensures goes { Goes (Happens (acceptor config.now)) (came pdv.now ∷ []) live.old live.new
+    ensures goes { Goes (Happens (acceptor config.now)) (came pdv.now ∷ []) (association live.old) (association live.new)
         (world (W.contents writer.old) (G.told gate.old) (S.settings service.old) (S.others service.old) (S.caller service.old) (S.seen service.old))
         (world (W.contents writer.new) (G.told gate.new) (S.settings service.new) (S.others service.new) (S.caller service.new) (S.seen service.new)) result }
     ensures roomy { OnOk result (IsRoomy live.new.agreed) }
@@ -174,7 +174,7 @@ fn on_fragments<A: Allocator + Copy, W: Write, S: Service<A>, G: Gate>(
     pdvs: &[Pdv<A>],
 ) -> Result<(), SessionFault>
     requires roomy { IsRoomy live.old.agreed }
-    ensures goes { Goes (Happens (acceptor config.now)) (map came pdvs.now) live.old live.new
+    ensures goes { Goes (Happens (acceptor config.now)) (map came pdvs.now) (association live.old) (association live.new)
         (world (W.contents writer.old) (G.told gate.old) (S.settings service.old) (S.others service.old) (S.caller service.old) (S.seen service.old))
         (world (W.contents writer.new) (G.told gate.new) (S.settings service.new) (S.others service.new) (S.caller service.new) (S.seen service.new)) result }
     ensures roomy { OnOk result (IsRoomy live.new.agreed) }
@@ -199,7 +199,7 @@ fn on_pdu<A: Allocator + Copy, W: Write, S: Service<A>, G: Gate>(
 ) -> Result<(), SessionFault>
     requires roomy { IsRoomy live.old.agreed }
     requires spelled { (bytes : List ℕ) × SpellsPdu bytes pdu.now }
-    ensures goes { Goes (Happens (acceptor config.now)) (happenings pdu.now) live.old live.new
+    ensures goes { Goes (Happens (acceptor config.now)) (happenings pdu.now) (association live.old) (association live.new)
         (world (W.contents writer.old) (G.told gate.old) (S.settings service.old) (S.others service.old) (S.caller service.old) (S.seen service.old))
         (world (W.contents writer.new) (G.told gate.new) (S.settings service.new) (S.others service.new) (S.caller service.new) (S.seen service.new)) result }
     ensures roomy { OnOk result (IsRoomy live.new.agreed) }
@@ -234,7 +234,7 @@ fn turn<A: Allocator + Copy, R: Read, W: Write, S: Service<A>, G: Gate>(
 ) -> Result<(), SessionFault>
     requires roomy { IsRoomy live.old.agreed }
     ensures turned { (input : List ℕ) × Consumes (R.remaining reader.old) (R.remaining reader.new) input
-        × Turned (acceptor config.now) live.old live.new (R.remaining reader.new) input
+        × Turned (acceptor config.now) (association live.old) (association live.new) (R.remaining reader.new) input
         (world (W.contents writer.old) (G.told gate.old) (S.settings service.old) (S.others service.old) (S.caller service.old) (S.seen service.old))
         (world (W.contents writer.new) (G.told gate.new) (S.settings service.new) (S.others service.new) (S.caller service.new) (S.seen service.new)) result }
     ensures roomy { OnOk result (IsRoomy live.new.agreed) }

@@ -4,6 +4,7 @@ ghost use Rattle.std.specs.Prelude.{◌≡◌, ◌≢◌, List, [], Option, None
 ghost use Rattle.std.specs.Option.{option_copied};
 ghost use Rattle.ups_dataset.specs.Data.{El};
 ghost use Rattle.ups_dataset.specs.declared.fault.SetFault.TheVariants.{Memory};
+ghost use Rattle.ups_session.specs.Deeds.{meaning};
 ghost use Rattle.ups_session.specs.Rules.{offers, takes, has_type, acts, HasSet, unread, decided, Decides};
 
 use std::alloc::{AllocError, Allocator};
@@ -130,7 +131,7 @@ fn decided<A: Allocator + Copy>(
     operation: &Operation<A>,
     set: DataSet<A>,
 ) -> Result<Decision<A>, AllocError>
-    ensures { IfOk result (λ decision. decision ≡ decided offset operation.now set) }
+    ensures { IfOk result (λ decision. meaning decision ≡ decided offset operation.now set) }
 {
     if let Operation::Echo = operation {
         return Ok(Decision::Answer(Status::Success));
@@ -155,7 +156,7 @@ pub(crate) fn decide<A: Allocator + Copy>(
     request: &RequestCommand<A>,
     body: Option<&[u8]>,
 ) -> Result<Decision<A>, AllocError>
-    ensures { IfOk result (Decides config.now.offset context.now request.now (option_copied body.entry)) }
+    ensures { IfOk result (λ decision. Decides config.now.offset context.now request.now (option_copied body.entry) (meaning decision)) }
 {
     if !offers(context.sop_class, &request.operation) {
         return Ok(Decision::Answer(Status::UnrecognizedOperation));

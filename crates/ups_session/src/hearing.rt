@@ -9,7 +9,7 @@ ghost use Rattle.ups_session.specs.declared.fault.SessionFault.TheVariants.{Memo
 ghost use Rattle.ups_dimse.specs.declared.fault.DimseFault.TheVariants.{Memory as NoMemory};
 ghost use Rattle.ups_session.specs.Rules.{Decides};
 ghost use Rattle.ups_session.specs.Acceptor.{context_at, decides, Commanded, Understands};
-ghost use Rattle.ups_session.specs.Deeds.{heard_of, AreWritable, IsWritable};
+ghost use Rattle.ups_session.specs.Deeds.{agreement, meaning, heard_of, AreWritable, IsWritable};
 
 use crate::deciding::{Decision, decide};
 use crate::deed::{Deed, Waiting};
@@ -38,7 +38,7 @@ fn decided<A: Allocator + Copy>(
     decision: Decision<A>,
 ) -> Result<Deed<A>, SessionFault>
     requires { 8 ≤ terms.now.max }
-    ensures heard { IfOk result (λ deed. heard_of (Some deed) ≡ decides terms.now context command decision) }
+    ensures heard { IfOk result (λ deed. heard_of (Some deed) ≡ decides (agreement terms.now) context command (meaning decision)) }
     ensures writable { IfOk result IsWritable }
     ensures memory { IfErr result (λ e. e ≡ Memory) }
 {
@@ -68,7 +68,7 @@ fn requested<A: Allocator + Copy>(
     body: Option<&[u8]>,
 ) -> Result<Option<Deed<A>>, SessionFault>
     requires { 8 ≤ terms.now.max }
-    ensures heard { IfOk result (λ found. Commanded config.now.offset terms.now (context_at id terms.now.contexts) (option_copied body.entry) (Request command) (heard_of found)) }
+    ensures heard { IfOk result (λ found. Commanded config.now.offset (agreement terms.now) (context_at id terms.now.contexts) (option_copied body.entry) (Request command) (heard_of found)) }
     ensures writable { IfOk result AreWritable }
     ensures memory { IfErr result (λ e. e ≡ Memory) }
 {
@@ -89,7 +89,7 @@ pub(crate) fn understand<A: Allocator + Copy>(
     message: RawMessage<A>,
 ) -> Result<Option<Deed<A>>, SessionFault>
     requires { 8 ≤ terms.now.max }
-    ensures heard { IfOk result (λ found. Understands config.now.offset terms.now message (heard_of found)) }
+    ensures heard { IfOk result (λ found. Understands config.now.offset (agreement terms.now) message (heard_of found)) }
     ensures writable { IfOk result AreWritable }
     ensures memory { IfErr result (λ e. e ≡ Memory) }
 {

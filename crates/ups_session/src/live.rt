@@ -1,6 +1,7 @@
 //! What an association has come to.
 
 ghost use Rattle.std.specs.Prelude.{◌≡◌, ◌≢◌, ◌≤◌, [], ◌∷◌, ℕ, List, Option, None, Some, MatchOption, IfOk, IfErr, OnOk, true, false};
+ghost use Rattle.std.specs.Option.{option_map, unwrap_or};
 ghost use Rattle.ups_ulstate.specs.Table.{next_of};
 ghost use Rattle.ups_ulstate.specs.declared.state.UlEvent.TheVariants as events;
 ghost use Rattle.ups_ulstate.specs.declared.state.UlAction.TheVariants.{Ar2, Ar8, Ar10, Dt2};
@@ -13,9 +14,10 @@ ghost use Rattle.ups_assoc.specs.declared.negotiating.Outcome.TheVariants.{Accep
 ghost use Rattle.ups_assoc.specs.Negotiation.{outcome};
 ghost use Rattle.ups_assoc.specs.Feeding.{fed};
 ghost use Rattle.ups_session.specs.declared.fault.SessionFault.TheVariants.{Memory};
-ghost use Rattle.ups_session.specs.Acceptor.{ending_of, moved, does, releases, acts, plainly, reason_of, is_acceptable, rejecting, answers, requested, aborting, heard, Continues, Received, Indicated, opened};
+ghost use Rattle.ups_session.specs.Association.{Association};
+ghost use Rattle.ups_session.specs.Acceptor.{ending_of, does, releases, acts, plainly, reason_of, is_acceptable, rejecting, answers, requested, aborting, heard, Continues, Received, Indicated, opened};
 ghost use Rattle.ups_session.specs.Fold.{IsOpen};
-ghost use Rattle.ups_session.specs.Deeds.{turn_of, heard_of, IsWritable, AreWritable, IsRoomy, IsAccepting};
+ghost use Rattle.ups_session.specs.Deeds.{established, association, turn_of, heard_of, IsWritable, AreWritable, IsRoomy, IsAccepting};
 
 use crate::deed::Deed;
 use crate::fault::{End, SessionFault};
@@ -120,7 +122,7 @@ fn sent<A: Allocator + Copy>(
     reason: u8,
     action: UlAction,
 ) -> Result<Deed<A>, SessionFault>
-    ensures said { (live : Live A) → action ≢ Ar2 → action ≢ Ar8 → action ≢ Ar10 → IfOk result (λ deed. turn_of live deed ≡ acts false reason live action) }
+    ensures said { (live : Association A) → action ≢ Ar2 → action ≢ Ar8 → action ≢ Ar10 → IfOk result (λ deed. turn_of live deed ≡ acts false reason live action) }
     ensures writable { IfOk result IsWritable }
     ensures memory { IfErr result (λ e. e ≡ Memory) }
 {
@@ -138,11 +140,10 @@ fn sent<A: Allocator + Copy>(
 }
 
 impl<A: Allocator + Copy> Live<A> {
-    ghost use Rattle.ups_session.specs.declared.live.Live.{Live};
-
     /// A transport connection was opened, and an A-ASSOCIATE-RQ is awaited.
     pub fn opened() -> Live<A>
-        ensures { result ≡ opened }
+        ensures opened { association result ≡ opened }
+        ensures roomy { IsRoomy result.agreed }
     {
         Live {
             state: UlState::Sta2,
@@ -163,7 +164,7 @@ impl<A: Allocator + Copy> Live<A> {
 
     /// An action was done.
     fn moved(&mut self, event: UlEvent, action: UlAction, state: UlState)
-        ensures { self.new ≡ moved self.old event action state }
+        ensures { self.new ≡ record { state = state; agreed = self.old.agreed; ending = unwrap_or (ending_of event action) self.old.ending } }
     {
         self.state = state;
         if let Some(end) = ending_of(event, action) {
@@ -173,7 +174,8 @@ impl<A: Allocator + Copy> Live<A> {
 
     /// This side does something of itself.
     fn does(&mut self, event: UlEvent)
-        ensures { self.new ≡ does false event self.old }
+        ensures done { association self.new ≡ does false event (association self.old) }
+        ensures agreed { self.new.agreed ≡ self.old.agreed }
     {
         if let Some((action, state)) = next(self.state, event, REQUESTOR, true) {
             self.moved(event, action, state);
@@ -184,7 +186,7 @@ impl<A: Allocator + Copy> Live<A> {
     ///
     /// Errors: want of memory.
     fn release(&mut self, alloc: A) -> Result<Deed<A>, SessionFault>
-        ensures turn { IfOk result (λ deed. turn_of self.new deed ≡ releases self.old (next_of false true events.ReleaseResponse self.old.state)) }
+        ensures turn { IfOk result (λ deed. turn_of (association self.new) deed ≡ releases (association self.old) (next_of false true events.ReleaseResponse self.old.state)) }
         ensures writable { IfOk result IsWritable }
         ensures agreed { self.new.agreed ≡ self.old.agreed }
         ensures memory { IfErr result (λ e. e ≡ Memory) }
@@ -201,7 +203,7 @@ impl<A: Allocator + Copy> Live<A> {
     ///
     /// Errors: want of memory.
     fn act(&mut self, alloc: A, reason: u8, action: UlAction) -> Result<Deed<A>, SessionFault>
-        ensures turn { IfOk result (λ deed. turn_of self.new deed ≡ acts false reason self.old action) }
+        ensures turn { IfOk result (λ deed. turn_of (association self.new) deed ≡ acts false reason (association self.old) action) }
         ensures writable { IfOk result IsWritable }
         ensures agreed { self.new.agreed ≡ self.old.agreed }
         ensures memory { IfErr result (λ e. e ≡ Memory) }
@@ -216,7 +218,7 @@ impl<A: Allocator + Copy> Live<A> {
     ///
     /// Errors: want of memory.
     pub fn plainly(&mut self, alloc: A, reason: u8, event: UlEvent) -> Result<Deed<A>, SessionFault>
-        ensures turn { IfOk result (λ deed. turn_of self.new deed ≡ plainly false reason self.old event (next_of false true event self.old.state)) }
+        ensures turn { IfOk result (λ deed. turn_of (association self.new) deed ≡ plainly false reason (association self.old) event (next_of false true event self.old.state)) }
         ensures writable { IfOk result IsWritable }
         ensures agreed { self.new.agreed ≡ self.old.agreed }
         ensures memory { IfErr result (λ e. e ≡ Memory) }
@@ -232,7 +234,7 @@ impl<A: Allocator + Copy> Live<A> {
     ///
     /// Errors: want of memory.
     pub fn invalid(&mut self, alloc: A, fault: PduFault) -> Result<Deed<A>, SessionFault>
-        ensures turn { IfOk result (λ deed. turn_of self.new deed ≡ plainly false (reason_of fault) self.old events.Invalid (next_of false true events.Invalid self.old.state)) }
+        ensures turn { IfOk result (λ deed. turn_of (association self.new) deed ≡ plainly false (reason_of fault) (association self.old) events.Invalid (next_of false true events.Invalid self.old.state)) }
         ensures writable { IfOk result IsWritable }
         ensures agreed { self.new.agreed ≡ self.old.agreed }
         ensures memory { IfErr result (λ e. e ≡ Memory) }
@@ -246,7 +248,7 @@ impl<A: Allocator + Copy> Live<A> {
     fn accept(&mut self, alloc: A, acceptance: Acceptance<A>) -> Result<Deed<A>, SessionFault>
         requires roomy { 8 ≤ acceptance.max }
         requires writable { Fits (pdus.AssociateAc acceptance.ac) }
-        ensures turn { IfOk result (λ deed. turn_of self.new deed ≡ answers false self.old (Accept acceptance)) }
+        ensures turn { IfOk result (λ deed. turn_of (association self.new) deed ≡ answers false (association self.old) (Accept acceptance)) }
         ensures writable { IfOk result IsWritable }
         ensures roomy { IsRoomy self.old.agreed → IsRoomy self.new.agreed }
         ensures memory { IfErr result (λ e. e ≡ Memory) }
@@ -270,7 +272,7 @@ impl<A: Allocator + Copy> Live<A> {
     ///
     /// Errors: want of memory.
     fn reject(&mut self, alloc: A, rejection: Rejection) -> Result<Deed<A>, SessionFault>
-        ensures turn { IfOk result (λ deed. turn_of self.new deed ≡ answers false self.old (Reject rejection)) }
+        ensures turn { IfOk result (λ deed. turn_of (association self.new) deed ≡ answers false (association self.old) (Reject rejection)) }
         ensures writable { IfOk result IsWritable }
         ensures agreed { self.new.agreed ≡ self.old.agreed }
         ensures memory { IfErr result (λ e. e ≡ Memory) }
@@ -295,7 +297,7 @@ impl<A: Allocator + Copy> Live<A> {
     /// Errors: want of memory.
     fn answer(&mut self, alloc: A, outcome: Outcome<A>) -> Result<Deed<A>, SessionFault>
         requires accepting { IsAccepting outcome }
-        ensures turn { IfOk result (λ deed. turn_of self.new deed ≡ answers false self.old outcome) }
+        ensures turn { IfOk result (λ deed. turn_of (association self.new) deed ≡ answers false (association self.old) outcome) }
         ensures writable { IfOk result IsWritable }
         ensures roomy { IsRoomy self.old.agreed → IsRoomy self.new.agreed }
         ensures memory { IfErr result (λ e. e ≡ Memory) }
@@ -316,7 +318,7 @@ impl<A: Allocator + Copy> Live<A> {
         request: &AssociateRq<A>,
     ) -> Result<Deed<A>, SessionFault>
         requires spelled { (bytes : List ℕ) × SpellsPdu bytes (pdus.AssociateRq request.now) }
-        ensures turn { IfOk result (λ deed. turn_of self.new deed ≡ requested false self.old (outcome config.now.ae request.now)) }
+        ensures turn { IfOk result (λ deed. turn_of (association self.new) deed ≡ requested false (association self.old) (outcome config.now.ae request.now)) }
         ensures writable { IfOk result IsWritable }
         ensures roomy { IsRoomy self.old.agreed → IsRoomy self.new.agreed }
         ensures memory { IfErr result (λ e. e ≡ Memory) }
@@ -340,7 +342,7 @@ impl<A: Allocator + Copy> Live<A> {
     ///
     /// Errors: want of memory.
     fn abort(&mut self, alloc: A) -> Result<Deed<A>, SessionFault>
-        ensures turn { IfOk result (λ deed. turn_of self.new deed ≡ aborting false self.old) }
+        ensures turn { IfOk result (λ deed. turn_of (association self.new) deed ≡ aborting false (association self.old)) }
         ensures writable { IfOk result IsWritable }
         ensures agreed { self.new.agreed ≡ self.old.agreed }
         ensures memory { IfErr result (λ e. e ≡ Memory) }
@@ -366,7 +368,7 @@ impl<A: Allocator + Copy> Live<A> {
     ) -> Result<Deed<A>, SessionFault>
         requires roomy { 8 ≤ agreed.terms.max }
         requires writable { AreWritable found }
-        ensures turn { IfOk result (λ deed. turn_of self.new deed ≡ heard false (record { state = self.old.state; agreed = Some agreed; ending = self.old.ending }) (heard_of found)) }
+        ensures turn { IfOk result (λ deed. turn_of (association self.new) deed ≡ heard false (record { state = self.old.state; agreed = Some (established agreed); ending = self.old.ending }) (heard_of found)) }
         ensures writable { IfOk result IsWritable }
         ensures roomy { IsRoomy self.new.agreed }
         ensures memory { IfErr result (λ e. e ≡ Memory) }
@@ -389,7 +391,7 @@ impl<A: Allocator + Copy> Live<A> {
         pdv: &Pdv<A>,
     ) -> Result<Deed<A>, SessionFault>
         requires roomy { 8 ≤ agreed.terms.max }
-        ensures turn { IfOk result (λ deed. Continues false config.now.offset self.old agreed (fed agreed.assembler.ids agreed.assembler.begun pdv.now) (turn_of self.new deed)) }
+        ensures turn { IfOk result (λ deed. Continues false config.now.offset (association self.old) (established agreed) (fed agreed.assembler.ids agreed.assembler.begun pdv.now) (turn_of (association self.new) deed)) }
         ensures writable { IfOk result IsWritable }
         ensures roomy { OnOk result (IsRoomy self.new.agreed) }
         ensures memory { IfErr result (λ e. e ≡ Memory) }
@@ -416,7 +418,7 @@ impl<A: Allocator + Copy> Live<A> {
     /// Errors: want of memory.
     fn indicate(&mut self, alloc: A, config: &Config, pdv: &Pdv<A>) -> Result<Deed<A>, SessionFault>
         requires roomy { IsRoomy self.old.agreed }
-        ensures turn { IfOk result (λ deed. Received false config.now.offset self.old self.old.agreed pdv.now (turn_of self.new deed)) }
+        ensures turn { IfOk result (λ deed. Received false config.now.offset (association self.old) (option_map established self.old.agreed) pdv.now (turn_of (association self.new) deed)) }
         ensures writable { IfOk result IsWritable }
         ensures roomy { OnOk result (IsRoomy self.new.agreed) }
         ensures memory { IfErr result (λ e. e ≡ Memory) }
@@ -437,7 +439,7 @@ impl<A: Allocator + Copy> Live<A> {
         pdv: &Pdv<A>,
     ) -> Result<Deed<A>, SessionFault>
         requires roomy { IsRoomy self.old.agreed }
-        ensures turn { IfOk result (λ deed. Indicated false config.now.offset self.old pdv.now (next_of false true events.Data self.old.state) (turn_of self.new deed)) }
+        ensures turn { IfOk result (λ deed. Indicated false config.now.offset (association self.old) pdv.now (next_of false true events.Data self.old.state) (turn_of (association self.new) deed)) }
         ensures writable { IfOk result IsWritable }
         ensures roomy { OnOk result (IsRoomy self.new.agreed) }
         ensures memory { IfErr result (λ e. e ≡ Memory) }
