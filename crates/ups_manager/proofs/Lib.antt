@@ -4,6 +4,7 @@ mod Entering
 mod Finding
 mod Fitting
 pub mod Holding
+mod Legality
 mod Matches
 mod Offsets
 mod Putting

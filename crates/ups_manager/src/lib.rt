@@ -5,6 +5,7 @@
 
 mod call;
 mod fault;
+pub mod laws;
 mod manager;
 mod rows;
 mod service;
