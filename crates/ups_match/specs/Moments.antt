@@ -139,7 +139,8 @@ moment text configured upper =
 abbrev pub IsOffset : ℤ → Type 0
 IsOffset offset = (neg_ℤ (pos 720) ≤ℤ offset) × (offset ≤ℤ pos 840)
 
--- the last moment that is written: 9999-12-31, 09:59:59 in UTC, at which a clock at +1400 shows the last second of the year 9999
+-- the last moment that is written: 9999-12-31, 09:59:59 in UTC, at which a clock at +1400 shows the last second of the
+-- year 9999
 abbrev pub last_moment : ℕ
 last_moment = 253402250399
 

@@ -70,8 +70,8 @@ pub record GoesOn {A L W : Type 0} (side : Side A L W) (live : L) (turns : ℕ) 
 abbrev pub okay : Result (Unit {0}) SessionFault
 okay = Ok tt
 
--- What a side did first, what came whole then, and what it made of a session that starts so: `left` is what the input has afterwards, `rest` what
--- was read behind it.
+-- What a side did first, what came whole then, and what both made of a session that starts so: `input` is what was
+-- read, `rest` what was read behind what came whole.
 pub record Came {A L W : Type 0} (side : Side A L W) (start after : L) (input rest : List ℕ) (arrivals : List (Arrival A)) (old new : World A) : Type 0 where
   pub whole : List ℕ
   pub parts : input ≡ whole ++ rest
