@@ -1,5 +1,5 @@
 //! What the life cycle of a step owes (PS3.4 CC.1.1), and which tables it stands on: laws, each the contract of a
-//! function that does nothing.
+//! function that changes nothing.
 
 ghost use Rattle.std.specs.Prelude.{◌≡◌, ◌≤◌, ℕ, List, ◌∷◌, length, true, None, Some};
 ghost use Rattle.ups_dataset.specs.declared.dictionary.TheConstants.{TRANSACTION_UID};
@@ -71,7 +71,8 @@ pub fn a_transaction_uid_is_never_told<A: Allocator + Copy>()
 {}
 
 /// The row of each step held tells its state, which step it is, of which class, and one of the three Input Readiness
-/// States (PS3.4 table CC.2.5-3).
+/// States (PS3.4 table CC.2.5-3). It goes through the entries, since what was sent with each has to be a data set: of
+/// any list of elements the law would be false.
 pub fn a_row_tells_its_state<A: Allocator + Copy>(history: &[Entry<A>])
     ensures { (s : Settings) → legal s (past history.now) ≡ true → EachRowTells s (past history.now) }
 {
