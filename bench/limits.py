@@ -63,7 +63,7 @@ def texts(size):
 
 
 def keys(size):
-    """Keys of a line, each dear against a value or a list of a megabyte."""
+    """Keys of a line, each dear against a value or a list of a megabyte, or against many items."""
     half = size // 2
     yield "a run that fits nearly everywhere", b"00741204=*" + b"a" * min(half, 400_000) + b"b*"
     yield "a run with ?", b"00741204=*" + b"a" * min(half, 250_000) + b"?" + b"a" * min(half, 250_000) + b"b*"
@@ -74,6 +74,11 @@ def keys(size):
     yield "runs of a and ?", b"00741204=" + b"*a?" * ((size - 20) // 3)
     yield "a list of UIDs", b"00081155=" + b"\\".join([b"1.2.3.4.5"] * ((size - 20) // 10))
     yield "a list of empty UIDs", b"00081155=" + b"\\" * (size - 20)
+    yield "a list of different UIDs", b"00081155=" + b"\\".join(b"1.%07d" % (i * 7_654_321 % 10_000_000) for i in range((size - 20) // 10))
+    yield "* before a letter", b"00741204=" + b"*" * (size - 20) + b"b"
+    yield "* between letters", b"00741204=a" + b"*" * (size - 20) + b"b"
+    yield "spaces behind a UID", b"00081155=1.2" + b"%20" * ((size - 20) // 3)
+    yield "spaces behind a letter", b"00741204=b" + b"%20" * ((size - 20) // 3)
 
 
 def scripts():
@@ -93,11 +98,17 @@ def scripts():
         head = b"0 A " + verb
         for name, text in texts(LINE - len(head) - 1):
             yield f"{verb.split()[0].decode()}: {name}", first + head + text + b"\n"
-    for letter, name in ((b"a", "letters"), (b"1.2.3.4.6\\", "UIDs")):
-        tag = b"00741204=" if letter == b"a" else b"00741204=CT 00081155="
+    for letter, kind in ((b"a", "letters"), (b"a\\", "values"), (b"1.2.3.4.6\\", "UIDs")):
+        tag = b"00741204=CT 00081155=" if kind == "UIDs" else b"00741204="
         held = b"0 A create 1.2.3.1 " + STEP + tag + (letter * (1_040_000 // len(letter))).rstrip(b"\\") + b"\n"
         for name, text in keys(LINE - 20):
-            yield f"find in a megabyte: {name}", held + b"0 A find " + text + b"\n"
+            yield f"find in a megabyte of {kind}: {name}", held + b"0 A find " + text + b"\n"
+    both = b"00404018.%d/00081155=1.2.3.4.6 00404018.%d/00741204=CT"
+    held = b"0 A create 1.2.3.1 " + STEP + b" ".join(both % (i, i) for i in range(1, 2_001)) + b"\n"
+    for name, text in keys(LINE - 40):
+        yield f"find in 2,000 items: {name}", held + b"0 A find 00404018.1/" + text + b"\n"
+    universal = b" ".join(b"00404018.1/%02X%02X%04X=" % (group >> 8, group & 255, number) for _, (group, number) in zip(range(LINE // 22), tags()))
+    yield "find in 2,000 items: universal keys", held + b"0 A find 00404018.1/01FF1001=A " + universal + b"\n"
     yield "a million lines", b"0 A held\n" * 999_999
 
 

@@ -96,6 +96,7 @@ SHAPES = (
     ("`*?A..AB*` and letters `A`", b"LO", lambda n: (b"*?" + b"A" * (n // 3) + b"B*", b"A" * (2 * n // 3))),
     ("`A..A` and empty values", b"LO", lambda n: (b"A" * (n // 2), b"\\" * (n // 2))),
     ("`*..*B` and values `A`", b"LO", lambda n: (b"*" * (n // 2) + b"B", b"A\\" * (n // 4))),
+    ("`A*..*B` and values `AA`", b"LO", lambda n: (b"A" + b"*" * (n // 2) + b"B", b"AA\\" * (n // 6))),
     ("UIDs of 10 bytes, and others", b"UI", lambda n: (uids(b"1.2.", n // 22), uids(b"1.3.", n // 22))),
     ("UIDs of 1 byte, and others", b"UI", lambda n: (b"1\\" * (n // 4) + b"1", b"2\\" * (n // 4) + b"2")),
 )

@@ -4,6 +4,8 @@
 Usage: bench/script.py [PROGRAM]        (crates/upsd/out/upsd, which `rt run` builds)
 """
 
+import resource
+import subprocess
 import sys
 import time
 
@@ -47,6 +49,37 @@ def lines(program):
         print_rate("find by wild card, 100 answers", count, best(program, made + finds, b"0000") - base)
 
 
+def run_seconds(program, stdin, peers, times=5):
+    """The processor seconds of the best run of a script with these peers, all of whose lines are answered."""
+    least = None
+    for _ in range(times):
+        before = resource.getrusage(resource.RUSAGE_CHILDREN)
+        done = subprocess.run([program, "script", *peers], input=stdin, stdout=subprocess.PIPE)
+        after = resource.getrusage(resource.RUSAGE_CHILDREN)
+        if done.returncode != 0 or done.stdout.count(b"\n") != stdin.count(b"\n"):
+            sys.exit(f"{program}: status {done.returncode}, {done.stdout[-40:]}")
+        took = after.ru_utime + after.ru_stime - before.ru_utime - before.ru_stime
+        least = took if least is None else min(least, took)
+    return least
+
+
+def watchers(program):
+    """What watchers ask over 100 and 1,000 steps, each watched by ten, and what creates cost where a hundred watch."""
+    peers = [f"W{i}=localhost:{104 + i}" for i in range(100)]
+    subscribed = [b"0 W%d subscribe global W%d FALSE\n" % (i, i) for i in range(100)]
+    for count in (100, 1_000):
+        made = b"".join(create(i + 1) for i in range(count))
+        held = b"".join(subscribed[:10]) + made
+        base = run_seconds(program, held, peers)
+        for name, line in (("pending", b"0 W%d pending 1000\n"), ("watches", b"0 W%d watches\n")):
+            asked = b"".join(line % i for i in range(10))
+            took = (run_seconds(program, held + asked, peers) - base) / 10
+            print(f"| {name}, {count:,} steps, 10 watchers | {1000 * took:.1f} ms of processor time each | |")
+        alone = run_seconds(program, made, peers)
+        among = run_seconds(program, b"".join(subscribed) + made, peers) - run_seconds(program, b"".join(subscribed), peers)
+        print(f"| create, {count:,} lines, with 100 global subscriptions | {1000 * among:.0f} ms of processor time ({1000 * alone:.0f} without) | |")
+
+
 def print_rate(name, count, took):
     print(f"| {name}, {count:,} lines | {count / max(took, 1e-6):,.0f} lines a second | |")
 
@@ -83,6 +116,7 @@ def main():
     program = sys.argv[1] if len(sys.argv) > 1 else "crates/upsd/out/upsd"
     print("| what | rate or time | peak memory |\n|---|---|---|")
     lines(program)
+    watchers(program)
     long_lines(program)
 
 

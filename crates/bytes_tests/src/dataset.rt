@@ -1,4 +1,4 @@
-use fixtures::{bytes_of, described, set_of};
+use fixtures::{bytes_of, described, set_of, tag_of};
 use std::alloc::Allocator;
 use std::test::*;
 use ups_dataset::dictionary::*;
@@ -339,15 +339,6 @@ UR 0074100a";
 /// The numbers of tags that the dictionary has not.
 const OTHERS: &str = "UN 00000000 00080006 00091010 00741235 fffee000";
 
-/// The tag that hexadecimal digits are the number of.
-fn tag_of(digits: &str) -> Result<Tag, Fail> {
-    let number = u32::from_str_radix(digits, 16).ok().ok_or("a tag")?;
-    Ok(Tag {
-        group: (number >> 16) as u16,
-        element: (number & 0xffff) as u16,
-    })
-}
-
 /// Whether the dictionary gives a tag the value representation with these letters.
 fn has_letters(digits: &str, letters: &str) -> Result<bool, Fail> {
     let found = vr_of(tag_of(digits)?).letters();
@@ -526,7 +517,19 @@ fn a_set_laid_over_another_hides_what_both_have(rt: HostRuntime) -> Result<(), F
     )
 }
 
-/// A set without a tag has it no more, and is described so.
+/// A set of which the element of a tag is dropped is described so.
+fn check_removed<A: Allocator + Copy>(
+    rt: &impl AllocGlobal,
+    set: &DataSet<A>,
+    tag: Tag,
+    wanted: &str,
+) -> Result<(), Fail> {
+    let mut rest = set.copy()?;
+    rest.remove(tag);
+    check_described(rt, &rest, wanted)
+}
+
+/// A set without a tag has it no more, and is described so; so is one of which its element is dropped.
 fn check_without<A: Allocator + Copy>(
     rt: &impl AllocGlobal,
     set: &DataSet<A>,
@@ -537,6 +540,7 @@ fn check_without<A: Allocator + Copy>(
     if others.get(tag).is_some() {
         return Err("the tag is kept".into());
     }
+    check_removed(rt, set, tag, wanted)?;
     check_described(rt, &others, wanted)
 }
 

@@ -314,7 +314,7 @@ fn the_first_fault_is_answered(rt: HostRuntime) -> Result<(), Fail> {
 
 type Heap<'a> = &'a Refusing<Global>;
 
-/// Reads with each growth refused in turn, which is want of memory; the command, and how many were refused.
+/// Reads with each growth refused in turn, which is lack of memory; the command, and how many were refused.
 fn read_in_turn<'a>(heap: Heap<'a>, bytes: &[u8]) -> Result<(Command<Heap<'a>>, u64), Fail> {
     for growth in 1..100u64 {
         heap.refuse(growth);

@@ -2,6 +2,10 @@
 #![tactic(auto)]
 
 #[cfg(test)]
+mod devices;
+#[cfg(test)]
+mod headings;
+#[cfg(test)]
 mod script;
 #[cfg(test)]
 mod session;

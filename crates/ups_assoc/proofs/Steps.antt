@@ -33,7 +33,7 @@ refused_at A (more b) e n m = m
 refused_at A (whole w) e n m = m
 refused_at A (fault f) e n m = absurd n
 
--- too long, or want of memory
+-- too long, or lack of memory
 refused : (A : Type 0) (n : ℕ) (f : Fed A) (e : AssocFault) → IsNoFault f → IsRefused e n → Takes (sized n f) (failing e)
 refused A n f e none (inl (t, long)) = subst (λ (x : Fed A). Takes x (failing e)) (sym (sized_past A n f long)) t
 refused A n f e none (inr (m, within)) = subst (λ (x : Fed A). Takes x (failing e)) (sym (sized_within A n f within)) (refused_at A f e none m)

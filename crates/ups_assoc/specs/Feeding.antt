@@ -74,14 +74,14 @@ Ends (whole w) (More begun) = ⊥
 Ends (whole w) (Whole m) = m ≡ w
 Ends (fault f) t = ⊥
 
--- the same; or the fault, or want of memory where there is none
+-- the same; or the fault, or lack of memory where there is none
 abbrev pub Takes : {A : Type 0} → Fed A → Result (Taken A) AssocFault → Type 0
 Takes fed (Ok t) = Ends fed t
 Takes (more b) (Err e) = e ≡ faults.Memory
 Takes (whole w) (Err e) = e ≡ faults.Memory
 Takes (fault f) (Err e) = e ≡ f
 
--- too long, or want of memory where it isn't
+-- too long, or lack of memory where it isn't
 abbrev pub IsRefused : AssocFault → ℕ → Type 0
 IsRefused e len = ((e ≡ faults.TooLong) × (longest_message < len)) ⊎ ((e ≡ faults.Memory) × (len ≤ longest_message))
 

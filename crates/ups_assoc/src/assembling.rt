@@ -202,7 +202,7 @@ fn take_fragment<A: Allocator + Copy>(
 
 /// The ids of presentation contexts.
 ///
-/// Errors: want of memory.
+/// Errors: lack of memory.
 fn ids_of<A: Allocator + Copy>(
     alloc: A,
     contexts: &[AcceptedContext],

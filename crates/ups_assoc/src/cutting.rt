@@ -32,7 +32,7 @@ fn room(max: u32) -> usize
 
 /// One fragment, in a PDU of its own.
 ///
-/// Errors: want of memory.
+/// Errors: lack of memory.
 fn fragment<A: Allocator + Copy>(
     alloc: A,
     context: u8,
@@ -56,7 +56,7 @@ fn fragment<A: Allocator + Copy>(
 /// Puts the fragments of a command or of a data set at the end, each in a PDU of its own. All but the last have
 /// this many bytes.
 ///
-/// Errors: want of memory.
+/// Errors: lack of memory.
 fn put_run<A: Allocator + Copy>(
     alloc: A,
     out: &mut Vec<Pdu<A>, A>,
@@ -80,7 +80,7 @@ fn put_run<A: Allocator + Copy>(
 
 /// Puts the fragments of a data set at the end, where there is one.
 ///
-/// Errors: want of memory.
+/// Errors: lack of memory.
 fn put_body<A: Allocator + Copy>(
     alloc: A,
     out: &mut Vec<Pdu<A>, A>,

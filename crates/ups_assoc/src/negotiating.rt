@@ -266,7 +266,7 @@ fn answer_at(id: u8, answer: ContextAnswer) -> AnsweredContext
 
 /// The answers to the proposed contexts.
 ///
-/// Errors: want of memory.
+/// Errors: lack of memory.
 fn answers_to<A: Allocator + Copy>(
     alloc: A,
     proposed: &[ProposedContext<A>],
@@ -283,7 +283,7 @@ fn answers_to<A: Allocator + Copy>(
 
 /// Puts an accepted context at the end, where there is one.
 ///
-/// Errors: want of memory.
+/// Errors: lack of memory.
 fn put_accepted<A: Allocator + Copy>(
     contexts: &mut Vec<AcceptedContext, A>,
     context: Option<AcceptedContext>,
@@ -298,7 +298,7 @@ fn put_accepted<A: Allocator + Copy>(
 
 /// The contexts that are accepted for the proposed ones.
 ///
-/// Errors: want of memory.
+/// Errors: lack of memory.
 fn accepted_of<A: Allocator + Copy>(
     alloc: A,
     proposed: &[ProposedContext<A>],
@@ -332,7 +332,7 @@ fn is_too_small(max: u32) -> bool
 
 /// What is said of this server (PS3.7 annex D.3.3.2).
 ///
-/// Errors: want of memory.
+/// Errors: lack of memory.
 fn this_server<A: Allocator + Copy>(alloc: A) -> Result<UserInformation<A>, AllocError>
     ensures { IfOk result (λ u. u ≡ this_server) }
 {
@@ -348,7 +348,7 @@ fn this_server<A: Allocator + Copy>(alloc: A) -> Result<UserInformation<A>, Allo
 
 /// The acceptance of a request by this calling application entity.
 ///
-/// Errors: want of memory.
+/// Errors: lack of memory.
 #[tactic(auto, unfolding(crate::specs::Negotiation::acceptance))]
 fn accept_request<A: Allocator + Copy>(
     alloc: A,

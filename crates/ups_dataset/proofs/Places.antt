@@ -1,5 +1,5 @@
 -- An element that is put into a data set: where it goes, and that a data set comes of it.
-use Rattle.std.proofs.Common.{◌≡◌, ◌≢◌, ◌<◌, ◌≤◌, ◌+◌, ℕ, zero, suc, Bool, true, false, nat_lt, if◌then◌else◌, List, [], ◌∷◌, ◌++◌, length, Result, Ok, Err, OnOk, OnErr, map, set, take, get_or, filter, insert, refl, sym, ap, ◌∙◌, subst, arith}
+use Rattle.std.proofs.Common.{◌≡◌, ◌≢◌, ◌<◌, ◌≤◌, ◌+◌, ℕ, zero, suc, Bool, true, false, nat_lt, if◌then◌else◌, List, [], ◌∷◌, ◌++◌, length, Result, Ok, Err, OnOk, OnErr, map, set, take, get_or, filter, insert, not, refl, sym, ap, ◌∙◌, subst, arith}
 use Rattle.std.proofs.lemmas.List.{take_more}
 use Rattle.ups_dataset.specs.declared.tag.Tag.{Tag}
 use Rattle.ups_dataset.specs.declared.set.Element.{Element}
@@ -42,6 +42,20 @@ filter_step low e rest false rises tag is sets later = lower (number e.tag + 1) 
 pub filtered : (p : El → Bool) (low : ℕ) (es : List El) → AreElements low (elements_of es) → AreElements low (elements_of (filter p es))
 filtered p low [] h = tt
 filtered p low (e ∷ es) (rises, tag, is, sets, later) = filter_step low e (filter p es) (p e) rises tag is sets (filtered p (number e.tag + 1) es later)
+
+view_step : {A : Type 0} (e : Element A) (rest : List (Element A)) (b : Bool) → map element_view (if b then e ∷ rest else rest) ≡ (if b then element_view e ∷ map element_view rest else map element_view rest)
+view_step e rest true = refl
+view_step e rest false = refl
+
+filtered_views : {A : Type 0} (p : El → Bool) (es : List (Element A)) → map element_view (filter (λ e. p (element_view e)) es) ≡ filter p (map element_view es)
+filtered_views p [] = refl
+filtered_views p (e ∷ es) =
+    view_step e (filter (λ x. p (element_view x)) es) (p (element_view e))
+    ∙ ap (λ (l : List El). if p (element_view e) then element_view e ∷ l else l) (filtered_views p es)
+
+-- the elements that are left with other tags than this one
+pub left_views : {A : Type 0} (tag : Tag) (es left : List (Element A)) → left ≡ filter (λ e. not (is_tag e.tag tag)) es → map element_view left ≡ filter (λ e. not (is_tag e.tag tag)) (map element_view es)
+left_views tag es left e = ap (map element_view) e ∙ filtered_views (λ x. not (is_tag x.tag tag)) es
 
 put_step : (low : ℕ) (x e : El) (es rest : List El) (same below : Bool) → is_tag e.tag x.tag ≡ same → nat_lt (number x.tag) (number e.tag) ≡ below
     → low ≤ number x.tag → IsTag x.tag → IsElement x → HoldsSets x.value

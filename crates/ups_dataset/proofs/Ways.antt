@@ -200,7 +200,7 @@ mutual
       let one = one_elements syntax (level + 1) within 0 inner es fs left lk spelled again in
       not_items syntax level reach next fault later rest bad (subst (λ (l : List ℕ). SpellsItems syntax level reach l later rest) (sym (one_rest len after within inner left lk next nk one.1 spans spans_again)) tk)
 
--- no fault of a header is want of memory
+-- no fault of a header is lack of memory
 if_never : (b : Bool) (x y : Option SetFault) → (x ≡ Some Memory → ⊥) → (y ≡ Some Memory → ⊥) → (if b then x else y) ≡ Some Memory → ⊥
 if_never true x y p q e = p e
 if_never false x y p q e = q e

@@ -78,7 +78,7 @@ one_set syntax text x y (es, s, p) (fs, t, q) =
     let e = one_elements syntax 0 Filled 0 text es fs [] [] s t in
     sym (list_of-elements_of x) ∙ ap list_of (sym p ∙ ap kept e.0 ∙ q) ∙ list_of-elements_of y
 
--- where a set is spelled there is no fault but want of memory
+-- where a set is spelled there is no fault but lack of memory
 pub spelled_fault : (syntax : TransferSyntax) (text : List ℕ) (set : List El) (e : SetFault) → SpellsSet syntax text set → SetFails syntax text e → e ≡ Memory
 spelled_fault syntax text set Memory (es, s, _) h = refl
 spelled_fault syntax text set Short (es, s, _) h = absurd (not_elements syntax 0 Filled 0 text Short es [] h s)

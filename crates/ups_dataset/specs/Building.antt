@@ -30,7 +30,7 @@ pub record BuildsItems (syntax : TransferSyntax) (level : ℕ) (reach : Reach) (
   pub spelled : SpellsItems syntax level reach text all rest
   pub is : kept_items all ≡ items_of sets
 
--- what was built, or why not: want of memory may be at any time
+-- what was built, or why not: lack of memory may be at any time
 abbrev pub OrMemory : (SetFault → Type 0) → SetFault → Type 0
 OrMemory Fault Memory = Unit {0}
 OrMemory Fault fault = Fault fault

@@ -16,7 +16,7 @@ pub fn bytes_spell_one_set()
     ensures { (syntax : TransferSyntax) → (bytes : List ℕ) → (one other : List El) → SpellsSet syntax bytes one → SpellsSet syntax bytes other → one ≡ other }
 {}
 
-/// Bytes that spell a data set have no fault: they fail for want of memory alone.
+/// Bytes that spell a data set have no fault: they fail for lack of memory alone.
 pub fn spelled_bytes_have_no_fault()
     ensures { (syntax : TransferSyntax) → (bytes : List ℕ) → (set : List El) → (fault : SetFault) → SpellsSet syntax bytes set → SetFails syntax bytes fault → fault ≡ Memory }
 {}

@@ -1,6 +1,6 @@
 //! Data sets.
 
-use crate::copying::{copy_element, copy_set, copy_value};
+use crate::copying::{copy_element, copy_set};
 use crate::listing::{is_listed, sorted_numbers};
 use crate::measuring::value_depth;
 use crate::merging::merged;
@@ -102,6 +102,11 @@ impl<A: Allocator + Copy> DataSet<A> {
         let _ = &self.elements;
     }
 
+    /// What gives it memory.
+    pub fn allocator(&self) -> A {
+        *self.elements.allocator()
+    }
+
     /// The elements, in the order of their tags.
     pub fn elements(&self) -> &[Element<A>]
         ensures { map element_view result.now ≡ self.now }
@@ -192,6 +197,13 @@ impl<A: Allocator + Copy> DataSet<A> {
         Ok(DataSet::from_vec(elements))
     }
 
+    /// Drops the element of a tag, where there is one. It takes no memory.
+    pub fn remove(&mut self, tag: Tag)
+        ensures { self.new ≡ filter (λ e. not (is_tag e.tag tag)) self.old }
+    {
+        self.elements.retain(|element| element.tag != tag);
+    }
+
     /// What this set answers where an element asks for its tag: a copy of its own, or else that element without a value.
     fn answer_to(&self, key: &Element<A>) -> Result<Element<A>, AllocError>
         ensures { IfOk result (λ e. element_view e ≡ answer_to self.now (element_view key.now)) }
@@ -233,7 +245,7 @@ impl<A: Allocator + Copy> DataSet<A> {
 }
 
 impl<A: Allocator + Copy> Element<A> {
-    ghost use Rattle.std.specs.Prelude.{◌≡◌, IfOk};
+    ghost use Rattle.std.specs.Prelude.{◌≡◌};
     ghost use Rattle.ups_dataset.specs.declared.vr.Vr.TheVariants.{Sq};
     ghost use Rattle.ups_dataset.specs.Data.{bytes, items, items_of, without_value};
     ghost use Rattle.ups_dataset.specs.View.{element_view, value_view};
@@ -274,21 +286,10 @@ impl<A: Allocator + Copy> Element<A> {
             value,
         }
     }
-
-    /// A copy.
-    ///
-    /// # Errors
-    ///
-    /// Where memory runs out.
-    pub fn copy(&self, alloc: A) -> Result<Element<A>, AllocError>
-        ensures { IfOk result (λ e. element_view e ≡ element_view self.now) }
-    {
-        copy_element(alloc, self)
-    }
 }
 
 impl<A: Allocator + Copy> Value<A> {
-    ghost use Rattle.std.specs.Prelude.{◌≡◌, map, IfOk};
+    ghost use Rattle.std.specs.Prelude.{◌≡◌, map};
     ghost use Rattle.ups_dataset.specs.Data.{items, items_of};
     ghost use Rattle.ups_dataset.specs.Valid.{depth_data, HoldsSets};
     ghost use Rattle.ups_dataset.specs.View.{value_view};
@@ -316,16 +317,5 @@ impl<A: Allocator + Copy> Value<A> {
                 set.is_a_data_set();
             }
         }
-    }
-
-    /// A copy.
-    ///
-    /// # Errors
-    ///
-    /// Where memory runs out.
-    pub fn copy(&self, alloc: A) -> Result<Value<A>, AllocError>
-        ensures { IfOk result (λ v. value_view v ≡ value_view self.now) }
-    {
-        copy_value(alloc, self)
     }
 }

@@ -41,7 +41,7 @@ IsFault A bytes fault = ((fault ≡ Memory) × (command : Command A) × SpellsCo
     ⊎ (((AreElements 0 bytes → ⊥) × (fault ≡ BadValue (command_tag 0x0000)))
     ⊎ ((elements : List CommandElement) × SpellsElements 0 bytes elements [] × ElementsFail elements fault))
 
--- What a reader of a part answers: the part; or want of memory, where the part is there; or a fault.
+-- What a reader of a part answers: the part; or lack of memory, where the part is there; or a fault.
 abbrev pub Gives : {X : Type 0} → (X → Type 0) → (DimseFault → Type 0) → Result X DimseFault → Type 0
 Gives Spelled Fault (Ok x) = Spelled x
 Gives {X} Spelled Fault (Err fault) = ((fault ≡ Memory) × (x : X) × Spelled x) ⊎ Fault fault

@@ -6,10 +6,18 @@ pub mod Laying
 pub mod NewSets
 pub mod OneHolder
 pub mod Past
+mod Reports
+mod Retained
 pub mod Rows
 pub mod RowsTell
 pub mod Tags
 pub mod Texts
 pub mod Untold
+pub mod Verdicts
+pub mod Viewing
+mod Walks
 mod Worked
+mod WorkedEvents
+mod WorkedSubscribing
+mod WorkedWatching
 mod WorkedWorklists

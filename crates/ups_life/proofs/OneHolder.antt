@@ -16,16 +16,17 @@ use Rattle.ups_life.specs.declared.status.Status.TheVariants.{Success, Scheduled
 use Rattle.ups_life.specs.Settings.{Settings}
 use Rattle.ups_life.specs.States.{is_final}
 use Rattle.ups_life.specs.Values.{unless_fault}
-use Rattle.ups_life.specs.Verdict.{verdict, is_right, is_given, is_proper, claim_status, complete_status, discontinue_status, wrong_status, set_status, set_attributes_status, change_status, update_status, is_performed, is_discontinued}
-use Rattle.ups_life.specs.Steps.{Claim, step_of, is_on, creates, used, canceled, state, state_then, taken, claimed, claim, right, is_held, known, row_of}
-use Rattle.ups_life.specs.History.{repeats, legal}
+use Rattle.ups_life.specs.Verdict.{is_right, is_given, is_proper, claim_status, complete_status, discontinue_status, wrong_status, set_status, set_attributes_status, change_status, update_status, is_performed, is_discontinued}
+use Rattle.ups_life.specs.Steps.{Claim, is_on, creates, used, canceled, state, state_then, taken, claimed, claim, right, row_of}
+use Rattle.ups_life.specs.Watching.{is_held}
+use Rattle.ups_life.specs.History.{legal}
 use Rattle.ups_life.specs.Claims.{listed, claims}
 use Rattle.ups_life.proofs.Texts.{same_text}
-use Rattle.ups_life.proofs.Accepted.{decided, decided_of, legal_tail, created_fresh, was_held, on_held, neither, differ}
+use Rattle.ups_life.proofs.Accepted.{said, succeeded, succeeded_of, legal_tail, created_fresh, was_held, on_held, neither, differ}
 use Rattle.ups_life.proofs.HeldOnce.{is_held_used}
 
 -- an entry on a step that was never created creates it
-not_on : {A : Type 0} (s : Settings) (es : List (Entry A)) (u : List ℕ) (r : Request A) → verdict (known s es (step_of r)) (repeats es r) r ≡ Success → used es u ≡ false → creates u r ≡ false → is_on u r ≡ false
+not_on : {A : Type 0} (s : Settings) (es : List (Entry A)) (u : List ℕ) (r : Request A) → said s es r ≡ Success → used es u ≡ false → creates u r ≡ false → is_on u r ≡ false
 not_on s es u r d unused new = is_false (is_on u r) (λ on. differ (used es u) unused (is_held_used s es u (on_held s es u r d on new)))
   where
     is_false : (b : Bool) → (b ≡ true → ⊥) → b ≡ false
@@ -37,7 +38,7 @@ pub unclaimed : {A : Type 0} (s : Settings) (es : List (Entry A)) (u : List ℕ)
 unclaimed s [] u h unused = refl
 unclaimed s (e ∷ es) u h unused =
     let none = neither (creates u e.request) (used es u) unused in
-    ap (λ on. cond on (listed (claimed e)) [] ++ claims es u) (not_on s es u e.request (decided s e es h) none.1 none.0)
+    ap (λ on. cond on (listed (claimed e)) [] ++ claims es u) (not_on s es u e.request (succeeded s e es h) none.1 none.0)
     ∙ unclaimed s es u (legal_tail s e es h) none.1
 
 -- a cancel request leaves no step SCHEDULED
@@ -48,7 +49,7 @@ not_scheduled Completed e = absurd cc
 not_scheduled Canceled e = absurd cc
 
 -- an entry after which its step is SCHEDULED is no claim, and created the step or found it so
-new_or_so : {A : Type 0} (s : Settings) (es : List (Entry A)) (u : List ℕ) (r : Request A) → verdict (known s es (step_of r)) (repeats es r) r ≡ Success → is_on u r ≡ true → state_then (state es u) r ≡ Scheduled
+new_or_so : {A : Type 0} (s : Settings) (es : List (Entry A)) (u : List ℕ) (r : Request A) → said s es r ≡ Success → is_on u r ≡ true → state_then (state es u) r ≡ Scheduled
     → (taken r ≡ None) × ((used es u ≡ false) ⊎ (state es u ≡ Scheduled))
 new_or_so s es u (Create step set) d on after = (refl, inl (ap (used es) (sym (same_text step u on)) ∙ created_fresh s es step set d))
 new_or_so s es u (Change None to t) d on after = absurd cc
@@ -59,6 +60,7 @@ new_or_so s es u (Change (Some v) Scheduled t) d on after = absurd (never (was_h
 new_or_so s es u (Change (Some v) to t) d on after = absurd cc
 new_or_so s es u (AskCancel step reasons) d on after = absurd (not_scheduled (state es u) after)
 new_or_so s es u (Set step t set) d on after = (refl, inr after)
+new_or_so s es u r d on after = absurd cc
 
 -- a step that is SCHEDULED has no claim
 pub scheduled_unclaimed : {A : Type 0} (s : Settings) (es : List (Entry A)) (u : List ℕ) → legal s es ≡ true → state es u ≡ Scheduled → claims es u ≡ []
@@ -66,7 +68,7 @@ scheduled_unclaimed s [] u h is = refl
 scheduled_unclaimed {A} s (e ∷ es) u h is =
     let before = legal_tail s e es h in
     here (is_on u e.request) (state_then (state es u) e.request) (state es u) (taken e.request) (claim_by e) (claims es u)
-    (new_or_so s es u e.request (decided s e es h)) (unclaimed s es u before) (scheduled_unclaimed s es u before) is
+    (new_or_so s es u e.request (succeeded s e es h)) (unclaimed s es u before) (scheduled_unclaimed s es u before) is
   where
     claim_by : Entry A → List ℕ → Claim
     claim_by e uid = record { holder = record { caller = e.caller; ae = e.ae }; transaction = uid }
@@ -84,7 +86,7 @@ scheduled_unclaimed {A} s (e ∷ es) u h is =
     here false after before uid f rest way new so is = so is
 
 -- a claim is made on a step that is SCHEDULED
-claims_scheduled : {A : Type 0} (s : Settings) (es : List (Entry A)) (u : List ℕ) (r : Request A) (uid : List ℕ) → verdict (known s es (step_of r)) (repeats es r) r ≡ Success → is_on u r ≡ true → taken r ≡ Some uid → state es u ≡ Scheduled
+claims_scheduled : {A : Type 0} (s : Settings) (es : List (Entry A)) (u : List ℕ) (r : Request A) (uid : List ℕ) → said s es r ≡ Success → is_on u r ≡ true → taken r ≡ Some uid → state es u ≡ Scheduled
 claims_scheduled s es u (Change (Some v) InProgress (Proper x)) uid d on is =
     ap (state es) (sym (same_text v u on)) ∙ to_claim (state es v) (was_held (is_held s es v) (row_of s es v) (λ r. claim_status r.state) d).1
   where
@@ -103,7 +105,7 @@ pub claimed_first : {A : Type 0} (s : Settings) (e : Entry A) (es : List (Entry 
 claimed_first {A} s e es u c h on is =
     let by : List ℕ → Claim = λ uid. record { holder = record { caller = e.caller; ae = e.ae }; transaction = uid } in
     let t = claim_taken (taken e.request) by c is in
-    scheduled_unclaimed s es u (legal_tail s e es h) (claims_scheduled s es u e.request t.0 (decided s e es h) on t.1)
+    scheduled_unclaimed s es u (legal_tail s e es h) (claims_scheduled s es u e.request t.0 (succeeded s e es h) on t.1)
 
 -- a step has at most one claim
 pub claimed_once : {A : Type 0} (s : Settings) (es : List (Entry A)) (u : List ℕ) → legal s es ≡ true → length (claims es u) ≤ 1
@@ -148,7 +150,7 @@ right_is None t e = absurd cc
 pub sets_with_right : {A : Type 0} (s : Settings) (e : Entry A) (es : List (Entry A)) (u : List ℕ) (t : Transaction) (set : List El) → legal s (e ∷ es) ≡ true → e.request ≡ Set (Some u) t set → state es u ≡ InProgress
     → (uid : List ℕ) × (t ≡ Proper uid) × (right es u ≡ Some uid)
 sets_with_right s e es u t set h is now =
-    let accepted = (was_held (is_held s es u) (row_of s es u) (λ r. update_status r t set) (decided_of s e es (Set (Some u) t set) h is)).1 in
+    let accepted = (was_held (is_held s es u) (row_of s es u) (λ r. update_status r t set) (succeeded_of s e es (Set (Some u) t set) h is)).1 in
     right_is (right es u) t (needs_right (is_right (right es u) t) (is_given t) (state es u) now (no_fault (set_status (is_right (right es u) t) (is_given t) (state es u)) (set_attributes_status set) accepted))
   where
     no_fault : (first later : Status) → unless_fault first later ≡ Success → first ≡ Success
@@ -164,7 +166,7 @@ sets_with_right s e es u t set h is now =
 pub finishes_with_right : {A : Type 0} (s : Settings) (e : Entry A) (es : List (Entry A)) (u : List ℕ) (to : StepState) (t : Transaction) → legal s (e ∷ es) ≡ true → e.request ≡ Change (Some u) to t → is_final to ≡ true
     → (uid : List ℕ) × (t ≡ Proper uid) × (right es u ≡ Some uid)
 finishes_with_right {A} s e es u to t h is final =
-    let accepted = (was_held (is_held s es u) (row_of s es u) (λ r. change_status r to t) (decided_of s e es (Change (Some u) to t) h is)).1 in
+    let accepted = (was_held (is_held s es u) (row_of s es u) (λ r. change_status r to t) (succeeded_of s e es (Change (Some u) to t) h is)).1 in
     right_is (right es u) t (needs_right (row_of s es u) to final accepted)
   where
     wrong_is_refused : (proper : Bool) (before : StepState) → wrong_status proper before ≡ Success → ⊥

@@ -2,16 +2,15 @@
 use Rattle.std.proofs.Common.{◌≡◌, ℕ, ◌<◌, ◌≤◌, ◌+◌, Bool, true, false, List, [], ◌∷◌, ◌++◌, length, take, get_or, map, filter, Option, None, Some, refl, sym, ap, ◌∙◌}
 use Rattle.std.specs.Prelude.{if◌then◌else◌}
 use Rattle.std.specs.Option.{option_or, option_map, unwrap_or}
-use Rattle.std.proofs.lemmas.List.{take_more, take_all, append-nil, map-append}
+use Rattle.std.proofs.lemmas.List.{take_more, take_all, map-append}
 use Rattle.std.proofs.lemmas.List.Elements.{filter-append}
 use Rattle.ups_dataset.specs.Data.{El, answer}
 use Rattle.ups_match.specs.Matching.{KeySet, is_match}
 use Rattle.ups_life.specs.declared.entry.Entry.{Entry}
-use Rattle.ups_life.specs.declared.request.Request.{Request}
-use Rattle.ups_life.specs.declared.request.Request.TheVariants.{Create, Change, AskCancel, Set}
 use Rattle.ups_life.specs.declared.row.Row.{Row}
 use Rattle.ups_life.specs.Settings.{Settings}
-use Rattle.ups_life.specs.Steps.{Claim, past, is_on, taken, claim, row, row_of, row_after, nothing, held, held_after}
+use Rattle.ups_life.specs.Steps.{Claim, past, is_on, taken, claim, row, row_of, row_after, nothing}
+use Rattle.ups_life.specs.Watching.{held}
 use Rattle.ups_life.proofs.Past.{past-push}
 
 -- the Transaction UID of the last claim
@@ -64,22 +63,15 @@ answers_joined s es keys us vs =
     ∙ ap (map (λ (r : List El). answer r keys.attributes)) (filter-append (is_match keys) (map (row s es) us) (map (row s es) vs))
     ∙ map-append (λ r. answer r keys.attributes) (filter (is_match keys) (map (row s es) us)) (filter (is_match keys) (map (row s es) vs))
 
--- a request creates one step, behind the others, or none
-behind : {A : Type 0} (us : List (List ℕ)) (r : Request A) → held_after us r ≡ us ++ held_after [] r
-behind us (Create step attributes) = refl
-behind us (Change step state transaction) = sym (append-nil us)
-behind us (AskCancel step reasons) = sym (append-nil us)
-behind us (Set step transaction attributes) = sym (append-nil us)
-
-pub answers_step : {A : Type 0} (s : Settings) (es history : List (Entry A)) (i : ℕ) (e : Entry A) (keys : KeySet) (before after : List (List El)) → i < length history → e ≡ get_or history i e
-    → before ≡ answers s es keys (held s (past (take i history))) → after ≡ before ++ answers s es keys (held_after [] e.request)
-    → after ≡ answers s es keys (held s (past (take (i + 1) history)))
-answers_step s es history i e keys before after low is was step =
+-- one more step is answered for
+pub answers_step : {A : Type 0} (s : Settings) (es : List (Entry A)) (keys : KeySet) (steps : List (List ℕ)) (i : ℕ) (u : List ℕ) (before after : List (List El)) → i < length steps → u ≡ get_or steps i u
+    → before ≡ answers s es keys (take i steps) → after ≡ before ++ answers s es keys (u ∷ []) → after ≡ answers s es keys (take (i + 1) steps)
+answers_step s es keys steps i u before after low is was step =
     step
-    ∙ ap (λ l. l ++ answers s es keys (held_after [] e.request)) was
-    ∙ sym (answers_joined s es keys (held s (past (take i history))) (held_after [] e.request))
-    ∙ ap (answers s es keys) (sym (behind (held s (past (take i history))) e.request) ∙ ap (held s) (sym (past_more history i e low is)))
+    ∙ ap (λ l. l ++ answers s es keys (u ∷ [])) was
+    ∙ sym (answers_joined s es keys (take i steps) (u ∷ []))
+    ∙ ap (answers s es keys) (sym (take_more steps i u low ∙ ap (λ x. take i steps ++ x ∷ []) (sym is)))
 
-pub answers_end : {A : Type 0} (s : Settings) (history : List (Entry A)) (i : ℕ) (keys : KeySet) (found : List (List El)) → length history ≤ i
-    → found ≡ answers s (past history) keys (held s (past (take i history))) → found ≡ answers s (past history) keys (held s (past history))
-answers_end {A} s history i keys found all was = was ∙ ap (λ (l : List (Entry A)). answers s (past history) keys (held s (past l))) (take_all i history all)
+pub answers_end : {A : Type 0} (s : Settings) (es : List (Entry A)) (keys : KeySet) (steps : List (List ℕ)) (i : ℕ) (found : List (List El)) → length steps ≤ i → found ≡ answers s es keys (take i steps) → steps ≡ held s es
+    → found ≡ answers s es keys (held s es)
+answers_end s es keys steps i found all was is = was ∙ ap (answers s es keys) (take_all i steps all ∙ is)

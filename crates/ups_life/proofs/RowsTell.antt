@@ -1,5 +1,5 @@
 -- The row of each step held tells its state, and which step it is.
-use Rattle.std.proofs.Common.{◌≡◌, ℕ, ◌%◌, ℤ, Bool, true, false, not, ◌&&◌, ◌||◌, ◌==◌, List, [], ◌∷◌, ◌++◌, length, Option, None, Some, refl, sym, ap, ◌∙◌}
+use Rattle.std.proofs.Common.{◌≡◌, ℕ, ◌%◌, ℤ, Bool, true, false, not, ◌&&◌, ◌||◌, ◌==◌, cond, List, [], ◌∷◌, ◌++◌, filter, length, Option, None, Some, refl, sym, ap, ◌∙◌}
 use Rattle.std.specs.Prelude.{if◌then◌else◌, is_some}
 use Rattle.std.specs.List.{list_any}
 use Rattle.std.specs.Str.{bytes_eq}
@@ -15,7 +15,7 @@ use Rattle.ups_dataset.specs.Valid.{IsDataSet}
 use Rattle.ups_dataset.proofs.Laying.{element_at-put, element_at-laid_over}
 use Rattle.ups_dataset.proofs.Places.{filtered}
 use Rattle.ups_life.specs.declared.request.Request.{Request}
-use Rattle.ups_life.specs.declared.request.Request.TheVariants.{Create, Change, AskCancel, Set}
+use Rattle.ups_life.specs.declared.request.Request.TheVariants.{Create, Change, AskCancel, Set, Sweep}
 use Rattle.ups_life.specs.declared.state.StepState.{StepState}
 use Rattle.ups_life.specs.declared.state.StepState.TheVariants.{Scheduled, InProgress, Completed, Canceled}
 use Rattle.ups_life.specs.declared.entry.Entry.{Entry}
@@ -27,11 +27,12 @@ use Rattle.ups_life.specs.States.{state_text}
 use Rattle.ups_life.specs.Values.{READINESS_STATES, says, is_text, is_blank, allows, text_status, value_status, element_status, given_status, unless_fault, first_fault, first_given_fault}
 use Rattle.ups_life.specs.CheckedAttributes.{checked_attributes}
 use Rattle.ups_life.specs.Instances.{IsStepUid}
-use Rattle.ups_life.specs.Verdict.{verdict, create_status, update_status, gives_fixed, set_attributes_status}
-use Rattle.ups_life.specs.Steps.{step_of, is_on, used, state, state_then, class_element, instance_element, without_transaction, new_row, state_element, progress_element, given, row, row_of, held, held_after, is_held, known}
-use Rattle.ups_life.specs.History.{repeats, legal}
+use Rattle.ups_life.specs.Verdict.{create_status, update_status, gives_fixed, set_attributes_status}
+use Rattle.ups_life.specs.Steps.{is_on, used, state, state_then, class_element, instance_element, without_transaction, new_row, state_element, progress_element, given, row, row_of}
+use Rattle.ups_life.specs.Watching.{is_due, held, held_after, is_held}
+use Rattle.ups_life.specs.History.{legal}
 use Rattle.ups_life.specs.Telling.{says_one_of, TellsStep, IsWellFormed, AreWellFormed}
-use Rattle.ups_life.proofs.Accepted.{decided, legal_tail, was_held, on_held, neither}
+use Rattle.ups_life.proofs.Accepted.{said, succeeded, legal_tail, was_held, on_held, neither}
 use Rattle.ups_life.proofs.HeldOnce.{not_among_more}
 use Rattle.ups_life.proofs.NewSets.{new_set}
 use Rattle.ups_life.proofs.Tags.{same_tags}
@@ -207,7 +208,7 @@ tells_set u now set below good accepted told =
 -- EACH ENTRY
 
 -- what was accepted of an entry on the step
-tells_after : {A : Type 0} (s : Settings) (es : List (Entry A)) (u : List ℕ) (moment : ℕ) (r : Request A) → is_on u r ≡ true → IsWellFormed r → verdict (known s es (step_of r)) (repeats es r) r ≡ Success
+tells_after : {A : Type 0} (s : Settings) (es : List (Entry A)) (u : List ℕ) (moment : ℕ) (r : Request A) → is_on u r ≡ true → IsWellFormed r → said s es r ≡ Success
     → (is_held s es u ≡ true → TellsStep u (state es u) (row s es u))
     → TellsStep u (state_then (state es u) r) (laid_over (given s.offset moment (state es u) r) (row s es u))
 tells_after s es u moment (Create step set) on (is, good) d before = tells_new (used es step) u step set (row s es u) is good on d
@@ -217,17 +218,33 @@ tells_after s es u moment (Set None t set) on good d before = absurd cc
 tells_after s es u moment (Set (Some v) t set) on good d before =
     tells_set u (state es u) set (row s es u) good (no_fault _ _ (was_held (is_held s es v) (row_of s es v) (λ r. update_status r t set) d).1).1
     (before (on_held s es u (Set (Some v) t set) d on refl))
+tells_after s es u moment r on good d before = absurd cc
+
+either_way_among : (here there more : Bool) → (there ≡ true → more ≡ true) → here || there ≡ true → here || more ≡ true
+either_way_among true there more later h = refl
+either_way_among false there more later h = later h
+
+or_more : (here more : Bool) → more ≡ true → here || more ≡ true
+or_more true more h = refl
+or_more false more h = h
+
+pub any_filter : {X : Type 0} (p q : X → Bool) (xs : List X) → list_any p (filter q xs) ≡ true → list_any p xs ≡ true
+any_filter p q [] h = h
+any_filter p q (x ∷ xs) h = at (q x) (any_filter p q xs) h
+  where
+    at : (stays : Bool) → (list_any p (filter q xs) ≡ true → list_any p xs ≡ true) → list_any p (cond stays (x ∷ filter q xs) (filter q xs)) ≡ true → p x || list_any p xs ≡ true
+    at true later g = either_way_among (p x) (list_any p (filter q xs)) (list_any p xs) later g
+    at false later g = or_more (p x) (list_any p xs) (later g)
 
 -- a step that an entry is not on was held before it
-held_before : {A : Type 0} (us : List (List ℕ)) (u : List ℕ) (r : Request A) → is_on u r ≡ false → list_any (λ v. bytes_eq v u) (held_after us r) ≡ true → list_any (λ v. bytes_eq v u) us ≡ true
-held_before us u (Create step set) off h = stays (list_any (λ v. bytes_eq v u) us) refl
+pub held_before : {A : Type 0} (s : Settings) (es : List (Entry A)) (moment : ℕ) (us : List (List ℕ)) (u : List ℕ) (r : Request A) → is_on u r ≡ false → list_any (λ v. bytes_eq v u) (held_after s es moment us r) ≡ true → list_any (λ v. bytes_eq v u) us ≡ true
+held_before s es moment us u (Create step set) off h = stays (list_any (λ v. bytes_eq v u) us) refl
   where
     stays : (b : Bool) → list_any (λ v. bytes_eq v u) us ≡ b → list_any (λ v. bytes_eq v u) us ≡ true
     stays true e = e
     stays false e = let c : false ≡ true = sym (not_among_more u step us e off) ∙ h in absurd cc
-held_before us u (Change step to t) off h = h
-held_before us u (AskCancel step reasons) off h = h
-held_before us u (Set step t set) off h = h
+held_before s es moment us u Sweep off h = any_filter (λ v. bytes_eq v u) (λ v. not (is_due s es moment v)) us h
+held_before s es moment us u r off h = h
 
 pub each_row_tells : {A : Type 0} (s : Settings) (es : List (Entry A)) → AreWellFormed es → legal s es ≡ true → (u : List ℕ) → is_held s es u ≡ true → TellsStep u (state es u) (row s es u)
 each_row_tells s [] good h u now_held = absurd cc
@@ -235,5 +252,5 @@ each_row_tells {A} s (e ∷ es) (good, more) h u now_held = by (each_row_tells s
   where
     by : (is_held s es u ≡ true → TellsStep u (state es u) (row s es u)) → (on : Bool) → is_on u e.request ≡ on
         → TellsStep u (if on then state_then (state es u) e.request else state es u) (laid_over (if on then given s.offset e.moment (state es u) e.request else []) (row s es u))
-    by before true on = tells_after s es u e.moment e.request on good (decided s e es h) before
-    by before false off = before (held_before (held s es) u e.request off now_held)
+    by before true on = tells_after s es u e.moment e.request on good (succeeded s e es h) before
+    by before false off = before (held_before s es e.moment (held s es) u e.request off now_held)

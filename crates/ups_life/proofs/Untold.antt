@@ -53,6 +53,7 @@ given_lacks offset moment before (Create step attributes) =
 given_lacks offset moment before (Change step to transaction) = refl
 given_lacks offset moment before (AskCancel step reasons) = cancel_lacks before offset moment reasons
 given_lacks offset moment before (Set step transaction attributes) = without_lacks attributes
+given_lacks offset moment before request = refl
 
 either_lacks : (b : Bool) (set : List El) → Lacks set → Lacks (if b then set else [])
 either_lacks false set h = refl

@@ -23,7 +23,8 @@ use Rattle.ups_dimse.specs.declared.command.Operation.TheVariants as operations
 use Rattle.ups_life.specs.Settings.{Settings}
 use Rattle.ups_life.specs.Asking.{asked}
 use Rattle.ups_match.specs.Moments.{moment, day_number, days_of_month, field, is_date, is_time, date_number, second_of_day, microsecond_of, offset_of, signed_offset, stamp, begun, date_stamp, time_stamp, offset_stamp, year_on, month_on}
-use Rattle.ups_life.specs.Steps.{cancellation, row, held, holder, state, final_at}
+use Rattle.ups_life.specs.Steps.{cancellation, row, holder, state, final_at}
+use Rattle.ups_life.specs.Watching.{held}
 use Rattle.ups_life.specs.History.{reply, entered, got}
 
 abbrev site : Settings
@@ -295,6 +296,6 @@ change_of_all_steps_is_refused : asked {A = Unit {0}} (pos 0) (operations.Action
 unfolding moment day_number days_of_month field is_date is_time date_number second_of_day microsecond_of offset_of signed_offset
 change_of_all_steps_is_refused = refl
 
-other_actions_are_refused : asked {A = Unit {0}} (pos 0) (operations.Action (Some step_one) 3) [] ≡ Err NoSuchActionType
+other_actions_are_refused : asked {A = Unit {0}} (pos 0) (operations.Action (Some step_one) 6) [] ≡ Err NoSuchActionType
 unfolding moment day_number days_of_month field is_date is_time date_number second_of_day microsecond_of offset_of signed_offset
 other_actions_are_refused = refl

@@ -1,4 +1,4 @@
--- What a message asks (PS3.4 CC.2.1, CC.2.2, CC.2.5 to CC.2.8).
+-- What a message asks (PS3.4 CC.2.1 to CC.2.3, CC.2.5 to CC.2.8).
 use Rattle.std.specs.Prelude.{ℕ, ℤ, Bool, ◌&&◌, ◌==◌, nat_lt, nat_le, List, length, Option, None, Some, Result, Ok, Err, if◌then◌else◌}
 use Rattle.std.specs.List.{list_all, slice_split}
 use Rattle.ups_pdu.specs.Padding.{without_padding}
@@ -19,6 +19,7 @@ use Rattle.ups_life.specs.declared.status.Status.{Status}
 use Rattle.ups_life.specs.declared.status.Status.TheVariants.{InvalidArgumentValue, InvalidObjectInstance, NoSuchActionType, UnrecognizedOperation, IdentifierMismatch, ActionNotAppropriate}
 use Rattle.ups_life.specs.States.{state_of}
 use Rattle.ups_life.specs.Instances.{is_subscription, step_in}
+use Rattle.ups_life.specs.Subscribing.{subscribed, unsubscribed, suspended}
 
 -- digits and dots, 1 to 64 (PS3.5 section 9.1)
 abbrev pub is_uid : List ℕ → Bool
@@ -61,9 +62,15 @@ changed instance attributes = if is_subscription instance then Err ActionNotAppr
 abbrev pub canceled : {A : Type 0} → Option (List ℕ) → List El → Result (Ask A) Status
 canceled instance attributes = if is_subscription instance then Err ActionNotAppropriate else Ok (Do (AskCancel (step_in instance) attributes))
 
--- action types 1, Change UPS State, and 2, Request UPS Cancel (PS3.4 table CC.2-1); there are no others yet
-abbrev pub acted : {A : Type 0} → Option (List ℕ) → ℕ → List El → Result (Ask A) Status
-acted instance action attributes = if action == 1 then changed instance attributes else (if action == 2 then canceled instance attributes else Err NoSuchActionType)
+-- the action types (PS3.4 table CC.2-1): 1 Change UPS State, 2 Request UPS Cancel, 3 Subscribe to Receive UPS Event
+-- Reports, 4 Unsubscribe from Receiving UPS Event Reports, 5 Suspend Global Subscription; there are no others
+abbrev pub acted : {A : Type 0} → ℤ → Option (List ℕ) → ℕ → List El → Result (Ask A) Status
+acted offset instance action attributes =
+    if action == 1 then changed instance attributes else (
+    if action == 2 then canceled instance attributes else (
+    if action == 3 then subscribed offset instance attributes else (
+    if action == 4 then unsubscribed instance attributes else (
+    if action == 5 then suspended instance attributes else Err NoSuchActionType))))
 
 -- the worklist is asked for by keys that can be read (PS3.4 section C.4.1.1.4)
 abbrev pub finds : {A : Type 0} → ℤ → List El → Option KeyFault → Result (Ask A) Status
@@ -76,6 +83,6 @@ abbrev pub asked : {A : Type 0} → ℤ → Operation A → List El → Result (
 asked offset (operations.Create instance) attributes = created (step_in instance) attributes
 asked offset (operations.Get instance listed) attributes = Ok (Get (step_in instance) listed)
 asked offset (operations.Set instance) attributes = Ok (Do (Set (step_in instance) (transaction_of (element_at TRANSACTION_UID attributes)) attributes))
-asked offset (operations.Action instance action) attributes = acted instance action attributes
+asked offset (operations.Action instance action) attributes = acted offset instance action attributes
 asked offset (operations.Find priority) attributes = finds offset attributes (fault_of offset attributes)
 asked offset operations.Echo attributes = Err UnrecognizedOperation

@@ -1,5 +1,5 @@
 -- The answer to each call after a history, and which histories are legal.
-use Rattle.std.specs.Prelude.{ℕ, Bool, true, false, not, ◌&&◌, nat_lt, List, [], ◌∷◌, length, filter, Option, None, Some, is_some, if◌then◌else◌}
+use Rattle.std.specs.Prelude.{ℕ, Bool, true, false, not, ◌&&◌, nat_lt, nat_le, List, [], ◌∷◌, length, filter, Option, None, Some, is_some, if◌then◌else◌}
 use Rattle.std.specs.List.{list_all}
 use Rattle.std.specs.Option.{unwrap_or}
 use Rattle.ups_dataset.specs.declared.tag.Tag.{Tag}
@@ -9,28 +9,32 @@ use Rattle.ups_dataset.specs.Data.{El, element_at, elements_of, is_listed}
 use Rattle.ups_dataset.specs.Valid.{depth_elements}
 use Rattle.ups_dataset.specs.Written.{written}
 use Rattle.ups_life.specs.declared.request.Request.{Request}
-use Rattle.ups_life.specs.declared.request.Request.TheVariants.{Create, Change, AskCancel, Set}
+use Rattle.ups_life.specs.declared.request.Request.TheVariants.{Create, AskCancel, Set, Subscribe, Unsubscribe, Suspend, Ack, Sweep}
 use Rattle.ups_life.specs.declared.request.Reply.{Reply}
-use Rattle.ups_life.specs.declared.request.Reply.TheVariants.{Status as Answered, Set as Shown, Sets as Found}
+use Rattle.ups_life.specs.declared.request.Reply.TheVariants.{Status as Answered, Set as Shown, Swept, AckAhead, AckStale}
 use Rattle.ups_life.specs.declared.entry.Entry.{Entry}
+use Rattle.ups_life.specs.declared.entry.Peer.{Peer}
 use Rattle.ups_life.specs.declared.row.Row.{Row}
 use Rattle.ups_life.specs.declared.status.Status.{Status}
-use Rattle.ups_life.specs.declared.status.Status.TheVariants.{Success, AttributesNotSupported, ResourceLimitation, UnknownInstance}
+use Rattle.ups_life.specs.declared.status.Status.TheVariants.{Success, AttributesNotSupported, ResourceLimitation, DeletionLockNotGranted, UnknownInstance, UnknownReceivingAe}
 use Rattle.ups_life.specs.Limits.{row_limit}
 use Rattle.ups_life.specs.Settings.{Settings}
 use Rattle.ups_life.specs.Verdict.{verdict}
-use Rattle.ups_life.specs.Steps.{used, step_of, row_after, nothing, known}
+use Rattle.ups_life.specs.Steps.{used, step_of, named_step, row_after, nothing}
+use Rattle.ups_life.specs.Watching.{is_peer, may_lock, known, removed}
+use Rattle.ups_life.specs.Events.{acked, events}
 
--- the request is done
+-- the request is done, if perhaps without the deletion lock that it asks for
 abbrev pub is_done : Status → Bool
 is_done Success = true
+is_done DeletionLockNotGranted = true
 is_done status = false
 
--- only what is done is accepted: what is shown or found changes nothing
+-- only what is done is accepted: what is shown, found or told changes nothing, nor does a sweep that removes no step
 abbrev pub accepts : {A : Type 0} → Reply A → Bool
 accepts (Answered status) = is_done status
-accepts (Shown status set) = false
-accepts (Found sets) = false
+accepts (Swept count) = nat_lt 0 count
+accepts reply = false
 
 -- what would be held of the step of an entry
 abbrev pub row_then : {A : Type 0} → Settings → List (Entry A) → Entry A → Row A
@@ -43,9 +47,9 @@ fits set = not (nat_lt row_limit (length (written Explicit set))) && not (nat_lt
 -- of which requests the row has to fit
 abbrev pub is_sized : {A : Type 0} → Request A → Bool
 is_sized (Create step attributes) = true
-is_sized (Change step state transaction) = false
 is_sized (AskCancel step reasons) = true
 is_sized (Set step transaction attributes) = true
+is_sized request = false
 
 abbrev pub sized : {A : Type 0} → Request A → List El → Status → Status
 sized request set status = if is_done status && is_sized request && not (fits set) then ResourceLimitation else status
@@ -55,9 +59,38 @@ abbrev pub repeats : {A : Type 0} → List (Entry A) → Request A → Bool
 repeats es (Create step attributes) = used es step
 repeats es request = false
 
--- the status of what would be entered after these entries, where there is room for it
+-- the watcher that a request is for
+abbrev pub receiver_of : {A : Type 0} → Request A → Option (List ℕ)
+receiver_of (Subscribe target receiver lock) = Some receiver
+receiver_of (Unsubscribe place receiver) = Some receiver
+receiver_of (Suspend receiver) = Some receiver
+receiver_of request = None
+
+-- watchers are peers (PS3.4 CC.2.3)
+abbrev pub of_peer : List Peer → Option (List ℕ) → Status → Status
+of_peer peers None status = status
+of_peer peers (Some receiver) status = if is_peer peers receiver then status else UnknownReceivingAe
+
+-- a peer without the right to a deletion lock is subscribed without one (PS3.4 CC.2.3)
+abbrev pub of_lock : {A : Type 0} → List Peer → Request A → Status → Status
+of_lock peers (Subscribe target receiver lock) Success = if lock && not (may_lock peers receiver) then DeletionLockNotGranted else Success
+of_lock peers request status = status
+
+-- THE ORDER OF REFUSALS of what would be entered after these entries, where there is room for it: the watcher, the step,
+-- what is decided of it, the size of its row
 abbrev pub status : {A : Type 0} → Settings → List (Entry A) → Entry A → Status
-status s es e = sized e.request (row_then s es e).attributes (verdict (known s es (step_of e.request)) (repeats es e.request) e.request)
+status s es e =
+    of_peer s.peers (receiver_of e.request) (of_lock s.peers e.request (sized e.request (row_then s es e).attributes (verdict (known s es (named_step e.request)) (repeats es e.request) e.request)))
+
+-- an acknowledgement goes as far as a number that was made, and further than the one before it
+abbrev pub acknowledged : {A : Type 0} → ℕ → ℕ → ℕ → Reply A
+acknowledged made before upto = if nat_lt made upto then AckAhead else (if nat_le upto before then AckStale else Answered Success)
+
+-- what is decided of it; `request` is its request
+abbrev pub decided : {A : Type 0} → Settings → List (Entry A) → Entry A → Request A → Reply A
+decided s es e (Ack upto) = acknowledged (length (events s es e.ae)) (acked es e.ae) upto
+decided s es e Sweep = Swept (length (removed s es e.moment))
+decided s es e request = Answered (status s es e)
 
 -- nothing is entered where the history is full
 abbrev pub in_room : {A : Type 0} → Settings → List (Entry A) → Reply A → Reply A
@@ -65,7 +98,7 @@ in_room s es reply = if accepts reply && not (nat_lt (length es) s.limit) then A
 
 -- the reply to what would be entered after these entries
 abbrev pub reply : {A : Type 0} → Settings → List (Entry A) → Entry A → Reply A
-reply s es e = in_room s es (Answered (status s es e))
+reply s es e = in_room s es (decided s es e e.request)
 
 -- each entry was accepted after those before it
 abbrev pub legal : {A : Type 0} → Settings → List (Entry A) → Bool

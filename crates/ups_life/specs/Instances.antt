@@ -1,9 +1,11 @@
--- The instances that a request may name: steps, and the two that stand for global subscriptions (PS3.4 CC.2.3).
-use Rattle.std.specs.Prelude.{◌≡◌, ℕ, Bool, false, ◌||◌, List, Option, None, Some, if◌then◌else◌}
+-- The instances that a request may name: steps, and the two that stand for global subscriptions (PS3.4 CC.2.3); and the
+-- keys of a filtered one.
+use Rattle.std.specs.Prelude.{◌≡◌, ℕ, Bool, false, ◌||◌, List, [], Option, None, Some, if◌then◌else◌}
 use Rattle.std.specs.Str.{bytes_eq}
 use Rattle.ups_pdu.specs.declared.registered.RegisteredUid.TheVariants.{GlobalSubscription, FilteredGlobalSubscription}
 use Rattle.ups_pdu.specs.Registered.{text_of}
 use Rattle.ups_pdu.specs.Identifier.{IsUid}
+use Rattle.ups_match.specs.Matching.{KeySet, is_match}
 
 -- the instances that stand for global subscriptions, and are no steps (PS3.4 CC.2.3)
 abbrev pub is_well_known : List ℕ → Bool
@@ -26,3 +28,7 @@ step_under uid = if is_well_known uid then None else Some uid
 abbrev pub step_in : Option (List ℕ) → Option (List ℕ)
 step_in None = None
 step_in (Some uid) = step_under uid
+
+-- one of the keys is not universal: they don't match a step without any attribute (PS3.4 section C.2.2.2.3)
+abbrev pub IsFilter : KeySet → Type 0
+IsFilter keys = is_match keys [] ≡ false

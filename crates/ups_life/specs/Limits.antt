@@ -1,9 +1,7 @@
 -- How much the service takes.
 use Rattle.std.specs.Prelude.{ℕ, ℤ, pos, negsuc}
-
--- the greatest moment, in seconds since 1970-01-01 UTC: in each offset it is in one of the years to 9999
-abbrev pub last_moment : ℕ
-last_moment = 253402250399
+-- the greatest moment, in seconds since 1970-01-01 UTC
+pub use Rattle.ups_match.specs.Moments.{last_moment}
 
 -- how many bytes a row has at most, in Explicit VR Little Endian
 abbrev pub row_limit : ℕ

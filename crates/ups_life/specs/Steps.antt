@@ -1,8 +1,7 @@
 -- What a history of accepted requests says of a step. A history is looked at with its newest entry first;
 -- each question is one recursion over it, and one function that says what an entry on the step does to the answer.
-use Rattle.std.specs.Prelude.{ℕ, ℤ, Bool, false, not, ◌&&◌, ◌||◌, List, [], ◌∷◌, ◌++◌, reverse, filter, Option, None, Some, if◌then◌else◌}
+use Rattle.std.specs.Prelude.{ℕ, ℤ, Bool, false, not, ◌&&◌, ◌||◌, List, [], ◌∷◌, reverse, filter, Option, None, Some, if◌then◌else◌}
 use Rattle.std.specs.Option.{option_or, option_map}
-use Rattle.std.specs.List.{list_any}
 use Rattle.std.specs.Str.{bytes_eq}
 use Rattle.ups_pdu.specs.declared.registered.RegisteredUid.TheVariants.{UpsPush}
 use Rattle.ups_pdu.specs.Registered.{text_of}
@@ -13,7 +12,11 @@ use Rattle.ups_dataset.specs.Data.{El, bytes, items, items_of, put, laid_over, i
 use Rattle.ups_dataset.specs.Tag.{is_tag}
 use Rattle.ups_match.specs.Moments.{stamp}
 use Rattle.ups_life.specs.declared.request.Request.{Request}
-use Rattle.ups_life.specs.declared.request.Request.TheVariants.{Create, Change, AskCancel, Set}
+use Rattle.ups_life.specs.declared.request.Request.TheVariants.{Create, Change, AskCancel, Set, Subscribe, Unsubscribe}
+use Rattle.ups_life.specs.declared.watching.Target.{Target}
+use Rattle.ups_life.specs.declared.watching.Target.TheVariants.{Single}
+use Rattle.ups_life.specs.declared.watching.Place.{Place}
+use Rattle.ups_life.specs.declared.watching.Place.TheVariants.{At}
 use Rattle.ups_life.specs.declared.request.Transaction.TheVariants.{Proper}
 use Rattle.ups_life.specs.declared.state.StepState.{StepState}
 use Rattle.ups_life.specs.declared.state.StepState.TheVariants.{Scheduled, InProgress, Canceled}
@@ -28,18 +31,33 @@ use Rattle.ups_life.specs.Values.{uid_value, text_value}
 abbrev pub past : {A : Type 0} → List (Entry A) → List (Entry A)
 past history = reverse history
 
--- the step that a request is on: a malformed instance is none
+-- the step that a request creates or changes: a malformed instance is none
 abbrev pub step_of : {A : Type 0} → Request A → Option (List ℕ)
 step_of (Create step attributes) = Some step
 step_of (Change step state transaction) = step
 step_of (AskCancel step reasons) = step
 step_of (Set step transaction attributes) = step
+step_of request = None
+
+abbrev pub target_step : {A : Type 0} → Target A → Option (List ℕ)
+target_step (Single step) = step
+target_step target = None
+
+abbrev pub place_step : Place → Option (List ℕ)
+place_step (At step) = step
+place_step place = None
+
+-- the step that a request names: also that of a subscription, which changes nothing of it
+abbrev pub named_step : {A : Type 0} → Request A → Option (List ℕ)
+named_step (Subscribe target receiver lock) = target_step target
+named_step (Unsubscribe place receiver) = place_step place
+named_step request = step_of request
 
 abbrev pub is_step : List ℕ → Option (List ℕ) → Bool
 is_step u None = false
 is_step u (Some step) = bytes_eq step u
 
--- the request is on this step
+-- the request creates or changes this step
 abbrev pub is_on : {A : Type 0} → List ℕ → Request A → Bool
 is_on u request = is_step u (step_of request)
 
@@ -64,7 +82,7 @@ abbrev pub state_then : {A : Type 0} → StepState → Request A → StepState
 state_then before (Create step attributes) = Scheduled
 state_then before (Change step state transaction) = state
 state_then before (AskCancel step reasons) = canceled before
-state_then before (Set step transaction attributes) = before
+state_then before request = before
 
 -- the state of u
 abbrev pub state : {A : Type 0} → List (Entry A) → List ℕ → StepState
@@ -146,6 +164,7 @@ given offset moment before (Create step attributes) = new_row step attributes
 given offset moment before (Change step state transaction) = state_element state ∷ []
 given offset moment before (AskCancel step reasons) = cancel_gives before offset moment reasons
 given offset moment before (Set step transaction attributes) = without_transaction attributes
+given offset moment before request = []
 
 -- the elements that an entry gives for u
 abbrev pub gives : {A : Type 0} → ℤ → StepState → List ℕ → Entry A → List El
@@ -172,25 +191,6 @@ row_after offset moment before request = record {
   transaction = option_or (taken request) before.transaction;
   final_at = option_or (finished before.state moment request) before.final_at;
 }
-
--- the steps held after an entry
-abbrev pub held_after : {A : Type 0} → List (List ℕ) → Request A → List (List ℕ)
-held_after steps (Create step attributes) = steps ++ step ∷ []
-held_after steps request = steps
-
--- the steps held, in order of creation
-abbrev pub held : {A : Type 0} → Settings → List (Entry A) → List (List ℕ)
-held s [] = []
-held s (e ∷ es) = held_after (held s es) e.request
-
--- the step is held
-abbrev pub is_held : {A : Type 0} → Settings → List (Entry A) → List ℕ → Bool
-is_held s es u = list_any (λ v. bytes_eq v u) (held s es)
-
--- what is known of the step of a request
-abbrev pub known : {A : Type 0} → Settings → List (Entry A) → Option (List ℕ) → Option (Row A)
-known s es None = None
-known s es (Some u) = if is_held s es u then Some (row_of s es u) else None
 
 -- who holds a step: whoever has claimed it
 abbrev pub holder : {A : Type 0} → List (Entry A) → List ℕ → Option Holder

@@ -7,14 +7,17 @@ use Rattle.ups_dataset.specs.declared.dictionary.TheConstants.{SOP_CLASS_UID, SO
 use Rattle.ups_dataset.specs.Data.{El, element_at}
 use Rattle.ups_dataset.specs.Valid.{IsDataSet}
 use Rattle.ups_life.specs.declared.request.Request.{Request}
-use Rattle.ups_life.specs.declared.request.Request.TheVariants.{Create, Change, AskCancel, Set}
+use Rattle.ups_life.specs.declared.request.Request.TheVariants.{Create, AskCancel, Set, Subscribe}
+use Rattle.ups_life.specs.declared.watching.Target.{Target}
+use Rattle.ups_life.specs.declared.watching.Target.TheVariants.{Filtered}
 use Rattle.ups_life.specs.declared.entry.Entry.{Entry}
 use Rattle.ups_life.specs.declared.state.StepState.{StepState}
 use Rattle.ups_life.specs.Settings.{Settings}
 use Rattle.ups_life.specs.States.{state_text}
 use Rattle.ups_life.specs.Values.{READINESS_STATES, says}
-use Rattle.ups_life.specs.Instances.{IsStepUid}
-use Rattle.ups_life.specs.Steps.{state, row, is_held}
+use Rattle.ups_life.specs.Instances.{IsStepUid, IsFilter}
+use Rattle.ups_life.specs.Steps.{state, row}
+use Rattle.ups_life.specs.Watching.{is_held}
 
 -- the attribute is there, and says one of these texts
 abbrev pub says_one_of : List (List ℕ) → Option El → Bool
@@ -31,12 +34,18 @@ pub record TellsStep (u : List ℕ) (now : StepState) (set : List El) : Type 0 w
 abbrev pub EachRowTells : {A : Type 0} → Settings → List (Entry A) → Type 0
 EachRowTells s es = (u : List ℕ) → is_held s es u ≡ true → TellsStep u (state es u) (row s es u)
 
--- what is sent with a request is a data set, and a new step has the UID of a step
+abbrev pub IsTarget : {A : Type 0} → Target A → Type 0
+IsTarget (Filtered keys) = IsFilter keys
+IsTarget target = Unit {0}
+
+-- what is sent with a request is a data set, a new step has the UID of a step, and a filter has a key that isn't
+-- universal
 abbrev pub IsWellFormed : {A : Type 0} → Request A → Type 0
 IsWellFormed (Create step attributes) = IsStepUid step × IsDataSet attributes
-IsWellFormed (Change step state transaction) = Unit {0}
 IsWellFormed (AskCancel step reasons) = IsDataSet reasons
 IsWellFormed (Set step transaction attributes) = IsDataSet attributes
+IsWellFormed (Subscribe target receiver lock) = IsTarget target
+IsWellFormed request = Unit {0}
 
 abbrev pub AreWellFormed : {A : Type 0} → List (Entry A) → Type 0
 AreWellFormed es = AllByRecursion (λ e. IsWellFormed e.request) es

@@ -1,5 +1,5 @@
 -- What is decided of a request, by what is known of its step: the life cycle of a step (PS3.4 CC.1.1, CC.2.1, CC.2.2,
--- CC.2.5, CC.2.6).
+-- CC.2.3, CC.2.5, CC.2.6).
 use Rattle.std.specs.Prelude.{Bool, true, false, ◌||◌, List, [], ◌∷◌, ℕ, Option, None, Some, codes, is_some, if◌then◌else◌}
 use Rattle.std.specs.Str.{bytes_eq}
 use Rattle.ups_dataset.specs.Data.{El, element_at}
@@ -11,7 +11,11 @@ use Rattle.ups_life.specs.declared.state.StepState.TheVariants.{Scheduled, InPro
 use Rattle.ups_life.specs.declared.request.Transaction.{Transaction}
 use Rattle.ups_life.specs.declared.request.Transaction.TheVariants.{Absent, Malformed, Proper}
 use Rattle.ups_life.specs.declared.request.Request.{Request}
-use Rattle.ups_life.specs.declared.request.Request.TheVariants.{Create, Change, AskCancel, Set}
+use Rattle.ups_life.specs.declared.request.Request.TheVariants.{Create, Change, AskCancel, Set, Subscribe, Unsubscribe}
+use Rattle.ups_life.specs.declared.watching.Target.{Target}
+use Rattle.ups_life.specs.declared.watching.Target.TheVariants.{Single}
+use Rattle.ups_life.specs.declared.watching.Place.{Place}
+use Rattle.ups_life.specs.declared.watching.Place.TheVariants.{At}
 use Rattle.ups_life.specs.declared.row.Row.{Row}
 use Rattle.ups_life.specs.CheckedAttributes.{checked_attributes}
 use Rattle.ups_life.specs.Values.{says, is_blank, first_fault, first_given_fault, unless_fault, has_item_with}
@@ -114,9 +118,22 @@ abbrev pub if_held : {A : Type 0} → Option (Row A) → (Row A → Status) → 
 if_held None decide = UnknownInstance
 if_held (Some r) decide = decide r
 
--- `row`: what is held of the step; `used`: a step with this UID was created before
+-- a subscription to one step is to one that is held (PS3.4 CC.2.3)
+abbrev pub target_status : {A : Type 0} → Option (Row A) → Target A → Status
+target_status row (Single step) = if_held row (λ r. Success)
+target_status row target = Success
+
+-- and so is its end
+abbrev pub place_status : {A : Type 0} → Option (Row A) → Place → Status
+place_status row (At step) = if_held row (λ r. Success)
+place_status row place = Success
+
+-- `row`: what is held of the step that the request names; `used`: a step with this UID was created before
 abbrev pub verdict : {A : Type 0} → Option (Row A) → Bool → Request A → Status
 verdict row used (Create step attributes) = if used then DuplicateSopInstance else create_status attributes
 verdict row used (Change step state transaction) = if_held row (λ r. change_status r state transaction)
 verdict row used (AskCancel step reasons) = if_held row (λ r. cancel_status r.state)
 verdict row used (Set step transaction attributes) = if_held row (λ r. update_status r transaction attributes)
+verdict row used (Subscribe target receiver lock) = target_status row target
+verdict row used (Unsubscribe place receiver) = place_status row place
+verdict row used request = Success

@@ -4,7 +4,8 @@ use Rattle.ups_dataset.specs.Data.{El, answer}
 use Rattle.ups_match.specs.Matching.{KeySet, is_match}
 use Rattle.ups_life.specs.declared.entry.Entry.{Entry}
 use Rattle.ups_life.specs.Settings.{Settings}
-use Rattle.ups_life.specs.Steps.{row, held}
+use Rattle.ups_life.specs.Steps.{row}
+use Rattle.ups_life.specs.Watching.{held}
 
 -- the attributes of the steps held, in order of creation
 abbrev pub rows : {A : Type 0} → Settings → List (Entry A) → List (List El)

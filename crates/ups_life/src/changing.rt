@@ -268,11 +268,12 @@ fn given<A: Allocator + Copy>(
             _ => Ok(DataSet::new(alloc)),
         },
         Request::Set { attributes, .. } => Ok(attributes.without(TRANSACTION_UID)?),
+        _ => Ok(DataSet::new(alloc)),
     }
 }
 
 /// The state of a step after a request on it (PS3.4 CC.1.1).
-fn state_then<A: Allocator + Copy>(before: StepState, request: &Request<A>) -> StepState
+pub(crate) fn state_then<A: Allocator + Copy>(before: StepState, request: &Request<A>) -> StepState
     ensures { result ≡ state_then before request.now }
 {
     match request {
@@ -282,7 +283,7 @@ fn state_then<A: Allocator + Copy>(before: StepState, request: &Request<A>) -> S
             StepState::Scheduled => StepState::Canceled,
             _ => before,
         },
-        Request::Set { .. } => before,
+        _ => before,
     }
 }
 
@@ -301,7 +302,7 @@ fn taken<A: Allocator + Copy>(request: &Request<A>) -> Option<Uid>
 }
 
 /// The moment of a request, where it makes the state a final one.
-fn finished(before: StepState, moment: u64, after: StepState) -> Option<u64>
+pub(crate) fn finished(before: StepState, moment: u64, after: StepState) -> Option<u64>
     ensures { result ≡ (if not (is_final before) && is_final after then Some moment else None) }
 {
     if !before.is_final() && after.is_final() {

@@ -5,7 +5,8 @@ ghost use Rattle.std.specs.Option.{option_copied};
 ghost use Rattle.ups_dataset.specs.Data.{element_at};
 ghost use Rattle.ups_dataset.specs.View.{value_view};
 ghost use Rattle.ups_life.specs.Values.{is_text, is_blank_value, says, is_blank};
-ghost use Rattle.ups_life.specs.Verdict.{create_status, claim_status, complete_status, discontinue_status, wrong_status, cancel_status, set_status, is_proper, is_given, is_right, change_status, gives_fixed, set_attributes_status, update_status, verdict};
+ghost use Rattle.ups_life.specs.Verdict.{create_status, claim_status, complete_status, discontinue_status, wrong_status, cancel_status, set_status, is_proper, is_given, is_right, change_status, gives_fixed, set_attributes_status, update_status, if_held, verdict};
+ghost use Rattle.ups_life.specs.declared.status.Status.TheVariants.{Success};
 
 use crate::checks::{CHECKED, first_fault, first_given_fault};
 use crate::request::{Request, Transaction};
@@ -13,6 +14,7 @@ use crate::row::Row;
 use crate::state::StepState;
 use crate::status::Status;
 use crate::values::{is_discontinued, is_performed};
+use crate::watching::{Place, Target};
 use std::alloc::Allocator;
 use ups_dataset::dictionary::{
     PROCEDURE_STEP_STATE, SOP_CLASS_UID, SOP_INSTANCE_UID, TRANSACTION_UID,
@@ -229,8 +231,19 @@ fn update_status<A: Allocator + Copy>(
     }
 }
 
-/// What is decided of a request by what is known of its step: what is held of it, and whether its UID was ever
-/// used (PS3.4 CC.2.1, CC.2.2, CC.2.5, CC.2.6). The room that is left is not looked at here.
+/// A request that is allowed on each step that is held, and on no other.
+fn held_status<A: Allocator + Copy>(row: Option<&Row<A>>) -> Status
+    ensures { result ≡ if_held (option_copied row.entry) (λ _. Success) }
+{
+    if row.is_some() {
+        Status::Success
+    } else {
+        Status::UnknownInstance
+    }
+}
+
+/// What is decided of a request by what is known of the step that it names: what is held of it, and whether its UID was
+/// ever used (PS3.4 CC.2.1 to CC.2.3, CC.2.5, CC.2.6). The peers, and the room that is left, are not looked at here.
 pub fn verdict<A: Allocator + Copy>(
     row: Option<&Row<A>>,
     used: bool,
@@ -241,6 +254,25 @@ pub fn verdict<A: Allocator + Copy>(
     match (request, row) {
         (Request::Create { .. }, _) if used => Status::DuplicateSopInstance,
         (Request::Create { attributes, .. }, _) => create_status(attributes),
+        (
+            Request::Subscribe {
+                target: Target::Single(_),
+                ..
+            }
+            | Request::Unsubscribe {
+                place: Place::At(_),
+                ..
+            },
+            _,
+        ) => held_status(row),
+        (
+            Request::Subscribe { .. }
+            | Request::Unsubscribe { .. }
+            | Request::Suspend { .. }
+            | Request::Ack { .. }
+            | Request::Sweep,
+            _,
+        ) => Status::Success,
         (_, None) => Status::UnknownInstance,
         (
             Request::Change {

@@ -1,7 +1,8 @@
 //! What the life cycle of a step owes (PS3.4 CC.1.1), and which tables it stands on: laws, each the contract of a
 //! function that changes nothing.
 
-ghost use Rattle.std.specs.Prelude.{◌≡◌, ◌≤◌, ℕ, List, ◌∷◌, length, true, None, Some};
+ghost use Rattle.std.specs.Prelude.{◌≡◌, ◌≤◌, ℕ, List, ◌∷◌, ◌++◌, length, is_some, true, false, None, Some};
+ghost use Rattle.std.specs.List.{AllByRecursion};
 ghost use Rattle.ups_dataset.specs.declared.dictionary.TheConstants.{TRANSACTION_UID};
 ghost use Rattle.ups_dataset.specs.Data.{El, element_at, answer_to, without_value};
 ghost use Rattle.ups_life.specs.declared.entry.Entry.{Entry};
@@ -10,11 +11,14 @@ ghost use Rattle.ups_life.specs.declared.request.Transaction.{Transaction};
 ghost use Rattle.ups_life.specs.declared.request.Transaction.TheVariants.{Proper};
 ghost use Rattle.ups_life.specs.declared.state.StepState.{StepState};
 ghost use Rattle.ups_life.specs.declared.state.StepState.TheVariants.{InProgress};
+ghost use Rattle.ups_life.specs.declared.watching.Watched.{Watched};
 ghost use Rattle.ups_life.specs.CheckedAttributes.{checked_attributes};
 ghost use Rattle.ups_life.specs.Limits.{last_moment, row_limit, history_limit, peer_limit, least_offset, greatest_offset};
 ghost use Rattle.ups_life.specs.Settings.{Settings};
 ghost use Rattle.ups_life.specs.States.{is_final};
-ghost use Rattle.ups_life.specs.Steps.{Claim, past, state, claim, right, row};
+ghost use Rattle.ups_life.specs.Steps.{Claim, past, used, state, claim, right, row, final_at};
+ghost use Rattle.ups_life.specs.Watching.{is_kept, has_passed, is_held, watch, watched};
+ghost use Rattle.ups_life.specs.Events.{events, view, present};
 ghost use Rattle.ups_life.specs.Telling.{EachRowTells};
 ghost use Rattle.ups_life.specs.Claims.{claims};
 ghost use Rattle.ups_life.specs.History.{legal};
@@ -80,3 +84,27 @@ pub fn a_row_tells_its_state<A: Allocator + Copy>(history: &[Entry<A>])
         entry.request.is_well_formed();
     }
 }
+
+/// A step that was removed is never held again, and its UID stays used.
+pub fn a_removed_step_stays_away<A: Allocator + Copy>()
+    ensures { (s : Settings) → (later es : List (Entry A)) → (u : List ℕ) → legal s (later ++ es) ≡ true → used es u ≡ true → is_held s es u ≡ false
+        → (is_held s (later ++ es) u ≡ false) × (used (later ++ es) u ≡ true) }
+{}
+
+/// A step that a peer keeps by a deletion lock outlives each entry, a sweep too (PS3.4 CC.2.3).
+pub fn a_locked_step_stays<A: Allocator + Copy>()
+    ensures { (s : Settings) → (e : Entry A) → (es : List (Entry A)) → (u : List ℕ) → is_held s es u ≡ true → is_kept s es u ≡ true → is_held s (e ∷ es) u ≡ true }
+{}
+
+/// So does a step that is not final, or is so for a shorter time than it is kept.
+pub fn an_unfinished_step_stays<A: Allocator + Copy>()
+    ensures { (s : Settings) → (e : Entry A) → (es : List (Entry A)) → (u : List ℕ) → is_held s es u ≡ true
+        → has_passed s.keep e.moment (final_at es u) ≡ false → is_held s (e ∷ es) u ≡ true }
+{}
+
+/// Of each step that a watcher watches, its view is what is so: the last State Report that it was told of the step shows
+/// the present state and the present readiness of the input (PS3.4 CC.2.4).
+pub fn a_view_shows_what_is_so<A: Allocator + Copy>()
+    ensures one { (s : Settings) → (es : List (Entry A)) → (w u : List ℕ) → is_held s es u ≡ true → is_some (watch s es w u) ≡ true → view (events s es w) u ≡ Some (present s es u) }
+    ensures each { (s : Settings) → (es : List (Entry A)) → (w : List ℕ) → AllByRecursion (λ (x : Watched). view (events s es w) x.step ≡ Some (present s es x.step)) (watched s es w) }
+{}

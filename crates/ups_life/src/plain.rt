@@ -1,11 +1,11 @@
 //! The questions to a history, answered by walking it: plain and slow.
 
-ghost use Rattle.std.specs.Prelude.{◌≡◌, ◌∷◌, ◌++◌, [], map, filter, All, IfOk, OnOk, if◌then◌else◌};
+ghost use Rattle.std.specs.Prelude.{◌≡◌, ◌||◌, ◌∷◌, ◌++◌, [], map, filter, All, IfOk, OnOk, if◌then◌else◌};
 ghost use Rattle.std.specs.Option.{unwrap_or};
 ghost use Rattle.ups_dataset.specs.Data.{answer};
 ghost use Rattle.ups_match.specs.Matching.{is_match};
 ghost use Rattle.ups_life.specs.Settings.{IsMoment, IsOffset};
-ghost use Rattle.ups_life.specs.Steps.{past, is_on, creates, used, row, row_after, nothing, held_after};
+ghost use Rattle.ups_life.specs.Steps.{past, is_on, creates, used, row, row_after, nothing};
 ghost use Rattle.ups_life.specs.History.{repeats};
 ghost use Rattle.ups_life.specs.Worklist.{worklist};
 
@@ -16,6 +16,7 @@ use crate::request::Request;
 use crate::row::Row;
 use crate::sets::Sets;
 use crate::step::StepUid;
+use crate::walking::plain_held;
 use std::alloc::{AllocError, Allocator};
 use ups_dataset::DataSet;
 use ups_match::{Keys, Matcher, Probe};
@@ -29,13 +30,20 @@ fn creates<A: Allocator + Copy>(uid: StepUid, request: &Request<A>) -> bool
     }
 }
 
+/// Whether a step with this UID was created before a request, or is by it.
+fn used_after<A: Allocator + Copy>(uid: StepUid, before: bool, request: &Request<A>) -> bool
+    ensures { result ≡ (creates uid request.now || before) }
+{
+    creates(uid, request) || before
+}
+
 /// Whether a step with this UID was created.
 pub fn used<A: Allocator + Copy>(history: &[Entry<A>], uid: StepUid) -> bool
     ensures { result ≡ used (past history.now) uid }
 {
     let mut found = false;
     for entry in history {
-        found = creates(uid, &entry.request) || found;
+        found = used_after(uid, found, &entry.request);
     }
     found
 }
@@ -51,7 +59,7 @@ pub fn repeats<A: Allocator + Copy>(history: &[Entry<A>], request: &Request<A>) 
 }
 
 /// Whether a request is on this step.
-fn is_on<A: Allocator + Copy>(uid: StepUid, request: &Request<A>) -> bool
+pub(crate) fn is_on<A: Allocator + Copy>(uid: StepUid, request: &Request<A>) -> bool
     ensures { result ≡ is_on uid request.now }
 {
     match request.step() {
@@ -85,7 +93,7 @@ fn after_entry<A: Allocator + Copy>(
 /// The attributes of a step, by each entry on it in turn.
 ///
 /// Errors: TooDeep where an entry gives items that nest too deep, which no accepted request does; Memory.
-fn row<A: Allocator + Copy>(
+pub(crate) fn row<A: Allocator + Copy>(
     alloc: A,
     configuration: &Configuration<A>,
     entries: &[Entry<A>],
@@ -120,28 +128,6 @@ fn add_answer<A: Allocator + Copy>(
     Ok(())
 }
 
-/// Adds what the step that a request creates answers to keys, where it matches them; nothing for another request.
-///
-/// Errors: those of `row`.
-fn add_created<A: Allocator + Copy>(
-    alloc: A,
-    configuration: &Configuration<A>,
-    sets: &mut Sets<A>,
-    keys: &Keys<A>,
-    entries: &[Entry<A>],
-    request: &Request<A>,
-) -> Result<(), ChangeFault>
-    requires moments { All (λ e. IsMoment e.moment) entries.now }
-    requires offset { IsOffset configuration.now.offset }
-    ensures { OnOk result (sets.new ≡ sets.old ++ map (λ r. answer r keys.now.attributes) (filter (is_match keys.now) (map (row configuration.now (past entries.now)) (held_after [] request.now)))) }
-{
-    if let Request::Create { step, .. } = request {
-        let row = row(alloc, configuration, entries, *step)?;
-        add_answer(sets, keys, &row)?;
-    }
-    Ok(())
-}
-
 /// The worklist (PS3.4 sections CC.2.8 and C.4.1): of each step that matches the keys, in order of creation, the keys'
 /// attributes. It is slow: for each step it walks the entries again.
 ///
@@ -160,15 +146,10 @@ pub fn plain_find<A: Allocator + Copy>(
     ensures { IfOk result (λ sets. sets ≡ worklist configuration.now (past entries.now) keys.now) }
 {
     let mut sets = Sets::new(alloc);
-    for entry in entries {
-        add_created(
-            alloc,
-            configuration,
-            &mut sets,
-            keys,
-            entries,
-            &entry.request,
-        )?;
+    let steps = plain_held(alloc, configuration, entries)?;
+    for step in &steps {
+        let row = row(alloc, configuration, entries, *step)?;
+        add_answer(&mut sets, keys, &row)?;
     }
     Ok(sets)
 }

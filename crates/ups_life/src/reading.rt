@@ -7,40 +7,20 @@ ghost use Rattle.ups_dimse.specs.declared.command.Operation.{Operation};
 ghost use Rattle.ups_match.specs.Matching.{fault_of};
 ghost use Rattle.ups_life.specs.declared.request.Ask.{Ask};
 ghost use Rattle.ups_life.specs.Asking.{transaction_value, transaction_of, named_state, changed, canceled, acted, finds, asked};
-ghost use Rattle.ups_life.specs.Instances.{is_subscription, step_in};
 ghost use Rattle.ups_life.specs.declared.status.Status.TheVariants.{ResourceLimitation};
 
-use crate::actions::{CHANGE_STATE, REQUEST_CANCEL};
+use crate::actions::{CHANGE_STATE, REQUEST_CANCEL, SUBSCRIBE, SUSPEND, UNSUBSCRIBE};
+use crate::instances::{is_subscription, step_in};
 use crate::request::{Ask, Request, Transaction};
 use crate::state::StepState;
 use crate::status::Status;
-use crate::step::{StepUid, is_well_known};
+use crate::subscribing::{subscribed, suspended, unsubscribed};
 use std::alloc::Allocator;
 use ups_dataset::dictionary::{PROCEDURE_STEP_STATE, TRANSACTION_UID};
 use ups_dataset::{DataSet, Value};
 use ups_dimse::{Operation, Tags};
 use ups_match::Keys;
 use ups_pdu::{Uid, without_padding};
-
-/// Whether an instance is none but that of a global subscription.
-fn is_subscription(instance: &Option<Uid>) -> bool
-    ensures { result ≡ is_subscription instance.now }
-{
-    match instance {
-        Some(uid) => is_well_known(*uid),
-        None => false,
-    }
-}
-
-/// The step that an instance is; None where it is absent, malformed or well known.
-fn step_in(instance: &Option<Uid>) -> Option<StepUid>
-    ensures { result ≡ step_in instance.now }
-{
-    match instance {
-        Some(uid) => StepUid::of(*uid),
-        None => None,
-    }
-}
 
 /// The Transaction UID that a value is.
 fn transaction_value<A: Allocator + Copy>(value: &Value<A>) -> Transaction
@@ -80,7 +60,7 @@ fn named_state<A: Allocator + Copy>(attributes: &DataSet<A>) -> Option<StepState
 
 /// What a Change UPS State asks (PS3.4 CC.2.1).
 ///
-/// Errors: C314H for a global subscription, which is no step; 0115H where no state is named.
+/// Errors: C314 for a global subscription, which is no step; 0115 where no state is named.
 fn changed<A: Allocator + Copy>(
     instance: &Option<Uid>,
     attributes: &DataSet<A>,
@@ -102,7 +82,7 @@ fn changed<A: Allocator + Copy>(
 
 /// What a Request UPS Cancel asks (PS3.4 CC.2.2).
 ///
-/// Errors: C314H for a global subscription, which is no step.
+/// Errors: C314 for a global subscription, which is no step.
 fn canceled<A: Allocator + Copy>(
     instance: &Option<Uid>,
     reasons: DataSet<A>,
@@ -118,24 +98,28 @@ fn canceled<A: Allocator + Copy>(
     }))
 }
 
-/// What an N-ACTION asks. Errors: 0123H for another type than these two, and theirs.
+/// What an N-ACTION asks. Errors: 0123 for a type that is none of these five, and theirs.
 fn acted<A: Allocator + Copy>(
     instance: &Option<Uid>,
     action: u16,
     attributes: DataSet<A>,
+    offset: i16,
 ) -> Result<Ask<A>, Status>
-    ensures { result ≡ acted instance.now action attributes }
+    ensures { result ≡ acted offset instance.now action attributes }
 {
     match action {
         CHANGE_STATE => changed(instance, &attributes),
         REQUEST_CANCEL => canceled(instance, attributes),
+        SUBSCRIBE => subscribed(instance, attributes, offset),
+        UNSUBSCRIBE => unsubscribed(instance, &attributes),
+        SUSPEND => suspended(instance, &attributes),
         _ => Err(Status::NoSuchActionType),
     }
 }
 
 /// What a C-FIND asks: the steps that match keys (PS3.4 sections CC.2.8 and C.4.1).
 ///
-/// Errors: A900H where a key can't be read.
+/// Errors: A900 where a key can't be read.
 fn finds<A: Allocator + Copy>(attributes: DataSet<A>, offset: i16) -> Result<Ask<A>, Status>
     ensures { result ≡ finds offset attributes (fault_of offset attributes) }
 {
@@ -148,11 +132,13 @@ fn finds<A: Allocator + Copy>(attributes: DataSet<A>, offset: i16) -> Result<Ask
 /// What a message asks: its operation, with the data set that came with it, or an empty one. `offset` is that of the
 /// local time from UTC in minutes, east of it above 0, by which a key's DT is read that says none.
 ///
-/// Errors: 0117H where a step is to be created whose UID is absent, malformed or well known; those of an N-ACTION
-/// (PS3.4 CC.2.1, CC.2.2): 0123H for another type than 1 and 2, C314H for a global subscription, which is no step,
-/// 0115H where a change names no state; A900H where a key of a C-FIND can't be read (PS3.4 section C.4.1.1.4); 0211H
-/// for a C-ECHO, which asks nothing of a step (PS3.4 annex A); 0213H where memory runs out, and only for a message
-/// that asks something.
+/// Errors: 0117 where a step is to be created whose UID is absent, malformed or well known; those of an N-ACTION
+/// (PS3.4 CC.2.1 to CC.2.3): 0123 for another type than 1 to 5, C314 for a change or a cancel of a global subscription,
+/// which is no step, and for the suspension of anything else, 0115 where a change names no state, where no receiving AE
+/// is named for a subscription, where a deletion lock is neither TRUE nor FALSE, and where a key of a filter can't be
+/// read, 0114 where a filter has universal keys alone; A900 where a key of a C-FIND can't be read (PS3.4 section
+/// C.4.1.1.4); 0211 for a C-ECHO, which asks nothing of a step (PS3.4 annex A); 0213 where memory runs out, and only
+/// for a message that asks something.
 pub fn read_request<A: Allocator + Copy>(
     alloc: A,
     operation: &Operation<A>,
@@ -185,7 +171,7 @@ pub fn read_request<A: Allocator + Copy>(
             transaction: transaction_of(&attributes),
             attributes,
         })),
-        Operation::Action { instance, action } => acted(instance, *action, attributes),
+        Operation::Action { instance, action } => acted(instance, *action, attributes, offset),
         Operation::Find { .. } => finds(attributes, offset),
         Operation::Echo => Err(Status::UnrecognizedOperation),
     }

@@ -21,9 +21,9 @@ fn has_all<A: Allocator + Copy>(set: &DataSet<A>, tags: &[Tag]) -> bool
 }
 
 /// What an N-GET is answered of the attributes of a step (PS3.4 CC.2.7): all of them where the list is empty,
-/// else those that are listed, with 0001H where one is not there.
+/// else those that are listed, with 0001 where one is not there.
 ///
-/// Errors: want of memory.
+/// Errors: lack of memory.
 pub fn shown<A: Allocator + Copy>(
     attributes: &DataSet<A>,
     listed: &[Tag],

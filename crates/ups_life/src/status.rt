@@ -2,72 +2,89 @@
 
 ghost use Rattle.std.specs.Prelude.{◌≡◌};
 ghost use Rattle.ups_life.specs.Statuses.{code};
+ghost use Rattle.ups_life.specs.History.{is_done};
 
-/// How a request was answered (PS3.7 annex C, PS3.4 CC.2.1 to CC.2.7 and section C.4.1.1.4). Only after Success was it
-/// accepted.
+/// How a request was answered (PS3.7 annex C, PS3.4 CC.2.1 to CC.2.7 and section C.4.1.1.4). It was accepted after
+/// Success, and after B301.
 #[derive(Clone, Copy, Debug, PartialEq, Eq)]
 pub enum Status {
-    /// 0000H: done as asked.
+    /// 0000: done as asked.
     Success,
-    /// 0001H: attributes were asked for that the step does not have; the others follow.
+    /// 0001: attributes were asked for that the step does not have; the others follow.
     AttributesNotSupported,
-    /// 0106H: an attribute may not have this value.
+    /// 0106: an attribute may not have this value.
     InvalidAttributeValue,
-    /// 0110H: the data set could not be read.
+    /// 0110: the data set could not be read.
     ProcessingFailure,
-    /// 0111H: a step with this instance UID was created before.
+    /// 0111: a step with this instance UID was created before.
     DuplicateSopInstance,
-    /// 0115H: an argument has a value that it may not have.
+    /// 0114: an argument that is required was not given.
+    NoSuchArgument,
+    /// 0115: an argument has a value that it may not have.
     InvalidArgumentValue,
-    /// 0117H: the instance UID is absent, malformed, or has another meaning.
+    /// 0117: the instance UID is absent, malformed, or has another meaning.
     InvalidObjectInstance,
-    /// 0118H: the SOP class is not one that may be named here.
+    /// 0118: the SOP class is not one that may be named here.
     NoSuchSopClass,
-    /// 0120H: a required attribute is missing.
+    /// 0120: a required attribute is missing.
     MissingAttribute,
-    /// 0121H: a required attribute has no value.
+    /// 0121: a required attribute has no value.
     MissingAttributeValue,
-    /// 0123H: the type of the action isn't one of the SOP class.
+    /// 0123: the type of the action isn't one of the SOP class.
     NoSuchActionType,
-    /// 0211H: the service isn't one of the SOP class.
+    /// 0211: the service isn't one of the SOP class.
     UnrecognizedOperation,
-    /// 0213H: there is no room.
+    /// 0213: there is no room.
     ResourceLimitation,
-    /// A700H: there is no room to find what matches.
+    /// A700: there is no room to find what matches.
     OutOfResources,
-    /// A900H: the keys of a query can't be read.
+    /// A900: the keys of a query can't be read.
     IdentifierMismatch,
-    /// B304H: the step is CANCELED already, as was asked.
+    /// B301: done as asked, but without the deletion lock, to which the receiving AE has no right.
+    DeletionLockNotGranted,
+    /// B304: the step is CANCELED already, as was asked.
     AlreadyCanceled,
-    /// B306H: the step is COMPLETED already, as was asked.
+    /// B306: the step is COMPLETED already, as was asked.
     AlreadyCompleted,
-    /// C000H: the data set of a query could not be read.
+    /// C000: the data set of a query could not be read.
     UnableToProcess,
-    /// C300H: the step may no longer be updated.
+    /// C300: the step may no longer be updated.
     NoLongerUpdatable,
-    /// C301H: the correct Transaction UID was not given.
+    /// C301: the correct Transaction UID was not given.
     WrongTransactionUid,
-    /// C302H: the step is IN PROGRESS already.
+    /// C302: the step is IN PROGRESS already.
     AlreadyInProgress,
-    /// C303H: a step becomes SCHEDULED by its creation alone.
+    /// C303: a step becomes SCHEDULED by its creation alone.
     ScheduledByCreateAlone,
-    /// C304H: what the final state needs is not there.
+    /// C304: what the final state needs is not there.
     FinalStateNotMet,
-    /// C307H: no step with this instance UID is held.
+    /// C307: no step with this instance UID is held.
     UnknownInstance,
-    /// C309H: a step has to be created as SCHEDULED.
+    /// C308: the receiving AE is none of the peers.
+    UnknownReceivingAe,
+    /// C309: a step has to be created as SCHEDULED.
     NotScheduled,
-    /// C310H: the step is not yet IN PROGRESS.
+    /// C310: the step is not yet IN PROGRESS.
     NotInProgress,
-    /// C311H: the step is COMPLETED, and can't be canceled any more.
+    /// C311: the step is COMPLETED, and can't be canceled any more.
     TooLateToCancel,
-    /// C314H: the action does not go with this instance.
+    /// C314: the action does not go with this instance.
     ActionNotAppropriate,
-    /// FF00H: this matches, and there may be more.
+    /// FF00: this matches, and there may be more.
     Pending,
 }
 
 impl Status {
+    /// Whether a request with this status was accepted: it is done, if perhaps without the deletion lock that it asks for.
+    pub fn is_done(self) -> bool
+        ensures { result ≡ is_done self }
+    {
+        match self {
+            Status::Success | Status::DeletionLockNotGranted => true,
+            _ => false,
+        }
+    }
+
     /// The number that stands for it in a response (PS3.7 annex C).
     pub fn code(self) -> u16
         ensures { result ≡ code self }
@@ -78,6 +95,7 @@ impl Status {
             Status::InvalidAttributeValue => 0x0106,
             Status::ProcessingFailure => 0x0110,
             Status::DuplicateSopInstance => 0x0111,
+            Status::NoSuchArgument => 0x0114,
             Status::InvalidArgumentValue => 0x0115,
             Status::InvalidObjectInstance => 0x0117,
             Status::NoSuchSopClass => 0x0118,
@@ -88,6 +106,7 @@ impl Status {
             Status::ResourceLimitation => 0x0213,
             Status::OutOfResources => 0xa700,
             Status::IdentifierMismatch => 0xa900,
+            Status::DeletionLockNotGranted => 0xb301,
             Status::AlreadyCanceled => 0xb304,
             Status::AlreadyCompleted => 0xb306,
             Status::UnableToProcess => 0xc000,
@@ -97,6 +116,7 @@ impl Status {
             Status::ScheduledByCreateAlone => 0xc303,
             Status::FinalStateNotMet => 0xc304,
             Status::UnknownInstance => 0xc307,
+            Status::UnknownReceivingAe => 0xc308,
             Status::NotScheduled => 0xc309,
             Status::NotInProgress => 0xc310,
             Status::TooLateToCancel => 0xc311,

@@ -14,7 +14,7 @@ use Rattle.ups_life.specs.declared.state.StepState.{StepState}
 use Rattle.ups_life.specs.declared.state.StepState.TheVariants.{Scheduled, InProgress, Completed, Canceled}
 use Rattle.ups_life.specs.declared.status.Status.TheVariants.{UnknownInstance}
 use Rattle.ups_life.specs.Settings.{Settings}
-use Rattle.ups_life.specs.Steps.{known}
+use Rattle.ups_life.specs.Watching.{known}
 use Rattle.ups_life.specs.History.{got, shown, shown_of}
 use Rattle.ups_manager.specs.declared.rows.HeldStep.{HeldStep}
 use Rattle.ups_manager.specs.Held.{held_steps, slack, IsSmallStep, step_at}

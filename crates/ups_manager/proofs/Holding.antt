@@ -1,10 +1,10 @@
 -- The steps held after a history, and after one more entry.
-use Rattle.std.proofs.Common.{◌≡◌, ℕ, Bool, true, false, ◌||◌, cond, List, [], ◌∷◌, ◌++◌, map, Option, None, Some, refl, sym, ap, ◌∙◌}
+use Rattle.std.proofs.Common.{◌≡◌, ℕ, Bool, true, false, not, ◌||◌, cond, List, [], ◌∷◌, ◌++◌, map, filter, Option, None, Some, refl, sym, ap, ◌∙◌}
 use Rattle.std.specs.Option.{option_or, option_map, unwrap_or}
 use Rattle.std.specs.Str.{bytes_eq}
 use Rattle.std.specs.List.{list_any}
 use Rattle.ups_life.specs.declared.request.Request.{Request}
-use Rattle.ups_life.specs.declared.request.Request.TheVariants.{Create, Change, AskCancel, Set}
+use Rattle.ups_life.specs.declared.request.Request.TheVariants.{Create, Change, AskCancel, Set, Subscribe, Unsubscribe, Suspend, Ack, Sweep}
 use Rattle.ups_life.specs.declared.entry.Entry.{Entry}
 use Rattle.ups_life.specs.declared.row.Row.{Row}
 use Rattle.ups_life.specs.declared.row.Holder.{Holder}
@@ -12,12 +12,16 @@ use Rattle.ups_life.specs.declared.status.Status.TheVariants.{Success}
 use Rattle.ups_life.specs.Settings.{Settings}
 use Rattle.ups_life.specs.Distinct.{Distinct}
 use Rattle.ups_life.specs.Verdict.{verdict}
-use Rattle.ups_life.specs.Steps.{Claim, is_on, is_step, step_of, creates, used, held, held_after, is_held, known, row_of, row_after, nothing, holder, claim, taken}
+use Rattle.ups_life.specs.Steps.{Claim, is_on, is_step, step_of, creates, used, row_of, row_after, nothing, holder, claim, taken}
+use Rattle.ups_life.specs.Watching.{is_due, held, held_after, is_held, known}
 use Rattle.ups_life.specs.History.{repeats, legal}
 use Rattle.ups_life.proofs.Texts.{same_text, text_is_itself}
-use Rattle.ups_life.proofs.Accepted.{decided, legal_tail, created_fresh, on_held, neither, differ}
+use Rattle.ups_life.proofs.Accepted.{succeeded, legal_tail, created_fresh, on_held, neither, differ}
 use Rattle.ups_life.proofs.HeldOnce.{is_held_used, held_once}
+use Rattle.ups_manager.specs.declared.deciding.Kind.TheVariants.{OfWatcher, OfEvents, OfTime}
 use Rattle.ups_manager.specs.declared.rows.HeldStep.{HeldStep}
+use Rattle.ups_manager.specs.Deciding.{kind_of}
+use Rattle.ups_manager.specs.Law.{entry}
 use Rattle.ups_manager.specs.Held.{held_step, held_steps, step_at, row_in, row_of_step, holder_in, holder_of, put_step}
 
 -- a step is found exactly where it is held
@@ -63,7 +67,7 @@ never : {A : Type 0} (s : Settings) (es : List (Entry A)) (u : List ℕ) → leg
 never s [] u l f = refl
 never {A} s (e ∷ es) u l f =
     let fresh = neither (creates u e.request) (used es u) f in
-    on_another s e es u (is_off (is_on u e.request) (λ on. differ (used es u) fresh.1 (is_held_used s es u (on_held s es u e.request (decided s e es l) on fresh.0))))
+    on_another s e es u (is_off (is_on u e.request) (λ on. differ (used es u) fresh.1 (is_held_used s es u (on_held s es u e.request (succeeded s e es l) on fresh.0))))
     ∙ never s es u (legal_tail s e es l) fresh.1
   where
     is_off : (b : Bool) → (b ≡ true → ⊥) → b ≡ false
@@ -80,6 +84,7 @@ creates_on es s u (Create step set) d on free = ap (used es) (sym (same_text ste
 creates_on es s u (Change step to t) d on free = absurd (differ (is_held s es u) free (on_held s es u (Change step to t) d on refl))
 creates_on es s u (AskCancel step reasons) d on free = absurd (differ (is_held s es u) free (on_held s es u (AskCancel step reasons) d on refl))
 creates_on es s u (Set step t set) d on free = absurd (differ (is_held s es u) free (on_held s es u (Set step t set) d on refl))
+creates_on es s u r d on free = absurd cc
 
 seen : {A : Type 0} (s : Settings) (es : List (Entry A)) (u : List ℕ) (r : Request A) → legal s es ≡ true → verdict (known s es (step_of r)) (repeats es r) r ≡ Success → is_on u r ≡ true → Seen s es u
 seen {A} s es u r l d on = by (is_held s es u) refl
@@ -171,7 +176,7 @@ not_held s es u fresh = is_off (is_held s es u) (λ e. differ (used es u) fresh 
     is_off false n = refl
 
 put_after : {A : Type 0} (s : Settings) (e : Entry A) (es : List (Entry A)) (u : List ℕ) (r : Request A) → e.request ≡ r → step_of r ≡ Some u → legal s es ≡ true
-    → verdict (known s es (step_of r)) (repeats es r) r ≡ Success → map (held_step s (e ∷ es)) (held_after (held s es) r) ≡ put_step (held_step s (e ∷ es) u) (held_steps s es)
+    → verdict (known s es (step_of r)) (repeats es r) r ≡ Success → map (held_step s (e ∷ es)) (held_after s es e.moment (held s es) r) ≡ put_step (held_step s (e ∷ es) u) (held_steps s es)
 put_after {A} s e es u (Create step set) is on l d =
     let same : step ≡ u = cc in
     let fresh = created_fresh s es step set d in
@@ -187,6 +192,7 @@ put_after s e es u (AskCancel step reasons) is on l d =
     replaced s e es u (held s es) (ap step_of is ∙ on) (held_once s es l) (on_held s es u (AskCancel step reasons) d (ap (is_step u) on ∙ text_is_itself u) refl)
 put_after s e es u (Set step t set) is on l d =
     replaced s e es u (held s es) (ap step_of is ∙ on) (held_once s es l) (on_held s es u (Set step t set) d (ap (is_step u) on ∙ text_is_itself u) refl)
+put_after s e es u r is on l d = absurd cc
 
 -- What is held after a request that is allowed: its step, in its place or behind the others, with what the request makes
 -- of what was held of it.
@@ -209,3 +215,27 @@ held_steps-after {A} s e es x l on d row by =
     let same : held_step s (e ∷ es) x.step ≡ x =
     on_it s e es x.step is_on_it ∙ ap (λ k. made x.step k (option_or (claims_it e) (holder es x.step))) (sym row_is) ∙ ap (made x.step x.row) (sym holder_is) in
     put_after s e es x.step e.request refl on l allowed ∙ ap (λ h. put_step h (held_steps s es)) same
+
+-- an entry on no step leaves what is held of each
+unmoved : {A : Type 0} (s : Settings) (e : Entry A) (es : List (Entry A)) (vs : List (List ℕ)) → ((v : List ℕ) → is_on v e.request ≡ false) → map (held_step s (e ∷ es)) vs ≡ map (held_step s es) vs
+unmoved s e es [] off = refl
+unmoved {A} s e es (v ∷ vs) off =
+    ap (λ (h : HeldStep A). h ∷ map (held_step s (e ∷ es)) vs) (on_another s e es v (off v)) ∙ ap (λ (l : List (HeldStep A)). held_step s es v ∷ l) (unmoved s e es vs off)
+
+-- so does a request for a watcher
+pub watcher_leaves : {A : Type 0} (s : Settings) (es : List (Entry A)) (caller : ℕ) (ae : List ℕ) (moment : ℕ) (r : Request A) → kind_of r ≡ OfWatcher → held_steps s (entry caller ae moment r ∷ es) ≡ held_steps s es
+watcher_leaves s es caller ae moment (Subscribe target receiver lock) h = unmoved s (entry caller ae moment (Subscribe target receiver lock)) es (held s es) (λ v. refl)
+watcher_leaves s es caller ae moment (Unsubscribe place receiver) h = unmoved s (entry caller ae moment (Unsubscribe place receiver)) es (held s es) (λ v. refl)
+watcher_leaves s es caller ae moment (Suspend receiver) h = unmoved s (entry caller ae moment (Suspend receiver)) es (held s es) (λ v. refl)
+watcher_leaves s es caller ae moment r h = absurd cc
+
+-- and an acknowledgement
+pub ack_leaves : {A : Type 0} (s : Settings) (es : List (Entry A)) (caller : ℕ) (ae : List ℕ) (moment : ℕ) (r : Request A) (n : ℕ) → kind_of r ≡ OfEvents n → held_steps s (entry caller ae moment r ∷ es) ≡ held_steps s es
+ack_leaves s es caller ae moment (Ack upto) n h = unmoved s (entry caller ae moment (Ack upto)) es (held s es) (λ v. refl)
+ack_leaves s es caller ae moment r n h = absurd cc
+
+-- and a sweep leaves what is held of the steps that it doesn't remove
+pub sweep_leaves : {A : Type 0} (s : Settings) (es : List (Entry A)) (caller : ℕ) (ae : List ℕ) (moment : ℕ) (r : Request A) → kind_of r ≡ OfTime
+    → held_steps s (entry caller ae moment r ∷ es) ≡ map (held_step s es) (filter (λ u. not (is_due s es moment u)) (held s es))
+sweep_leaves s es caller ae moment Sweep h = unmoved s (entry caller ae moment Sweep) es (filter (λ u. not (is_due s es moment u)) (held s es)) (λ v. refl)
+sweep_leaves s es caller ae moment r h = absurd cc

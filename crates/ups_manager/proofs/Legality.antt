@@ -6,12 +6,12 @@ use Rattle.std.proofs.lemmas.Bool.Decides.{nat_tests}
 use Rattle.std.proofs.lemmas.List.{reverse-append}
 use Rattle.ups_life.specs.declared.entry.Entry.{Entry}
 use Rattle.ups_life.specs.declared.request.Ask.{Ask}
-use Rattle.ups_life.specs.declared.request.Ask.TheVariants.{Do, Get, Find}
+use Rattle.ups_life.specs.declared.request.Ask.TheVariants.{Do, Get, Find, Pending}
 use Rattle.ups_life.specs.declared.request.Reply.{Reply}
 use Rattle.ups_life.specs.declared.request.Reply.TheVariants.{Status as Answered}
 use Rattle.ups_life.specs.Settings.{Settings}
 use Rattle.ups_life.specs.Steps.{past}
-use Rattle.ups_life.specs.History.{is_done, accepts, legal, status, reply}
+use Rattle.ups_life.specs.History.{accepts, legal, decided, reply}
 use Rattle.ups_life.proofs.Accepted.{differ, legal_tail}
 use Rattle.ups_life.proofs.Past.{length-past}
 use Rattle.ups_manager.specs.Law.{is_legal, entry, entered, lacking}
@@ -33,7 +33,7 @@ more n m h = grind (arith, nat_tests)
 within_limit : {A : Type 0} (s : Settings) (es : List (Entry A)) → legal s es ≡ true → length es ≤ s.limit
 within_limit s [] h = omega arith
 within_limit s (e ∷ es) h =
-    let free = had_room (is_done (status s es e)) (nat_lt (length es) s.limit) (Answered (status s es e)) refl (first_of (accepts (reply s es e)) (legal s es) h) in
+    let free = had_room (accepts (decided s es e e.request)) (nat_lt (length es) s.limit) (decided s es e e.request) refl (first_of (accepts (reply s es e)) (legal s es) h) in
     omega (arith, more (length es) s.limit free)
 
 pub legal_within : {A : Type 0} (s : Settings) (history : List (Entry A)) → is_legal s history → length history ≤ s.limit
@@ -54,8 +54,10 @@ pub entered_numbered : {A : Type 0} (caller : ℕ) (ae : List ℕ) (moment : ℕ
 entered_numbered caller ae moment (Do request) reply = numbered (accepts reply) (entry caller ae moment request)
 entered_numbered caller ae moment (Get step listed) reply = tt
 entered_numbered caller ae moment (Find keys) reply = tt
+entered_numbered caller ae moment (Pending max) reply = tt
 
 pub lacking_enters_nothing : {A : Type 0} (caller : ℕ) (ae : List ℕ) (moment : ℕ) (ask : Ask A) → entered caller ae moment ask (Answered (lacking ask)) ≡ []
 lacking_enters_nothing caller ae moment (Do request) = refl
 lacking_enters_nothing caller ae moment (Get step listed) = refl
 lacking_enters_nothing caller ae moment (Find keys) = refl
+lacking_enters_nothing caller ae moment (Pending max) = refl

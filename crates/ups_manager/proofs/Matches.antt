@@ -1,11 +1,12 @@
 -- What is found among the steps, and which they are.
-use Rattle.std.proofs.Common.{◌≡◌, ℕ, ◌<◌, ◌+◌, Bool, true, false, if◌then◌else◌, List, [], ◌∷◌, ◌++◌, length, map, filter, take, get_or, Result, Ok, Err, IfOk, Vec, refl, sym, ap, ◌∙◌, ◌⊎◌, inl, inr}
+use Rattle.std.proofs.Common.{◌≡◌, ℕ, ◌<◌, ◌+◌, Bool, true, false, if◌then◌else◌, List, [], ◌∷◌, ◌++◌, length, map, filter, take, get_or, Result, Ok, Err, IfOk, Vec, refl, sym, ap, ◌∙◌, inl, inr}
 use Rattle.std.specs.List.{AllByRecursion}
 use Rattle.std.proofs.lemmas.List.{take_more, map-append}
 use Rattle.ups_dataset.specs.Data.{El, answer}
 use Rattle.ups_match.specs.Matching.{KeySet, is_match}
 use Rattle.ups_life.specs.declared.entry.Entry.{Entry}
-use Rattle.ups_life.specs.Steps.{row, held}
+use Rattle.ups_life.specs.Steps.{row}
+use Rattle.ups_life.specs.Watching.{held}
 use Rattle.ups_life.specs.Settings.{Settings}
 use Rattle.ups_life.specs.Worklist.{rows, found, worklist}
 use Rattle.ups_manager.specs.Finding.{IsAmong, AreFound}
@@ -53,7 +54,7 @@ uids_of : {A : Type 0} (s : Settings) (es : List (Entry A)) (us : List (List ℕ
 uids_of s es [] = refl
 uids_of s es (u ∷ us) = ap (λ l. u ∷ l) (uids_of s es us)
 
-uids_are : {A : Type 0} (s : Settings) (es : List (Entry A)) (hs steps : List (HeldStep A)) → hs ≡ held_steps s es → steps ≡ hs → map (λ (h : HeldStep A). h.step) steps ≡ held s es
+pub uids_are : {A : Type 0} (s : Settings) (es : List (Entry A)) (hs steps : List (HeldStep A)) → hs ≡ held_steps s es → steps ≡ hs → map (λ (h : HeldStep A). h.step) steps ≡ held s es
 uids_are {A} s es hs steps kept all = ap (map (λ (h : HeldStep A). h.step)) (all ∙ kept) ∙ uids_of s es (held s es)
 
 pub uids_if_ok : {A E : Type 0} (s : Settings) (es : List (Entry A)) (hs steps : List (HeldStep A)) (r : Result (Vec (List ℕ) A) E) → hs ≡ held_steps s es → steps ≡ hs

@@ -1,5 +1,5 @@
 -- The rows that are held are small: a change of state adds little, and there are two of them at most.
-use Rattle.std.proofs.Common.{◌≡◌, ℕ, ◌+◌, ◌≤◌, Bool, true, false, ◌&&◌, cond, List, [], ◌∷◌, ◌++◌, length, Option, None, Some, refl, sym, subst, arith}
+use Rattle.std.proofs.Common.{◌≡◌, ℕ, ◌+◌, ◌≤◌, Bool, true, false, ◌&&◌, cond, List, [], ◌∷◌, ◌++◌, length, filter, Option, None, Some, refl, sym, subst, arith}
 use Rattle.std.specs.Prelude.{nat_lt, not}
 use Rattle.std.specs.Option.{option_map, unwrap_or}
 use Rattle.std.specs.Str.{bytes_eq}
@@ -21,7 +21,7 @@ use Rattle.ups_life.specs.declared.state.StepState.TheVariants.{Scheduled, InPro
 use Rattle.ups_life.specs.declared.status.Status.{Status}
 use Rattle.ups_life.specs.declared.status.Status.TheVariants.{Success, WrongTransactionUid}
 use Rattle.ups_life.specs.Settings.{Settings}
-use Rattle.ups_life.specs.Steps.{state_element, row_after, nothing}
+use Rattle.ups_life.specs.Steps.{step_of, state_element, row_after, nothing}
 use Rattle.ups_life.specs.Verdict.{verdict, if_held, change_status, claim_status, complete_status, discontinue_status, wrong_status, is_proper, is_right, is_performed, is_discontinued}
 use Rattle.ups_life.specs.Limits.{row_limit}
 use Rattle.ups_life.specs.History.{fits, is_sized}
@@ -131,13 +131,14 @@ change_small s moment (Some r) step to t small h =
     omega (arith, put_length (state_element to) r.attributes, state_length to, change_slack r to t h, small r refl)
 
 -- the row that a request makes of a small one is small
-pub small_after : {A : Type 0} (s : Settings) (moment : ℕ) (hs : List (HeldStep A)) (x : HeldStep A) (used : Bool) (r : Request A) → AllByRecursion IsSmallStep hs
+pub small_after : {A : Type 0} (s : Settings) (moment : ℕ) (hs : List (HeldStep A)) (x : HeldStep A) (used : Bool) (r : Request A) → step_of r ≡ Some x.step → AllByRecursion IsSmallStep hs
     → verdict (row_in x.step hs) used r ≡ Success → x.row ≡ row_after s.offset moment (unwrap_or (row_in x.step hs) nothing) r → (is_sized r ≡ true → fits x.row.attributes ≡ true) → IsSmallStep x
-small_after s moment hs x used (Create step set) all d row f = fitting x.row (f refl)
-small_after {A} s moment hs x used (Change step to t) all d row f =
+small_after s moment hs x used (Create step set) on all d row f = fitting x.row (f refl)
+small_after {A} s moment hs x used (Change step to t) on all d row f =
     subst HasSmallRow (sym row) (change_small s moment (row_in x.step hs) step to t (λ r e. small_row (step_at x.step hs) r (λ h k. small_at hs x.step h all k) e) d)
-small_after s moment hs x used (AskCancel step reasons) all d row f = fitting x.row (f refl)
-small_after s moment hs x used (Set step t set) all d row f = fitting x.row (f refl)
+small_after s moment hs x used (AskCancel step reasons) on all d row f = fitting x.row (f refl)
+small_after s moment hs x used (Set step t set) on all d row f = fitting x.row (f refl)
+small_after s moment hs x used r on all d row f = absurd cc
 
 pub small_put : {A : Type 0} (x : HeldStep A) (hs : List (HeldStep A)) → IsSmallStep x → AllByRecursion IsSmallStep hs → AllByRecursion IsSmallStep (put_step x hs)
 small_put x [] p all = (p, tt)
@@ -146,3 +147,11 @@ small_put {A} x (h ∷ hs) p (q, all) = here (bytes_eq h.step x.step) (small_put
     here : (b : Bool) → AllByRecursion IsSmallStep (put_step x hs) → AllByRecursion IsSmallStep (cond b (x ∷ hs) (h ∷ put_step x hs))
     here true more = (p, all)
     here false more = (q, more)
+
+pub small_filter : {A : Type 0} (p : HeldStep A → Bool) (hs : List (HeldStep A)) → AllByRecursion IsSmallStep hs → AllByRecursion IsSmallStep (filter p hs)
+small_filter p [] all = tt
+small_filter {A} p (h ∷ hs) (q, all) = here (p h) (small_filter p hs all)
+  where
+    here : (b : Bool) → AllByRecursion IsSmallStep (filter p hs) → AllByRecursion IsSmallStep (cond b (h ∷ filter p hs) (filter p hs))
+    here true more = (q, more)
+    here false more = more

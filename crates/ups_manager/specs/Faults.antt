@@ -15,7 +15,7 @@ use Rattle.ups_life.specs.History.{is_done, fits, is_sized}
 use Rattle.ups_manager.specs.declared.submitting.SubmitFault.{SubmitFault}
 use Rattle.ups_manager.specs.declared.submitting.SubmitFault.TheVariants.{Refused, Memory}
 
--- the status that tells it: 0213H where memory ran out
+-- the status that tells it: 0213 where memory ran out
 abbrev pub status_of : SubmitFault → Status
 status_of (Refused status) = status
 status_of Memory = ResourceLimitation

@@ -4,7 +4,7 @@ use Rattle.std.specs.List.{AllByRecursion}
 use Rattle.ups_dataset.specs.Data.{El, answer}
 use Rattle.ups_match.specs.Matching.{KeySet}
 use Rattle.ups_life.specs.declared.request.Reply.{Reply}
-use Rattle.ups_life.specs.declared.request.Reply.TheVariants.{Status as Answered, Set as Shown, Sets as Found}
+use Rattle.ups_life.specs.declared.request.Reply.TheVariants.{Status as Answered, Set as Shown, Sets as Found, Swept, AckAhead, AckStale, Reports}
 use Rattle.ups_life.specs.declared.status.Status.TheVariants.{OutOfResources}
 
 -- some of a list, in its order
@@ -23,3 +23,7 @@ abbrev pub IsFind : {A : Type 0} → (KeySet → List El → Bool) → KeySet �
 IsFind says keys rows (Found sets) = AreFound (says keys) keys.attributes rows sets
 IsFind says keys rows (Answered status) = status ≡ OutOfResources
 IsFind says keys rows (Shown status set) = ⊥
+IsFind says keys rows (Swept count) = ⊥
+IsFind says keys rows AckAhead = ⊥
+IsFind says keys rows AckStale = ⊥
+IsFind says keys rows (Reports events) = ⊥

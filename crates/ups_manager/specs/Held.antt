@@ -12,7 +12,8 @@ use Rattle.ups_life.specs.declared.state.StepState.TheVariants.{Scheduled, InPro
 use Rattle.ups_life.specs.declared.row.Holder.{Holder}
 use Rattle.ups_life.specs.Limits.{row_limit}
 use Rattle.ups_life.specs.Settings.{Settings}
-use Rattle.ups_life.specs.Steps.{taken, held, is_held, holder, row_of}
+use Rattle.ups_life.specs.Steps.{taken, holder, row_of}
+use Rattle.ups_life.specs.Watching.{held, is_held}
 use Rattle.ups_manager.specs.declared.call.Call.{Call}
 use Rattle.ups_manager.specs.declared.rows.HeldStep.{HeldStep}
 

@@ -1,14 +1,14 @@
 -- The law of a service: what it answers by a history, what it enters there, and what others may enter between.
 -- Histories stand here as they are shown, oldest first.
-use Rattle.std.specs.Prelude.{◌≡◌, ◌≢◌, ◌≤◌, ◌+◌, ◌⊎◌, ℕ, Bool, true, List, [], ◌∷◌, ◌++◌, length, All}
+use Rattle.std.specs.Prelude.{◌≡◌, ◌≢◌, ◌≤◌, ◌+◌, ◌⊎◌, ℕ, Bool, true, List, [], ◌∷◌, ◌++◌, length, take, All}
 use Rattle.ups_dataset.specs.declared.syntax.TransferSyntax.TheVariants.{Explicit}
 use Rattle.ups_dataset.specs.Data.{El}
 use Rattle.ups_dataset.specs.Written.{written}
 use Rattle.ups_life.specs.declared.request.Request.{Request}
 use Rattle.ups_life.specs.declared.request.Ask.{Ask}
-use Rattle.ups_life.specs.declared.request.Ask.TheVariants.{Do, Get, Find}
+use Rattle.ups_life.specs.declared.request.Ask.TheVariants.{Do, Get, Find, Pending}
 use Rattle.ups_life.specs.declared.request.Reply.{Reply}
-use Rattle.ups_life.specs.declared.request.Reply.TheVariants.{Status as Answered, Set as Shown, Sets as Found}
+use Rattle.ups_life.specs.declared.request.Reply.TheVariants.{Status as Answered, Set as Shown, Sets as Found, Swept, AckAhead, AckStale, Reports}
 use Rattle.ups_life.specs.declared.entry.Entry.{Entry}
 use Rattle.ups_life.specs.declared.status.Status.{Status}
 use Rattle.ups_life.specs.declared.status.Status.TheVariants.{ResourceLimitation, OutOfResources}
@@ -16,6 +16,7 @@ use Rattle.ups_life.specs.Limits.{row_limit}
 use Rattle.ups_life.specs.Settings.{Settings}
 use Rattle.ups_life.specs.Steps.{past}
 use Rattle.ups_life.specs.History.{legal, is_done, reply, got, entered as entered_by}
+use Rattle.ups_life.specs.Events.{pending}
 use Rattle.ups_life.specs.Worklist.{worklist}
 
 -- each entry was accepted after those before it
@@ -26,23 +27,28 @@ is_legal settings history = legal settings (past history) ≡ true
 abbrev pub entry : {A : Type 0} → ℕ → List ℕ → ℕ → Request A → Entry A
 entry caller ae moment request = record { caller = caller; ae = ae; moment = moment; request = request }
 
--- what a caller asks for an application entity at a moment, answered by a history (PS3.4 CC.2.1, CC.2.2, CC.2.5 to
--- CC.2.8)
+-- what a caller asks for an application entity at a moment, answered by a history (PS3.4 CC.2.1 to CC.2.8)
 abbrev pub reply_to : {A : Type 0} → Settings → List (Entry A) → ℕ → List ℕ → ℕ → Ask A → Reply A
 reply_to settings history caller ae moment (Do request) = reply settings (past history) (entry caller ae moment request)
 reply_to settings history caller ae moment (Get step listed) = got settings (past history) step listed
 reply_to settings history caller ae moment (Find keys) = Found (worklist settings (past history) keys)
+reply_to settings history caller ae moment (Pending max) = Reports (take max (pending settings (past history) ae))
 
 -- the status that tells that memory ran out (PS3.7 annex C, PS3.4 section C.4.1.1.4)
 abbrev pub lacking : {A : Type 0} → Ask A → Status
 lacking (Find keys) = OutOfResources
 lacking ask = ResourceLimitation
 
--- the reply accepts a request, shows a set or tells what was found: to these alone memory is owed
+-- the reply accepts a request, shows a set, or tells what was found, how much a sweep removes, which events are pending or
+-- how they stand to an acknowledgement: to these alone memory is owed
 abbrev pub is_granted : {A : Type 0} → Reply A → Bool
 is_granted (Answered status) = is_done status
 is_granted (Shown status set) = true
 is_granted (Found sets) = true
+is_granted (Swept count) = true
+is_granted AckAhead = true
+is_granted AckStale = true
+is_granted (Reports events) = true
 
 -- the reply that is due; or memory ran out, where a request would have been accepted, or a set shown or found: what is
 -- refused anyway has its own number
@@ -67,12 +73,19 @@ abbrev pub MayCome : {A : Type 0} → Others → ℕ → List (Entry A) → Type
 MayCome nobody caller between = between ≡ []
 MayCome {A} callers caller between = All (λ (e : Entry A). e.caller ≢ caller) between
 
+-- The reply of a service: the one by the history. Where callers share the service, a caller may be refused instead,
+-- whatever is due, since it may make only so many calls: what shares the service says when.
+abbrev pub Replies : {A : Type 0} → Others → Settings → List (Entry A) → ℕ → List ℕ → ℕ → Ask A → Reply A → Type 0
+Replies nobody settings history caller ae moment ask reply = Answers settings history caller ae moment ask reply
+Replies callers settings history caller ae moment ask reply =
+    Answers settings history caller ae moment ask reply ⊎ (reply ≡ Answered (lacking ask))
+
 -- One call of a service that had seen a history: others made a legal history of it, as far as they may, the reply is
 -- given by that one, and it is seen afterwards, with the call's own request at its end where that was accepted.
 abbrev pub Serves : {A : Type 0} → Settings → Others → ℕ → List (Entry A) → List ℕ → ℕ → Ask A → Reply A → List (Entry A) → Type 0
 Serves {A} settings others caller seen ae moment ask reply after =
     (between : List (Entry A)) × MayCome others caller between × is_legal settings (seen ++ between)
-    × Answers settings (seen ++ between) caller ae moment ask reply
+    × Replies others settings (seen ++ between) caller ae moment ask reply
     × (after ≡ (seen ++ between) ++ entered caller ae moment ask reply)
 
 -- calls of one application entity, one after another: each ask at its moment has its reply
@@ -93,3 +106,7 @@ abbrev pub SmallReply : {A : Type 0} → Reply A → Type 0
 SmallReply (Answered status) = Unit {0}
 SmallReply (Shown status set) = IsSmall set
 SmallReply (Found sets) = Unit {0}
+SmallReply (Swept count) = Unit {0}
+SmallReply AckAhead = Unit {0}
+SmallReply AckStale = Unit {0}
+SmallReply (Reports events) = Unit {0}

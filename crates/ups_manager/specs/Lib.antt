@@ -1,3 +1,4 @@
+pub mod Deciding
 pub mod Faults
 pub mod Finding
 pub mod Held

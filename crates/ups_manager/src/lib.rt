@@ -4,6 +4,7 @@
 #![tactic(auto)]
 
 mod call;
+mod deciding;
 mod fault;
 pub mod laws;
 mod manager;
@@ -17,6 +18,3 @@ pub use call::Call;
 pub use fault::ManagerFault;
 pub use manager::Manager;
 pub use service::Service;
-
-#[cfg(test)]
-mod tests;

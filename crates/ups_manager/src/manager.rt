@@ -1,15 +1,19 @@
 //! What the service holds: the history of accepted requests, and the steps.
 
-ghost use Rattle.std.specs.Prelude.{[], ◌≡◌, ◌≤◌, ◌<◌, ◌^◌, ◌++◌, List, None, length, All, IfOk, IfErr, OnOk};
+ghost use Rattle.std.specs.Prelude.{[], ◌≡◌, ◌≤◌, ◌<◌, ◌^◌, ◌+◌, ◌++◌, List, None, Some, length, take, All, IfOk, IfErr, OnOk};
+ghost use Rattle.std.specs.List.{AllByRecursion};
 ghost use Rattle.std.specs.Option.{unwrap_or};
 ghost use Rattle.ups_dataset.specs.Data.{El};
 ghost use Rattle.ups_match.specs.Matching.{is_match};
 ghost use Rattle.ups_life.specs.declared.request.Ask.TheVariants.{Do};
-ghost use Rattle.ups_life.specs.declared.request.Reply.TheVariants.{Sets as Found};
+ghost use Rattle.ups_life.specs.declared.request.Reply.TheVariants.{Sets as Found, Reports};
 ghost use Rattle.ups_life.specs.declared.status.Status.TheVariants.{ResourceLimitation, OutOfResources};
 ghost use Rattle.ups_life.specs.Limits.{peer_limit};
 ghost use Rattle.ups_life.specs.Settings.{IsMoment, IsOffset};
-ghost use Rattle.ups_life.specs.Steps.{past, held};
+ghost use Rattle.ups_life.specs.Steps.{past};
+ghost use Rattle.ups_life.specs.declared.watching.Watched.{Watched};
+ghost use Rattle.ups_life.specs.Watching.{held, watched};
+ghost use Rattle.ups_life.specs.Events.{events, pending, view, present};
 ghost use Rattle.ups_life.specs.History.{got};
 ghost use Rattle.ups_life.specs.Worklist.{rows, worklist};
 ghost use Rattle.ups_manager.specs.declared.fault.ManagerFault.TheVariants.{Memory};
@@ -19,15 +23,19 @@ ghost use Rattle.ups_manager.specs.Law.{OrLacking, Answers, SmallReply, entered,
 ghost use Rattle.ups_manager.specs.Refusal.{refusal};
 
 use crate::call::Call;
+use crate::deciding::decide;
 use crate::fault::ManagerFault;
-use crate::rows::{HeldStep, find, put, uids_of};
+use crate::rows::{HeldStep, find, uids_of};
 use crate::starting::refusal;
-use crate::submitting::{make_room, step_for};
+use crate::submitting::make_room;
 use crate::worklist::matches_among;
 use std::alloc::{AllocError, Allocator};
 use std::marker::Model;
 use ups_dataset::Tag;
-use ups_life::{Ask, Configuration, Entry, Holder, Peer, Reply, Status, StepUid, shown};
+use ups_life::{
+    Ask, Configuration, Entry, Holder, Peer, Reply, Status, StepUid, Watched, plain_pending, shown,
+    watched_among,
+};
 use ups_match::{Keys, Matcher, Probe};
 use ups_pdu::Ae;
 
@@ -142,7 +150,32 @@ impl<A: Allocator + Copy> Manager<A> {
         uids_of(self.alloc, self.steps.as_slice())
     }
 
-    /// What an N-GET is answered (PS3.4 CC.2.7): C307H for a step that is not held, 0213H where memory runs
+    /// The steps that a watcher is subscribed to, in order of creation, each with how it is (PS3.4 CC.2.3); none for an
+    /// application entity that is no peer. What the watcher has learned of each from its events is so: the last State
+    /// Report shows the present state and readiness. It is slow: for each step held it walks the history.
+    ///
+    /// # Errors
+    ///
+    /// Where memory runs out.
+    pub fn watches(&self, ae: Ae) -> Result<Vec<Watched, A>, AllocError>
+        ensures watched { IfOk result (λ v. v.items ≡ watched self.now.settings (past self.now.history) ae) }
+        ensures view { IfOk result (λ v. AllByRecursion (λ (x : Watched). view (events self.now.settings (past self.now.history) ae) x.step ≡ Some (present self.now.settings (past self.now.history) x.step)) v.items) }
+    {
+        let Manager {
+            alloc,
+            configuration,
+            history,
+            steps,
+        } = self;
+        let uids = uids_of(*alloc, steps.as_slice())?;
+        let entries = history.as_slice();
+        match watched_among(*alloc, configuration, entries, ae, uids.as_slice()) {
+            Ok(watched) => Ok(watched),
+            Err(_) => Err(AllocError),
+        }
+    }
+
+    /// What an N-GET is answered (PS3.4 CC.2.7): C307 for a step that is not held, 0213 where memory runs
     /// out.
     pub fn get(&self, step: Option<StepUid>, attributes: &[Tag]) -> Reply<A>
         ensures answer { OrLacking ResourceLimitation (got self.now.settings (past self.now.history) step attributes.now) result }
@@ -164,16 +197,37 @@ impl<A: Allocator + Copy> Manager<A> {
 
     /// What a C-FIND is answered (PS3.4 sections CC.2.8 and C.4.1): steps held to which a matcher says yes, in
     /// order of creation, each with the attributes that the keys name. These are all of them where the matcher
-    /// says what the rules of PS3.4 say, as a `Probe` does. A700H where memory runs out.
+    /// says what the rules of PS3.4 say, as a `Probe` does. The matcher is asked at most once for each step held. A700
+    /// where memory runs out.
     pub fn find<M: Matcher>(&self, keys: &Keys<A>, matcher: &mut M) -> Reply<A>
         requires count { M.asked matcher.old < 2 ^ 63 }
         ensures among { IsFind M.says keys.now (rows self.now.settings (past self.now.history)) result }
         ensures whole { ((row : List El) → M.says keys.now row ≡ is_match keys.now row) → OrLacking OutOfResources (Found (worklist self.now.settings (past self.now.history) keys.now)) result }
+        ensures asked { M.asked matcher.new ≤ M.asked matcher.old + length (held self.now.settings (past self.now.history)) }
         ensures legal { is_legal self.now.settings self.now.history }
     {
         match matches_among(self.alloc, self.steps.as_slice(), keys, matcher) {
             Ok(sets) => Reply::Sets(sets),
             Err(_) => Reply::Status(Status::OutOfResources),
+        }
+    }
+
+    /// Of the events that a watcher has not acknowledged, the first `max`, oldest first (PS3.4 CC.2.4); none for an
+    /// application entity that is no peer. 0213 where memory runs out. It is slow: it walks the history.
+    pub fn pending(&self, ae: Ae, max: u64) -> Reply<A>
+        ensures answer { OrLacking ResourceLimitation (Reports (take max (pending self.now.settings (past self.now.history) ae))) result }
+        ensures small { SmallReply result }
+        ensures legal { is_legal self.now.settings self.now.history }
+    {
+        let Manager {
+            alloc,
+            configuration,
+            history,
+            ..
+        } = self;
+        match plain_pending(*alloc, configuration, history.as_slice(), ae, max) {
+            Ok(events) => Reply::Reports(events),
+            Err(_) => Reply::Status(Status::ResourceLimitation),
         }
     }
 
@@ -188,7 +242,7 @@ impl<A: Allocator + Copy> Manager<A> {
         }
     }
 
-    /// Answers a request by the history, and enters it where it is accepted. After 0213H, which also tells
+    /// Answers a request by the history, and enters it where it is accepted. After 0213, which also tells
     /// that memory ran out, and after any other refusal nothing has changed.
     pub fn submit(&mut self, call: Call<A>) -> Reply<A>
         requires moment { IsMoment call.moment }
@@ -205,17 +259,23 @@ impl<A: Allocator + Copy> Manager<A> {
             history,
             steps,
         } = self;
-        let offset = configuration.offset();
-        let held = match step_for(*alloc, offset, history.as_slice(), steps.as_slice(), &call) {
-            Ok(held) => held,
-            Err(fault) => return Reply::Status(fault.status()),
+        let decided = decide(
+            *alloc,
+            configuration,
+            history.as_slice(),
+            steps.as_slice(),
+            &call,
+        );
+        let decision = match decided {
+            Ok(decision) => decision,
+            Err(reply) => return reply,
         };
         if let Err(fault) = make_room(configuration.limit(), history, steps) {
             return Reply::Status(fault.status());
         }
         history.push_reserved(call.into_entry());
-        put(steps, held);
-        Reply::Status(Status::Success)
+        decision.effect.apply(steps);
+        decision.reply
     }
 
     /// Answers what an application entity asks by the history, and enters it where it is a request that is
@@ -238,6 +298,7 @@ impl<A: Allocator + Copy> Manager<A> {
             }),
             Ask::Get { step, attributes } => self.get(step, attributes.as_slice()),
             Ask::Find(keys) => self.find(&keys, &mut Probe::new()),
+            Ask::Pending { max } => self.pending(ae, max),
         }
     }
 }

@@ -8,6 +8,8 @@ ghost use Rattle.ups_life.specs.Steps.{past, step_of, row_after, nothing};
 ghost use Rattle.ups_life.specs.Verdict.{verdict};
 ghost use Rattle.ups_life.specs.History.{is_done, is_sized, fits, repeats};
 ghost use Rattle.ups_manager.specs.declared.submitting.SubmitFault.TheVariants.{Refused};
+ghost use Rattle.ups_manager.specs.declared.deciding.Kind.TheVariants.{OfStep};
+ghost use Rattle.ups_manager.specs.Deciding.{kind_of};
 ghost use Rattle.ups_manager.specs.Faults.{status_of, RowFails, StepFails, RoomFails};
 ghost use Rattle.ups_manager.specs.Held.{step_at, row_in, row_of_step, holder_in, claimed_by};
 
@@ -29,7 +31,7 @@ pub(crate) enum SubmitFault {
 }
 
 impl SubmitFault {
-    /// The status that tells it: 0213H where memory ran out.
+    /// The status that tells it: 0213 where memory ran out.
     pub fn status(self) -> Status
         ensures { result ≡ status_of self }
     {
@@ -53,9 +55,11 @@ fn decide<A: Allocator + Copy>(
     ensures refused { IfErr result (λ fault. fault ≡ Refused (verdict (option_copied row.entry) (repeats (past history.now) request.now) request.now)) }
     ensures error { IfErr result (λ fault. is_done (verdict (option_copied row.entry) (repeats (past history.now) request.now) request.now) ≡ false) }
 {
-    match verdict(row, repeats(history, request), request) {
-        Status::Success => Ok(()),
-        status => Err(SubmitFault::Refused(status)),
+    let status = verdict(row, repeats(history, request), request);
+    if status.is_done() {
+        Ok(())
+    } else {
+        Err(SubmitFault::Refused(status))
     }
 }
 
@@ -65,13 +69,13 @@ fn is_sized<A: Allocator + Copy>(request: &Request<A>) -> bool
 {
     match request {
         Request::Create { .. } | Request::AskCancel { .. } | Request::Set { .. } => true,
-        Request::Change { .. } => false,
+        _ => false,
     }
 }
 
 /// The row that a request at a moment makes of its step.
 ///
-/// Errors: 0213H where the row would be too large or its items would nest too deep; Memory.
+/// Errors: 0213 where the row would be too large or its items would nest too deep; Memory.
 fn row_for<A: Allocator + Copy>(
     alloc: A,
     row: Option<&Row<A>>,
@@ -120,7 +124,7 @@ fn holder_after<A: Allocator + Copy>(before: Option<&HeldStep<A>>, call: &Call<A
     before?.holder
 }
 
-/// What is held of the step of a call after it.
+/// What is held of the step of a call after it, which creates or changes a step.
 ///
 /// Errors: the status with which it is refused; Memory.
 pub(crate) fn step_for<A: Allocator + Copy>(
@@ -132,6 +136,7 @@ pub(crate) fn step_for<A: Allocator + Copy>(
 ) -> Result<HeldStep<A>, SubmitFault>
     requires moment { IsMoment call.now.moment }
     requires offset { IsOffset offset }
+    requires kind { kind_of call.now.request ≡ OfStep }
     ensures step { IfOk result (λ h. step_of call.now.request ≡ Some h.step) }
     ensures allowed { IfOk result (λ h. verdict (row_in h.step steps.now) (repeats (past history.now) call.now.request) call.now.request ≡ Success) }
     ensures row { IfOk result (λ h. h.row ≡ row_after offset call.now.moment (unwrap_or (row_in h.step steps.now) nothing) call.now.request) }
@@ -152,7 +157,7 @@ pub(crate) fn step_for<A: Allocator + Copy>(
 
 /// Makes room for one more request and one more step.
 ///
-/// Errors: 0213H where the history is full; Memory.
+/// Errors: 0213 where the history is full; Memory.
 pub(crate) fn make_room<A: Allocator + Copy>(
     limit: u64,
     history: &mut Vec<Entry<A>, A>,

@@ -1,6 +1,6 @@
 //! Which of the steps held match keys, and what is told of them.
 
-ghost use Rattle.std.specs.Prelude.{◌≡◌, ◌<◌, ◌-◌, ◌+◌, ◌^◌, ◌++◌, [], ◌∷◌, length, map, filter, IfOk, OnOk, if◌then◌else◌};
+ghost use Rattle.std.specs.Prelude.{◌≡◌, ◌<◌, ◌≤◌, ◌-◌, ◌+◌, ◌^◌, ◌++◌, [], ◌∷◌, length, map, filter, IfOk, OnOk, if◌then◌else◌};
 ghost use Rattle.ups_dataset.specs.Data.{answer};
 ghost use Rattle.ups_manager.specs.Held.{attributes_in};
 
@@ -39,7 +39,8 @@ pub(crate) fn matches_among<A: Allocator + Copy, M: Matcher>(
     matcher: &mut M,
 ) -> Result<Sets<A>, AllocError>
     requires { M.asked matcher.old + length steps.now < 2 ^ 64 }
-    ensures { IfOk result (λ sets. sets ≡ map (λ r. answer r keys.now.attributes) (filter (M.says keys.now) (attributes_in steps.now))) }
+    ensures found { IfOk result (λ sets. sets ≡ map (λ r. answer r keys.now.attributes) (filter (M.says keys.now) (attributes_in steps.now))) }
+    ensures asked { M.asked matcher.new ≤ M.asked matcher.old + length steps.now }
 {
     let mut found = Sets::new(alloc);
     for held in steps {

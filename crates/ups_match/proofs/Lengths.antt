@@ -1,8 +1,6 @@
 -- How long a text is that is like a pattern.
-use Rattle.std.proofs.Common.{◌≡◌, ◌≤◌, ◌+◌, ◌&&◌, ◌||◌, ℕ, Bool, true, false, cond, not, List, [], ◌∷◌, length, refl, sym, ap, subst, ◌∙◌, arith, length-append}
-use Rattle.std.specs.Prelude.{nat_le}
+use Rattle.std.proofs.Common.{◌≡◌, ◌<◌, ◌≤◌, ◌+◌, ◌||◌, ℕ, Bool, true, false, cond, not, List, [], ◌∷◌, length, refl, sym, ap, subst, ◌∙◌, arith, length-append}
 use Rattle.std.specs.List.{count_by, list_any}
-use Rattle.std.proofs.lemmas.Bool.Decides.{nat_tests}
 use Rattle.std.proofs.lemmas.List.Sums.{sum_by-cons}
 use Rattle.ups_match.specs.Likeness.{is_star, IsLike, is_like}
 use Rattle.ups_match.specs.Runs.{is_no_star}
@@ -21,19 +19,12 @@ least (p ∷ ps) text h = subst (λ (n : ℕ). n ≤ length text) (sym (sum_by-c
     go rest false is = let one = one_byte p h.0 is h.3 in let single : length h.0 ≡ 1 = ap length one.1 in omega (arith, rest, whole, single)
 
 -- so that a text which is shorter needs no look
-pub long_and_like : (n : ℕ) (pattern text : List ℕ) → n ≡ count_by is_no_star pattern → (nat_le n (length text) && is_like pattern text) ≡ is_like pattern text
-long_and_like n pattern text is = go (is_like pattern text) refl
+pub too_short : (pattern text : List ℕ) → length text < count_by is_no_star pattern → false ≡ is_like pattern text
+too_short pattern text short = go (is_like pattern text) refl
   where
-    none : (q : Bool) → (q && false) ≡ false
-    none true = refl
-    none false = refl
-
-    go : (q : Bool) → is_like pattern text ≡ q → (nat_le n (length text) && q) ≡ q
-    go false e = none (nat_le n (length text))
-    go true e =
-        let long = least pattern text ((decided pattern text).0 e) in
-        let enough : nat_le n (length text) ≡ true = grind (arith, nat_tests) in
-        ap (λ b. b && true) enough
+    go : (q : Bool) → is_like pattern text ≡ q → false ≡ q
+    go false e = refl
+    go true e = absurd (omega (arith, least pattern text ((decided pattern text).0 e)))
 
 -- tests that say the same of each value
 pub any_same : (f g : List ℕ → Bool) → ((x : List ℕ) → f x ≡ g x) → (xs : List (List ℕ)) → list_any f xs ≡ list_any g xs

@@ -13,4 +13,7 @@ pub mod Lengths
 pub mod Offsets
 pub mod PatternRuns
 pub mod Places
+pub mod PreparedWalks
+pub mod ShortPatterns
+pub mod UidSets
 pub mod ReadingBack

@@ -2,7 +2,11 @@ pub mod KeyCode
 pub mod Lanes
 pub mod Likeness
 pub mod Matching
+pub mod Met
 pub mod Moments
+pub mod Prepared
+pub mod PreparedFalls
 pub mod Ranges
 pub mod Runs
+pub mod Uids
 pub mod Values

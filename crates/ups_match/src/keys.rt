@@ -2,6 +2,10 @@
 
 use crate::fault::KeyFault;
 use crate::faults::keys_fault;
+use crate::matching::all_match;
+use crate::meeting::meets_all;
+use crate::prepared::Prepared;
+use crate::preparing::prepare_keys;
 use std::alloc::{AllocError, Allocator};
 use std::marker::Model;
 use ups_dataset::DataSet;
@@ -12,11 +16,13 @@ use ups_dataset::DataSet;
 pub struct Keys<A: Allocator + Copy> {
     attributes: DataSet<A>,
     offset: i16,
+    prepared: Option<Prepared<A>>,
 }
 
 impl<A: Allocator + Copy> Model for Keys<A> {
-    ghost use Rattle.std.specs.Prelude.{◌≡◌, None};
+    ghost use Rattle.std.specs.Prelude.{◌≡◌, None, IfSome};
     ghost use Rattle.ups_match.specs.Matching.{KeySet, fault_of};
+    ghost use Rattle.ups_match.specs.Met.{Prepares};
     ghost use Rattle.ups_match.specs.KeyCode.{keys_code};
 
     ghost Value = { KeySet };
@@ -25,14 +31,15 @@ impl<A: Allocator + Copy> Model for Keys<A> {
 
     ghost view = { λ k. record { attributes = k.attributes; offset = k.offset } };
 
-    ghost invariant = { λ k. fault_of k.offset k.attributes ≡ None };
+    ghost invariant = { λ k. (fault_of k.offset k.attributes ≡ None) × IfSome k.prepared (λ p. Prepares p k.attributes) };
 }
 
 impl<A: Allocator + Copy> Keys<A> {
     ghost use Rattle.std.specs.Prelude.{◌≡◌, None, Some, IfOk, MatchResult};
-    ghost use Rattle.ups_match.specs.Matching.{fault_of};
+    ghost use Rattle.ups_match.specs.Matching.{fault_of, is_match};
 
-    /// The keys of a data set; `offset` is that of a DT which says none, in minutes east of UTC. It takes no memory.
+    /// The keys of a data set; `offset` is that of a DT which says none, in minutes east of UTC. It takes memory to prepare
+    /// them, and where there is none they are matched more slowly.
     ///
     /// # Errors
     ///
@@ -46,7 +53,20 @@ impl<A: Allocator + Copy> Keys<A> {
         if let Some(fault) = keys_fault(&attributes, offset) {
             return Err(fault);
         }
-        Ok(Keys { attributes, offset })
+        Ok(Keys::readable(attributes, offset))
+    }
+
+    /// The keys of a data set of which each can be read.
+    fn readable(attributes: DataSet<A>, offset: i16) -> Keys<A>
+        requires { fault_of offset attributes ≡ None }
+        ensures { result ≡ record { attributes = attributes; offset = offset } }
+    {
+        let prepared = prepare_keys(&attributes).ok();
+        Keys {
+            attributes,
+            offset,
+            prepared,
+        }
     }
 
     /// A copy.
@@ -58,10 +78,7 @@ impl<A: Allocator + Copy> Keys<A> {
         ensures { IfOk result (λ k. k ≡ self.now) }
     {
         let attributes = self.attributes.copy()?;
-        Ok(Keys {
-            attributes,
-            offset: self.offset,
-        })
+        Ok(Keys::readable(attributes, self.offset))
     }
 
     /// The data set of the keys, lent.
@@ -70,6 +87,16 @@ impl<A: Allocator + Copy> Keys<A> {
         ensures readable { fault_of self.now.offset self.now.attributes ≡ None }
     {
         &self.attributes
+    }
+
+    /// Whether a data set matches the keys. It takes no memory.
+    pub(crate) fn is_match(&self, row: &DataSet<A>) -> bool
+        ensures { result ≡ is_match self.now row.now }
+    {
+        match &self.prepared {
+            Some(prepared) => meets_all(prepared, row, self.offset),
+            None => all_match(&self.attributes, row, self.offset),
+        }
     }
 
     /// The offset by which DTs are read that say none, in minutes east of UTC.

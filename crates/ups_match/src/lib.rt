@@ -10,12 +10,17 @@ mod lanes;
 mod likeness;
 mod matcher;
 mod matching;
+mod meeting;
 mod moments;
+mod patterns;
+mod prepared;
+mod preparing;
 mod ranges;
 mod rule;
 mod runs;
 mod stamps;
 mod texts;
+mod uids;
 mod universal;
 
 pub use fault::KeyFault;
@@ -24,6 +29,3 @@ pub use likeness::likes;
 pub use matcher::{Matcher, Probe};
 pub use moments::read_dt;
 pub use stamps::{stamps_are_read_back, write_dt};
-
-#[cfg(test)]
-mod tests;

@@ -1,6 +1,6 @@
 //! Wild cards (PS3.4 section C.2.2.2.4).
 
-ghost use Rattle.std.specs.Prelude.{◌≡◌, ◌↔◌, ◌∷◌, ◌≤◌, ℕ, List, length, IsTrue};
+ghost use Rattle.std.specs.Prelude.{◌≡◌, ◌↔◌, ◌∷◌, ◌≤◌, ℕ, List, length, nat_lt, IsTrue};
 ghost use Rattle.std.specs.List.{AllPass, count_by, prefix_len};
 ghost use Rattle.ups_match.specs.Likeness.{IsLike, is_like};
 ghost use Rattle.ups_match.specs.Runs.{is_no_star, run_of, behind_run};
@@ -17,11 +17,22 @@ pub fn likes(pattern: &[u8], text: &[u8]) -> bool
     is_like(pattern, text)
 }
 
-/// How many bytes a text has at least that is like a pattern.
-pub(crate) fn least_len(pattern: &[u8]) -> usize
-    ensures { result ≡ count_by is_no_star pattern.now }
+/// Whether a pattern has more bytes than so many that each stand for one, so that a text of so many can't be like it. It
+/// looks no further than it has to.
+pub(crate) fn is_longer(pattern: &[u8], len: usize) -> bool
+    ensures { result ≡ nat_lt len (count_by is_no_star pattern.now) }
 {
-    pattern.iter().filter(|byte| **byte != b'*').count()
+    let mut left = len;
+    for byte in pattern {
+        if *byte == b'*' {
+            continue;
+        }
+        if left == 0 {
+            return true;
+        }
+        left -= 1;
+    }
+    false
 }
 
 /// Whether a text is like a pattern.

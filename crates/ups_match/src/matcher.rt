@@ -5,7 +5,6 @@ ghost use Rattle.ups_dataset.specs.Data.{El};
 ghost use Rattle.ups_match.specs.Matching.{KeySet, is_match};
 
 use crate::keys::Keys;
-use crate::matching::all_match;
 use std::alloc::Allocator;
 use ups_dataset::DataSet;
 
@@ -52,6 +51,6 @@ impl Matcher for Probe {
 
     fn matches<A: Allocator + Copy>(&mut self, keys: &Keys<A>, row: &DataSet<A>) -> bool {
         self.count += 1;
-        all_match(keys.attributes(), row, keys.offset())
+        keys.is_match(row)
     }
 }

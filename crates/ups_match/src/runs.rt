@@ -60,6 +60,9 @@ fn behind_first_fit<'a>(run: &[u8], text: &'a [u8]) -> Option<&'a [u8]>
     behind_first_by_place(run, left)
 }
 
+/// At how many bytes of a run it is looked whether a place is left.
+const LOOK_EVERY: usize = 8;
+
 /// Whether a run fits at none of the first 64 places of a text. Where the text ends before all of them can be tried, it
 /// isn't told.
 fn fits_nowhere_in_front(run: &[u8], text: &[u8]) -> bool
@@ -74,12 +77,12 @@ fn fits_nowhere_in_front(run: &[u8], text: &[u8]) -> bool
         if run[i] != b'?' {
             let (_, there) = text.split_at(i);
             places = places_with(places, there, run[i]);
-            if has_no_place(places) {
+            if i % LOOK_EVERY == 0 && has_no_place(places) {
                 return true;
             }
         }
     }
-    false
+    has_no_place(places)
 }
 
 /// The same as `behind_first`, place by place.

@@ -1,14 +1,15 @@
 //! Texts of keys, and the stored texts that they match (PS3.4 section C.2.2.2).
 
-ghost use Rattle.std.specs.Prelude.{◌≡◌, ◌&&◌, false, length, nat_le};
+ghost use Rattle.std.specs.Prelude.{◌≡◌, false};
 ghost use Rattle.std.specs.Str.{bytes_eq};
 ghost use Rattle.ups_match.specs.Likeness.{is_like};
 ghost use Rattle.ups_match.specs.Matching.{matches_text};
+ghost use Rattle.ups_match.specs.Met.{text_met};
 ghost use Rattle.ups_match.specs.Ranges.{span_of, spans};
 ghost use Rattle.ups_match.specs.Moments.{moment};
 ghost use Rattle.ups_match.specs.Values.{any_value, is_universal_text, shares_uid};
 
-use crate::likeness::{least_len, likes};
+use crate::likeness::{is_longer, likes};
 use crate::moments::read_dt;
 use crate::ranges::span_of;
 use crate::rule::Rule;
@@ -28,11 +29,21 @@ pub(crate) fn matches_text(rule: Rule, offset: i16, key: &[u8], stored: &[u8]) -
 {
     match rule {
         Rule::UidList => shares_uid(key, stored),
-        Rule::WildCards => is_any_like(without_padding(key), stored),
-        Rule::WildCardsInText => likes(without_padding(key), without_padding(stored)),
-        Rule::Range => is_in_range(without_padding(key), without_padding(stored), offset),
-        Rule::OneOfValues => is_any_equal(without_padding(key), stored),
-        Rule::WholeValue => without_padding(key) == without_padding(stored),
+        _ => is_text_met(rule, offset, without_padding(key), stored),
+    }
+}
+
+/// Whether a stored text meets a key that has no padding behind it.
+pub(crate) fn is_text_met(rule: Rule, offset: i16, key: &[u8], stored: &[u8]) -> bool
+    ensures { result ≡ text_met rule offset key.now stored.now }
+{
+    match rule {
+        Rule::UidList => shares_uid(key, stored),
+        Rule::WildCards => is_any_like(key, stored),
+        Rule::WildCardsInText => is_long_and_like(key, without_padding(stored)),
+        Rule::Range => is_in_range(key, without_padding(stored), offset),
+        Rule::OneOfValues => is_any_equal(key, stored),
+        Rule::WholeValue => key == without_padding(stored),
     }
 }
 
@@ -46,31 +57,33 @@ fn is_in_range(key: &[u8], stored: &[u8], offset: i16) -> bool
     }
 }
 
-/// Whether one of the UIDs of a list is one of those that are stored (PS3.4 section C.2.2.2.2).
-fn shares_uid(key: &[u8], stored: &[u8]) -> bool
+/// Whether one of the UIDs of a list is one of those that are stored (PS3.4 section C.2.2.2.2). They are compared one by
+/// one.
+pub(crate) fn shares_uid(key: &[u8], stored: &[u8]) -> bool
     ensures { result ≡ shares_uid key.now stored.now }
 {
     key.split(|byte| *byte == b'\\')
         .any(|uid| is_any_equal(without_padding(uid), stored))
 }
 
-/// Whether one of the stored values is like a pattern. A long pattern isn't gone through for each short value.
+/// Whether one of the stored values is like a pattern.
 fn is_any_like(pattern: &[u8], stored: &[u8]) -> bool
     ensures { result ≡ any_value (is_like pattern.now) stored.now }
 {
-    let least = least_len(pattern);
-    stored.split(|byte| *byte == b'\\').any(|value| is_long_and_like(
-        least,
-        pattern,
-        without_padding(value),
-    ))
+    stored
+        .split(|byte| *byte == b'\\')
+        .any(|value| is_long_and_like(pattern, without_padding(value)))
 }
 
-/// Whether a value has at least so many bytes, and is like a pattern.
-fn is_long_and_like(least: usize, pattern: &[u8], value: &[u8]) -> bool
-    ensures { result ≡ (nat_le least (length value.now) && is_like pattern.now value.now) }
+/// Whether a value is like a pattern. A long pattern isn't gone through for a short value.
+#[tactic(auto, using(crate::proofs::Lengths::too_short))]
+fn is_long_and_like(pattern: &[u8], value: &[u8]) -> bool
+    ensures { result ≡ is_like pattern.now value.now }
 {
-    least <= value.len() && likes(pattern, value)
+    if is_longer(pattern, value.len()) {
+        return false;
+    }
+    likes(pattern, value)
 }
 
 /// Whether one of the stored values is a text.

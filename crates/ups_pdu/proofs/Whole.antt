@@ -89,7 +89,7 @@ fills_from_body k body ReleaseRq (e, s) = rw e s
 fills_from_body k body ReleaseRp (e, s) = rw e s
 fills_from_body k body (Abort a b) (e, q, r, f) = rw (e, f) refl
 
--- where a PDU stands there is no fault but want of memory
+-- where a PDU stands there is no fault but lack of memory
 no_fault : {A : Type 0} (bytes : List ℕ) (p : Pdu A) (n : ℕ) (fault : PduFault) → IsFront bytes p n → IsFault A bytes fault → fault ≡ Memory
 no_fault bytes p n Short f (inl short) = absurd (omega (arith, ap length f.whole.header.parts))
 no_fault bytes p n Short f (inr (k, len, rest, h, within, short)) =

@@ -7,7 +7,7 @@ abbrev pub Each : {X : Type 0} → (List ℕ → X → List ℕ → Type 0) → 
 Each Front bytes [] = bytes ≡ []
 Each Front bytes (x ∷ xs) = (rest : List ℕ) × Front bytes x rest × Each Front rest xs
 
--- What a reader answers that takes memory: what is spelled; or a fault that is so, or want of memory.
+-- What a reader answers that takes memory: what is spelled; or a fault that is so, or lack of memory.
 abbrev pub Reads : {X E : Type 0} → E → (X → Type 0) → (E → Type 0) → Result X E → Type 0
 Reads memory Spelled Fault (Ok x) = Spelled x
 Reads memory Spelled Fault (Err e) = (e ≡ memory) ⊎ Fault e

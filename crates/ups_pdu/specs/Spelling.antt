@@ -53,7 +53,7 @@ IsFault A bytes BadLength = (kind : PduKind) × (body : List ℕ) × (rest : Lis
 IsFault A bytes BadItem = (kind : PduKind) × (body : List ℕ) × (rest : List ℕ) × IsWhole bytes kind body rest × LengthsFill kind body × ((pdu : Pdu A) → IsBody kind body pdu → ⊥)
 IsFault A bytes Memory = (pdu : Pdu A) × (len : ℕ) × IsFront bytes pdu len
 
--- What a reader of a part answers: what is spelled; BadItem where nothing is; want of memory where something is.
+-- What a reader of a part answers: what is spelled; BadItem where nothing is; lack of memory where something is.
 abbrev pub Gives : {X : Type 0} → (X → Type 0) → Result X PduFault → Type 0
 Gives Spelled (Ok x) = Spelled x
 Gives {X} Spelled (Err BadItem) = (x : X) → Spelled x → ⊥

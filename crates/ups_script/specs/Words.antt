@@ -1,7 +1,37 @@
 -- The words of a line.
-use Rattle.std.specs.Prelude.{ℕ, ◌+◌, List, length, Option, None, Some}
+use Rattle.std.specs.Prelude.{◌≡◌, ℕ, ◌+◌, ◌*◌, List, [], ◌∷◌, length, Option, None, Some}
+use Rattle.ups_dataset.specs.declared.tag.Tag.{Tag}
+use Rattle.ups_script.specs.Escapes.{SpellsByte}
+use Rattle.ups_script.specs.Lines.{words_of}
 
 -- more than the words that are left: each but the last takes its space with it
 abbrev pub bytes_left : Option (List ℕ) → ℕ
 bytes_left None = 0
 bytes_left (Some text) = 1 + length text
+
+-- the words that are left
+abbrev pub words_left : Option (List ℕ) → List (List ℕ)
+words_left None = []
+words_left (Some text) = words_of text
+
+-- four hex digits spell a number, the higher ones first
+pub record SpellsNumber (a b c d number : ℕ) : Type 0 where
+  pub high : ℕ
+  pub low : ℕ
+  pub first : SpellsByte a b high
+  pub second : SpellsByte c d low
+  pub value : number ≡ 256 * high + low
+
+-- eight spell a tag: its group and its element (PS3.5 section 7.1)
+pub record SpellsTag (word : List ℕ) (tag : Tag) : Type 0 where
+  pub a : ℕ
+  pub b : ℕ
+  pub c : ℕ
+  pub d : ℕ
+  pub e : ℕ
+  pub f : ℕ
+  pub g : ℕ
+  pub h : ℕ
+  pub digits : word ≡ a ∷ b ∷ c ∷ d ∷ e ∷ f ∷ g ∷ h ∷ []
+  pub group : SpellsNumber a b c d tag.group
+  pub element : SpellsNumber e f g h tag.element

@@ -1,16 +1,20 @@
 //! What a line asks.
 
+ghost use Rattle.std.specs.Prelude.{IfOk};
 ghost use Rattle.ups_life.specs.Settings.{IsMoment};
+ghost use Rattle.ups_script.specs.Lines.{words_of};
+ghost use Rattle.ups_script.specs.Questions.{AsksAt};
 
 use crate::attributes::{Attribute, attributes_of};
-use crate::fault::LineFault;
+use crate::fault::{LineFault, LineReason};
 use crate::limits::MAX_LINE;
 use crate::line::{Heading, Verb};
 use crate::spelling::spelled;
-use crate::words::{Text, Words, tag_of};
+use crate::text::Text;
+use crate::words::{Words, filled, number_of, tag_of};
 use std::alloc::Allocator;
 use ups_dimse::{Operation, Tags};
-use ups_life::{CHANGE_STATE, REQUEST_CANCEL};
+use ups_life::{CHANGE_STATE, REQUEST_CANCEL, SUBSCRIBE, SUSPEND, UNSUBSCRIBE};
 use ups_pdu::{Ae, RegisteredUid, Uid};
 
 /// Where the arguments of a change stand in its data set: Procedure Step State and Transaction UID (PS3.4 table CC.2.1-1).
@@ -18,11 +22,24 @@ const STATE: &[u8] = b"00741000";
 
 const TRANSACTION: &[u8] = b"00081195";
 
+/// Where those of a subscription do: Receiving AE and Deletion Lock (PS3.4 CC.2.3).
+const RECEIVER: &[u8] = b"00741234";
+
+const LOCK: &[u8] = b"00741230";
+
 /// A question. Nothing of it lies in its line.
 #[derive(Drop)]
 pub(crate) enum Question<A: Allocator + Copy> {
     /// What a message asks: its operation, and the bytes of its data set in Explicit VR Little Endian.
     Message(Operation<A>, Vec<u8, A>),
+    /// Which events the application entity that asks has not acknowledged, so many of them at most.
+    Pending(u64),
+    /// To acknowledge the events of the application entity that asks, up to this number.
+    Acknowledge(u64),
+    /// Which steps the application entity that asks is subscribed to.
+    Watches,
+    /// To remove the steps that are due.
+    Sweep,
     /// Which steps are held.
     Held,
     /// Who holds the step with this UID; None for what is no UID.
@@ -42,17 +59,17 @@ pub(crate) struct Asked<A: Allocator + Copy> {
 
 /// The instance that the next word names; None where it is no UID.
 ///
-/// Errors: Malformed where there is no word, or it is no text; want of memory.
+/// Errors: MissingWord or EmptyWord; Escape; lack of memory.
 fn instance_of<A: Allocator + Copy>(
     alloc: A,
     words: &mut Words<'_>,
 ) -> Result<Option<Uid>, LineFault> {
-    let word = words.next().ok_or(LineFault::Malformed)?;
+    let word = words.word()?;
     match word {
         b"global" => Ok(Some(RegisteredUid::GlobalSubscription.uid())),
         b"filtered" => Ok(Some(RegisteredUid::FilteredGlobalSubscription.uid())),
         _ => {
-            let text = Text::of(word).ok_or(LineFault::Malformed)?;
+            let text = Text::of(word).ok_or(LineReason::Escape)?;
             Ok(Uid::of(text.bytes(alloc)?.as_slice()))
         }
     }
@@ -60,38 +77,37 @@ fn instance_of<A: Allocator + Copy>(
 
 /// The attribute of a tag that the next word is the value of.
 ///
-/// Errors: Malformed where there is no word, or it is no text.
-fn argument_of<'a>(tag: &'static [u8], words: &mut Words<'a>) -> Result<Attribute<'a>, LineFault> {
-    let word = words.next().ok_or(LineFault::Malformed)?;
-    Attribute::new(tag, word).ok_or(LineFault::Malformed)
+/// Errors: MissingWord or EmptyWord; Escape.
+fn argument_of<'a>(tag: &'static [u8], words: &mut Words<'a>) -> Result<Attribute<'a>, LineReason> {
+    let word = words.word()?;
+    Attribute::new(tag, word)
 }
 
 /// The Transaction UID that the next word is; None where it is `-`.
 ///
-/// Errors: Malformed where there is no word, or it is no text.
-fn transaction_of<'a>(words: &mut Words<'a>) -> Result<Option<Attribute<'a>>, LineFault> {
-    let word = words.next().ok_or(LineFault::Malformed)?;
+/// Errors: MissingWord or EmptyWord; Escape.
+fn transaction_of<'a>(words: &mut Words<'a>) -> Result<Option<Attribute<'a>>, LineReason> {
+    let word = words.word()?;
     if word == b"-".as_slice() {
         return Ok(None);
     }
-    let argument = Attribute::new(TRANSACTION, word).ok_or(LineFault::Malformed)?;
-    Ok(Some(argument))
+    Ok(Some(Attribute::new(TRANSACTION, word)?))
 }
 
 /// The tags that words are.
 ///
-/// Errors: Malformed where a word is none; want of memory.
+/// Errors: EmptyWord or Tag where a word is none; lack of memory.
 fn tags_of<A: Allocator + Copy>(alloc: A, words: Words<'_>) -> Result<Tags<A>, LineFault> {
     let mut tags = Vec::with_capacity(alloc, words.count())?;
     for word in words {
-        tags.push(tag_of(word).ok_or(LineFault::Malformed)?)?;
+        tags.push(tag_of(filled(word)?).ok_or(LineReason::Tag)?)?;
     }
     Ok(Tags::from_vec(tags))
 }
 
 /// What a message with this operation asks, and with the attributes that arguments and the words behind them give.
 ///
-/// Errors: Malformed where a word is no attribute, or they make too many items; want of memory.
+/// Errors: EmptyWord, Attribute or Escape where a word is no attribute; TooManyItems; lack of memory.
 fn message<'a, A: Allocator + Copy>(
     alloc: A,
     operation: Operation<A>,
@@ -101,15 +117,6 @@ fn message<'a, A: Allocator + Copy>(
     let attributes = attributes_of(alloc, arguments, words)?;
     let data_set = spelled(alloc, &attributes)?;
     Ok(Question::Message(operation, data_set))
-}
-
-/// Refuses words behind the last one that a verb takes.
-fn ended(words: Words<'_>) -> Result<(), LineFault> {
-    if words.is_empty() {
-        Ok(())
-    } else {
-        Err(LineFault::Malformed)
-    }
 }
 
 /// What `get UID tag..` asks.
@@ -136,13 +143,51 @@ fn changing<A: Allocator + Copy>(alloc: A, mut words: Words<'_>) -> Result<Quest
     };
     let state = argument_of(STATE, &mut words)?;
     let arguments = [Some(state), transaction_of(&mut words)?];
-    ended(words)?;
+    words.end()?;
     message(alloc, operation, &arguments, words)
+}
+
+/// What `subscribe UID RECEIVER LOCK attr..` asks.
+fn subscribing<A: Allocator + Copy>(
+    alloc: A,
+    mut words: Words<'_>,
+) -> Result<Question<A>, LineFault> {
+    let operation = Operation::Action {
+        instance: instance_of(alloc, &mut words)?,
+        action: SUBSCRIBE,
+    };
+    let receiver = argument_of(RECEIVER, &mut words)?;
+    let arguments = [Some(receiver), Some(argument_of(LOCK, &mut words)?)];
+    message(alloc, operation, &arguments, words)
+}
+
+/// What `unsubscribe UID RECEIVER` and `suspend UID RECEIVER` ask, each with the type of its action.
+fn ending<A: Allocator + Copy>(
+    alloc: A,
+    action: u16,
+    mut words: Words<'_>,
+) -> Result<Question<A>, LineFault> {
+    let operation = Operation::Action {
+        instance: instance_of(alloc, &mut words)?,
+        action,
+    };
+    let arguments = [Some(argument_of(RECEIVER, &mut words)?)];
+    words.end()?;
+    message(alloc, operation, &arguments, words)
+}
+
+/// The number that the last word is.
+///
+/// Errors: MissingWord or EmptyWord; Number; ExtraWord.
+fn last_number(mut words: Words<'_>) -> Result<u64, LineReason> {
+    let number = number_of(words.word()?).ok_or(LineReason::Number)?;
+    words.end()?;
+    Ok(number)
 }
 
 /// What is asked with a verb and the words behind it.
 ///
-/// Errors: Malformed where they are not such as the verb takes; want of memory.
+/// Errors: the first of the reasons for which they are not such as the verb takes; lack of memory.
 fn question_of<A: Allocator + Copy>(
     alloc: A,
     verb: Verb,
@@ -161,14 +206,27 @@ fn question_of<A: Allocator + Copy>(
             let action = REQUEST_CANCEL;
             message(alloc, Operation::Action { instance, action }, &[], words)
         }
+        Verb::Subscribe => subscribing(alloc, words),
+        Verb::Unsubscribe => ending(alloc, UNSUBSCRIBE, words),
+        Verb::Suspend => ending(alloc, SUSPEND, words),
         Verb::Find => message(alloc, Operation::Find { priority: None }, &[], words),
+        Verb::Pending => Ok(Question::Pending(last_number(words)?)),
+        Verb::Ack => Ok(Question::Acknowledge(last_number(words)?)),
+        Verb::Watches => {
+            words.end()?;
+            Ok(Question::Watches)
+        }
+        Verb::Sweep => {
+            words.end()?;
+            Ok(Question::Sweep)
+        }
         Verb::Held => {
-            ended(words)?;
+            words.end()?;
             Ok(Question::Held)
         }
         Verb::Holder => {
             let instance = instance_of(alloc, &mut words)?;
-            ended(words)?;
+            words.end()?;
             Ok(Question::Holder(instance))
         }
     }
@@ -176,10 +234,12 @@ fn question_of<A: Allocator + Copy>(
 
 /// What a line asks.
 ///
-/// Errors: Malformed where the bytes are no line; want of memory.
-pub(crate) fn asked_by<A: Allocator + Copy>(alloc: A, bytes: &[u8]) -> Result<Asked<A>, LineFault> {
+/// Errors: the first of the reasons for which the bytes are no line; lack of memory.
+pub(crate) fn asked_by<A: Allocator + Copy>(alloc: A, bytes: &[u8]) -> Result<Asked<A>, LineFault>
+    ensures { IfOk result (λ asked. AsksAt (words_of bytes.now) asked.moment asked.ae) }
+{
     if bytes.len() > MAX_LINE {
-        return Err(LineFault::Malformed);
+        return Err(LineFault::Malformed(LineReason::TooLong));
     }
     let mut words = Words::of(bytes);
     let heading = Heading::of(alloc, &mut words)?;

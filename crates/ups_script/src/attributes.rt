@@ -1,8 +1,9 @@
 //! The attributes of a line, in the order of a data set.
 
-use crate::fault::LineFault;
+use crate::fault::{LineFault, LineReason};
 use crate::paths::Path;
-use crate::words::{Text, Words};
+use crate::text::Text;
+use crate::words::{Words, filled};
 use std::alloc::{AllocError, Allocator};
 
 /// An attribute of a line: where it stands, and its value.
@@ -17,26 +18,32 @@ pub(crate) struct Attribute<'a> {
 }
 
 impl<'a> Attribute<'a> {
-    /// The attribute of this path with this value; None where either is malformed.
-    pub(crate) fn new(path: &'a [u8], value: &'a [u8]) -> Option<Attribute<'a>> {
-        Some(Attribute {
-            path: Path::of(path)?,
-            value: Text::of(value)?,
+    /// The attribute of this path with this value.
+    ///
+    /// Errors: Attribute where the path is none; Escape.
+    pub(crate) fn new(path: &'a [u8], value: &'a [u8]) -> Result<Attribute<'a>, LineReason> {
+        Ok(Attribute {
+            path: Path::of(path).ok_or(LineReason::Attribute)?,
+            value: Text::of(value).ok_or(LineReason::Escape)?,
             place: 0,
             is_replaced: false,
         })
     }
 
-    /// The attribute that is written as `path=value`; None where none is.
-    fn of(word: &'a [u8]) -> Option<Attribute<'a>> {
-        let end = word.iter().position(|byte| *byte == b'=')?;
+    /// The attribute that is written as `path=value`.
+    ///
+    /// Errors: Attribute; Escape.
+    fn of(word: &'a [u8]) -> Result<Attribute<'a>, LineReason> {
+        let Some(end) = word.iter().position(|byte| *byte == b'=') else {
+            return Err(LineReason::Attribute);
+        };
         Attribute::new(&word[..end], &word[end + 1..])
     }
 }
 
 /// Marks what a later value of an element replaces: its own earlier value, and what stood in its items.
 ///
-/// Errors: want of memory.
+/// Errors: lack of memory.
 fn mark_below<A: Allocator + Copy>(
     alloc: A,
     sorted: &mut [Attribute<'_>],
@@ -80,7 +87,7 @@ fn mark_above(sorted: &mut [Attribute<'_>]) {
 /// The attributes that arguments and the words behind them give, in the order of a data set. Of two for one element the
 /// later one stands, also where one is a value and the other stands in an item.
 ///
-/// Errors: Malformed where a word is no attribute; want of memory.
+/// Errors: EmptyWord, Attribute or Escape where a word is no attribute; lack of memory.
 pub(crate) fn attributes_of<'a, A: Allocator + Copy>(
     alloc: A,
     arguments: &[Option<Attribute<'a>>],
@@ -92,7 +99,7 @@ pub(crate) fn attributes_of<'a, A: Allocator + Copy>(
         attributes.push(*argument)?;
     }
     for word in words {
-        let mut attribute = Attribute::of(word).ok_or(LineFault::Malformed)?;
+        let mut attribute = Attribute::of(filled(word)?)?;
         attribute.place = u32::try_from(attributes.len()).unwrap_or(u32::MAX);
         attributes.push(attribute)?;
     }

@@ -5,14 +5,19 @@
 mod asking;
 mod attributes;
 mod fault;
+mod laws;
 mod limits;
 mod line;
 mod paths;
 mod printing;
+mod reading;
 mod running;
 mod spelling;
+mod telling;
+mod text;
 mod words;
 
-pub use fault::ScriptFault;
+pub use fault::{BadLine, LineReason, ScriptFault};
+pub use laws::what_is_printed_is_read_again;
 pub use limits::limits_are_as_defined;
 pub use running::{answer_lines, run};

@@ -1,11 +1,14 @@
 //! How the lines of a script begin: when is asked, by whom and what for.
 
-ghost use Rattle.std.specs.Prelude.{IfOk};
-ghost use Rattle.std.specs.Option.{IfSome};
+ghost use Rattle.std.specs.Prelude.{◌≡◌, IfOk, MatchOption};
+ghost use Rattle.std.specs.Option.{IfSome, option_copied};
 ghost use Rattle.ups_life.specs.Settings.{IsMoment};
+ghost use Rattle.ups_script.specs.Questions.{verb_word, IsMomentWord, IsTitleWord, IsHeading};
+ghost use Rattle.ups_script.specs.Words.{words_left};
 
-use crate::fault::LineFault;
-use crate::words::{Text, Words, number_of};
+use crate::fault::{LineFault, LineReason};
+use crate::text::Text;
+use crate::words::{Words, number_of};
 use std::alloc::Allocator;
 use ups_life::MAX_MOMENT;
 use ups_pdu::Ae;
@@ -23,8 +26,22 @@ pub(crate) enum Verb {
     Change,
     /// To cancel a step (N-ACTION type 2, PS3.4 CC.2.2).
     Cancel,
+    /// To subscribe a watcher (N-ACTION type 3, PS3.4 CC.2.3).
+    Subscribe,
+    /// To end subscriptions of a watcher (N-ACTION type 4, PS3.4 CC.2.3).
+    Unsubscribe,
+    /// To end the global subscription of a watcher (N-ACTION type 5, PS3.4 CC.2.3).
+    Suspend,
     /// Which steps match keys (C-FIND, PS3.4 CC.2.8).
     Find,
+    /// Which events a watcher has not acknowledged (PS3.4 CC.2.4).
+    Pending,
+    /// To acknowledge events of a watcher.
+    Ack,
+    /// Which steps a watcher is subscribed to.
+    Watches,
+    /// To remove the steps that are due.
+    Sweep,
     /// Which steps are held.
     Held,
     /// Who holds a step.
@@ -33,14 +50,26 @@ pub(crate) enum Verb {
 
 impl Verb {
     /// The verb that a word is; None where it is none.
-    fn of(word: &[u8]) -> Option<Verb> {
+    fn of(word: &[u8]) -> Option<Verb>
+        ensures { MatchOption result ((verb : Verb) → verb_word verb ≡ word.now → ⊥) (λ verb. verb_word verb ≡ word.now) }
+    {
+        // the prover follows a match byte by byte, and gives up on a word of this length
+        if word == b"unsubscribe".as_slice() {
+            return Some(Verb::Unsubscribe);
+        }
         match word {
             b"create" => Some(Verb::Create),
             b"get" => Some(Verb::Get),
             b"set" => Some(Verb::Set),
             b"change" => Some(Verb::Change),
             b"cancel" => Some(Verb::Cancel),
+            b"subscribe" => Some(Verb::Subscribe),
+            b"suspend" => Some(Verb::Suspend),
             b"find" => Some(Verb::Find),
+            b"pending" => Some(Verb::Pending),
+            b"ack" => Some(Verb::Ack),
+            b"watches" => Some(Verb::Watches),
+            b"sweep" => Some(Verb::Sweep),
             b"held" => Some(Verb::Held),
             b"holder" => Some(Verb::Holder),
             _ => None,
@@ -61,7 +90,8 @@ pub(crate) struct Heading {
 
 /// The moment that a word is; None where it is none.
 fn moment_of(word: &[u8]) -> Option<u64>
-    ensures { IfSome result IsMoment }
+    ensures moment { IfSome result IsMoment }
+    ensures value { IfSome result (IsMomentWord word.now) }
 {
     let moment = number_of(word)?;
     if moment > MAX_MOMENT {
@@ -70,25 +100,31 @@ fn moment_of(word: &[u8]) -> Option<u64>
     Some(moment)
 }
 
+/// The title that a word is.
+///
+/// Errors: Escape; Title; lack of memory.
+fn title_of<A: Allocator + Copy>(alloc: A, word: &[u8]) -> Result<Ae, LineFault>
+    ensures { IfOk result (IsTitleWord word.now) }
+{
+    let text = Text::of(word).ok_or(LineReason::Escape)?;
+    let title = Ae::of(text.bytes(alloc)?.as_slice()).ok_or(LineReason::Title)?;
+    Ok(title)
+}
+
 impl Heading {
     /// The heading that the next words are.
     ///
-    /// Errors: Malformed where they are none; want of memory.
+    /// Errors: MissingWord or EmptyWord; Moment; Escape or Title; Verb; lack of memory.
     pub(crate) fn of<A: Allocator + Copy>(
         alloc: A,
         words: &mut Words<'_>,
     ) -> Result<Heading, LineFault>
-        ensures { IfOk result (λ heading. IsMoment heading.moment) }
+        ensures moment { IfOk result (λ heading. IsMoment heading.moment) }
+        ensures words { IfOk result (λ heading. IsHeading (words_left (option_copied words.old.rest)) heading.moment heading.ae heading.verb (words_left (option_copied words.new.rest))) }
     {
-        let moment = words.next().and_then(moment_of);
-        let title = words.next().and_then(Text::of);
-        let verb = words.next().and_then(Verb::of);
-        let (Some(moment), Some(title), Some(verb)) = (moment, title, verb) else {
-            return Err(LineFault::Malformed);
-        };
-        let Some(ae) = Ae::of(title.bytes(alloc)?.as_slice()) else {
-            return Err(LineFault::Malformed);
-        };
+        let moment = moment_of(words.word()?).ok_or(LineReason::Moment)?;
+        let ae = title_of(alloc, words.word()?)?;
+        let verb = Verb::of(words.word()?).ok_or(LineReason::Verb)?;
         Ok(Heading { moment, ae, verb })
     }
 }

@@ -1,136 +1,174 @@
 //! Replies as lines: a status, and what is shown.
 
+ghost use Rattle.std.specs.Prelude.{◌≡◌, ◌<◌, ◌∷◌, [], ◌++◌, true, map, OnOk, if◌then◌else◌};
+ghost use Rattle.std.specs.Fmt.{decimal};
+ghost use Rattle.std.specs.Io.KnownBytes.{Appends, Keeps};
+ghost use Rattle.std.specs.List.{flat_map};
+ghost use Rattle.std.specs.Option.{option_copied};
+ghost use Rattle.ups_dataset.specs.View.{value_view, element_view};
+ghost use Rattle.ups_events.specs.Payloads.{type_id};
+ghost use Rattle.ups_life.specs.Readiness.{readiness_word};
+ghost use Rattle.ups_life.specs.Statuses.{code};
+ghost use Rattle.ups_script.specs.Printing.{hex_digit, hex_byte, hex_word, hex_tag, is_plain, printed_byte, printed, into_item, word, words_data, words, spaced, follows_after, bracketed, title_word, subscription_text, watched_word, event_word, reply_words, reply_head, reply_line, line_of};
+ghost use Rattle.ups_script.specs.Ways.{way_text};
+
+use crate::reading::is_interrupted;
+use crate::telling::Told;
 use std::alloc::Allocator;
-use std::io::{self, Write};
+use std::io::{self, Error, ErrorKind, Write};
 use ups_dataset::{DataSet, Element, Tag, Value};
-use ups_life::{Reply, Status, StepUid};
+use ups_events::type_id;
+use ups_life::{Event, InputReadiness, Reply, Status, StepUid, Subscription, Watched};
 use ups_pdu::{Ae, without_padding};
 
-/// An item of a sequence round what is printed.
+/// The way from a set to what is printed of it.
 #[derive(Clone, Copy)]
-struct Round<'a> {
-    sequence: Tag,
-    /// The number of the item, from 1.
-    item: usize,
-    /// The item round the sequence; None where it stands in the set itself.
-    outer: Option<&'a Round<'a>>,
+pub(crate) enum Way<'a> {
+    /// It stands in the set itself.
+    Here,
+    /// It stands in an item of a sequence, to which another way leads. Items are counted from 1.
+    Into(&'a Way<'a>, Tag, usize),
 }
 
-/// A line that is printed: words with a space between two.
-#[derive(Drop)]
-pub(crate) struct Printed<'w, W: Write> {
-    writer: &'w mut W,
-    /// Whether the next word stands behind another.
-    follows: bool,
+/// The hex digit of a value.
+fn digit_of(value: u8) -> u8
+    requires { value < 16 }
+    ensures { result ≡ hex_digit value }
+{
+    if value < 10 {
+        b'0' + value
+    } else {
+        b'A' - 10 + value
+    }
 }
 
-impl<'w, W: Write> Printed<'w, W> {
-    /// A line that begins with a status (PS3.7 annex C): four hex digits.
-    pub(crate) fn new(writer: &'w mut W, status: Status) -> io::Result<Printed<'w, W>> {
-        write!(writer, "{:04X}", status.code())?;
-        Ok(Printed {
-            writer,
-            follows: true,
-        })
-    }
+/// The two hex digits of a byte.
+fn hex_of(byte: u8) -> [u8; 2]
+    ensures { result ≡ hex_byte byte }
+{
+    [digit_of(byte / 16), digit_of(byte % 16)]
+}
 
-    /// Ends the line.
-    pub(crate) fn end(self) -> io::Result<()> {
-        let Printed { writer, follows: _ } = self;
-        writer.write_all(b"\n")?;
-        writer.flush()
-    }
+/// Prints a number as four hex digits.
+fn put_hex<W: Write>(writer: &mut W, number: u16) -> io::Result<()>
+    ensures { OnOk result (Appends (W.contents writer.old) (W.contents writer.new) (hex_word number)) }
+{
+    let [high, low] = number.to_be_bytes();
+    writer.write_all(&hex_of(high))?;
+    writer.write_all(&hex_of(low))
+}
 
-    /// Prints the space before a word that stands behind another.
-    fn part(&mut self) -> io::Result<()> {
-        if self.follows {
-            self.writer.write_all(b" ")?;
+/// Prints a tag (PS3.5 section 7.1): its group and its element.
+fn put_tag<W: Write>(writer: &mut W, tag: Tag) -> io::Result<()>
+    ensures { OnOk result (Appends (W.contents writer.old) (W.contents writer.new) (hex_tag tag)) }
+{
+    put_hex(writer, tag.group)?;
+    put_hex(writer, tag.element)
+}
+
+/// Whether a byte stands for itself: it is a visible character without a meaning of its own in a reply.
+fn is_plain(byte: u8) -> bool
+    ensures { result ≡ is_plain byte }
+{
+    33 <= byte && byte <= 126 && !(byte == b'%' || byte == b'[' || byte == b']')
+}
+
+/// Prints a byte: as `%` and two hex digits where it does not stand for itself.
+fn put_byte<W: Write>(writer: &mut W, byte: u8) -> io::Result<()>
+    ensures { OnOk result (Appends (W.contents writer.old) (W.contents writer.new) (printed_byte byte)) }
+{
+    if is_plain(byte) {
+        return writer.write_all(&[byte]);
+    }
+    writer.write_all(b"%")?;
+    writer.write_all(&hex_of(byte))
+}
+
+/// Prints a value, without the padding at its end.
+fn put_text<W: Write>(writer: &mut W, value: &[u8]) -> io::Result<()>
+    ensures { OnOk result (Appends (W.contents writer.old) (W.contents writer.new) (printed value.now)) }
+{
+    let text = without_padding(value);
+    for byte in text {
+        put_byte(writer, *byte)?;
+    }
+    Ok(())
+}
+
+/// Prints the end of the way into an item of this number: `/` for the first of a sequence, `.k/` for item k.
+fn put_item<W: Write>(writer: &mut W, number: usize) -> io::Result<()>
+    ensures { OnOk result (Appends (W.contents writer.old) (W.contents writer.new) (into_item number)) }
+{
+    if number == 1 {
+        return writer.write_all(b"/");
+    }
+    write!(writer, ".{number}/")
+}
+
+/// Prints a way.
+fn put_way<W: Write>(writer: &mut W, way: &Way<'_>) -> io::Result<()>
+    ensures { OnOk result (Appends (W.contents writer.old) (W.contents writer.new) (way_text way.now)) }
+{
+    match way {
+        Way::Here => Ok(()),
+        Way::Into(outer, sequence, number) => {
+            put_way(writer, outer)?;
+            put_tag(writer, *sequence)?;
+            put_item(writer, *number)
         }
-        self.follows = true;
-        Ok(())
     }
+}
 
-    /// Prints a byte: as `%` and two hex digits where it is no visible character, or one that has a meaning here.
-    fn byte(&mut self, byte: u8) -> io::Result<()> {
-        match byte {
-            b'%' | b'[' | b']' => write!(self.writer, "%{:02X}", byte),
-            0x21..=0x7e => self.writer.write_all(&[byte]),
-            _ => write!(self.writer, "%{:02X}", byte),
-        }
+/// Prints the space before a word that stands behind another, as the next one does.
+fn put_space<W: Write>(writer: &mut W, follows: &mut bool) -> io::Result<()>
+    ensures text { OnOk result (Appends (W.contents writer.old) (W.contents writer.new) (if follows.old then 32 ∷ [] else [])) }
+    ensures follows { OnOk result (follows.new ≡ true) }
+{
+    if *follows {
+        writer.write_all(b" ")?;
     }
+    *follows = true;
+    Ok(())
+}
 
-    /// Prints a value, without the padding at its end.
-    fn text(&mut self, value: &[u8]) -> io::Result<()> {
-        for byte in without_padding(value) {
-            self.byte(*byte)?;
-        }
-        Ok(())
-    }
-
-    fn tag(&mut self, tag: Tag) -> io::Result<()> {
-        write!(self.writer, "{:04X}{:04X}", tag.group, tag.element)
-    }
-
-    /// Prints the way into an item: `ggggeeee/` for the first of a sequence, `ggggeeee.k/` for item k.
-    fn round(&mut self, round: &Round<'_>) -> io::Result<()> {
-        if let Some(outer) = round.outer {
-            self.round(outer)?;
-        }
-        self.tag(round.sequence)?;
-        match round.item {
-            1 => self.writer.write_all(b"/"),
-            item => write!(self.writer, ".{item}/"),
-        }
-    }
-
-    /// Prints an attribute with bytes as its value.
-    fn attribute(&mut self, round: Option<&Round<'_>>, tag: Tag, value: &[u8]) -> io::Result<()> {
-        self.part()?;
-        if let Some(round) = round {
-            self.round(round)?;
-        }
-        self.tag(tag)?;
-        self.writer.write_all(b"=")?;
-        self.text(value)
-    }
-
-    /// Begins one of several sets: its attributes stand in brackets.
-    fn open(&mut self) -> io::Result<()> {
-        self.part()?;
-        self.follows = false;
-        self.writer.write_all(b"[")
-    }
-
-    /// Ends one of several sets.
-    fn close(&mut self) -> io::Result<()> {
-        self.follows = true;
-        self.writer.write_all(b"]")
-    }
-
-    fn step(&mut self, step: StepUid) -> io::Result<()> {
-        self.part()?;
-        self.text(step.as_bytes())
-    }
+/// Prints an attribute with bytes as its value.
+fn put_attribute<W: Write>(
+    writer: &mut W,
+    follows: &mut bool,
+    way: &Way<'_>,
+    tag: Tag,
+    value: &[u8],
+) -> io::Result<()>
+    ensures text { OnOk result (Appends (W.contents writer.old) (W.contents writer.new) (spaced follows.old (word (way_text way.now) tag value.now ∷ []))) }
+    ensures follows { OnOk result (follows.new ≡ true) }
+{
+    put_space(writer, follows)?;
+    put_way(writer, way)?;
+    put_tag(writer, tag)?;
+    writer.write_all(b"=")?;
+    put_text(writer, value)
 }
 
 /// Prints an element: its value, or the attributes in its items.
 #[cycle(printing)]
 fn put_element<A: Allocator + Copy, W: Write>(
     element: &Element<A>,
-    round: Option<&Round<'_>>,
-    line: &mut Printed<'_, W>,
-) -> io::Result<()> {
+    way: &Way<'_>,
+    follows: &mut bool,
+    writer: &mut W,
+) -> io::Result<()>
+    ensures text { OnOk result (Appends (W.contents writer.old) (W.contents writer.new) (spaced follows.old (words_data (way_text way.now) element.now.tag (value_view element.now.value)))) }
+    ensures follows { OnOk result (follows.new ≡ follows_after follows.old (words_data (way_text way.now) element.now.tag (value_view element.now.value))) }
+{
     match &element.value {
-        Value::Bytes(bytes) => line.attribute(round, element.tag, bytes.as_slice()),
-        Value::Items(sets) if sets.is_empty() => line.attribute(round, element.tag, &[]),
+        Value::Bytes(bytes) => put_attribute(writer, follows, way, element.tag, bytes.as_slice()),
+        Value::Items(sets) if sets.is_empty() => {
+            put_attribute(writer, follows, way, element.tag, &[])
+        }
         Value::Items(sets) => {
             for (place, set) in sets.iter().enumerate() {
-                let inner = Round {
-                    sequence: element.tag,
-                    item: place + 1,
-                    outer: round,
-                };
-                put_set(set, Some(&inner), line)?;
+                let inner = Way::Into(&*way, element.tag, place + 1);
+                put_set(set, &inner, follows, writer)?;
             }
             Ok(())
         }
@@ -141,58 +179,214 @@ fn put_element<A: Allocator + Copy, W: Write>(
 #[cycle(printing)]
 fn put_set<A: Allocator + Copy, W: Write>(
     set: &DataSet<A>,
-    round: Option<&Round<'_>>,
-    line: &mut Printed<'_, W>,
-) -> io::Result<()> {
+    way: &Way<'_>,
+    follows: &mut bool,
+    writer: &mut W,
+) -> io::Result<()>
+    ensures text { OnOk result (Appends (W.contents writer.old) (W.contents writer.new) (spaced follows.old (words (way_text way.now) set.now))) }
+    ensures follows { OnOk result (follows.new ≡ follows_after follows.old (words (way_text way.now) set.now)) }
+{
     for element in set.elements() {
-        put_element(element, round, line)?;
+        put_element(element, way, follows, writer)?;
     }
     Ok(())
 }
 
-/// Writes the reply to a message: its status, and the attributes that are shown.
-pub(crate) fn put_reply<A: Allocator + Copy, W: Write>(
-    writer: &mut W,
-    reply: &Reply<A>,
-) -> io::Result<()> {
-    match reply {
-        Reply::Status(status) => Printed::new(writer, *status)?.end(),
-        Reply::Set(status, set) => {
-            let mut line = Printed::new(writer, *status)?;
-            put_set(set, None, &mut line)?;
-            line.end()
+/// Flushes a writer. A call that a signal interrupts is made again.
+fn flush<W: Write>(writer: &mut W) -> io::Result<()>
+    ensures { OnOk result (Keeps (W.contents writer.old) (W.contents writer.new)) }
+{
+    for _ in 0..u64::MAX {
+        match writer.flush() {
+            Ok(()) => return Ok(()),
+            Err(error) if is_interrupted(&error) => {}
+            Err(error) => return Err(error),
         }
-        Reply::Sets(sets) => put_sets(writer, sets.as_slice()),
     }
+    Err(Error::from(ErrorKind::Interrupted))
 }
 
-/// Writes the answers to a C-FIND.
-fn put_sets<A: Allocator + Copy, W: Write>(writer: &mut W, sets: &[DataSet<A>]) -> io::Result<()> {
-    let mut line = Printed::new(writer, Status::Success)?;
+/// Ends a line, and flushes it.
+pub(crate) fn end<W: Write>(writer: &mut W) -> io::Result<()>
+    ensures { OnOk result (Appends (W.contents writer.old) (W.contents writer.new) (10 ∷ [])) }
+{
+    writer.write_all(b"\n")?;
+    flush(writer)
+}
+
+/// Prints the attributes of one of several sets, in brackets.
+fn put_bracketed<A: Allocator + Copy, W: Write>(writer: &mut W, set: &DataSet<A>) -> io::Result<()>
+    ensures { OnOk result (Appends (W.contents writer.old) (W.contents writer.new) (32 ∷ bracketed set.now)) }
+{
+    writer.write_all(b" [")?;
+    put_set(set, &Way::Here, &mut false, writer)?;
+    writer.write_all(b"]")
+}
+
+/// Prints the sets that were found.
+fn put_sets<A: Allocator + Copy, W: Write>(writer: &mut W, sets: &[DataSet<A>]) -> io::Result<()>
+    ensures { OnOk result (Appends (W.contents writer.old) (W.contents writer.new) (spaced true (map bracketed sets.now))) }
+{
     for set in sets {
-        line.open()?;
-        put_set(set, None, &mut line)?;
-        line.close()?;
+        put_bracketed(writer, set)?;
     }
-    line.end()
+    Ok(())
 }
 
-/// Writes the steps that are held.
-pub(crate) fn put_steps<W: Write>(writer: &mut W, steps: &[StepUid]) -> io::Result<()> {
-    let mut line = Printed::new(writer, Status::Success)?;
+/// Prints the UIDs of steps.
+fn put_steps<W: Write>(writer: &mut W, steps: &[StepUid]) -> io::Result<()>
+    ensures { OnOk result (Appends (W.contents writer.old) (W.contents writer.new) (spaced true (map printed steps.now))) }
+{
     for step in steps {
-        line.step(*step)?;
+        writer.write_all(b" ")?;
+        put_text(writer, step.as_bytes())?;
     }
-    line.end()
+    Ok(())
 }
 
-/// Writes who holds a step: a title, or `-` where nobody does.
-pub(crate) fn put_holder<W: Write>(writer: &mut W, holder: Option<Ae>) -> io::Result<()> {
-    let mut line = Printed::new(writer, Status::Success)?;
-    line.part()?;
-    match holder {
-        Some(ae) => line.text(ae.as_bytes())?,
-        None => line.text(b"-")?,
+/// The text of how a step is watched.
+fn subscription_text(subscription: Subscription) -> &'static [u8]
+    ensures { result.now ≡ subscription_text subscription }
+{
+    match subscription {
+        Subscription::Free => b"free",
+        Subscription::Locked => b"locked",
     }
-    line.end()
+}
+
+/// Prints a step that a watcher is subscribed to, behind a space.
+fn put_watched<W: Write>(writer: &mut W, watched: &Watched) -> io::Result<()>
+    ensures { OnOk result (Appends (W.contents writer.old) (W.contents writer.new) (32 ∷ watched_word watched.now)) }
+{
+    writer.write_all(b" ")?;
+    put_text(writer, watched.step.as_bytes())?;
+    writer.write_all(b":")?;
+    writer.write_all(subscription_text(watched.subscription))
+}
+
+/// Prints the steps that a watcher is subscribed to.
+fn put_watches<W: Write>(writer: &mut W, watches: &[Watched]) -> io::Result<()>
+    ensures { OnOk result (Appends (W.contents writer.old) (W.contents writer.new) (spaced true (map watched_word watches.now))) }
+{
+    for watched in watches {
+        put_watched(writer, watched)?;
+    }
+    Ok(())
+}
+
+/// Prints a value behind a colon.
+fn put_part<W: Write>(writer: &mut W, value: &[u8]) -> io::Result<()>
+    ensures { OnOk result (Appends (W.contents writer.old) (W.contents writer.new) (58 ∷ printed value.now)) }
+{
+    writer.write_all(b":")?;
+    put_text(writer, value)
+}
+
+/// The text of a step's readiness; empty where its attributes name none.
+fn readiness_text(readiness: Option<InputReadiness>) -> &'static [u8]
+    ensures { result.now ≡ readiness_word readiness }
+{
+    match readiness {
+        Some(readiness) => readiness.text(),
+        None => b"",
+    }
+}
+
+/// Prints the number and the type of an event, behind a space.
+fn put_event_number<W: Write>(writer: &mut W, event: &Event) -> io::Result<()>
+    ensures { OnOk result (Appends (W.contents writer.old) (W.contents writer.new) (32 ∷ (decimal event.now.number ++ (58 ∷ decimal (type_id event.now.kind))))) }
+{
+    let number = event.number;
+    let kind = type_id(event.kind);
+    write!(writer, " {number}:{kind}")
+}
+
+/// Prints an event, behind a space.
+fn put_event<W: Write>(writer: &mut W, event: &Event) -> io::Result<()>
+    ensures { OnOk result (Appends (W.contents writer.old) (W.contents writer.new) (32 ∷ event_word event.now)) }
+{
+    put_event_number(writer, event)?;
+    put_part(writer, event.step.as_bytes())?;
+    put_part(writer, event.state.text())?;
+    put_part(writer, readiness_text(event.readiness))
+}
+
+/// Prints events.
+fn put_events<W: Write>(writer: &mut W, events: &[Event]) -> io::Result<()>
+    ensures { OnOk result (Appends (W.contents writer.old) (W.contents writer.new) (spaced true (map event_word events.now))) }
+{
+    for event in events {
+        put_event(writer, event)?;
+    }
+    Ok(())
+}
+
+/// Prints who holds a step: a title, or `-` where nobody does.
+fn put_holder<W: Write>(writer: &mut W, holder: Option<Ae>) -> io::Result<()>
+    ensures { OnOk result (Appends (W.contents writer.old) (W.contents writer.new) (32 ∷ title_word holder)) }
+{
+    writer.write_all(b" ")?;
+    match holder {
+        Some(ae) => put_text(writer, ae.as_bytes()),
+        None => writer.write_all(b"-"),
+    }
+}
+
+/// Prints how many steps a sweep removed.
+fn put_count<W: Write>(writer: &mut W, count: u64) -> io::Result<()>
+    ensures { OnOk result (Appends (W.contents writer.old) (W.contents writer.new) (32 ∷ decimal count)) }
+{
+    write!(writer, " {count}")
+}
+
+/// Prints the reply to a message, without the end of its line.
+fn put_reply<A: Allocator + Copy, W: Write>(writer: &mut W, reply: &Reply<A>) -> io::Result<()>
+    ensures { OnOk result (Appends (W.contents writer.old) (W.contents writer.new) (reply_head reply.now ++ spaced true (reply_words reply.now))) }
+{
+    match reply {
+        Reply::Status(status) => put_hex(writer, status.code()),
+        Reply::Set(status, set) => {
+            put_hex(writer, status.code())?;
+            put_set(set, &Way::Here, &mut true, writer)
+        }
+        Reply::Sets(sets) => {
+            put_hex(writer, Status::Success.code())?;
+            put_sets(writer, sets.as_slice())
+        }
+        Reply::Swept(count) => {
+            put_hex(writer, Status::Success.code())?;
+            put_count(writer, *count)
+        }
+        Reply::AckAhead => writer.write_all(b"AckAhead"),
+        Reply::AckStale => writer.write_all(b"AckStale"),
+        Reply::Reports(events) => {
+            put_hex(writer, Status::Success.code())?;
+            put_events(writer, events.as_slice())
+        }
+    }
+}
+
+/// Writes what a question is told, as a line, and flushes it.
+pub(crate) fn put_told<A: Allocator + Copy, W: Write>(
+    writer: &mut W,
+    told: &Told<A>,
+) -> io::Result<()>
+    ensures { OnOk result (Appends (W.contents writer.old) (W.contents writer.new) (line_of told.now)) }
+{
+    match told {
+        Told::Replied(reply) => put_reply(writer, reply)?,
+        Told::Steps(steps) => {
+            put_hex(writer, Status::Success.code())?;
+            put_steps(writer, steps.as_slice())?;
+        }
+        Told::Watched(watches) => {
+            put_hex(writer, Status::Success.code())?;
+            put_watches(writer, watches.as_slice())?;
+        }
+        Told::Holder(holder) => {
+            put_hex(writer, Status::Success.code())?;
+            put_holder(writer, *holder)?;
+        }
+    }
+    end(writer)
 }

@@ -1,11 +1,17 @@
 //! The attributes of a line as the bytes of a data set, in Explicit VR Little Endian (PS3.5 section 7 and annex A.2). A
 //! reader of data sets then judges them as those of a message.
 
+ghost use Rattle.std.specs.Prelude.{◌≡◌, ◌++◌, ℕ, List, OnOk};
+ghost use Rattle.ups_dataset.specs.Written.{written_head, written_element};
+ghost use Rattle.ups_dataset.specs.declared.syntax.TransferSyntax.TheVariants.{Explicit};
+ghost use Rattle.ups_script.specs.Escapes.{StandsFor};
+ghost use Rattle.ups_script.specs.Forms.{pad_of, vr_for, element_for};
+
 use crate::attributes::Attribute;
-use crate::fault::LineFault;
+use crate::fault::{LineFault, LineReason};
 use crate::limits::MAX_ITEMS;
 use crate::paths::{Part, Path};
-use crate::words::Text;
+use crate::text::Text;
 use std::alloc::{AllocError, Allocator};
 use ups_dataset::{
     ITEM, ITEM_DELIMITATION, MAX_SHORT_LENGTH, SEQUENCE_DELIMITATION, Tag, UNDEFINED_LENGTH, Vr,
@@ -18,7 +24,9 @@ fn put_head<A: Allocator + Copy>(
     tag: Tag,
     vr: Vr,
     len: u32,
-) -> Result<(), AllocError> {
+) -> Result<(), AllocError>
+    ensures { OnOk result (out.new.items ≡ out.old.items ++ written_head Explicit tag vr len) }
+{
     tag.put(out)?;
     out.extend_from_slice(&vr.letters())?;
     if vr.is_long() {
@@ -39,21 +47,28 @@ fn put_mark<A: Allocator + Copy>(
     out.extend_from_slice(&len.to_le_bytes())
 }
 
-/// The value representation of a value of so many bytes, and what pads it. Bytes that can't stand under the one of the
-/// dictionary are of an unknown one (PS3.5 section 6.2.2).
-fn form_of(tag: Tag, len: usize) -> (Vr, u8) {
+/// The value representation of so many bytes under a tag. Bytes that can't stand under the one of the dictionary are of
+/// an unknown one (PS3.5 section 6.2.2).
+fn vr_for(tag: Tag, len: usize) -> Vr
+    ensures { result ≡ vr_for tag len }
+{
     let vr = match vr_of(tag) {
         Vr::Sq if len > 0 => Vr::Un,
         vr => vr,
     };
-    let pad = match vr {
+    if !vr.is_long() && len > MAX_SHORT_LENGTH as usize {
+        return Vr::Un;
+    }
+    vr
+}
+
+/// What pads a value of odd length (PS3.5 section 6.2).
+fn pad_of(vr: Vr) -> u8
+    ensures { result ≡ pad_of vr }
+{
+    match vr {
         Vr::Ui | Vr::Un => 0,
         _ => b' ',
-    };
-    if !vr.is_long() && len > MAX_SHORT_LENGTH as usize {
-        (Vr::Un, pad)
-    } else {
-        (vr, pad)
     }
 }
 
@@ -62,16 +77,18 @@ fn put_value<A: Allocator + Copy>(
     out: &mut Vec<u8, A>,
     tag: Tag,
     value: Text<'_>,
-) -> Result<(), LineFault> {
+) -> Result<(), LineFault>
+    ensures { (bytes : List ℕ) → StandsFor value.entry.written.now bytes → OnOk result (out.new.items ≡ out.old.items ++ written_element Explicit (element_for tag bytes)) }
+{
     let len = value.len();
-    let (vr, pad) = form_of(tag, len);
+    let vr = vr_for(tag, len);
     let Ok(padded) = u32::try_from(len.saturating_add(len % 2)) else {
-        return Err(LineFault::Malformed);
+        return Err(LineFault::Malformed(LineReason::TooLong));
     };
     put_head(out, tag, vr, padded)?;
     value.put(out)?;
     if len % 2 != 0 {
-        out.push(pad)?;
+        out.push(pad_of(vr))?;
     }
     Ok(())
 }
@@ -97,10 +114,10 @@ impl<'a, A: Allocator + Copy> Spelling<'a, A> {
 
     /// Begins or makes an item.
     ///
-    /// Errors: Malformed where there are too many; want of memory.
+    /// Errors: TooManyItems; lack of memory.
     fn item(&mut self, len: u32) -> Result<(), LineFault> {
         if self.items >= MAX_ITEMS {
-            return Err(LineFault::Malformed);
+            return Err(LineFault::Malformed(LineReason::TooManyItems));
         }
         self.items += 1;
         put_mark(&mut self.out, ITEM, len)?;
@@ -190,7 +207,7 @@ impl<'a, A: Allocator + Copy> Spelling<'a, A> {
 
 /// The bytes of a data set of these attributes, which are in its order.
 ///
-/// Errors: Malformed where it has more than 131,072 items; want of memory.
+/// Errors: TooManyItems where it has more than 131,072; lack of memory.
 pub(crate) fn spelled<A: Allocator + Copy>(
     alloc: A,
     attributes: &[Attribute<'_>],

@@ -1,10 +1,16 @@
-//! The words of a line: how they are parted, the numbers and the texts that they are.
+//! The words of a line: how they are parted, the numbers and the tags that they are.
 
-ghost use Rattle.std.specs.Prelude.{◌<◌};
-ghost use Rattle.std.specs.Option.{IfSome};
+ghost use Rattle.std.specs.Prelude.{◌≡◌, ◌<◌, ◌∷◌, [], ℕ, IfOk, MatchOption, OnSome};
+ghost use Rattle.std.specs.Char.{digit_value};
+ghost use Rattle.std.specs.List.{position};
+ghost use Rattle.std.specs.Option.{IfSome, option_copied};
+ghost use Rattle.std.specs.Str.Parse.{IsNumeral, digits_value};
+ghost use Rattle.ups_pdu.specs.Padding.{is_space};
+ghost use Rattle.ups_script.specs.Lines.{words_of};
+ghost use Rattle.ups_script.specs.Words.{bytes_left, words_left, SpellsNumber, SpellsTag};
 
-use std::alloc::{AllocError, Allocator};
-use std::borrow::CowSlice;
+use crate::fault::LineReason;
+use crate::text::byte_of;
 use ups_dataset::Tag;
 
 /// The words of a text, each parted from the next by one space. Between two spaces there is a word without bytes.
@@ -13,14 +19,72 @@ pub(crate) struct Words<'a> {
     rest: Option<&'a [u8]>,
 }
 
+/// Where the first space of a text stands; None where there is none.
+fn space_in(text: &[u8]) -> Option<usize>
+    ensures { result ≡ position is_space text.now }
+{
+    text.iter().position(|byte| *byte == b' ')
+}
+
 impl<'a> Words<'a> {
-    pub(crate) fn of(text: &'a [u8]) -> Words<'a> {
+    pub(crate) fn of(text: &'a [u8]) -> Words<'a>
+        ensures { words_left (option_copied result.rest) ≡ words_of text.now }
+    {
         Words { rest: Some(text) }
     }
 
-    /// Whether there is no word left.
-    pub(crate) fn is_empty(self) -> bool {
-        self.rest.is_none()
+    /// The next word; None behind the last one.
+    fn front(&mut self) -> Option<&'a [u8]>
+        ensures word { MatchOption result (words_left (option_copied self.old.rest) ≡ []) (λ word. words_left (option_copied self.old.rest) ≡ word.now ∷ words_left (option_copied self.new.rest)) }
+        ensures falls { OnSome result (bytes_left (option_copied self.new.rest) < bytes_left (option_copied self.old.rest)) }
+    {
+        let text = self.rest?;
+        match space_in(text) {
+            Some(place) => {
+                self.rest = Some(&text[place + 1..]);
+                Some(&text[..place])
+            }
+            None => {
+                self.rest = None;
+                Some(text)
+            }
+        }
+    }
+
+    /// The next word, which is not empty.
+    ///
+    /// Errors: MissingWord; EmptyWord.
+    pub(crate) fn word(&mut self) -> Result<&'a [u8], LineReason>
+        ensures { IfOk result (λ word. words_left (option_copied self.old.rest) ≡ word.now ∷ words_left (option_copied self.new.rest)) }
+    {
+        let word = self.front().ok_or(LineReason::MissingWord)?;
+        filled(word)
+    }
+
+    /// Refuses words that are left.
+    ///
+    /// Errors: EmptyWord where the next one is; ExtraWord.
+    pub(crate) fn end(mut self) -> Result<(), LineReason> {
+        match self.front() {
+            None => Ok(()),
+            Some(word) => {
+                filled(word)?;
+                Err(LineReason::ExtraWord)
+            }
+        }
+    }
+}
+
+/// A word that is not empty.
+///
+/// Errors: EmptyWord.
+pub(crate) fn filled(word: &[u8]) -> Result<&[u8], LineReason>
+    ensures { IfOk result (λ filled. filled.now ≡ word.now) }
+{
+    if word.is_empty() {
+        Err(LineReason::EmptyWord)
+    } else {
+        Ok(word)
     }
 }
 
@@ -34,117 +98,49 @@ impl<'a> Iterator for Words<'a> {
     ghost remaining = { λ w. at_most (bytes_left (option_copied w.rest)) };
 
     fn next(&mut self) -> Option<&'a [u8]> {
-        let text = self.rest?;
-        match text.iter().position(|byte| *byte == b' ') {
-            Some(place) => {
-                self.rest = Some(&text[place + 1..]);
-                Some(&text[..place])
-            }
-            None => {
-                self.rest = None;
-                Some(text)
-            }
-        }
+        self.front()
+    }
+}
+
+/// The value of a decimal digit; None where the byte is none.
+fn decimal_digit(byte: u8) -> Option<u8>
+    ensures { IfSome result (λ value. (digit_value byte < 10) × (value ≡ digit_value byte)) }
+{
+    match byte {
+        b'0'..=b'9' => Some(byte - b'0'),
+        _ => None,
     }
 }
 
 /// The number that decimal digits spell, with any zeros before it; None where they spell none below 2^64.
-pub(crate) fn number_of(word: &[u8]) -> Option<u64> {
+pub(crate) fn number_of(word: &[u8]) -> Option<u64>
+    ensures { IfSome result (λ number. IsNumeral 10 word.now × (number ≡ digits_value 10 word.now)) }
+{
     let mut number: u64 = 0;
     for digit in word {
-        let value = match *digit {
-            b'0'..=b'9' => *digit - b'0',
-            _ => return None,
-        };
+        let value = decimal_digit(*digit)?;
         number = number.checked_mul(10)?.checked_add(u64::from(value))?;
     }
     if word.is_empty() { None } else { Some(number) }
 }
 
-/// The value of a hex digit, in either case; None where the byte is none.
-fn digit_of(byte: u8) -> Option<u8>
-    ensures { IfSome result (λ digit. digit < 16) }
+/// The number that four hex digits spell.
+fn hex_number(a: u8, b: u8, c: u8, d: u8) -> Option<u16>
+    ensures { MatchOption result ((number : ℕ) → SpellsNumber a b c d number → ⊥) (SpellsNumber a b c d) }
 {
-    match byte {
-        b'0'..=b'9' => Some(byte - b'0'),
-        b'a'..=b'f' => Some(byte - b'a' + 10),
-        b'A'..=b'F' => Some(byte - b'A' + 10),
-        _ => None,
-    }
-}
-
-/// The byte that two hex digits spell.
-fn byte_of(high: u8, low: u8) -> Option<u8> {
-    Some(16 * digit_of(high)? + digit_of(low)?)
+    Some(u16::from_be_bytes([byte_of(a, b)?, byte_of(c, d)?]))
 }
 
 /// The tag that eight hex digits spell: those of the group, and those of the element (PS3.5 section 7.1). Many are read
 /// to sort attributes, so this is not left to a reader of texts of any length.
-pub(crate) fn tag_of(digits: &[u8]) -> Option<Tag> {
+pub(crate) fn tag_of(digits: &[u8]) -> Option<Tag>
+    ensures { MatchOption result ((tag : Tag) → SpellsTag digits.now tag → ⊥) (SpellsTag digits.now) }
+{
     let [a, b, c, d, e, f, g, h] = digits else {
         return None;
     };
     Some(Tag {
-        group: u16::from_be_bytes([byte_of(*a, *b)?, byte_of(*c, *d)?]),
-        element: u16::from_be_bytes([byte_of(*e, *f)?, byte_of(*g, *h)?]),
+        group: hex_number(*a, *b, *c, *d)?,
+        element: hex_number(*e, *f, *g, *h)?,
     })
-}
-
-/// The byte that the two hex digits behind a `%` spell, and what follows them.
-fn escaped(text: &[u8]) -> Option<(u8, &[u8])> {
-    let [high, low, rest @ ..] = text else {
-        return None;
-    };
-    Some((byte_of(*high, *low)?, rest))
-}
-
-/// A text as a script has it: each byte stands for itself, but `%` and two hex digits stand for the byte that these
-/// spell.
-#[derive(Clone, Copy)]
-pub(crate) struct Text<'a> {
-    written: &'a [u8],
-}
-
-impl<'a> Text<'a> {
-    /// The text that is written so; None where two hex digits are missing behind a `%`.
-    pub(crate) fn of(written: &'a [u8]) -> Option<Text<'a>> {
-        let behind_escapes = written.split(|byte| *byte == b'%').skip(1);
-        for piece in behind_escapes {
-            escaped(piece)?;
-        }
-        Some(Text { written })
-    }
-
-    /// How many bytes it has.
-    pub(crate) fn len(self) -> usize {
-        let escapes = self.written.iter().filter(|byte| **byte == b'%').count();
-        self.written.len().saturating_sub(escapes.saturating_mul(2))
-    }
-
-    /// Puts its bytes behind others.
-    pub(crate) fn put<A: Allocator + Copy>(self, out: &mut Vec<u8, A>) -> Result<(), AllocError> {
-        for (place, piece) in self.written.split(|byte| *byte == b'%').enumerate() {
-            match escaped(piece) {
-                Some((byte, rest)) if place > 0 => {
-                    out.push(byte)?;
-                    out.extend_from_slice(rest)?;
-                }
-                _ => out.extend_from_slice(piece)?,
-            }
-        }
-        Ok(())
-    }
-
-    /// Its bytes: those of the script where none is escaped.
-    pub(crate) fn bytes<A: Allocator + Copy>(
-        self,
-        alloc: A,
-    ) -> Result<CowSlice<'a, u8, A>, AllocError> {
-        if !self.written.contains(&b'%') {
-            return Ok(CowSlice::Borrowed(self.written));
-        }
-        let mut bytes = Vec::new(alloc);
-        self.put(&mut bytes)?;
-        Ok(CowSlice::Owned(bytes))
-    }
 }

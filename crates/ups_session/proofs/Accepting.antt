@@ -9,7 +9,7 @@ use Rattle.ups_assoc.specs.declared.negotiating.Outcome.TheVariants.{Accept, Rej
 use Rattle.ups_assoc.specs.declared.negotiating.Rejection.{Rejection}
 use Rattle.ups_assoc.specs.Titles.{title, is_title}
 use Rattle.ups_assoc.specs.Negotiation.{counted, is_too_small, acceptance, outcome, outcome_for, has_version_1, is_dicom, IsWritable}
-use Rattle.ups_session.specs.Deeds.{IsAccepting}
+use Rattle.ups_session.specs.Effects.{IsAccepting}
 
 counted_room : (m : ℕ) (zero_ long : Bool) → (m == 0) ≡ zero_ → nat_lt 16384 m ≡ long → is_too_small m ≡ false → 8 ≤ cond (zero_ || long) 16384 m
 counted_room m true long e f h = omega (arith)

@@ -1,29 +1,29 @@
 -- Things that happen, one after the other.
 use Rattle.std.proofs.Common.{◌≡◌, List, [], ◌∷◌, ◌++◌, refl, sym, ap, ◌∙◌, subst, append_assoc, append-nil}
-use Rattle.ups_session.specs.Fold.{Talk, silence, joined, Chain}
+use Rattle.ups_session.specs.Fold.{Exchange, silence, joined, Chain}
 
-pub joined-assoc : {A : Type 0} (a b c : Talk A) → joined (joined a b) c ≡ joined a (joined b c)
+pub joined-assoc : {A : Type 0} (a b c : Exchange A) → joined (joined a b) c ≡ joined a (joined b c)
 joined-assoc a b c = rw (append_assoc a.said b.said c.said, append_assoc a.asks b.asks c.asks, append_assoc a.replies b.replies c.replies) refl
 
-pub joined-silence : {A : Type 0} (a : Talk A) → joined a silence ≡ a
+pub joined-silence : {A : Type 0} (a : Exchange A) → joined a silence ≡ a
 joined-silence a = rw (append-nil a.said, append-nil a.asks, append-nil a.replies) refl
 
 -- some things, and then more
-pub chain_on : {A L X : Type 0} (Step : L → X → Talk A → L → Type 0) (xs ys : List X) (live mid after : L) (a b : Talk A) → Chain Step xs live a mid → Chain Step ys mid b after → Chain Step (xs ++ ys) live (joined a b) after
-chain_on {A} {L} Step [] ys live mid after a b (none, same) next =
-    let e : b ≡ joined a b = ap (λ (t : Talk A). joined t b) (sym none) in
-    subst (λ (t : Talk A). Chain Step ys live t after) e (subst (λ (l : L). Chain Step ys l b after) same next)
-chain_on {A} Step (x ∷ xs) ys live mid after a b (between, first, then, step, rest, is) next = (
+pub chain_on : {A L X : Type 0} (Step : L → X → Exchange A → L → Type 0) (xs ys : List X) (association mid after : L) (a b : Exchange A) → Chain Step xs association a mid → Chain Step ys mid b after → Chain Step (xs ++ ys) association (joined a b) after
+chain_on {A} {L} Step [] ys association mid after a b (none, same) next =
+    let e : b ≡ joined a b = ap (λ (t : Exchange A). joined t b) (sym none) in
+    subst (λ (t : Exchange A). Chain Step ys association t after) e (subst (λ (l : L). Chain Step ys l b after) same next)
+chain_on {A} Step (x ∷ xs) ys association mid after a b (between, first, then, step, rest, is) next = (
   between,
   first,
   joined then b,
   step,
   chain_on Step xs ys between mid after then b rest next,
-  ap (λ (t : Talk A). joined t b) is ∙ joined-assoc first then b,
+  ap (λ (t : Exchange A). joined t b) is ∙ joined-assoc first then b,
 )
 
-pub chain_none : {A L X : Type 0} (Step : L → X → Talk A → L → Type 0) (live : L) → Chain {A = A} {X = X} Step [] live silence live
-chain_none Step live = (refl, refl)
+pub chain_none : {A L X : Type 0} (Step : L → X → Exchange A → L → Type 0) (association : L) → Chain {A = A} {X = X} Step [] association silence association
+chain_none Step association = (refl, refl)
 
-pub chain_one : {A L X : Type 0} (Step : L → X → Talk A → L → Type 0) (x : X) (live after : L) (a : Talk A) → Step live x a after → Chain Step (x ∷ []) live a after
-chain_one Step x live after a step = (after, a, silence, step, (refl, refl), sym (joined-silence a))
+pub chain_one : {A L X : Type 0} (Step : L → X → Exchange A → L → Type 0) (x : X) (association after : L) (a : Exchange A) → Step association x a after → Chain Step (x ∷ []) association a after
+chain_one Step x association after a step = (after, a, silence, step, (refl, refl), sym (joined-silence a))

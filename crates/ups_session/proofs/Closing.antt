@@ -7,61 +7,61 @@ use Rattle.ups_ulstate.specs.Table.{next_of}
 use Rattle.ups_assoc.specs.declared.negotiating.Config.{Config}
 use Rattle.ups_life.specs.declared.request.Reply.{Reply}
 use Rattle.ups_pdu.specs.declared.pdu.Pdu.{Pdu}
-use Rattle.ups_session.specs.Association.{Association}
-use Rattle.ups_session.specs.Fold.{Happening, event, Asked, Arrival, pdu, bad, closed, brings, Talk, Chain, Happens, Settles, IsOpen}
-use Rattle.ups_session.specs.Acceptor.{TurnOf, acceptor, unexpected, plainly}
+use Rattle.ups_session.specs.Association.{AssociationView}
+use Rattle.ups_session.specs.Fold.{Indication, event, Asked, Arrival, pdu, bad, closed, brings, Exchange, Chain, Happens, Settles, IsOpen}
+use Rattle.ups_session.specs.Acceptor.{ReactionOf, acceptor, unexpected, on_event}
 use Rattle.ups_session.specs.Session.{NoEnd, okay}
-use Rattle.ups_session.specs.World.{World, Goes}
+use Rattle.ups_session.specs.World.{World, Performed}
 
-closing : {A : Type 0} (live : Association A) (s : UlState) → live.state ≡ s → IsOpen (plainly false unexpected live TransportClosed (next_of false true TransportClosed s)).live.state → ⊥
-closing live Sta1 is open_ = open_.connected is
-closing live Sta2 is open_ = open_.connected refl
-closing live Sta3 is open_ = open_.connected refl
-closing live Sta4 is open_ = open_.connected refl
-closing live Sta5 is open_ = open_.connected refl
-closing live Sta6 is open_ = open_.connected refl
-closing live Sta7 is open_ = open_.connected refl
-closing live Sta8 is open_ = open_.connected refl
-closing live Sta9 is open_ = open_.connected refl
-closing live Sta10 is open_ = open_.connected refl
-closing live Sta11 is open_ = open_.connected refl
-closing live Sta12 is open_ = open_.connected refl
-closing live Sta13 is open_ = open_.connected refl
+closing : {A : Type 0} (association : AssociationView A) (s : UlState) → association.state ≡ s → IsOpen (on_event false unexpected association TransportClosed (next_of false true TransportClosed s)).association.state → ⊥
+closing association Sta1 is open_ = open_.connected is
+closing association Sta2 is open_ = open_.connected refl
+closing association Sta3 is open_ = open_.connected refl
+closing association Sta4 is open_ = open_.connected refl
+closing association Sta5 is open_ = open_.connected refl
+closing association Sta6 is open_ = open_.connected refl
+closing association Sta7 is open_ = open_.connected refl
+closing association Sta8 is open_ = open_.connected refl
+closing association Sta9 is open_ = open_.connected refl
+closing association Sta10 is open_ = open_.connected refl
+closing association Sta11 is open_ = open_.connected refl
+closing association Sta12 is open_ = open_.connected refl
+closing association Sta13 is open_ = open_.connected refl
 
-asks_nothing : {A : Type 0} (live : Association A) (s : UlState) → (plainly false unexpected live TransportClosed (next_of false true TransportClosed s)).waiting ≡ None
-asks_nothing live Sta1 = refl
-asks_nothing live Sta2 = refl
-asks_nothing live Sta3 = refl
-asks_nothing live Sta4 = refl
-asks_nothing live Sta5 = refl
-asks_nothing live Sta6 = refl
-asks_nothing live Sta7 = refl
-asks_nothing live Sta8 = refl
-asks_nothing live Sta9 = refl
-asks_nothing live Sta10 = refl
-asks_nothing live Sta11 = refl
-asks_nothing live Sta12 = refl
-asks_nothing live Sta13 = refl
+asks_nothing : {A : Type 0} (association : AssociationView A) (s : UlState) → (on_event false unexpected association TransportClosed (next_of false true TransportClosed s)).waiting ≡ None
+asks_nothing association Sta1 = refl
+asks_nothing association Sta2 = refl
+asks_nothing association Sta3 = refl
+asks_nothing association Sta4 = refl
+asks_nothing association Sta5 = refl
+asks_nothing association Sta6 = refl
+asks_nothing association Sta7 = refl
+asks_nothing association Sta8 = refl
+asks_nothing association Sta9 = refl
+asks_nothing association Sta10 = refl
+asks_nothing association Sta11 = refl
+asks_nothing association Sta12 = refl
+asks_nothing association Sta13 = refl
 
 -- a turn that asks nothing comes to what it leaves
-settled : {A : Type 0} (config : Config) (turn : TurnOf A) (replies : List (Reply A)) (said : List (Pdu A)) (asks : List (Asked A)) (after : Association A) → turn.waiting ≡ None → Settles (acceptor config) turn replies said asks after → after ≡ turn.live
-settled config turn [] said asks after silent (none, says, quiet, is) = is
-settled config turn (reply ∷ replies) said asks after silent (waiting, next, more, others, asks_for, hears, on, says, then) = absurd (clash (sym asks_for ∙ silent))
+settled : {A : Type 0} (config : Config) (reaction : ReactionOf A) (replies : List (Reply A)) (said : List (Pdu A)) (asks : List (Asked A)) (after : AssociationView A) → reaction.waiting ≡ None → Settles (acceptor config) reaction replies said asks after → after ≡ reaction.association
+settled config reaction [] said asks after silent (none, says, quiet, is) = is
+settled config reaction (reply ∷ replies) said asks after silent (waiting, next, more, others, asks_for, hears, on, says, then) = absurd (clash (sym asks_for ∙ silent))
   where
     clash : Some waiting ≡ None → ⊥
     clash e = cc
 
-over : {A : Type 0} (config : Config) (live after : Association A) (talk : Talk A) → Happens (acceptor config) live (event TransportClosed) talk after → IsOpen after.state → ⊥
-over {A} config live after talk (turn, reacts, settles) open_ =
-    let silent = ap (λ (t : TurnOf A). t.waiting) reacts ∙ asks_nothing live live.state in
-    let same = settled config turn talk.replies talk.said talk.asks after silent settles ∙ ap (λ (t : TurnOf A). t.live) reacts in
-    closing live live.state refl (subst (λ (l : Association A). IsOpen l.state) same open_)
+over : {A : Type 0} (config : Config) (association after : AssociationView A) (exchange : Exchange A) → Happens (acceptor config) association (event TransportClosed) exchange after → IsOpen after.state → ⊥
+over {A} config association after exchange (reaction, reacts, settles) open_ =
+    let silent = ap (λ (t : ReactionOf A). t.waiting) reacts ∙ asks_nothing association association.state in
+    let same = settled config reaction exchange.replies exchange.said exchange.asks after silent settles ∙ ap (λ (t : ReactionOf A). t.association) reacts in
+    closing association association.state refl (subst (λ (l : AssociationView A). IsOpen l.state) same open_)
 
 -- what leaves the association open is not the end of the input
-pub no_end_here : {A : Type 0} (config : Config) (a : Arrival A) (live after : Association A) (u v : World A) → Goes (Happens (acceptor config)) (brings a) live after u v okay → IsOpen after.state → NoEnd (a ∷ [])
-no_end_here config (pdu p) live after u v g open_ = tt
-no_end_here config (bad f) live after u v g open_ = tt
-no_end_here {A} config closed live after u v g open_ =
-    let ran : Chain (Happens (acceptor config)) (event TransportClosed ∷ []) live g.talk g.end = subst (λ (hs : List (Happening A)). Chain (Happens (acceptor config)) hs live g.talk g.end) g.did.1 g.ran in
+pub no_end_here : {A : Type 0} (config : Config) (a : Arrival A) (association after : AssociationView A) (u v : World A) → Performed (Happens (acceptor config)) (brings a) association after u v okay → IsOpen after.state → NoEnd (a ∷ [])
+no_end_here config (pdu p) association after u v g open_ = tt
+no_end_here config (bad f) association after u v g open_ = tt
+no_end_here {A} config closed association after u v g open_ =
+    let ran : Chain (Happens (acceptor config)) (event TransportClosed ∷ []) association g.exchange g.end = subst (λ (hs : List (Indication A)). Chain (Happens (acceptor config)) hs association g.exchange g.end) g.did.1 g.ran in
     let (mid, first, then, step, (silent, same), is) = ran in
-    over config live mid first step (subst (λ (l : Association A). IsOpen l.state) (sym g.did.0 ∙ same) open_)
+    over config association mid first step (subst (λ (l : AssociationView A). IsOpen l.state) (sym g.did.0 ∙ same) open_)

@@ -1,33 +1,34 @@
 -- What comes to a session, one after the other.
-use Rattle.std.proofs.Common.{◌≡◌, ℕ, List, [], ◌∷◌, ◌++◌, Option, Result, Ok, Err, refl, sym, ap, ◌∙◌, subst, append_assoc, append-nil, inl, inr}
+use Rattle.std.proofs.Common.{◌≡◌, ℕ, List, [], ◌∷◌, ◌++◌, Result, Ok, Err, refl, sym, ap, ◌∙◌, subst, append_assoc, append-nil, inl, inr}
 use Rattle.ups_session.specs.declared.fault.SessionFault.{SessionFault}
 use Rattle.ups_session.specs.declared.fault.SessionFault.TheVariants.{Read, Write, Turns, Memory}
-use Rattle.std.specs.Io.KnownBytes.{IsAtEnd}
+use Rattle.ups_session.specs.WatchedIo.{Input, HasEnded}
 use Rattle.ups_pdu.specs.declared.pdu.Pdu.{Pdu}
 use Rattle.ups_pdu.specs.declared.fault.PduFault.{PduFault}
 use Rattle.ups_pdu.specs.Spelling.{SpellsPdu}
 use Rattle.ups_session.specs.declared.fault.End.{End}
-use Rattle.ups_session.specs.Fold.{Side, Arrival, pdu, bad, closed, brings, Chain, Happens, Takes, IsOpen}
-use Rattle.ups_session.specs.World.{World, Goes}
-use Rattle.ups_session.specs.Session.{Spells, SpellsAll, AtEnd, NoEnd, cut, failed, lost, within, GoesOn, okay, failing, Came, IsSession}
-use Rattle.ups_session.specs.Wire.{FallsShort, spelled}
-use Rattle.ups_session.specs.Turned.{Turned}
+use Rattle.ups_session.specs.Fold.{Side, Arrival, pdu, bad, closed, brings, Chain, Happens, Processes, IsOpen}
+use Rattle.ups_session.specs.World.{World, Performed}
+use Rattle.ups_session.specs.Session.{Spells, SpellsAll, AtEnd, NoEnd, cut, failed, lost, within, GoesOn, okay, failing, Progress, IsSession}
+use Rattle.ups_session.specs.Wire.{pdu_bytes}
+use Rattle.ups_session.specs.Visits.{FallsShort, pdus_of}
+use Rattle.ups_session.specs.Turn.{IsTurn}
 use Rattle.ups_session.proofs.Chains.{chain_one}
-use Rattle.ups_session.specs.declared.taking.Got.{Got}
-use Rattle.ups_session.specs.declared.taking.Got.TheVariants as gots
+use Rattle.ups_session.specs.declared.pdu_io.PduRead.{PduRead}
+use Rattle.ups_session.specs.declared.pdu_io.PduRead.TheVariants as reads
 use Rattle.ups_session.specs.Broken.{IsBad}
-use Rattle.ups_session.specs.Takes as takes
+use Rattle.ups_session.specs.Reading as reading
 use Rattle.ups_session.proofs.Going.{goes_on, goes_nowhere, goes_short}
 
 spells_on : {A : Type 0} (bytes more : List ℕ) (arrivals : List (Arrival A)) (a : Arrival A) → SpellsAll bytes arrivals → Spells more a → SpellsAll (bytes ++ more) (arrivals ++ a ∷ [])
 spells_on bytes more [] a e s = (more, [], ap (λ l. l ++ more) e ∙ sym (append-nil more), s, refl)
 spells_on bytes more (b ∷ arrivals) a (front, rest, e, s, all) t = (front, rest ++ more, ap (λ l. l ++ more) e ∙ append_assoc front rest more, s, spells_on rest more arrivals a all t)
 
-pub at_end_on : {A : Type 0} (left : Option (List ℕ)) (arrivals : List (Arrival A)) (a : Arrival A) → NoEnd arrivals → AtEnd left (a ∷ []) → AtEnd left (arrivals ++ a ∷ [])
-at_end_on left [] a none_yet h = h
-at_end_on left (closed ∷ arrivals) a none_yet h = absurd none_yet
-at_end_on left (pdu p ∷ arrivals) a none_yet h = at_end_on left arrivals a none_yet h
-at_end_on left (bad f ∷ arrivals) a none_yet h = at_end_on left arrivals a none_yet h
+pub at_end_on : {A : Type 0} (now : Input) (arrivals : List (Arrival A)) (a : Arrival A) → NoEnd arrivals → AtEnd now (a ∷ []) → AtEnd now (arrivals ++ a ∷ [])
+at_end_on now [] a none_yet h = h
+at_end_on now (closed ∷ arrivals) a none_yet h = absurd none_yet
+at_end_on now (pdu p ∷ arrivals) a none_yet h = at_end_on now arrivals a none_yet h
+at_end_on now (bad f ∷ arrivals) a none_yet h = at_end_on now arrivals a none_yet h
 
 pub no_end_on : {A : Type 0} (arrivals : List (Arrival A)) (a : Arrival A) → NoEnd arrivals → NoEnd (a ∷ []) → NoEnd (arrivals ++ a ∷ [])
 no_end_on [] a none_yet h = h
@@ -36,31 +37,32 @@ no_end_on (pdu p ∷ arrivals) a none_yet h = no_end_on arrivals a none_yet h
 no_end_on (bad f ∷ arrivals) a none_yet h = no_end_on arrivals a none_yet h
 
 -- all that one thing brings happened: it was taken
-pub taken_whole : {A L W : Type 0} (side : Side A L W) (a : Arrival A) (live after : L) (u v : World A) → IsOpen (side.state live) → Goes (Happens side) (brings a) live after u v okay → Goes (Takes side) (a ∷ []) live after u v okay
-taken_whole {A} {L} side a live after u v open_ g =
+pub taken_whole : {A L W : Type 0} (side : Side A L W) (a : Arrival A) (association after : L) (u v : World A) → IsOpen (side.state association) → Performed (Happens side) (brings a) association after u v okay → Performed (Processes side) (a ∷ []) association after u v okay
+taken_whole {A} {L} side a association after u v open_ g =
     let some = g.did.1 in
-    let ran : Chain (Happens side) (brings a) live g.talk g.end = subst (λ hs. Chain (Happens side) hs live g.talk g.end) some g.ran in
+    let ran : Chain (Happens side) (brings a) association g.exchange g.end = subst (λ hs. Chain (Happens side) hs association g.exchange g.end) some g.ran in
     record {
       some = a ∷ [];
-      talk = g.talk;
+      exchange = g.exchange;
       end = g.end;
+      visits = g.visits;
       sent = g.sent;
-      moments = g.moments;
-      ran = chain_one (Takes side) a live g.end g.talk (open_, ran);
+      ran = chain_one (Processes side) a association g.end g.exchange (open_, ran);
       settings = g.settings;
       others = g.others;
       caller = g.caller;
       writes = g.writes;
       tells = g.tells;
       calls = g.calls;
-      did = (g.did.0, refl, g.did.2);
+      did = (g.did.0, refl);
+      sends = g.sends;
     }
 
-pub came_first : {A L W : Type 0} (side : Side A L W) (start : L) (u : World A) → Goes (Happens side) side.first start start u u okay → Came side start start [] [] [] u u
-came_first side start u begins = record { whole = []; parts = refl; spells = refl; begun = start; between = u; begins = begins; goes = goes_nowhere (Takes side) start u tt }
+pub came_first : {A L W : Type 0} (side : Side A L W) (start : L) (u : World A) → Performed (Happens side) side.first start start u u okay → Progress side start start [] [] [] u u
+came_first side start u begins = record { whole = []; parts = refl; spells = refl; begun = start; between = u; begins = begins; performed = goes_nowhere (Processes side) start u tt }
 
 pub came_on : {A L W : Type 0} (side : Side A L W) (start mid after : L) (input more : List ℕ) (arrivals : List (Arrival A)) (a : Arrival A) (u v w : World A)
-    → Came side start mid input [] arrivals u v → IsOpen (side.state mid) → Spells more a → Goes (Happens side) (brings a) mid after v w okay → Came side start after (input ++ more) [] (arrivals ++ a ∷ []) u w
+    → Progress side start mid input [] arrivals u v → IsOpen (side.state mid) → Spells more a → Performed (Happens side) (brings a) mid after v w okay → Progress side start after (input ++ more) [] (arrivals ++ a ∷ []) u w
 came_on side start mid after input more arrivals a u v w c open_ s g =
     let all : input ≡ c.whole = c.parts ∙ append-nil c.whole in
     record {
@@ -70,11 +72,11 @@ came_on side start mid after input more arrivals a u v w c open_ s g =
       begun = c.begun;
       between = c.between;
       begins = c.begins;
-      goes = goes_on (Takes side) arrivals (a ∷ []) c.begun mid after c.between v w tt okay c.goes (taken_whole side a mid after v w open_ g);
+      performed = goes_on (Processes side) arrivals (a ∷ []) c.begun mid after c.between v w tt okay c.performed (taken_whole side a mid after v w open_ g);
     }
 
 -- and something was read behind it
-pub came_more : {A L W : Type 0} (side : Side A L W) (start after : L) (input rest : List ℕ) (arrivals : List (Arrival A)) (u v : World A) → Came side start after input [] arrivals u v → Came side start after (input ++ rest) rest arrivals u v
+pub came_more : {A L W : Type 0} (side : Side A L W) (start after : L) (input rest : List ℕ) (arrivals : List (Arrival A)) (u v : World A) → Progress side start after input [] arrivals u v → Progress side start after (input ++ rest) rest arrivals u v
 came_more side start after input rest arrivals u v c = record {
   whole = c.whole;
   parts = ap (λ l. l ++ rest) (c.parts ∙ append-nil c.whole);
@@ -82,61 +84,61 @@ came_more side start after input rest arrivals u v c = record {
   begun = c.begun;
   between = c.between;
   begins = c.begins;
-  goes = c.goes;
+  performed = c.performed;
 }
 
 abbrev pub stopped : SessionFault → Result End SessionFault
 stopped fault = Err fault
 
 -- a turn failed
-pub session_failed : {A L W : Type 0} (side : Side A L W) (ending : L → End) (start live after : L) (turns : ℕ) (left : Option (List ℕ)) (input more : List ℕ) (arrivals : List (Arrival A)) (u v w : World A) (fault : SessionFault)
-    → Came side start live input [] arrivals u v → GoesOn side live turns arrivals → Turned side live after left more v w (failing fault) → IsSession side ending start turns left (input ++ more) u w (stopped fault)
-session_failed {A} side ending start live after turns left input more arrivals u v w Read c on (tail, is, why, same) =
-    (arrivals, live, more, tail, subst (λ (x : World A). Came side start live (input ++ more) more arrivals u x) (sym same) (came_more side start live input more arrivals u v c), on, is, why)
-session_failed side ending start live after turns left input more arrivals u v w Turns c on t = absurd t
-session_failed side ending start live after turns left input more arrivals u v w Write c on (tail, last, is, why, g) =
-    inr (arrivals, live, more, tail, v, last, came_more side start live input more arrivals u v c, on, is, why, g)
-session_failed side ending start live after turns left input more arrivals u v w Memory c on (tail, last, is, why, g) =
-    inr (arrivals, live, more, tail, v, last, came_more side start live input more arrivals u v c, on, is, why, g)
+pub session_failed : {A L W : Type 0} (side : Side A L W) (ending : L → End) (start association after : L) (turns : ℕ) (now : Input) (input more : List ℕ) (arrivals : List (Arrival A)) (u v w : World A) (fault : SessionFault)
+    → Progress side start association input [] arrivals u v → GoesOn side association turns arrivals → IsTurn side association after now more v w (failing fault) → IsSession side ending start turns now (input ++ more) u w (stopped fault)
+session_failed {A} side ending start association after turns now input more arrivals u v w Read c on (remainder, is, why, same) =
+    (arrivals, association, more, remainder, subst (λ (x : World A). Progress side start association (input ++ more) more arrivals u x) (sym same) (came_more side start association input more arrivals u v c), on, is, why)
+session_failed side ending start association after turns now input more arrivals u v w Turns c on t = absurd t
+session_failed side ending start association after turns now input more arrivals u v w Write c on (remainder, last, is, why, g) =
+    inr (arrivals, association, more, remainder, v, last, came_more side start association input more arrivals u v c, on, is, why, g)
+session_failed side ending start association after turns now input more arrivals u v w Memory c on (remainder, last, is, why, g) =
+    inr (arrivals, association, more, remainder, v, last, came_more side start association input more arrivals u v c, on, is, why, g)
 
-abbrev pub unread : (A : Type 0) → SessionFault → Result (Got A) SessionFault
-unread A fault = Err fault
+abbrev pub lost_for : (A : Type 0) → SessionFault → Result (PduRead A) SessionFault
+lost_for A fault = Err fault
 
-abbrev pub got : (A : Type 0) → Got A → Result (Got A) SessionFault
+abbrev pub got : (A : Type 0) → PduRead A → Result (PduRead A) SessionFault
 got A x = Ok x
 
 -- memory ran out while something was read
-pub turned_lost : {A L W : Type 0} (side : Side A L W) (live after : L) (left : Option (List ℕ)) (input : List ℕ) (u : World A) (fault : SessionFault) → takes.Takes left input (unread A fault) → Turned side live after left input u u (failing fault)
-turned_lost side live after left input u fault (is, begun) = rw is (lost, live, begun, refl, goes_short (Happens side) [] live live u)
+pub turned_lost : {A L W : Type 0} (side : Side A L W) (association after : L) (now : Input) (input : List ℕ) (u : World A) (fault : SessionFault) → reading.IsRead now input (lost_for A fault) → IsTurn side association after now input u u (failing fault)
+turned_lost side association after now input u fault (is, begun) = rw is (lost, association, begun, refl, goes_short (Happens side) [] association association u)
 
 -- the input ended inside a PDU, or a read failed
-pub turned_cut : {A L W : Type 0} (side : Side A L W) (live after : L) (left : Option (List ℕ)) (input : List ℕ) (u : World A) → takes.Takes left input (got A gots.Cut) → Turned side live after left input u u (failing Read)
-turned_cut side live after left input u t = (cut, t, refl, refl)
+pub turned_cut : {A L W : Type 0} (side : Side A L W) (association after : L) (now : Input) (input : List ℕ) (u : World A) → reading.IsRead now input (got A reads.Cut) → IsTurn side association after now input u u (failing Read)
+turned_cut side association after now input u t = (cut, t, refl, refl)
 
-pub turned_failed : {A L W : Type 0} (side : Side A L W) (live after : L) (left : Option (List ℕ)) (input : List ℕ) (u : World A) → takes.Takes left input (got A gots.Failed) → Turned side live after left input u u (failing Read)
-turned_failed side live after left input u t = (failed, t, refl, refl)
+pub turned_failed : {A L W : Type 0} (side : Side A L W) (association after : L) (now : Input) (input : List ℕ) (u : World A) → reading.IsRead now input (got A reads.Failed) → IsTurn side association after now input u u (failing Read)
+turned_failed side association after now input u t = (failed, t, refl, refl)
 
 -- something came, and not all that it brings happened
-pub turned_part : {A L W : Type 0} (side : Side A L W) (live after : L) (left : Option (List ℕ)) (input : List ℕ) (a : Arrival A) (u v : World A) (fault : SessionFault) → Spells input a → AtEnd left (a ∷ []) → Goes (Happens side) (brings a) live after u v (failing fault)
-    → Turned side live after left input u v (failing fault)
-turned_part side live after left input a u v Write s end g = (within a, after, (s, end), inl refl, g)
-turned_part side live after left input a u v Memory s end g = (within a, after, (s, end), inr refl, g)
-turned_part side live after left input a u v Read s end g = absurd (no_read g.did.0)
+pub turned_part : {A L W : Type 0} (side : Side A L W) (association after : L) (now : Input) (input : List ℕ) (a : Arrival A) (u v : World A) (fault : SessionFault) → Spells input a → AtEnd now (a ∷ []) → Performed (Happens side) (brings a) association after u v (failing fault)
+    → IsTurn side association after now input u v (failing fault)
+turned_part side association after now input a u v Write s end g = (within a, after, (s, end), inl refl, g)
+turned_part side association after now input a u v Memory s end g = (within a, after, (s, end), inr refl, g)
+turned_part side association after now input a u v Read s end g = absurd (no_read g.sends.1)
   where
-    no_read : FallsShort Read (spelled g.talk.said) g.sent → ⊥
-    no_read (inl (e, part)) = cc
+    no_read : FallsShort Read v.output.failed (pdu_bytes (pdus_of g.visits)) g.sent → ⊥
+    no_read (inl (e, really, part)) = cc
     no_read (inr (e, part)) = cc
-turned_part side live after left input a u v Turns s end g = absurd (no_turns g.did.0)
+turned_part side association after now input a u v Turns s end g = absurd (no_turns g.sends.1)
   where
-    no_turns : FallsShort Turns (spelled g.talk.said) g.sent → ⊥
-    no_turns (inl (e, part)) = cc
+    no_turns : FallsShort Turns v.output.failed (pdu_bytes (pdus_of g.visits)) g.sent → ⊥
+    no_turns (inl (e, really, part)) = cc
     no_turns (inr (e, part)) = cc
 
-pub got_pdu : (A : Type 0) (left : Option (List ℕ)) (input : List ℕ) (x : Got A) (p : Pdu A) → x ≡ gots.Pdu p → takes.Takes left input (got A x) → SpellsPdu input p
-got_pdu A left input x p is t = subst (λ (y : Got A). takes.Takes left input (got A y)) is t
+pub got_pdu : (A : Type 0) (now : Input) (input : List ℕ) (x : PduRead A) (p : Pdu A) → x ≡ reads.Pdu p → reading.IsRead now input (got A x) → SpellsPdu input p
+got_pdu A now input x p is t = subst (λ (y : PduRead A). reading.IsRead now input (got A y)) is t
 
-pub got_bad : (A : Type 0) (left : Option (List ℕ)) (input : List ℕ) (x : Got A) (f : PduFault) → x ≡ gots.Bad f → takes.Takes left input (got A x) → IsBad A input f
-got_bad A left input x f is t = subst (λ (y : Got A). takes.Takes left input (got A y)) is t
+pub got_bad : (A : Type 0) (now : Input) (input : List ℕ) (x : PduRead A) (f : PduFault) → x ≡ reads.Bad f → reading.IsRead now input (got A x) → IsBad A input f
+got_bad A now input x f is t = subst (λ (y : PduRead A). reading.IsRead now input (got A y)) is t
 
-pub got_closed : (A : Type 0) (left : Option (List ℕ)) (input : List ℕ) (x : Got A) → x ≡ gots.Closed → takes.Takes left input (got A x) → (input ≡ []) × IsAtEnd left
-got_closed A left input x is t = subst (λ (y : Got A). takes.Takes left input (got A y)) is t
+pub got_closed : (A : Type 0) (now : Input) (input : List ℕ) (x : PduRead A) → x ≡ reads.Closed → reading.IsRead now input (got A x) → (input ≡ []) × HasEnded now
+got_closed A now input x is t = subst (λ (y : PduRead A). reading.IsRead now input (got A y)) is t

@@ -1,73 +1,67 @@
 -- Parts of a session go on from one another.
-use Rattle.std.proofs.Common.{◌≡◌, ℕ, List, [], ◌∷◌, ◌++◌, Result, Ok, Err, refl, sym, ap, ◌∙◌, subst, append_assoc, inr}
+use Rattle.std.proofs.Common.{◌≡◌, ℕ, List, [], ◌∷◌, ◌++◌, Result, Ok, Err, refl, sym, ap, ◌∙◌, subst, inr}
 use Rattle.std.proofs.KnownBytes.{Appends-nil, Appends-trans}
 use Rattle.ups_life.specs.Settings.{Settings}
 use Rattle.ups_life.specs.declared.entry.Entry.{Entry}
 use Rattle.ups_life.specs.declared.request.Reply.{Reply}
 use Rattle.ups_session.specs.declared.fault.SessionFault.{SessionFault}
 use Rattle.ups_session.specs.declared.fault.SessionFault.TheVariants.{Memory}
-use Rattle.ups_session.specs.Wire.{IsPrefix, spelled}
-use Rattle.ups_session.specs.Fold.{Asked, Talk, silence, joined, Chain}
+use Rattle.ups_session.specs.declared.gate.GateCall.{GateCall}
+use Rattle.ups_pdu.specs.declared.pdu.Pdu.{Pdu}
+use Rattle.ups_session.specs.Tells.{Tells}
+use Rattle.ups_session.specs.Visits.{calls_of, moments_of, pdus_of, Sends}
+use Rattle.ups_session.specs.Fold.{Asked, Exchange, silence, joined, Chain}
 use Rattle.ups_manager.specs.Law.{Others}
-use Rattle.ups_session.specs.World.{World, Calls, Did, Goes}
+use Rattle.ups_session.specs.World.{World, ServesAll, IsDone, Performed}
 use Rattle.ups_session.proofs.Chains.{chain_on, chain_none}
-use Rattle.ups_session.proofs.Spoken.{short_after, spelled-append}
+use Rattle.ups_session.proofs.Spoken.{prefix_after, prefix_of, prefix_trans, calls-append, moments-append, pdus-append, sends_on}
 use Rattle.ups_session.proofs.Telling.{Tells-nil, Tells-trans}
 
-pub prefix_after : {X : Type 0} (front part all : List X) → IsPrefix part all → IsPrefix (front ++ part) (front ++ all)
-prefix_after front part all (rest, e) = (rest, append_assoc front part rest ∙ ap (λ l. front ++ l) e)
+pub ServesAll-append : {A : Type 0} (s : Settings) (o : Others) (c : ℕ) (s0 s1 s2 : List (Entry A)) (us : List (Asked A)) (ms : List ℕ) (rs : List (Reply A)) (bs : List (Asked A)) (ns : List ℕ) (qs : List (Reply A))
+    → ServesAll s o c s0 us ms rs s1 → ServesAll s o c s1 bs ns qs s2 → ServesAll s o c s0 (us ++ bs) (ms ++ ns) (rs ++ qs) s2
+ServesAll-append {A} s o c s0 s1 s2 [] [] [] bs ns qs p q = subst (λ (seen : List (Entry A)). ServesAll s o c seen bs ns qs s2) p q
+ServesAll-append s o c s0 s1 s2 (a ∷ us) (m ∷ ms) (r ∷ rs) bs ns qs (mid, p, ps) q = (mid, p, ServesAll-append s o c mid s1 s2 us ms rs bs ns qs ps q)
+ServesAll-append s o c s0 s1 s2 [] [] (r ∷ rs) bs ns qs p q = absurd p
+ServesAll-append s o c s0 s1 s2 [] (m ∷ ms) [] bs ns qs p q = absurd p
+ServesAll-append s o c s0 s1 s2 [] (m ∷ ms) (r ∷ rs) bs ns qs p q = absurd p
+ServesAll-append s o c s0 s1 s2 (a ∷ us) [] [] bs ns qs p q = absurd p
+ServesAll-append s o c s0 s1 s2 (a ∷ us) [] (r ∷ rs) bs ns qs p q = absurd p
+ServesAll-append s o c s0 s1 s2 (a ∷ us) (m ∷ ms) [] bs ns qs p q = absurd p
 
-pub prefix_of : {X : Type 0} (xs more : List X) → IsPrefix xs (xs ++ more)
-prefix_of xs more = (more, refl)
+pub ServesAll-more : {A : Type 0} (s t : Settings) (o p : Others) (c d : ℕ) (s0 s1 s2 : List (Entry A)) (us : List (Asked A)) (ms : List ℕ) (rs : List (Reply A)) (bs : List (Asked A)) (ns : List ℕ) (qs : List (Reply A))
+    → t ≡ s → p ≡ o → d ≡ c → ServesAll s o c s0 us ms rs s1 → ServesAll t p d s1 bs ns qs s2 → ServesAll s o c s0 (us ++ bs) (ms ++ ns) (rs ++ qs) s2
+ServesAll-more {A} s t o p c d s0 s1 s2 us ms rs bs ns qs same shared one first then =
+    let kept : ServesAll t p c s1 bs ns qs s2 = subst (λ (y : ℕ). ServesAll t p y s1 bs ns qs s2) one then in
+    let alike : ServesAll t o c s1 bs ns qs s2 = subst (λ (y : Others). ServesAll t y c s1 bs ns qs s2) shared kept in
+    ServesAll-append s o c s0 s1 s2 us ms rs bs ns qs first (subst (λ (x : Settings). ServesAll x o c s1 bs ns qs s2) same alike)
 
-pub prefix_trans : {X : Type 0} (xs ys zs : List X) → IsPrefix xs ys → IsPrefix ys zs → IsPrefix xs zs
-prefix_trans xs ys zs (p, e) (q, f) = (p ++ q, sym (append_assoc xs p q) ∙ ap (λ l. l ++ q) e ∙ f)
-
-pub Calls-append : {A : Type 0} (s : Settings) (o : Others) (c : ℕ) (s0 s1 s2 : List (Entry A)) (us : List (Asked A)) (ms : List ℕ) (rs : List (Reply A)) (bs : List (Asked A)) (ns : List ℕ) (qs : List (Reply A))
-    → Calls s o c s0 us ms rs s1 → Calls s o c s1 bs ns qs s2 → Calls s o c s0 (us ++ bs) (ms ++ ns) (rs ++ qs) s2
-Calls-append {A} s o c s0 s1 s2 [] [] [] bs ns qs p q = subst (λ (seen : List (Entry A)). Calls s o c seen bs ns qs s2) p q
-Calls-append s o c s0 s1 s2 (a ∷ us) (m ∷ ms) (r ∷ rs) bs ns qs (mid, p, ps) q = (mid, p, Calls-append s o c mid s1 s2 us ms rs bs ns qs ps q)
-Calls-append s o c s0 s1 s2 [] [] (r ∷ rs) bs ns qs p q = absurd p
-Calls-append s o c s0 s1 s2 [] (m ∷ ms) [] bs ns qs p q = absurd p
-Calls-append s o c s0 s1 s2 [] (m ∷ ms) (r ∷ rs) bs ns qs p q = absurd p
-Calls-append s o c s0 s1 s2 (a ∷ us) [] [] bs ns qs p q = absurd p
-Calls-append s o c s0 s1 s2 (a ∷ us) [] (r ∷ rs) bs ns qs p q = absurd p
-Calls-append s o c s0 s1 s2 (a ∷ us) (m ∷ ms) [] bs ns qs p q = absurd p
-
-pub Calls-more : {A : Type 0} (s t : Settings) (o p : Others) (c d : ℕ) (s0 s1 s2 : List (Entry A)) (us : List (Asked A)) (ms : List ℕ) (rs : List (Reply A)) (bs : List (Asked A)) (ns : List ℕ) (qs : List (Reply A))
-    → t ≡ s → p ≡ o → d ≡ c → Calls s o c s0 us ms rs s1 → Calls t p d s1 bs ns qs s2 → Calls s o c s0 (us ++ bs) (ms ++ ns) (rs ++ qs) s2
-Calls-more {A} s t o p c d s0 s1 s2 us ms rs bs ns qs same shared one first then =
-    let kept : Calls t p c s1 bs ns qs s2 = subst (λ (y : ℕ). Calls t p y s1 bs ns qs s2) one then in
-    let alike : Calls t o c s1 bs ns qs s2 = subst (λ (y : Others). Calls t y c s1 bs ns qs s2) shared kept in
-    Calls-append s o c s0 s1 s2 us ms rs bs ns qs first (subst (λ (x : Settings). Calls x o c s1 bs ns qs s2) same alike)
-
-did_on : {A L X Y Z : Type 0} (Step : L → X → Talk A → L → Type 0) (xs ys : List X) (from mid after : L) (u v w : World A) (y : Y) (r : Result Z SessionFault)
-    → (g : Goes Step xs from mid u v (Ok y)) → (h : Goes Step ys mid after v w r) → Did h.end after (xs ++ h.some) (xs ++ ys) (g.sent ++ h.sent) (spelled (g.talk.said ++ h.talk.said)) r
-did_on Step xs ys from mid after u v w y (Ok z) g h =
-    (h.did.0, ap (λ l. xs ++ l) h.did.1, ap (λ l. l ++ h.sent) g.did.2 ∙ ap (λ l. spelled g.talk.said ++ l) h.did.2 ∙ sym (spelled-append g.talk.said h.talk.said))
-did_on Step xs ys from mid after u v w y (Err e) g h =
-    let short = short_after (spelled g.talk.said) (spelled h.talk.said) h.sent e h.did.0 in
-    (rw (g.did.2, spelled-append g.talk.said h.talk.said) short, prefix_after xs h.some ys h.did.1)
+did_on : {A L X Y Z : Type 0} (Step : L → X → Exchange A → L → Type 0) (xs ys : List X) (from mid after : L) (u v w : World A) (y : Y) (r : Result Z SessionFault)
+    → (g : Performed Step xs from mid u v (Ok y)) → (h : Performed Step ys mid after v w r) → IsDone h.end after (xs ++ h.some) (xs ++ ys) r
+did_on Step xs ys from mid after u v w y (Ok z) g h = (h.did.0, ap (λ l. xs ++ l) h.did.1)
+did_on Step xs ys from mid after u v w y (Err e) g h = prefix_after xs h.some ys h.did
 
 -- some things happened whole, and then more
-pub goes_on : {A L X Y Z : Type 0} (Step : L → X → Talk A → L → Type 0) (xs ys : List X) (from mid after : L) (u v w : World A) (y : Y) (r : Result Z SessionFault)
-    → Goes Step xs from mid u v (Ok y) → Goes Step ys mid after v w r → Goes Step (xs ++ ys) from after u w r
+pub goes_on : {A L X Y Z : Type 0} (Step : L → X → Exchange A → L → Type 0) (xs ys : List X) (from mid after : L) (u v w : World A) (y : Y) (r : Result Z SessionFault)
+    → Performed Step xs from mid u v (Ok y) → Performed Step ys mid after v w r → Performed Step (xs ++ ys) from after u w r
 goes_on {A} {L} {X} Step xs ys from mid after u v w y r g h =
-    let first : Chain Step xs from g.talk mid = subst (λ (l : List X). Chain Step l from g.talk mid) g.did.1 (subst (λ (l : L). Chain Step g.some from g.talk l) g.did.0 g.ran) in
+    let first : Chain Step xs from g.exchange mid = subst (λ (l : List X). Chain Step l from g.exchange mid) g.did.1 (subst (λ (l : L). Chain Step g.some from g.exchange l) g.did.0 g.ran) in
     record {
       some = xs ++ h.some;
-      talk = joined g.talk h.talk;
+      exchange = joined g.exchange h.exchange;
       end = h.end;
+      visits = g.visits ++ h.visits;
       sent = g.sent ++ h.sent;
-      moments = g.moments ++ h.moments;
-      ran = chain_on Step xs h.some from mid h.end g.talk h.talk first h.ran;
+      ran = chain_on Step xs h.some from mid h.end g.exchange h.exchange first h.ran;
       settings = h.settings ∙ g.settings;
       others = h.others ∙ g.others;
       caller = h.caller ∙ g.caller;
       writes = Appends-trans _ _ _ _ _ g.writes h.writes;
-      tells = Tells-trans _ _ _ _ _ g.tells h.tells;
-      calls = Calls-more u.settings v.settings u.others v.others u.caller v.caller u.seen v.seen w.seen g.talk.asks g.moments g.talk.replies h.talk.asks h.moments h.talk.replies g.settings g.others g.caller g.calls h.calls;
+      tells = subst (λ (l : List GateCall). Tells u.told w.told l) (sym (calls-append g.visits h.visits)) (Tells-trans u.told v.told w.told (calls_of g.visits) (calls_of h.visits) g.tells h.tells);
+      calls = subst (λ (l : List ℕ). ServesAll u.settings u.others u.caller u.seen (g.exchange.asks ++ h.exchange.asks) l (g.exchange.replies ++ h.exchange.replies) w.seen) (sym (moments-append g.visits h.visits))
+          (ServesAll-more u.settings v.settings u.others v.others u.caller v.caller u.seen v.seen w.seen g.exchange.asks (moments_of g.visits) g.exchange.replies h.exchange.asks (moments_of h.visits) h.exchange.replies g.settings g.others g.caller g.calls h.calls);
       did = did_on Step xs ys from mid after u v w y r g h;
+      sends = subst (λ (l : List (Pdu A)). Sends (g.exchange.said ++ h.exchange.said) l (g.sent ++ h.sent) w.output.failed r) (sym (pdus-append g.visits h.visits))
+          (sends_on g.exchange.said (pdus_of g.visits) h.exchange.said (pdus_of h.visits) g.sent h.sent v.output.failed w.output.failed y r g.sends h.sends);
     }
 
 -- a fault, as a result
@@ -75,14 +69,14 @@ abbrev pub failing : {Y : Type 0} → SessionFault → Result Y SessionFault
 failing e = Err e
 
 -- it failed within some things, and so within more
-pub goes_cut : {A L X Y Z : Type 0} (Step : L → X → Talk A → L → Type 0) (xs ys : List X) (from mid after : L) (u v : World A) (e : SessionFault)
-    → Goes Step xs from mid u v (failing {Y = Y} e) → Goes Step (xs ++ ys) from after u v (failing {Y = Z} e)
+pub goes_cut : {A L X Y Z : Type 0} (Step : L → X → Exchange A → L → Type 0) (xs ys : List X) (from mid after : L) (u v : World A) (e : SessionFault)
+    → Performed Step xs from mid u v (failing {Y = Y} e) → Performed Step (xs ++ ys) from after u v (failing {Y = Z} e)
 goes_cut Step xs ys from mid after u v e g = record {
   some = g.some;
-  talk = g.talk;
+  exchange = g.exchange;
   end = g.end;
+  visits = g.visits;
   sent = g.sent;
-  moments = g.moments;
   ran = g.ran;
   settings = g.settings;
   others = g.others;
@@ -90,41 +84,44 @@ goes_cut Step xs ys from mid after u v e g = record {
   writes = g.writes;
   tells = g.tells;
   calls = g.calls;
-  did = (g.did.0, prefix_trans g.some xs (xs ++ ys) g.did.1 (prefix_of xs ys));
+  did = prefix_trans g.some xs (xs ++ ys) g.did (prefix_of xs ys);
+  sends = g.sends;
 }
 
 -- nothing has happened
-pub goes_nowhere : {A L X Y : Type 0} (Step : L → X → Talk A → L → Type 0) (live : L) (w : World A) (y : Y) → Goes {X = X} Step [] live live w w (Ok y)
-goes_nowhere Step live w y = record {
+pub goes_nowhere : {A L X Y : Type 0} (Step : L → X → Exchange A → L → Type 0) (association : L) (w : World A) (y : Y) → Performed {X = X} Step [] association association w w (Ok y)
+goes_nowhere Step association w y = record {
   some = [];
-  talk = silence;
-  end = live;
+  exchange = silence;
+  end = association;
+  visits = [];
   sent = [];
-  moments = [];
-  ran = chain_none Step live;
+  ran = chain_none Step association;
   settings = refl;
   others = refl;
   caller = refl;
-  writes = Appends-nil w.written;
+  writes = Appends-nil w.output.written;
   tells = Tells-nil w.told;
   calls = refl;
-  did = (refl, refl, refl);
+  did = (refl, refl);
+  sends = (refl, refl);
 }
 
 -- memory ran out before anything happened
-pub goes_short : {A L X Y : Type 0} (Step : L → X → Talk A → L → Type 0) (all : List X) (live after : L) (w : World A) → Goes Step all live after w w (failing {Y = Y} Memory)
-goes_short Step all live after w = record {
+pub goes_short : {A L X Y : Type 0} (Step : L → X → Exchange A → L → Type 0) (all : List X) (association after : L) (w : World A) → Performed Step all association after w w (failing {Y = Y} Memory)
+goes_short Step all association after w = record {
   some = [];
-  talk = silence;
-  end = live;
+  exchange = silence;
+  end = association;
+  visits = [];
   sent = [];
-  moments = [];
-  ran = chain_none Step live;
+  ran = chain_none Step association;
   settings = refl;
   others = refl;
   caller = refl;
-  writes = Appends-nil w.written;
+  writes = Appends-nil w.output.written;
   tells = Tells-nil w.told;
   calls = refl;
-  did = (inr (refl, ([], refl)), (all, refl));
+  did = (all, refl);
+  sends = (([], refl), inr (refl, refl));
 }

@@ -1,5 +1,5 @@
 -- A header, and what was read behind it.
-use Rattle.std.proofs.Common.{◌≡◌, ℕ, ◌+◌, ◌≤◌, ◌<◌, ◌∷◌, List, [], refl, ◌++◌, length, take, ap, sym, ◌∙◌, subst, append_assoc, append-nil, arith, inl, inr, ◌⊎◌, length-take-le, Bool, true, false, Option, Result, Ok, Err}
+use Rattle.std.proofs.Common.{◌≡◌, ℕ, ◌+◌, ◌≤◌, ◌<◌, ◌∷◌, List, [], refl, ◌++◌, length, take, ap, sym, ◌∙◌, subst, append_assoc, append-nil, arith, inl, inr, ◌⊎◌, length-take-le, Bool, true, false, Result, Ok, Err}
 use Rattle.std.specs.Prelude.{◌≢◌}
 use Rattle.std.proofs.lemmas.List.{length-append, take_all}
 use lib.Seq.{take-append-le}
@@ -10,14 +10,15 @@ use Rattle.ups_pdu.specs.declared.fault.PduFault.{PduFault}
 use Rattle.ups_pdu.specs.declared.fault.PduFault.TheVariants as faults
 use Rattle.ups_pdu.specs.Header.{code, limit, IsHeader, IsWhole}
 use Rattle.ups_pdu.specs.Spelling.{SpellsPdu, IsFault}
-use Rattle.ups_pdu.proofs.Whole.{one_header, front_from_spelled}
-use Rattle.std.specs.Io.KnownBytes.{IsAtEnd}
+use Rattle.ups_pdu.proofs.Whole.{one_header, front_from_spelled, spelled_from_front}
+use Rattle.ups_session.specs.WatchedIo.{Input, HasEnded}
+use Rattle.ups_session.specs.declared.watched_io.LastRead.TheVariants.{Failed}
 use Rattle.ups_session.specs.declared.fault.SessionFault.{SessionFault}
 use Rattle.ups_session.specs.declared.fault.SessionFault.TheVariants.{Memory}
-use Rattle.ups_session.specs.declared.taking.Got.{Got}
-use Rattle.ups_session.specs.declared.taking.Got.TheVariants as gots
-use Rattle.ups_session.specs.Broken.{IsBad, IsBegun}
-use Rattle.ups_session.specs.Takes.{Takes}
+use Rattle.ups_session.specs.declared.pdu_io.PduRead.{PduRead}
+use Rattle.ups_session.specs.declared.pdu_io.PduRead.TheVariants as reads
+use Rattle.ups_session.specs.Broken.{IsBad}
+use Rattle.ups_session.specs.Reading.{IsRead}
 
 header_more : (bytes more : List ℕ) (byte n : ℕ) (rest : List ℕ) → IsHeader bytes byte n rest → IsHeader (bytes ++ more) byte n (rest ++ more)
 header_more bytes more byte n rest h = record {
@@ -39,10 +40,6 @@ no_more bytes byte n rest six h = omega (arith, header_length bytes byte n rest 
 is_nothing : (rest : List ℕ) → length rest ≡ 0 → rest ≡ []
 is_nothing [] e = refl
 is_nothing (b ∷ bs) e = absurd (omega (arith, e))
-
--- a header with so many bytes behind it
-pub begun : (input body : List ℕ) (kind : PduKind) (n : ℕ) (rest : List ℕ) → length input ≡ 6 → IsHeader input (code kind) n rest → length body ≤ n → IsBegun (input ++ body)
-begun input body kind n rest six h le = (kind, n, rest ++ body, header_more input body (code kind) n rest h, omega (arith, le, no_more input (code kind) n rest six h, length-append rest body))
 
 pub cut_short : (A : Type 0) (input body : List ℕ) (kind : PduKind) (n : ℕ) (rest : List ℕ) → length input ≡ 6 → IsHeader input (code kind) n rest → n ≤ limit kind → length body < n → IsFault A (input ++ body) faults.Short
 cut_short A input body kind n rest six h within short =
@@ -89,25 +86,31 @@ filled_length count a buf old body e within fits =
 some_bytes : (input body : List ℕ) → length input ≡ 6 → input ++ body ≢ []
 some_bytes input body six e = absurd (omega (arith, six, length-append input body, ap length e))
 
-abbrev pub got : (A : Type 0) → Got A → Result (Got A) SessionFault
+abbrev pub got : (A : Type 0) → PduRead A → Result (PduRead A) SessionFault
 got A x = Ok x
 
-abbrev pub failing : (A : Type 0) → SessionFault → Result (Got A) SessionFault
+abbrev pub failing : (A : Type 0) → SessionFault → Result (PduRead A) SessionFault
 failing A e = Err e
 
 -- a body that was not read to its end
-pub takes_cut : (A : Type 0) (left : Option (List ℕ)) (input body : List ℕ) (kind : PduKind) (n : ℕ) (rest : List ℕ) (x : Got A) (failed : Bool) → length input ≡ 6 → IsHeader input (code kind) n rest → n ≤ limit kind
-    → length body < n → (failed ≡ true → x ≡ gots.Failed) → (failed ≡ false → x ≡ gots.Cut) → (failed ≡ false → IsAtEnd left) → Takes left (input ++ body) (got A x)
-takes_cut A left input body kind n rest x true six h within short f c e = rw (f refl) (cut_short A input body kind n rest six h within short)
-takes_cut A left input body kind n rest x false six h within short f c e = rw (c refl) (some_bytes input body six, cut_short A input body kind n rest six h within short, e refl)
+pub takes_cut : (A : Type 0) (now : Input) (input body : List ℕ) (kind : PduKind) (n : ℕ) (rest : List ℕ) (x : PduRead A) (failed : Bool) → length input ≡ 6 → IsHeader input (code kind) n rest → n ≤ limit kind
+    → length body < n → (failed ≡ true → x ≡ reads.Failed) → (failed ≡ false → x ≡ reads.Cut) → (failed ≡ false → HasEnded now) → (failed ≡ true → now.last ≡ Failed) → IsRead now (input ++ body) (got A x)
+takes_cut A now input body kind n rest x true six h within short f c e r = rw (f refl) (cut_short A input body kind n rest six h within short, r refl)
+takes_cut A now input body kind n rest x false six h within short f c e r = rw (c refl) (some_bytes input body six, cut_short A input body kind n rest six h within short, e refl)
 
 -- memory ran out before the body
-pub takes_nothing : (A : Type 0) (left : Option (List ℕ)) (input : List ℕ) (kind : PduKind) (n : ℕ) (rest : List ℕ) → length input ≡ 6 → IsHeader input (code kind) n rest → Takes left (input ++ []) (failing A Memory)
-takes_nothing A left input kind n rest six h = (refl, begun input [] kind n rest six h (omega (arith)))
+pub takes_nothing : (A : Type 0) (now : Input) (input : List ℕ) (kind : PduKind) (n : ℕ) (rest : List ℕ) → length input ≡ 6 → IsHeader input (code kind) n rest → n ≤ limit kind → IsRead now (input ++ []) (failing A Memory)
+takes_nothing A now input kind n rest six h within =
+    let none = is_nothing rest (no_more input (code kind) n rest six h) in
+    let alone : IsHeader input (code kind) n [] = subst (λ (l : List ℕ). IsHeader input (code kind) n l) none h in
+    (refl, inl (kind, n, subst (λ (l : List ℕ). IsHeader l (code kind) n []) (sym (append-nil input)) alone, within))
 
 -- a body that spells no PDU, or none that memory is there for
-pub takes_no_pdu : (A : Type 0) (left : Option (List ℕ)) (input body bytes : List ℕ) (kind : PduKind) (n : ℕ) (rest : List ℕ) (fault : PduFault) (r : Result (Got A) SessionFault) → length input ≡ 6 → IsHeader input (code kind) n rest
+pub takes_no_pdu : (A : Type 0) (now : Input) (input body bytes : List ℕ) (kind : PduKind) (n : ℕ) (rest : List ℕ) (fault : PduFault) (r : Result (PduRead A) SessionFault) → length input ≡ 6 → IsHeader input (code kind) n rest
     → n ≤ limit kind → length body ≡ n → bytes ≡ input ++ body → IsFault A bytes fault
-    → ((fault ≡ faults.Memory) × (r ≡ failing A Memory)) ⊎ ((fault ≢ faults.Memory) × (r ≡ got A (gots.Bad fault))) → Takes left (input ++ body) r
-takes_no_pdu A left input body bytes kind n rest fault r six h within len is f (inl (m, e)) = rw e (refl, begun input body kind n rest six h (omega (arith, len)))
-takes_no_pdu A left input body bytes kind n rest fault r six h within len is f (inr (other, e)) = rw e (bad_body A input body bytes kind n rest fault six h within len is other f)
+    → ((fault ≡ faults.Memory) × (r ≡ failing A Memory)) ⊎ ((fault ≢ faults.Memory) × (r ≡ got A (reads.Bad fault))) → IsRead now (input ++ body) r
+takes_no_pdu A now input body bytes kind n rest fault r six h within len is f (inl (m, e)) =
+    let (pdu, size, front) = subst (λ (x : PduFault). IsFault A bytes x) m f in
+    let (fits, spells) = spelled_from_front bytes pdu size front in
+    rw e (refl, inr (pdu, whole_pdu input body bytes kind n rest size pdu six h len is fits spells))
+takes_no_pdu A now input body bytes kind n rest fault r six h within len is f (inr (other, e)) = rw e (bad_body A input body bytes kind n rest fault six h within len is other f)

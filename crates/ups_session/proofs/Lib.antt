@@ -1,4 +1,5 @@
 pub mod Accepting
+pub mod Asks
 pub mod Bodies
 pub mod Carrying
 pub mod Chains

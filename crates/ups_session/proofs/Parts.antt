@@ -1,5 +1,5 @@
 -- The parts of a response.
-use Rattle.std.proofs.Common.{◌≡◌, ℕ, Bool, true, false, List, ap, ◌∙◌, None, Some, Result, Ok, Err, IfOk}
+use Rattle.std.proofs.Common.{◌≡◌, ℕ, Bool, true, false, List, ap, ◌∙◌, None, Some, Result, Ok, Err, IfOk, OnErr}
 use Rattle.ups_dataset.specs.Data.{El}
 use Rattle.ups_dataset.specs.Written as sets
 use Rattle.ups_dimse.specs.declared.command.Command.TheVariants.{Response}
@@ -10,25 +10,29 @@ use Rattle.ups_assoc.specs.declared.negotiating.AcceptedContext.{AcceptedContext
 use Rattle.ups_assoc.specs.Cutting.{pieces}
 use Rattle.ups_life.specs.declared.status.Status.{Status}
 use Rattle.ups_life.specs.Statuses.{code}
-use Rattle.ups_session.specs.Responses.{answer, answer_bytes, bare_response, set_response}
+use Rattle.ups_session.specs.Responses.{response_command, response_bytes, bare_response, set_response}
 
 pub if_ok : {T E : Type 0} (r : Result T E) (P Q : T → Type 0) → ((x : T) → P x → Q x) → IfOk r P → IfOk r Q
 if_ok (Ok x) P Q f p = f x p
 if_ok (Err e) P Q f p = tt
 
+pub on_err : {T E : Type 0} (r : Result T E) (P Q : Type 0) → (P → Q) → OnErr r P → OnErr r Q
+on_err (Ok x) P Q f p = tt
+on_err (Err e) P Q f p = f p
+
 -- the bytes of an answer
-pub written_answer : {A : Type 0} (request : RequestCommand A) (status : ℕ) (there : Bool) (r : ResponseCommand) → r ≡ answer request status there → commands.written {A = A} (Response r) ≡ answer_bytes request status there
-unfolding answer_bytes
+pub written_answer : {A : Type 0} (request : RequestCommand A) (status : ℕ) (there : Bool) (r : ResponseCommand) → r ≡ response_command request status there → commands.written {A = A} (Response r) ≡ response_bytes request status there
+unfolding response_bytes
 written_answer {A} request status there r e = ap (λ (x : ResponseCommand). commands.written {A = A} (Response x)) e
 
 pub bare-response : {A : Type 0} (max : ℕ) (context : AcceptedContext) (request : RequestCommand A) (status : Status) (command : List ℕ)
-    → command ≡ answer_bytes request (code status) false → pieces {A = A} context.id command None max ≡ bare_response max context request status
+    → command ≡ response_bytes request (code status) false → pieces {A = A} context.id command None max ≡ bare_response max context request status
 unfolding bare_response
 bare-response {A} max context request status command is = ap (λ c. pieces {A = A} context.id c None max) is
 
 pub set-response : {A : Type 0} (max : ℕ) (context : AcceptedContext) (request : RequestCommand A) (status : Status) (set : List El) (command body : List ℕ)
-    → command ≡ answer_bytes request (code status) true → body ≡ sets.written context.transfer_syntax set → pieces {A = A} context.id command (Some body) max ≡ set_response max context request status set
+    → command ≡ response_bytes request (code status) true → body ≡ sets.written context.transfer_syntax set → pieces {A = A} context.id command (Some body) max ≡ set_response max context request status set
 unfolding set_response
 set-response {A} max context request status set command body is there =
     ap (λ c. pieces {A = A} context.id c (Some body) max) is
-    ∙ ap (λ (b : List ℕ). pieces {A = A} context.id (answer_bytes request (code status) true) (Some b) max) there
+    ∙ ap (λ (b : List ℕ). pieces {A = A} context.id (response_bytes request (code status) true) (Some b) max) there

@@ -8,22 +8,22 @@ use Rattle.ups_assoc.specs.declared.fault.AssocFault.{AssocFault}
 use Rattle.ups_assoc.specs.declared.fault.AssocFault.TheVariants as faults
 use Rattle.ups_assoc.specs.declared.message.RawMessage.{RawMessage}
 use Rattle.ups_assoc.specs.Feeding.{Fed, more, whole, fault, Feeds}
-use Rattle.ups_session.specs.Association.{Association, Established}
-use Rattle.ups_session.specs.declared.deed.Deed.{Deed}
+use Rattle.ups_session.specs.Association.{AssociationView, EstablishedView}
+use Rattle.ups_session.specs.declared.effect.Effect.{Effect}
 use Rattle.ups_session.specs.declared.fault.SessionFault.{SessionFault}
-use Rattle.ups_session.specs.Acceptor.{saying, aborting, heard, with_begun, Understands, Continues}
-use Rattle.ups_session.specs.Deeds.{said_by, awaited_by, turn_of, heard_of}
+use Rattle.ups_session.specs.Acceptor.{sending, aborting, on_message_effect, with_begun, OnMessage, Continues}
+use Rattle.ups_session.specs.Effects.{said_by, awaited_by, message_effect}
 use Rattle.ups_session.proofs.Parts.{if_ok}
 
 -- with another assembler
-abbrev pub after : {A : Type 0} → Association A → Established A → Assembly A → Association A
-after live agreed assembly = record { state = live.state; agreed = Some (record { terms = agreed.terms; assembler = assembly }); ending = live.ending }
+abbrev pub after : {A : Type 0} → AssociationView A → EstablishedView A → Assembly A → AssociationView A
+after association established assembly = record { state = association.state; established = Some (record { parameters = established.parameters; assembler = assembly }); ending = association.ending }
 
-after_is : {A : Type 0} (live : Association A) (agreed : Established A) (new : Assembly A) (begun : Begun A) → new.ids ≡ agreed.assembler.ids → new.begun ≡ begun → after live agreed new ≡ with_begun live agreed begun
-after_is live agreed new begun e f = λ i. record { state = live.state; agreed = Some (record { terms = agreed.terms; assembler = record { ids = e i; begun = f i } }); ending = live.ending }
+after_is : {A : Type 0} (association : AssociationView A) (established : EstablishedView A) (new : Assembly A) (begun : Begun A) → new.ids ≡ established.assembler.ids → new.begun ≡ begun → after association established new ≡ with_begun association established begun
+after_is association established new begun e f = λ i. record { state = association.state; established = Some (record { parameters = established.parameters; assembler = record { ids = e i; begun = f i } }); ending = association.ending }
 
-says_nothing : {A : Type 0} (live : Association A) (deed : Deed A) → said_by deed ≡ [] → awaited_by deed ≡ None → turn_of live deed ≡ saying live []
-says_nothing live deed p q = λ i. record { live = live; say = p i; waiting = q i }
+says_nothing : {A : Type 0} (association : AssociationView A) (effect : Effect A) → said_by effect ≡ [] → awaited_by effect ≡ None → on_message_effect false association (message_effect (Some effect)) ≡ sending association []
+says_nothing association effect p q = λ i. record { association = association; send = p i; waiting = q i }
 
 abbrev fed_on : {A : Type 0} → Option (RawMessage A) → Result (Option (RawMessage A)) AssocFault
 fed_on found = Ok found
@@ -31,27 +31,42 @@ fed_on found = Ok found
 abbrev fed_not : {A : Type 0} → AssocFault → Result (Option (RawMessage A)) AssocFault
 fed_not e = Err e
 
-pub more_came : {A : Type 0} (offset : ℤ) (live : Association A) (agreed : Established A) (f : Fed A) (new : Assembly A) (deed : Deed A) → new.ids ≡ agreed.assembler.ids → Feeds f new.begun (fed_on None) → said_by deed ≡ [] → awaited_by deed ≡ None
-    → Continues false offset live agreed f (turn_of (after live agreed new) deed)
-more_came offset live agreed (more b) new deed e is p q = says_nothing (after live agreed new) deed p q ∙ ap (λ l. saying l []) (after_is live agreed new b e is)
-more_came offset live agreed (whole m) new deed e is p q = absurd is
-more_came offset live agreed (fault why) new deed e is p q = absurd is
+pub more_came : {A : Type 0} (offset : ℤ) (association : AssociationView A) (established : EstablishedView A) (f : Fed A) (new : Assembly A) (effect : Effect A) → new.ids ≡ established.assembler.ids → Feeds f new.begun (fed_on None) → said_by effect ≡ [] → awaited_by effect ≡ None
+    → Continues false offset association established f (on_message_effect false (after association established new) (message_effect (Some effect)))
+more_came offset association established (more b) new effect e is p q = says_nothing (after association established new) effect p q ∙ ap (λ l. sending l []) (after_is association established new b e is)
+more_came offset association established (whole m) new effect e is p q = absurd is
+more_came offset association established (fault why) new effect e is p q = absurd is
 
-whole_is : {A : Type 0} (offset : ℤ) (live now : Association A) (agreed : Established A) (f : Fed A) (new : Assembly A) (message : RawMessage A) (found : Option (Deed A)) (r : Result (Deed A) SessionFault) → new.ids ≡ agreed.assembler.ids
-    → Feeds f new.begun (fed_on (Some message)) → Understands offset agreed.terms message (heard_of found) → IfOk r (λ deed. turn_of now deed ≡ heard false (after live agreed new) (heard_of found)) → IfOk r (λ deed. Continues false offset live agreed f (turn_of now deed))
-whole_is offset live now agreed (more b) new message found r e is u h = absurd is
-whole_is {A} offset live now agreed (whole m) new message found r e is u h =
-    if_ok r _ _
-    (λ deed turn. (heard_of found, subst (λ (x : RawMessage A). Understands offset agreed.terms x (heard_of found)) is.0 u, turn ∙ ap (λ l. heard false l (heard_of found)) (after_is live agreed new Nothing e is.1)))
-    h
-whole_is offset live now agreed (fault why) new message found r e is u h = absurd is
+-- what a message comes to, where one has come
+abbrev pub OnReply : {A : Type 0} → ℤ → AssociationView A → EstablishedView A → Fed A → Assembly A → Option (Effect A) → Type 0
+OnReply offset association established f new found = Continues false offset association established f (on_message_effect false (after association established new) (message_effect found))
 
-pub whole_came : {A : Type 0} (offset : ℤ) (live now : Association A) (agreed : Established A) (f : Fed A) (new : Assembly A) (came : Option (RawMessage A)) (message : RawMessage A) (found : Option (Deed A)) (r : Result (Deed A) SessionFault) → came ≡ Some message → new.ids ≡ agreed.assembler.ids
-    → Feeds f new.begun (fed_on came) → Understands offset agreed.terms message (heard_of found) → IfOk r (λ deed. turn_of now deed ≡ heard false (after live agreed new) (heard_of found)) → IfOk r (λ deed. Continues false offset live agreed f (turn_of now deed))
-whole_came {A} offset live now agreed f new came message found r one e is u h = whole_is offset live now agreed f new message found r e (subst (λ (o : Option (RawMessage A)). Feeds f new.begun (fed_on o)) one is) u h
+understood : {A : Type 0} (offset : ℤ) (association : AssociationView A) (established : EstablishedView A) (f : Fed A) (new : Assembly A) (message : RawMessage A) (found : Option (Effect A)) → new.ids ≡ established.assembler.ids
+    → Feeds f new.begun (fed_on (Some message)) → OnMessage offset established.parameters message (message_effect found) → OnReply offset association established f new found
+understood offset association established (more b) new message found e is u = absurd is
+understood {A} offset association established (whole m) new message found e is u =
+    (message_effect found, subst (λ (x : RawMessage A). OnMessage offset established.parameters x (message_effect found)) is.0 u, ap (λ l. on_message_effect false l (message_effect found)) (after_is association established new Nothing e is.1))
+understood offset association established (fault why) new message found e is u = absurd is
 
-pub fault_came : {A : Type 0} (offset : ℤ) (live now : Association A) (agreed : Established A) (f : Fed A) (new : Assembly A) (why : AssocFault) (r : Result (Deed A) SessionFault) → new.ids ≡ agreed.assembler.ids → Feeds f new.begun (fed_not why) → why ≢ faults.Memory
-    → IfOk r (λ deed. turn_of now deed ≡ heard false (after live agreed new) None) → IfOk r (λ deed. Continues false offset live agreed f (turn_of now deed))
-fault_came offset live now agreed (more b) new why r e is other h = absurd (other is.0)
-fault_came offset live now agreed (whole m) new why r e is other h = absurd (other is.0)
-fault_came offset live now agreed (fault f) new why r e is other h = if_ok r _ _ (λ deed turn. turn ∙ ap (aborting false) (after_is live agreed new Failed e is.1)) h
+pub whole_came : {A : Type 0} (offset : ℤ) (established : EstablishedView A) (f : Fed A) (new : Assembly A) (progress : Option (RawMessage A)) (message : RawMessage A) (r : Result (Option (Effect A)) SessionFault) → progress ≡ Some message → new.ids ≡ established.assembler.ids
+    → Feeds f new.begun (fed_on progress) → IfOk r (λ found. OnMessage offset established.parameters message (message_effect found)) → IfOk r (λ found. (association : AssociationView A) → OnReply offset association established f new found)
+whole_came {A} offset established f new progress message r one e is u =
+    let now : Feeds f new.begun (fed_on (Some message)) = subst (λ (o : Option (RawMessage A)). Feeds f new.begun (fed_on o)) one is in
+    if_ok r _ _ (λ found h association. understood offset association established f new message found e now h) u
+
+pub fault_came : {A : Type 0} (offset : ℤ) (association : AssociationView A) (established : EstablishedView A) (f : Fed A) (new : Assembly A) (why : AssocFault) → new.ids ≡ established.assembler.ids → Feeds f new.begun (fed_not why) → why ≢ faults.Memory
+    → OnReply offset association established f new None
+fault_came offset association established (more b) new why e is other = absurd (other is.0)
+fault_came offset association established (whole m) new why e is other = absurd (other is.0)
+fault_came offset association established (fault f) new why e is other = ap (aborting false) (after_is association established new Failed e is.1)
+
+-- where memory ran out, there was no fault
+pub faultless : {A : Type 0} (f : Fed A) (begun : Begun A) (why : AssocFault) → Feeds f begun (fed_not why) → why ≡ faults.Memory → (other : AssocFault) → f ≡ fault other → other ≡ faults.Memory
+faultless (more b) begun why is lost other e = absurd cc
+faultless (whole m) begun why is lost other e = absurd cc
+faultless (fault f) begun why is lost other e = cc
+
+pub not_faulty : {A : Type 0} (f : Fed A) (begun : Begun A) (message : RawMessage A) → Feeds f begun (fed_on (Some message)) → (other : AssocFault) → f ≡ fault other → other ≡ faults.Memory
+not_faulty (more b) begun message is other e = absurd is
+not_faulty (whole m) begun message is other e = absurd cc
+not_faulty (fault f) begun message is other e = absurd is

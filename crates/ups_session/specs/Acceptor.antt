@@ -1,4 +1,4 @@
--- What is made of an association that a peer opens (PS3.8 section 9.2).
+-- The accepting side of an association (PS3.8 section 9.2).
 use Rattle.std.specs.Prelude.{◌≡◌, ◌⊎◌, ℕ, ℤ, Bool, true, false, not, ◌==◌, List, [], ◌∷◌, map, find, Option, None, Some, if◌then◌else◌}
 use Rattle.std.specs.Option.{unwrap_or}
 use Rattle.ups_ulstate.specs.declared.state.UlState.{UlState}
@@ -32,46 +32,46 @@ use Rattle.ups_life.specs.declared.request.Reply.{Reply}
 use Rattle.ups_life.specs.declared.request.Reply.TheVariants.{Status as Replied}
 use Rattle.ups_session.specs.declared.fault.End.{End}
 use Rattle.ups_session.specs.declared.fault.End.TheVariants.{Released, AbortSent, AbortReceived, Closed, Rejected}
-use Rattle.ups_session.specs.Association.{Agreement, Established, Association}
-use Rattle.ups_session.specs.Meaning.{Meaning, answered, asking, Awaited}
-use Rattle.ups_session.specs.Fold.{Happening, event, request, fragment, invalid, Turn, Side}
-use Rattle.ups_session.specs.Rules.{Decides}
+use Rattle.ups_session.specs.Association.{ParametersView, EstablishedView, AssociationView}
+use Rattle.ups_session.specs.Dispatch.{DispatchView, answered, asking, AwaitedRequestView}
+use Rattle.ups_session.specs.Fold.{Indication, event, request, fragment, invalid, Reaction, Side}
+use Rattle.ups_session.specs.Rules.{Dispatches}
 use Rattle.ups_session.specs.Responses.{response}
 
-abbrev pub TurnOf : Type 0 → Type 0
-TurnOf A = Turn A (Association A) (Awaited A)
+abbrev pub ReactionOf : Type 0 → Type 0
+ReactionOf A = Reaction A (AssociationView A) (AwaitedRequestView A)
 
-abbrev pub saying : {A : Type 0} → Association A → List (Pdu A) → TurnOf A
-saying live say = record { live = live; say = say; waiting = None }
+abbrev pub sending : {A : Type 0} → AssociationView A → List (Pdu A) → ReactionOf A
+sending association send = record { association = association; send = send; waiting = None }
 
 -- how an action ends the association, where it does (PS3.8 tables 9-6 to 9-9)
-abbrev pub ending_of : UlEvent → UlAction → Option End
-ending_of e Ae4 = Some Rejected
-ending_of e Ae8 = Some Rejected
-ending_of e Ar3 = Some Released
-ending_of e Ar4 = Some Released
-ending_of e Ar9 = Some Released
-ending_of e Ar10 = Some Released
-ending_of e Aa1 = Some AbortSent
-ending_of e Aa7 = Some AbortSent
-ending_of e Aa8 = Some AbortSent
-ending_of events.Abort Aa2 = Some AbortReceived
-ending_of e Aa3 = Some AbortReceived
-ending_of e Aa4 = Some Closed
-ending_of e Aa5 = Some Closed
-ending_of e action = None
+abbrev pub end_after : UlEvent → UlAction → Option End
+end_after e Ae4 = Some Rejected
+end_after e Ae8 = Some Rejected
+end_after e Ar3 = Some Released
+end_after e Ar4 = Some Released
+end_after e Ar9 = Some Released
+end_after e Ar10 = Some Released
+end_after e Aa1 = Some AbortSent
+end_after e Aa7 = Some AbortSent
+end_after e Aa8 = Some AbortSent
+end_after events.Abort Aa2 = Some AbortReceived
+end_after e Aa3 = Some AbortReceived
+end_after e Aa4 = Some Closed
+end_after e Aa5 = Some Closed
+end_after e action = None
 
 -- after an action
-abbrev pub moved : {A : Type 0} → Association A → UlEvent → UlAction → UlState → Association A
-moved live e action state = record { state = state; agreed = live.agreed; ending = unwrap_or (ending_of e action) live.ending }
+abbrev pub transition : {A : Type 0} → AssociationView A → UlEvent → UlAction → UlState → AssociationView A
+transition association e action state = record { state = state; established = association.established; ending = unwrap_or (end_after e action) association.ending }
 
--- after what this side does of itself, where the table has a cell for it
-abbrev pub does_at : {A : Type 0} → Association A → UlEvent → Option (UlAction × UlState) → Association A
-does_at live e None = live
-does_at live e (Some cell) = moved live e cell.0 cell.1
+-- after an event that this side causes itself, where the table has a cell for it
+abbrev pub local_event_at : {A : Type 0} → AssociationView A → UlEvent → Option (UlAction × UlState) → AssociationView A
+local_event_at association e None = association
+local_event_at association e (Some cell) = transition association e cell.0 cell.1
 
-abbrev pub does : {A : Type 0} → Bool → UlEvent → Association A → Association A
-does requestor e live = does_at live e (next_of requestor true e live.state)
+abbrev pub on_local_event : {A : Type 0} → Bool → UlEvent → AssociationView A → AssociationView A
+on_local_event requestor e association = local_event_at association e (next_of requestor true e association.state)
 
 -- what an action sends to the peer; the reason is of an abort by the service provider (PS3.8 table 9-26)
 abbrev pub sends : {A : Type 0} → ℕ → UlAction → List (Pdu A)
@@ -81,22 +81,22 @@ sends reason Aa8 = Abort 2 reason ∷ []
 sends reason action = []
 
 -- a release is answered where the table has a cell for that
-abbrev pub releases : {A : Type 0} → Association A → Option (UlAction × UlState) → TurnOf A
-releases live None = saying live []
-releases live (Some cell) = saying (moved live events.ReleaseResponse cell.0 cell.1) (ReleaseRp ∷ [])
+abbrev pub releases : {A : Type 0} → AssociationView A → Option (UlAction × UlState) → ReactionOf A
+releases association None = sending association []
+releases association (Some cell) = sending (transition association events.ReleaseResponse cell.0 cell.1) (ReleaseRp ∷ [])
 
 -- A release is answered at once (PS3.8 section 7.2). Where both sides asked for it, the side that asked for the
 -- association answers first, and the other one once it has that answer (PS3.8 section 7.2.2.7).
-abbrev pub acts : {A : Type 0} → Bool → ℕ → Association A → UlAction → TurnOf A
-acts requestor reason live Ar2 = releases live (next_of requestor true events.ReleaseResponse live.state)
-acts requestor reason live Ar8 = releases live (next_of requestor true events.ReleaseResponse live.state)
-acts requestor reason live Ar10 = releases live (next_of requestor true events.ReleaseResponse live.state)
-acts requestor reason live action = saying live (sends reason action)
+abbrev pub on_action : {A : Type 0} → Bool → ℕ → AssociationView A → UlAction → ReactionOf A
+on_action requestor reason association Ar2 = releases association (next_of requestor true events.ReleaseResponse association.state)
+on_action requestor reason association Ar8 = releases association (next_of requestor true events.ReleaseResponse association.state)
+on_action requestor reason association Ar10 = releases association (next_of requestor true events.ReleaseResponse association.state)
+on_action requestor reason association action = sending association (sends reason action)
 
--- a cell of the table that brings nothing with it
-abbrev pub plainly : {A : Type 0} → Bool → ℕ → Association A → UlEvent → Option (UlAction × UlState) → TurnOf A
-plainly requestor reason live e None = saying live []
-plainly requestor reason live e (Some cell) = acts requestor reason (moved live e cell.0 cell.1) cell.0
+-- an event that carries no data
+abbrev pub on_event : {A : Type 0} → Bool → ℕ → AssociationView A → UlEvent → Option (UlAction × UlState) → ReactionOf A
+on_event requestor reason association e None = sending association []
+on_event requestor reason association e (Some cell) = on_action requestor reason (transition association e cell.0 cell.1) cell.0
 
 -- 1: unrecognized PDU; 2: unexpected PDU; 6: invalid PDU parameter value
 abbrev pub unexpected : ℕ
@@ -114,98 +114,98 @@ is_acceptable (Reject rejection) = not (number_source rejection == 2)
 abbrev pub rejecting : {A : Type 0} → Rejection → Pdu A
 rejecting rejection = AssociateRj (number_result rejection) (number_source rejection) (number_reason rejection)
 
-abbrev pub ended : {A : Type 0} → End → Association A → Association A
-ended end live = record { state = live.state; agreed = live.agreed; ending = end }
+abbrev pub ended : {A : Type 0} → End → AssociationView A → AssociationView A
+ended end association = record { state = association.state; established = association.established; ending = end }
 
 abbrev pub ids : List AcceptedContext → List ℕ
 ids contexts = map (λ c. c.id) contexts
 
-abbrev pub agreeing : {A : Type 0} → Acceptance A → Association A → Association A
-agreeing a live = record { state = live.state; agreed = Some (record { terms = record { ae = a.ae; contexts = a.contexts; max = a.max }; assembler = record { ids = ids a.contexts; begun = Nothing } }); ending = live.ending }
+abbrev pub agreeing : {A : Type 0} → Acceptance A → AssociationView A → AssociationView A
+agreeing a association = record { state = association.state; established = Some (record { parameters = record { ae = a.ae; contexts = a.contexts; max = a.max }; assembler = record { ids = ids a.contexts; begun = Nothing } }); ending = association.ending }
 
 -- an association request is accepted or rejected at once (PS3.8 section 7.1)
-abbrev pub answers : {A : Type 0} → Bool → Association A → Outcome A → TurnOf A
-answers requestor live (Accept a) = saying (agreeing a (does requestor events.LocalAccept live)) (AssociateAc a.ac ∷ [])
-answers requestor live (Reject r) = saying (if is_acceptable {A = Unit {0}} (Reject r) then does requestor events.LocalReject live else ended Rejected live) (rejecting r ∷ [])
+abbrev pub answers : {A : Type 0} → Bool → AssociationView A → Outcome A → ReactionOf A
+answers requestor association (Accept a) = sending (agreeing a (on_local_event requestor events.LocalAccept association)) (AssociateAc a.ac ∷ [])
+answers requestor association (Reject r) = sending (if is_acceptable {A = Unit {0}} (Reject r) then on_local_event requestor events.LocalReject association else ended Rejected association) (rejecting r ∷ [])
 
-abbrev pub requested_at : {A : Type 0} → Bool → Association A → Outcome A → Option (UlAction × UlState) → TurnOf A
-requested_at requestor live o None = saying live []
-requested_at requestor live o (Some (Ae6, state)) = answers requestor (moved live events.AssociateRq Ae6 state) o
-requested_at requestor live o (Some (action, state)) = acts requestor unexpected (moved live events.AssociateRq action state) action
+abbrev pub requested_at : {A : Type 0} → Bool → AssociationView A → Outcome A → Option (UlAction × UlState) → ReactionOf A
+requested_at requestor association o None = sending association []
+requested_at requestor association o (Some (Ae6, state)) = answers requestor (transition association events.AssociateRq Ae6 state) o
+requested_at requestor association o (Some (action, state)) = on_action requestor unexpected (transition association events.AssociateRq action state) action
 
-abbrev pub requested : {A : Type 0} → Bool → Association A → Outcome A → TurnOf A
-requested requestor live o = requested_at requestor live o (next_of requestor (is_acceptable o) events.AssociateRq live.state)
+abbrev pub requested : {A : Type 0} → Bool → AssociationView A → Outcome A → ReactionOf A
+requested requestor association o = requested_at requestor association o (next_of requestor (is_acceptable o) events.AssociateRq association.state)
 
 -- this side aborts the association (PS3.8 section 7.3)
-abbrev pub aborting : {A : Type 0} → Bool → Association A → TurnOf A
-aborting requestor live = saying (does requestor events.AbortRequest live) (Abort 0 0 ∷ [])
+abbrev pub aborting : {A : Type 0} → Bool → AssociationView A → ReactionOf A
+aborting requestor association = sending (on_local_event requestor events.AbortRequest association) (Abort 0 0 ∷ [])
 
-abbrev pub with_begun : {A : Type 0} → Association A → Established A → Begun A → Association A
-with_begun live agreed begun = record { state = live.state; agreed = Some (record { terms = agreed.terms; assembler = record { ids = agreed.assembler.ids; begun = begun } }); ending = live.ending }
+abbrev pub with_begun : {A : Type 0} → AssociationView A → EstablishedView A → Begun A → AssociationView A
+with_begun association established begun = record { state = association.state; established = Some (record { parameters = established.parameters; assembler = record { ids = established.assembler.ids; begun = begun } }); ending = association.ending }
 
 -- the context with an id
 abbrev pub context_at : ℕ → List AcceptedContext → Option AcceptedContext
 context_at id contexts = find (λ c. c.id == id) contexts
 
--- what a message comes to: something is said, or a reply is awaited; None where the association is aborted
-abbrev pub Heard : Type 0 → Type 0
-Heard A = Option (List (Pdu A) × Option (Awaited A))
+-- the effect of a message: PDUs are sent, or a reply is awaited; None where the association is aborted
+abbrev pub MessageEffect : Type 0 → Type 0
+MessageEffect A = Option (List (Pdu A) × Option (AwaitedRequestView A))
 
-abbrev pub heard : {A : Type 0} → Bool → Association A → Heard A → TurnOf A
-heard requestor live None = aborting requestor live
-heard requestor live (Some (say, waiting)) = record { live = live; say = say; waiting = waiting }
+abbrev pub on_message_effect : {A : Type 0} → Bool → AssociationView A → MessageEffect A → ReactionOf A
+on_message_effect requestor association None = aborting requestor association
+on_message_effect requestor association (Some (send, waiting)) = record { association = association; send = send; waiting = waiting }
 
 -- a request is answered at once, or its reply is awaited
-abbrev pub decides : {A : Type 0} → Agreement → AcceptedContext → RequestCommand A → Meaning A → Heard A
-decides terms context command (answered status) = Some (response terms.max context command (Replied status), None)
-decides terms context command (asking ask) = Some ([], Some (record { ae = terms.ae; ask = ask; max = terms.max; context = context; command = command }))
+abbrev pub message_effect_of : {A : Type 0} → ParametersView → AcceptedContext → RequestCommand A → DispatchView A → MessageEffect A
+message_effect_of parameters context command (answered status) = Some (response parameters.max context command (Replied status), None)
+message_effect_of parameters context command (asking ask) = Some ([], Some (record { ae = parameters.ae; ask = ask; max = parameters.max; context = context; command = command }))
 
 -- A response that nobody asked for is taken, and not answered; and so is a C-CANCEL, since each C-FIND is answered whole
 -- before anything else is read (PS3.7 section 9.3.2.3).
-abbrev pub Commanded : {A : Type 0} → ℤ → Agreement → Option AcceptedContext → Option (List ℕ) → Command A → Heard A → Type 0
-Commanded offset terms context body (Response response) h = h ≡ Some ([], None)
-Commanded offset terms context body (Cancel cancel) h = h ≡ Some ([], None)
-Commanded offset terms None body (Request command) h = h ≡ None
-Commanded {A} offset terms (Some context) body (Request command) h =
-    (meaning : Meaning A) × Decides offset context command body meaning × (h ≡ decides terms context command meaning)
+abbrev pub OnCommand : {A : Type 0} → ℤ → ParametersView → Option AcceptedContext → Option (List ℕ) → Command A → MessageEffect A → Type 0
+OnCommand offset parameters context body (Response response) h = h ≡ Some ([], None)
+OnCommand offset parameters context body (Cancel cancel) h = h ≡ Some ([], None)
+OnCommand offset parameters None body (Request command) h = h ≡ None
+OnCommand {A} offset parameters (Some context) body (Request command) h =
+    (dispatch_view : DispatchView A) × Dispatches offset context command body dispatch_view × (h ≡ message_effect_of parameters context command dispatch_view)
 
 -- a whole message; where its command can't be read, the association is aborted
-abbrev pub Understands : {A : Type 0} → ℤ → Agreement → RawMessage A → Heard A → Type 0
-Understands {A} offset terms message h =
-    ((command : Command A) × SpellsCommand message.command command × Commanded offset terms (context_at message.context terms.contexts) message.body command h)
+abbrev pub OnMessage : {A : Type 0} → ℤ → ParametersView → RawMessage A → MessageEffect A → Type 0
+OnMessage {A} offset parameters message h =
+    ((command : Command A) × SpellsCommand message.command command × OnCommand offset parameters (context_at message.context parameters.contexts) message.body command h)
     ⊎ (((command : Command A) → SpellsCommand message.command command → ⊥) × (h ≡ None))
 
 -- a fragment: a message goes on, or is whole; or there is none, and the association is aborted
-abbrev pub Continues : {A : Type 0} → Bool → ℤ → Association A → Established A → Fed A → TurnOf A → Type 0
-Continues requestor offset live agreed (more begun) turn = turn ≡ saying (with_begun live agreed begun) []
-Continues {A} requestor offset live agreed (whole message) turn = (h : Heard A) × Understands offset agreed.terms message h × (turn ≡ heard requestor (with_begun live agreed Nothing) h)
-Continues requestor offset live agreed (fault why) turn = turn ≡ aborting requestor (with_begun live agreed Failed)
+abbrev pub Continues : {A : Type 0} → Bool → ℤ → AssociationView A → EstablishedView A → Fed A → ReactionOf A → Type 0
+Continues requestor offset association established (more begun) reaction = reaction ≡ sending (with_begun association established begun) []
+Continues {A} requestor offset association established (whole message) reaction = (h : MessageEffect A) × OnMessage offset established.parameters message h × (reaction ≡ on_message_effect requestor (with_begun association established Nothing) h)
+Continues requestor offset association established (fault why) reaction = reaction ≡ aborting requestor (with_begun association established Failed)
 
-abbrev pub Received : {A : Type 0} → Bool → ℤ → Association A → Option (Established A) → Pdv A → TurnOf A → Type 0
-Received requestor offset live None pdv turn = turn ≡ saying live []
-Received requestor offset live (Some agreed) pdv turn = Continues requestor offset live agreed (fed agreed.assembler.ids agreed.assembler.begun pdv) turn
+abbrev pub Received : {A : Type 0} → Bool → ℤ → AssociationView A → Option (EstablishedView A) → Pdv A → ReactionOf A → Type 0
+Received requestor offset association None pdv reaction = reaction ≡ sending association []
+Received requestor offset association (Some established) pdv reaction = Continues requestor offset association established (fed established.assembler.ids established.assembler.begun pdv) reaction
 
-abbrev pub Indicated : {A : Type 0} → Bool → ℤ → Association A → Pdv A → Option (UlAction × UlState) → TurnOf A → Type 0
-Indicated requestor offset live pdv None turn = turn ≡ saying live []
-Indicated requestor offset live pdv (Some (Dt2, state)) turn = Received requestor offset (moved live events.Data Dt2 state) live.agreed pdv turn
-Indicated requestor offset live pdv (Some (action, state)) turn = turn ≡ acts requestor unexpected (moved live events.Data action state) action
+abbrev pub Indicated : {A : Type 0} → Bool → ℤ → AssociationView A → Pdv A → Option (UlAction × UlState) → ReactionOf A → Type 0
+Indicated requestor offset association pdv None reaction = reaction ≡ sending association []
+Indicated requestor offset association pdv (Some (Dt2, state)) reaction = Received requestor offset (transition association events.Data Dt2 state) association.established pdv reaction
+Indicated requestor offset association pdv (Some (action, state)) reaction = reaction ≡ on_action requestor unexpected (transition association events.Data action state) action
 
--- What is made of each thing that happens, by the side that asked for the association or the other one, the title of
--- this application entity and its offset from UTC in minutes.
-abbrev pub Reacts : {A : Type 0} → Bool → Config → Association A → Happening A → TurnOf A → Type 0
-Reacts requestor config live (event e) turn = turn ≡ plainly requestor unexpected live e (next_of requestor true e live.state)
-Reacts requestor config live (request rq) turn = turn ≡ requested requestor live (outcome config.ae rq)
-Reacts requestor config live (fragment pdv) turn = Indicated requestor config.offset live pdv (next_of requestor true events.Data live.state) turn
-Reacts requestor config live (invalid f) turn = turn ≡ plainly requestor (reason_of f) live events.Invalid (next_of requestor true events.Invalid live.state)
+-- The reaction to each indication, of the requestor or of the acceptor of the association; with the title of this
+-- application entity, and the offset of its local time from UTC in minutes.
+abbrev pub Reacts : {A : Type 0} → Bool → Config → AssociationView A → Indication A → ReactionOf A → Type 0
+Reacts requestor config association (event e) reaction = reaction ≡ on_event requestor unexpected association e (next_of requestor true e association.state)
+Reacts requestor config association (request rq) reaction = reaction ≡ requested requestor association (outcome config.ae rq)
+Reacts requestor config association (fragment pdv) reaction = Indicated requestor config.offset association pdv (next_of requestor true events.Data association.state) reaction
+Reacts requestor config association (invalid f) reaction = reaction ≡ on_event requestor (reason_of f) association events.Invalid (next_of requestor true events.Invalid association.state)
 
--- a reply of the service is what the request is answered
-abbrev pub HearsReply : {A : Type 0} → Association A → Awaited A → Reply A → TurnOf A → Type 0
-HearsReply live w reply turn = turn ≡ saying live (response w.max w.context w.command reply)
+-- the reply of the service is sent as the response to the request
+abbrev pub IsAnsweredBy : {A : Type 0} → AssociationView A → AwaitedRequestView A → Reply A → ReactionOf A → Type 0
+IsAnsweredBy association w reply reaction = reaction ≡ sending association (response w.max w.context w.command reply)
 
--- the side that a peer opens an association with: it does nothing before anything comes
-abbrev pub acceptor : {A : Type 0} → Config → Side A (Association A) (Awaited A)
-acceptor config = record { state = λ live. live.state; first = []; Reacts = Reacts false config; asked = λ w. record { ae = w.ae; ask = w.ask }; Hears = HearsReply }
+-- the side that accepts an association: it does nothing before anything comes
+abbrev pub acceptor : {A : Type 0} → Config → Side A (AssociationView A) (AwaitedRequestView A)
+acceptor config = record { state = λ association. association.state; first = []; Reacts = Reacts false config; asked = λ w. record { ae = w.ae; ask = w.ask }; OnReply = IsAnsweredBy }
 
 -- a transport connection was opened, and an A-ASSOCIATE-RQ is awaited
-abbrev pub opened : {A : Type 0} → Association A
-opened = record { state = Sta2; agreed = None; ending = Closed }
+abbrev pub opened : {A : Type 0} → AssociationView A
+opened = record { state = Sta2; established = None; ending = Closed }

@@ -5,21 +5,21 @@ use Rattle.ups_assoc.specs.declared.negotiating.AcceptedContext.{AcceptedContext
 use Rattle.ups_assoc.specs.Assembly.{Assembly}
 use Rattle.ups_session.specs.declared.fault.End.{End}
 
--- what was agreed on: the title of the peer, the accepted presentation contexts, and the longest P-DATA-TF that the
--- peer receives (PS3.8 section 7.1, annex D.1)
-pub record Agreement : Type 0 where
+-- the negotiated parameters: the title of the peer, the accepted presentation contexts, and the longest P-DATA-TF that
+-- the peer receives (PS3.8 section 7.1, annex D.1)
+pub record ParametersView : Type 0 where
   pub ae : List ℕ
   pub contexts : List AcceptedContext
   pub max : ℕ
 
--- an association is established: what was agreed on, and what has come of the peer's next message
-pub record Established (A : Type 0) : Type 0 where
-  pub terms : Agreement
+-- an established association: its parameters, and what has come of the peer's next message
+pub record EstablishedView (A : Type 0) : Type 0 where
+  pub parameters : ParametersView
   pub assembler : Assembly A
 
 -- The state of the table that the association is in (PS3.8 section 9.2), what was established, and how it ends by what
 -- has happened.
-pub record Association (A : Type 0) : Type 0 where
+pub record AssociationView (A : Type 0) : Type 0 where
   pub state : UlState
-  pub agreed : Option (Established A)
+  pub established : Option (EstablishedView A)
   pub ending : End

@@ -3,8 +3,9 @@ use Rattle.std.specs.Prelude.{◌≡◌, ◌≢◌, ◌⊎◌, ℕ, ◌≤◌, L
 use Rattle.ups_pdu.specs.declared.kind.PduKind.{PduKind}
 use Rattle.ups_pdu.specs.declared.fault.PduFault.{PduFault}
 use Rattle.ups_pdu.specs.declared.fault.PduFault.TheVariants as faults
-use Rattle.ups_pdu.specs.Header.{IsHeader, IsWhole, HeaderFails, code}
-use Rattle.ups_pdu.specs.Spelling.{IsFault}
+use Rattle.ups_pdu.specs.Header.{IsHeader, IsWhole, HeaderFails, code, limit}
+use Rattle.ups_pdu.specs.declared.pdu.Pdu.{Pdu}
+use Rattle.ups_pdu.specs.Spelling.{SpellsPdu, IsFault}
 
 -- six bytes with a type that there isn't, or a length over the limit of its type: no body is waited for
 pub record IsBadHeader (bytes : List ℕ) (fault : PduFault) : Type 0 where
@@ -24,6 +25,6 @@ pub record IsBadBody (A : Type 0) (bytes : List ℕ) (fault : PduFault) : Type 0
 abbrev pub IsBad : Type 0 → List ℕ → PduFault → Type 0
 IsBad A bytes fault = IsBadHeader bytes fault ⊎ IsBadBody A bytes fault
 
--- a header, and no more bytes than it asks for
-abbrev pub IsBegun : List ℕ → Type 0
-IsBegun bytes = (kind : PduKind) × (len : ℕ) × (rest : List ℕ) × IsHeader bytes (code kind) len rest × (length rest ≤ len)
+-- memory ran out: behind a header that asks for no more than its type has at most, or where a whole PDU was read
+abbrev pub IsLost : Type 0 → List ℕ → Type 0
+IsLost A bytes = ((kind : PduKind) × (len : ℕ) × IsHeader bytes (code kind) len [] × (len ≤ limit kind)) ⊎ ((pdu : Pdu A) × SpellsPdu bytes pdu)

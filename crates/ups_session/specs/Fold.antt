@@ -1,4 +1,4 @@
--- A session as one fold over what happens to an association.
+-- A session as one fold over the indications of an association.
 use Rattle.std.specs.Prelude.{◌≡◌, ◌≢◌, ℕ, List, [], ◌∷◌, ◌++◌, Option, None, Some, map}
 use Rattle.ups_ulstate.specs.declared.state.UlState.{UlState}
 use Rattle.ups_ulstate.specs.declared.state.UlState.TheVariants.{Sta1, Sta13}
@@ -12,73 +12,74 @@ use Rattle.ups_pdu.specs.declared.pdv.Pdv.{Pdv}
 use Rattle.ups_life.specs.declared.request.Ask.{Ask}
 use Rattle.ups_life.specs.declared.request.Reply.{Reply}
 
--- what happens to an association: an event of the table (PS3.8 section 9.2), with what it brings
-pub data Happening (A : Type 0) : Type 0 where
-  event : UlEvent → Happening A
-  request : AssociateRq A → Happening A
-  fragment : Pdv A → Happening A
-  invalid : PduFault → Happening A
+-- an event of the state table (PS3.8 section 9.2), with the data that it carries
+pub data Indication (A : Type 0) : Type 0 where
+  event : UlEvent → Indication A
+  request : AssociateRq A → Indication A
+  fragment : Pdv A → Indication A
+  invalid : PduFault → Indication A
 
--- what a PDU brings about: each fragment of a P-DATA-TF is one event
-abbrev pub happenings : {A : Type 0} → Pdu A → List (Happening A)
-happenings (pdus.AssociateRq rq) = request rq ∷ []
-happenings (pdus.AssociateAc ac) = event events.AssociateAc ∷ []
-happenings (pdus.AssociateRj result source reason) = event events.AssociateRj ∷ []
-happenings (pdus.Data pdvs) = map fragment pdvs
-happenings pdus.ReleaseRq = event events.ReleaseRq ∷ []
-happenings pdus.ReleaseRp = event events.ReleaseRp ∷ []
-happenings (pdus.Abort source reason) = event events.Abort ∷ []
+-- the indications of a PDU: each fragment of a P-DATA-TF is one
+abbrev pub indications : {A : Type 0} → Pdu A → List (Indication A)
+indications (pdus.AssociateRq rq) = request rq ∷ []
+indications (pdus.AssociateAc ac) = event events.AssociateAc ∷ []
+indications (pdus.AssociateRj result source reason) = event events.AssociateRj ∷ []
+indications (pdus.Data pdvs) = map fragment pdvs
+indications pdus.ReleaseRq = event events.ReleaseRq ∷ []
+indications pdus.ReleaseRp = event events.ReleaseRp ∷ []
+indications (pdus.Abort source reason) = event events.Abort ∷ []
 
 -- an ask, and the title of the application entity in whose name it is made
 pub record Asked (A : Type 0) : Type 0 where
   pub ae : List ℕ
   pub ask : Ask A
 
--- what was said, what was asked of the service, and what it replied
-pub record Talk (A : Type 0) : Type 0 where
+-- what was sent, what was asked of the service, and what it replied
+pub record Exchange (A : Type 0) : Type 0 where
   pub said : List (Pdu A)
   pub asks : List (Asked A)
   pub replies : List (Reply A)
 
-abbrev pub silence : {A : Type 0} → Talk A
+abbrev pub silence : {A : Type 0} → Exchange A
 silence = record { said = []; asks = []; replies = [] }
 
-abbrev pub joined : {A : Type 0} → Talk A → Talk A → Talk A
+abbrev pub joined : {A : Type 0} → Exchange A → Exchange A → Exchange A
 joined first then = record { said = first.said ++ then.said; asks = first.asks ++ then.asks; replies = first.replies ++ then.replies }
 
 -- one after the other
-abbrev pub Chain : {A L X : Type 0} → (L → X → Talk A → L → Type 0) → List X → L → Talk A → L → Type 0
-Chain Step [] live talk after = (talk ≡ silence) × (after ≡ live)
-Chain {A} {L} Step (x ∷ xs) live talk after =
-    (mid : L) × (first : Talk A) × (then : Talk A) × Step live x first mid × Chain Step xs mid then after × (talk ≡ joined first then)
+abbrev pub Chain : {A L X : Type 0} → (L → X → Exchange A → L → Type 0) → List X → L → Exchange A → L → Type 0
+Chain Step [] association exchange after = (exchange ≡ silence) × (after ≡ association)
+Chain {A} {L} Step (x ∷ xs) association exchange after =
+    (mid : L) × (first : Exchange A) × (then : Exchange A) × Step association x first mid × Chain Step xs mid then after × (exchange ≡ joined first then)
 
--- what one thing makes of a side of an association: what is said, and for what a reply is awaited
-pub record Turn (A L W : Type 0) : Type 0 where
-  pub live : L
-  pub say : List (Pdu A)
+-- what a side of an association does upon one indication: its state after it, the PDUs that it sends, and the request
+-- whose reply it awaits
+pub record Reaction (A L W : Type 0) : Type 0 where
+  pub association : L
+  pub send : List (Pdu A)
   pub waiting : Option W
 
--- A side of an association: the state of the table that it is in, what it does before anything comes, what it makes of
--- each thing that happens, what it asks, and what it makes of each reply.
+-- A side of an association: the state of the table that it is in, what it does before anything comes, its reaction to
+-- each indication, what it asks, and its reaction to each reply.
 pub record Side (A L W : Type 0) : Type 1 where
   pub state : L → UlState
-  pub first : List (Happening A)
-  pub Reacts : L → Happening A → Turn A L W → Type 0
+  pub first : List (Indication A)
+  pub Reacts : L → Indication A → Reaction A L W → Type 0
   pub asked : W → Asked A
-  pub Hears : L → W → Reply A → Turn A L W → Type 0
+  pub OnReply : L → W → Reply A → Reaction A L W → Type 0
 
--- a turn with the replies that it waits for, each of which may ask again
-abbrev pub Settles : {A L W : Type 0} → Side A L W → Turn A L W → List (Reply A) → List (Pdu A) → List (Asked A) → L → Type 0
-Settles side turn [] said asks after = (turn.waiting ≡ None) × (said ≡ turn.say) × (asks ≡ []) × (after ≡ turn.live)
-Settles {A} {L} {W} side turn (reply ∷ replies) said asks after =
-    (waiting : W) × (next : Turn A L W) × (more : List (Pdu A)) × (others : List (Asked A))
-    × (turn.waiting ≡ Some waiting) × side.Hears turn.live waiting reply next × Settles side next replies more others after
-    × (said ≡ turn.say ++ more) × (asks ≡ side.asked waiting ∷ others)
+-- a reaction with the replies that it awaits, after each of which it may ask again
+abbrev pub Settles : {A L W : Type 0} → Side A L W → Reaction A L W → List (Reply A) → List (Pdu A) → List (Asked A) → L → Type 0
+Settles side reaction [] said asks after = (reaction.waiting ≡ None) × (said ≡ reaction.send) × (asks ≡ []) × (after ≡ reaction.association)
+Settles {A} {L} {W} side reaction (reply ∷ replies) said asks after =
+    (waiting : W) × (next : Reaction A L W) × (more : List (Pdu A)) × (others : List (Asked A))
+    × (reaction.waiting ≡ Some waiting) × side.OnReply reaction.association waiting reply next × Settles side next replies more others after
+    × (said ≡ reaction.send ++ more) × (asks ≡ side.asked waiting ∷ others)
 
--- one thing happens, and all that comes of it
-abbrev pub Happens : {A L W : Type 0} → Side A L W → L → Happening A → Talk A → L → Type 0
-Happens {A} {L} {W} side live happening talk after =
-    (turn : Turn A L W) × side.Reacts live happening turn × Settles side turn talk.replies talk.said talk.asks after
+-- one indication, and all that comes of it
+abbrev pub Happens : {A L W : Type 0} → Side A L W → L → Indication A → Exchange A → L → Type 0
+Happens {A} {L} {W} side association indication exchange after =
+    (reaction : Reaction A L W) × side.Reacts association indication reaction × Settles side reaction exchange.replies exchange.said exchange.asks after
 
 -- the association has not ended, and the transport connection is open (PS3.8 table 9-10: neither Sta1 nor Sta13)
 pub record IsOpen (state : UlState) : Type 0 where
@@ -91,11 +92,11 @@ pub data Arrival (A : Type 0) : Type 0 where
   bad : PduFault → Arrival A
   closed : Arrival A
 
-abbrev pub brings : {A : Type 0} → Arrival A → List (Happening A)
-brings (pdu p) = happenings p
+abbrev pub brings : {A : Type 0} → Arrival A → List (Indication A)
+brings (pdu p) = indications p
 brings (bad fault) = invalid fault ∷ []
 brings closed = event events.TransportClosed ∷ []
 
--- it is read where the association is open alone, and all that it brings happens
-abbrev pub Takes : {A L W : Type 0} → Side A L W → L → Arrival A → Talk A → L → Type 0
-Takes side live arrival talk after = IsOpen (side.state live) × Chain (Happens side) (brings arrival) live talk after
+-- it is read only while the association is open, and all of its indications are processed
+abbrev pub Processes : {A L W : Type 0} → Side A L W → L → Arrival A → Exchange A → L → Type 0
+Processes side association arrival exchange after = IsOpen (side.state association) × Chain (Happens side) (brings arrival) association exchange after

@@ -15,14 +15,14 @@ use Rattle.ups_dimse.specs.Written as commands
 use Rattle.ups_assoc.specs.declared.negotiating.AcceptedContext.{AcceptedContext}
 use Rattle.ups_assoc.specs.Cutting.{pieces}
 use Rattle.ups_life.specs.declared.request.Reply.{Reply}
-use Rattle.ups_life.specs.declared.request.Reply.TheVariants.{Status as Answered, Set as Shown, Sets as Found}
+use Rattle.ups_life.specs.declared.request.Reply.TheVariants.{Status as Answered, Set as Shown, Sets as Found, Swept, AckAhead, AckStale, Reports}
 use Rattle.ups_life.specs.declared.status.Status.{Status}
 use Rattle.ups_life.specs.declared.status.Status.TheVariants.{Success, Pending}
 use Rattle.ups_life.specs.Statuses.{code}
 
 -- the command of a response: of the request's SOP class, or of the Push class where it names none
-abbrev pub answer : {A : Type 0} → RequestCommand A → ℕ → Bool → ResponseCommand
-answer request status has_data_set = record {
+abbrev pub response_command : {A : Type 0} → RequestCommand A → ℕ → Bool → ResponseCommand
+response_command request status has_data_set = record {
   sop_class = Some (unwrap_or request.sop_class (text_of UpsPush));
   responded_to = request.message_id;
   has_data_set = has_data_set;
@@ -31,21 +31,26 @@ answer request status has_data_set = record {
 }
 
 -- the bytes of that command
-unfoldable pub answer_bytes : {A : Type 0} → RequestCommand A → ℕ → Bool → List ℕ
-answer_bytes {A} request status has_data_set = commands.written {A = A} (Response (answer request status has_data_set))
+unfoldable pub response_bytes : {A : Type 0} → RequestCommand A → ℕ → Bool → List ℕ
+response_bytes {A} request status has_data_set = commands.written {A = A} (Response (response_command request status has_data_set))
 
 -- a response in PDUs, by its command alone
 unfoldable pub bare_response : {A : Type 0} → ℕ → AcceptedContext → RequestCommand A → Status → List (Pdu A)
-bare_response max context request status = pieces context.id (answer_bytes request (code status) false) None max
+bare_response max context request status = pieces context.id (response_bytes request (code status) false) None max
 
 -- a response in PDUs, by its command and its data set
 unfoldable pub set_response : {A : Type 0} → ℕ → AcceptedContext → RequestCommand A → Status → List El → List (Pdu A)
 set_response max context request status set =
-    pieces context.id (answer_bytes request (code status) true) (Some (sets.written context.transfer_syntax set)) max
+    pieces context.id (response_bytes request (code status) true) (Some (sets.written context.transfer_syntax set)) max
 
--- What a reply makes of a request. What was found is told by one response for each match, Pending, in the order of the
--- matches, and then by one that there are no more, Success (PS3.4 section C.4.1.1.4, PS3.7 section 9.1.2.1).
+-- The response to a request by the reply of the service. No request of a message is answered by a count, or about events.
+-- The matches of a query are told by one response each, Pending, in their order, and then by one that there are no more,
+-- Success (PS3.4 section C.4.1.1.4, PS3.7 section 9.1.2.1).
 abbrev pub response : {A : Type 0} → ℕ → AcceptedContext → RequestCommand A → Reply A → List (Pdu A)
 response max context request (Answered status) = bare_response max context request status
+response max context request (Swept count) = bare_response max context request Success
+response max context request AckAhead = bare_response max context request Success
+response max context request AckStale = bare_response max context request Success
+response max context request (Reports events) = bare_response max context request Success
 response max context request (Shown status set) = set_response max context request status set
 response max context request (Found sets) = flat_map (set_response max context request Pending) sets ++ bare_response max context request Success

@@ -1,34 +1,45 @@
--- What a gate tells of the moments that it gave.
-use Rattle.std.specs.Prelude.{◌≡◌, ℕ, Bool, true, false, List, [], ◌++◌, take, Option, None, Some, not}
+-- What a gate records of its calls.
+use Rattle.std.specs.Prelude.{◌≡◌, ℕ, Bool, true, false, List, [], ◌∷◌, ◌++◌, Option, None, Some}
 use Rattle.std.specs.List.{AllByRecursion}
+use Rattle.ups_session.specs.declared.gate.GateCall.{GateCall}
+use Rattle.ups_session.specs.declared.gate.GateCall.TheVariants.{Before, After, Moment}
 use Rattle.ups_session.specs.Wire.{IsPrefix}
 
--- the moments that it told, in order; whether they are all that it gave; and the moment that it always gives, where it
--- gives one alone
+-- the calls that it told, in order; whether they are all; and the moment that it always gives, where it gives one alone
 pub record Told : Type 0 where
-  pub moments : List ℕ
+  pub calls : List GateCall
   pub all : Bool
   pub always : Option ℕ
 
 -- of a clock that tells nothing
 abbrev pub untold : Told
-untold = record { moments = []; all = false; always = None }
+untold = record { calls = []; all = false; always = None }
 
--- of a gate that gave so many moments of a list, and after them others where the list is over
-abbrev pub listed : List ℕ → ℕ → Bool → Told
-listed moments given over = record { moments = take given moments; all = not over; always = None }
+-- of a gate that tells these calls, all of them or the first
+abbrev pub told_calls : List GateCall → Bool → Told
+told_calls calls all = record { calls = calls; all = all; always = None }
 
-abbrev pub AreAlways : Option ℕ → List ℕ → Type 0
-AreAlways None given = Unit {0}
-AreAlways (Some moment) given = AllByRecursion (λ m. m ≡ moment) given
+-- a moment that it gives is this one
+abbrev pub IsAlways : ℕ → GateCall → Type 0
+IsAlways moment Before = Unit {0}
+IsAlways moment After = Unit {0}
+IsAlways moment (Moment m) = m ≡ moment
 
--- Some more moments were given, and the first of them told. What was told stays told. Behind a moment that wasn't told
--- none is.
-pub record Tells (before later : Told) (given : List ℕ) : Type 0 where
-  pub more : List ℕ
-  pub stays : later.moments ≡ before.moments ++ more
-  pub first : IsPrefix more given
-  pub every : later.all ≡ true → (before.all ≡ true) × (more ≡ given)
+abbrev pub AreAlways : Option ℕ → List GateCall → Type 0
+AreAlways None made = Unit {0}
+AreAlways (Some moment) made = AllByRecursion (λ c. IsAlways moment c) made
+
+-- Some more calls were made, and the first of them told. What was told stays told. Behind a call that wasn't told none
+-- is.
+pub record Tells (before later : Told) (made : List GateCall) : Type 0 where
+  pub more : List GateCall
+  pub stays : later.calls ≡ before.calls ++ more
+  pub first : IsPrefix more made
+  pub every : later.all ≡ true → (before.all ≡ true) × (more ≡ made)
   pub silent : before.all ≡ false → more ≡ []
   pub same : later.always ≡ before.always
-  pub always : AreAlways before.always given
+  pub always : AreAlways before.always made
+
+-- where it tells every call, the last one was that a PDU is about to be written
+abbrev pub IsAnnounced : Told → Type 0
+IsAnnounced told = told.all ≡ true → (front : List GateCall) × (told.calls ≡ front ++ Before ∷ [])

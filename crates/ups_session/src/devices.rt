@@ -1,14 +1,17 @@
-//! A reader, a writer and a gate over memory, which tell what they did.
+//! A reader, a writer and a gate over memory, which record what they did.
 
-ghost use Rattle.std.specs.Prelude.{◌≡◌, [], false};
+ghost use Rattle.std.specs.Prelude.{◌≡◌, [], ◌∷◌, ◌+◌, ◌<◌, false, not, length, slice_index};
+ghost use Rattle.ups_session.specs.declared.gate.GateCall.TheVariants.{Moment};
+ghost use Rattle.ups_life.specs.Settings.{IsMoment};
+ghost use Rattle.ups_session.specs.Tells.{Tells, told_calls};
 
-use crate::gate::Gate;
+use crate::gate::{Gate, GateCall};
 use std::alloc::Allocator;
 use std::io;
 use std::io::{Error, ErrorKind, Read, Write};
 use ups_life::MAX_MOMENT;
 
-/// Gives its bytes, and then ends or fails.
+/// A reader that yields its bytes, and then ends or fails.
 #[derive(Drop)]
 pub struct CutReader<'a> {
     rest: &'a [u8],
@@ -16,7 +19,7 @@ pub struct CutReader<'a> {
 }
 
 impl<'a> CutReader<'a> {
-    /// A reader of these bytes, which fails after them or ends.
+    /// Reads these bytes, and then fails if `fails` is true, or ends.
     pub fn new(rest: &'a [u8], fails: bool) -> CutReader<'a>
         ensures rest { result.rest.now ≡ rest.now }
         ensures fails { result.fails ≡ fails }
@@ -38,7 +41,7 @@ impl<'a> Read for CutReader<'a> {
     }
 }
 
-/// Takes so many bytes, and then fails.
+/// A writer that takes a number of bytes, and then fails.
 #[derive(Drop)]
 pub struct CutWriter<A: Allocator + Copy> {
     written: Vec<u8, A>,
@@ -46,7 +49,7 @@ pub struct CutWriter<A: Allocator + Copy> {
 }
 
 impl<A: Allocator + Copy> CutWriter<A> {
-    /// A writer that takes so many bytes.
+    /// Takes `room` bytes.
     pub fn new(alloc: A, room: usize) -> CutWriter<A>
         ensures written { result.written.items ≡ [] }
         ensures room { result.room ≡ room }
@@ -57,7 +60,7 @@ impl<A: Allocator + Copy> CutWriter<A> {
         }
     }
 
-    /// What was written.
+    /// The bytes that were written.
     pub fn written(&self) -> &[u8]
         ensures { result.now ≡ self.now.written.items }
     {
@@ -85,47 +88,92 @@ impl<A: Allocator + Copy> Write for CutWriter<A> {
     }
 }
 
-/// Gives the moments of a list and tells them, and after them moment 0, of which it tells nothing.
+/// A gate that gives the moments of a list, and moment 0 after them. It records its calls until memory runs out.
 #[derive(Drop)]
-pub struct ListGate<'a> {
+pub struct ListGate<'a, A: Allocator + Copy> {
     moments: &'a [u64],
     given: usize,
+    calls: Vec<GateCall, A>,
     over: bool,
 }
 
-impl<'a> ListGate<'a> {
+impl<'a, A: Allocator + Copy> ListGate<'a, A> {
     /// A gate of these moments: seconds since 1970-01-01 UTC. One after the year 9999 ends the list.
-    pub fn new(moments: &'a [u64]) -> ListGate<'a>
+    pub fn new(alloc: A, moments: &'a [u64]) -> ListGate<'a, A>
         ensures moments { result.moments.now ≡ moments.now }
         ensures given { result.given ≡ 0 }
+        ensures calls { result.calls.items ≡ [] }
         ensures over { result.over ≡ false }
     {
         ListGate {
             moments,
             given: 0,
+            calls: Vec::new(alloc),
             over: false,
         }
     }
-}
 
-impl<'a> Gate for ListGate<'a> {
-    ghost use Rattle.ups_session.specs.Tells.{listed};
+    /// The recorded calls, in order.
+    pub fn calls(&self) -> &[GateCall]
+        ensures { result.now ≡ self.now.calls.items }
+    {
+        self.calls.as_slice()
+    }
 
-    ghost told = { λ g. listed g.moments.now g.given g.over };
-
-    fn now(&mut self) -> u64 {
-        if !self.over && self.given < self.moments.len() {
+    /// The next moment of the list, or moment 0 behind it.
+    fn moment(&mut self) -> u64
+        ensures within { IsMoment result }
+        ensures next { self.old.given < length self.old.moments.now → IsMoment (slice_index self.old.moments.now self.old.given)
+            → (result ≡ slice_index self.old.moments.now self.old.given) × (self.new.given ≡ self.old.given + 1) }
+        ensures moments { self.new.moments.now ≡ self.old.moments.now }
+        ensures calls { self.new.calls.items ≡ self.old.calls.items }
+        ensures over { self.new.over ≡ self.old.over }
+    {
+        if self.given < self.moments.len() {
             let moment = self.moments[self.given];
             if moment <= MAX_MOMENT {
                 self.given += 1;
                 return moment;
             }
         }
-        self.over = true;
         0
     }
 
-    fn before_write(&mut self) {}
+    /// Records a call.
+    fn record(&mut self, call: GateCall)
+        ensures tells { Tells (told_calls self.old.calls.items (not self.old.over)) (told_calls self.new.calls.items (not self.new.over)) (call ∷ []) }
+        ensures given { self.new.given ≡ self.old.given }
+        ensures moments { self.new.moments.now ≡ self.old.moments.now }
+    {
+        if !self.over {
+            self.over = self.calls.push(call).is_err();
+        }
+    }
+}
 
-    fn after_write(&mut self) {}
+impl<'a, A: Allocator + Copy> Gate for ListGate<'a, A> {
+    ghost use Rattle.ups_session.specs.Tells.{told_calls};
+    ghost use Rattle.std.specs.Prelude.{not};
+
+    ghost told = { λ g. told_calls g.calls.items (not g.over) };
+
+    fn now(&mut self) -> u64
+        ensures tells { Tells (told_calls self.old.calls.items (not self.old.over)) (told_calls self.new.calls.items (not self.new.over)) (Moment result ∷ []) }
+        ensures within { IsMoment result }
+        ensures next { self.old.given < length self.old.moments.now → IsMoment (slice_index self.old.moments.now self.old.given)
+            → (result ≡ slice_index self.old.moments.now self.old.given) × (self.new.given ≡ self.old.given + 1) }
+        ensures moments { self.new.moments.now ≡ self.old.moments.now }
+    {
+        let moment = self.moment();
+        self.record(GateCall::Moment(moment));
+        moment
+    }
+
+    fn before_write(&mut self) {
+        self.record(GateCall::Before);
+    }
+
+    fn after_write(&mut self) {
+        self.record(GateCall::After);
+    }
 }

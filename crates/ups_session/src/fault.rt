@@ -6,10 +6,10 @@ ghost use Rattle.ups_session.specs.declared.fault.SessionFault.TheVariants.{Memo
 use std::alloc::{AllocError, AllocFailed};
 use thiserror::Error;
 
-/// How an association came to its end (PS3.8 section 7.2 to 7.4).
+/// How an association ended (PS3.8 sections 7.2 to 7.4).
 #[derive(Clone, Copy, Debug, PartialEq, Eq)]
 pub enum End {
-    /// Its release was asked for, and that was answered.
+    /// It was released.
     Released,
     /// This side aborted it.
     AbortSent,
@@ -21,7 +21,7 @@ pub enum End {
     Rejected,
 }
 
-/// Why a session stopped before its association came to an end.
+/// Why a session stopped before its association ended.
 #[derive(Clone, Copy, Debug, PartialEq, Eq, Error)]
 pub enum SessionFault {
     /// A read failed, or the input ended inside a PDU.
@@ -30,8 +30,8 @@ pub enum SessionFault {
     /// A write failed.
     #[error("a write failed")]
     Write,
-    /// As many PDUs were read as were allowed.
-    #[error("the association did not end within the number of PDUs that are read at most")]
+    /// As many PDUs were read as were allowed, and the association had not ended.
+    #[error("the association_view did not end within the number of PDUs that are read at most")]
     Turns,
     /// Memory ran out.
     #[error("out of memory")]

@@ -1,24 +1,36 @@
-//! What stands between a session and its clock, and is told of writes.
+//! The gate between a session and its clock, which is called around each write.
 
-/// A gate gives the moments at which requests are made, and is told of each PDU that is written. It may tell which
-/// moments it gave, in order. What it told stays told; once it has left a moment out, it tells of none behind it.
+/// A call of a gate.
+#[derive(Clone, Copy, Debug, PartialEq, Eq)]
+pub enum GateCall {
+    /// A PDU was about to be written.
+    Before,
+    /// A PDU was written, or writing it failed.
+    After,
+    /// A moment was asked for, and this one was given.
+    Moment(u64),
+}
+
+/// A gate gives the moments at which requests are made, and is called before and after each PDU is written. It may record
+/// its calls, in order. What it recorded stays; once it has left out a call, it records none of the later ones.
 pub trait Gate {
     ghost use Rattle.ups_life.specs.Settings.{IsMoment};
     ghost use Rattle.std.specs.Prelude.{[], ◌∷◌};
+    ghost use Rattle.ups_session.specs.declared.gate.GateCall.TheVariants.{Before, After, Moment};
     ghost use Rattle.ups_session.specs.Tells.{Told, untold, Tells};
 
     ghost told: { Self → Told } = { λ _. untold };
 
     /// The present moment: seconds since 1970-01-01 UTC, up to the end of the year 9999.
     fn now(&mut self) -> u64
-        ensures tells { Tells (told self.old) (told self.new) (result ∷ []) }
+        ensures tells { Tells (told self.old) (told self.new) (Moment result ∷ []) }
         ensures within { IsMoment result };
 
     /// A PDU is about to be written.
     fn before_write(&mut self)
-        ensures { Tells (told self.old) (told self.new) [] };
+        ensures { Tells (told self.old) (told self.new) (Before ∷ []) };
 
-    /// A PDU was written, or its writing failed.
+    /// A PDU was written, or writing it failed.
     fn after_write(&mut self)
-        ensures { Tells (told self.old) (told self.new) [] };
+        ensures { Tells (told self.old) (told self.new) (After ∷ []) };
 }

@@ -1,2 +1,4 @@
+mod Digits
 mod Naming
 mod Settling
+mod Parts

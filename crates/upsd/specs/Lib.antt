@@ -1,3 +1,5 @@
+pub mod Arguments
+pub mod Hexing
 pub mod Limits
 pub mod Piping
-pub mod Scripting
+pub mod Statuses

@@ -1,9 +1,10 @@
 -- How the service is set up for one association (PS3.4 annex CC).
-use Rattle.std.specs.Prelude.{ℕ, List, [], Some, false}
+use Rattle.std.specs.Prelude.{ℕ, List, [], None, Some, false}
 use Rattle.ups_assoc.specs.declared.negotiating.Config.{Config}
 use Rattle.ups_life.specs.declared.entry.Peer.{Peer}
 use Rattle.ups_life.specs.Settings.{Settings}
 use Rattle.ups_session.specs.Tells.{Told}
+use Rattle.ups_session.specs.WatchedIo.{Output}
 use Rattle.ups_life.specs.Limits.{history_limit}
 use Rattle.upsd.specs.Limits.{keep_seconds, local_offset}
 
@@ -13,8 +14,12 @@ settings peers = record { peers = peers; keep = keep_seconds; offset = local_off
 
 -- each moment is 1970-01-01, 00:00 UTC
 abbrev pub epoch : Told
-epoch = record { moments = []; all = false; always = Some 0 }
+epoch = record { calls = []; all = false; always = Some 0 }
 
 -- what a session is told of this application entity: its title, and its local time
 abbrev pub config : List ℕ → Config
 config ae = record { ae = ae; offset = local_offset }
+
+-- a writer of lines of hex digits, which doesn't say what it holds, before its first write
+abbrev pub unwritten : Output
+unwritten = record { written = None; failed = false }

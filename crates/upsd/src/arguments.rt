@@ -1,24 +1,31 @@
 //! The command line.
 
-ghost use Rattle.std.specs.Prelude.{◌≡◌, ◌≤◌, length, IfOk, false};
-ghost use Rattle.ups_manager.specs.Refusal.{is_named, is_twice, is_bad_offset};
+ghost use Rattle.std.specs.Prelude.{◌≡◌, ◌≤◌, ◌<◌, ◌↔◌, ℕ, ℤ, Bool, List, length, map, option_map, IfOk, IfErr, IsTrue, MatchOption, MatchResult, false};
+ghost use Rattle.std.specs.Char.{is_ascii_digit};
+ghost use Rattle.std.specs.List.{list_all};
+ghost use Rattle.ups_manager.specs.Refusal.{is_named, is_twice};
+ghost use Rattle.ups_life.specs.declared.entry.Peer.{Peer};
 ghost use Rattle.ups_life.specs.Limits.{peer_limit};
+ghost use Rattle.ups_pdu.specs.Title.{SpellsAe};
+ghost use Rattle.upsd.specs.declared.arguments.ArgumentFault.TheVariants.{Memory};
+ghost use Rattle.upsd.specs.Arguments.{FailToName, IsAddress, IsPort, NamePeers, NamesPeer, SaysKeep, SaysLock, SaysMinutes, SaysOffset, SaysSeconds};
 
+use crate::limits::{KEEP, OFFSET};
 use clap::{Arg, ArgAction, Command};
 use std::alloc::{AllocError, AllocFailed, Allocator, Global};
 use thiserror::Error;
-use ups_life::{MAX_PEERS, Peer};
+use ups_life::{MAX_OFFSET, MAX_PEERS, MIN_OFFSET, Peer};
 use ups_pdu::Ae;
 
 /// Why the words of a command line are refused.
 #[derive(Clone, Copy, Debug, PartialEq, Eq, Error)]
-pub(crate) enum ArgumentFault {
+pub(crate) enum ArgumentFault<'a> {
     /// The word behind `--ae` is not a title.
     #[error("--ae takes the title of an application entity: 1 to 16 printable characters without a backslash")]
     Ae,
-    /// A word names no peer.
-    #[error("a PEER is AE=host:port or AE=host:port,lock")]
-    Peer,
+    /// This word names no peer.
+    #[error("{0:?} is no PEER: AE=host:port or AE=host:port,lock")]
+    Peer(&'a str),
     /// A title is named by two words.
     #[error("a PEER is named twice")]
     Doubled,
@@ -36,14 +43,18 @@ pub(crate) enum ArgumentFault {
     Memory,
 }
 
-impl From<AllocError> for ArgumentFault {
-    fn from(_e: AllocError) -> ArgumentFault {
+impl From<AllocError> for ArgumentFault<'_> {
+    ghost from_gives = { λ _ e. e ≡ Memory };
+
+    fn from(_e: AllocError) -> Self {
         ArgumentFault::Memory
     }
 }
 
-impl<T: Drop> From<AllocFailed<T>> for ArgumentFault {
-    fn from(_e: AllocFailed<T>) -> ArgumentFault {
+impl<T: Drop> From<AllocFailed<T>> for ArgumentFault<'_> {
+    ghost from_gives = { λ _ e. e ≡ Memory };
+
+    fn from(_e: AllocFailed<T>) -> Self {
         ArgumentFault::Memory
     }
 }
@@ -107,30 +118,67 @@ pub(crate) fn command<'a>(alloc: Global) -> Result<Command<'a>, AllocError> {
         .subcommand(script)
 }
 
-fn is_port(text: &str) -> bool {
-    let digits = text.as_bytes().iter().all(|b| b.is_ascii_digit());
-    digits && text.parse::<u16>().is_ok_and(|port| port > 0)
+/// Whether a text has decimal digits alone.
+fn are_digits(text: &str) -> bool
+    ensures { result ≡ list_all is_ascii_digit text.now }
+{
+    text.as_bytes().iter().all(|b| b.is_ascii_digit())
 }
 
-/// The peer that a word names, as `AE=host:port` or `AE=host:port,lock`.
-pub(crate) fn peer_of(word: &str) -> Option<Peer> {
+/// Whether a text is the number of a port, from 1 to 65535, in decimal digits.
+fn is_port(text: &str) -> bool
+    ensures { IsTrue result ↔ IsPort text.now }
+{
+    if !are_digits(text) {
+        return false;
+    }
+    match text.parse::<u16>() {
+        Ok(port) => port > 0,
+        Err(_) => false,
+    }
+}
+
+/// Whether a text is an address, host:port. The last colon begins the port.
+fn is_address(text: &str) -> bool
+    ensures { IsTrue result ↔ IsAddress text.now }
+{
+    match text.rsplit_once(':') {
+        Some((host, port)) => !host.is_empty() && is_port(port),
+        None => false,
+    }
+}
+
+/// Whether the peer with this address, and perhaps `,lock` behind it, may lock steps; None where it is no address.
+fn lock_of(text: &str) -> Option<bool>
+    ensures { MatchOption result ((lock : Bool) → SaysLock text.now lock → ⊥) (SaysLock text.now) }
+{
+    if let Some(address) = text.strip_suffix(",lock") {
+        return if is_address(address) {
+            Some(true)
+        } else {
+            None
+        };
+    }
+    if is_address(text) { Some(false) } else { None }
+}
+
+/// The peer that a word names, as `AE=host:port` or `AE=host:port,lock`. The first `=` ends the title.
+pub(crate) fn peer_of(word: &str) -> Option<Peer>
+    ensures { MatchOption result ((peer : Peer) → NamesPeer word.now peer → ⊥) (NamesPeer word.now) }
+{
     let (title, address) = word.split_once('=')?;
     let ae = Ae::of(title.as_bytes())?;
-    let (address, lock) = match address.strip_suffix(",lock") {
-        Some(address) => (address, true),
-        None => (address, false),
-    };
-    let (host, port) = address.rsplit_once(':')?;
-    if host.is_empty() || !is_port(port) {
-        return None;
-    }
+    let lock = lock_of(address)?;
     Some(Peer { ae, lock })
 }
 
-/// The title that a word is.
+/// The title that a word is (PS3.5 section 6.2, AE).
 ///
 /// Errors: Ae where it is none.
-pub(crate) fn ae_of(word: &str) -> Result<Ae, ArgumentFault> {
+pub(crate) fn ae_of(word: &str) -> Result<Ae, ArgumentFault<'_>>
+    ensures spelled { MatchResult result (SpellsAe word.now) (λ _. (title : List ℕ) → SpellsAe word.now title → ⊥) }
+    ensures fault { IfErr result (λ fault. fault ≡ ArgumentFault.Ae) }
+{
     match Ae::of(word.as_bytes()) {
         Some(ae) => Ok(ae),
         None => Err(ArgumentFault::Ae),
@@ -140,32 +188,66 @@ pub(crate) fn ae_of(word: &str) -> Result<Ae, ArgumentFault> {
 /// How many seconds a word says.
 ///
 /// Errors: Keep where it says none, or 2^32 or more.
-pub(crate) fn keep_of(word: &str) -> Result<u32, ArgumentFault> {
-    word.parse::<u32>().map_err(|_| ArgumentFault::Keep)
+pub(crate) fn keep_of(word: &str) -> Result<u32, ArgumentFault<'_>>
+    ensures said { MatchResult result (SaysSeconds word.now) (λ _. (seconds : ℕ) → SaysSeconds word.now seconds → ⊥) }
+    ensures fault { IfErr result (λ fault. fault ≡ ArgumentFault.Keep) }
+{
+    match word.parse::<u32>() {
+        Ok(seconds) => Ok(seconds),
+        Err(_) => Err(ArgumentFault::Keep),
+    }
 }
 
 /// The offset from UTC in minutes that a word says (PS3.5 section 6.2, DT).
 ///
 /// Errors: Offset where it says none from -720 to 840.
-pub(crate) fn offset_of(word: &str) -> Result<i16, ArgumentFault>
-    ensures { IfOk result (λ offset. is_bad_offset offset ≡ false) }
+pub(crate) fn offset_of(word: &str) -> Result<i16, ArgumentFault<'_>>
+    ensures said { MatchResult result (SaysMinutes word.now) (λ _. (offset : ℤ) → SaysMinutes word.now offset → ⊥) }
+    ensures fault { IfErr result (λ fault. fault ≡ ArgumentFault.Offset) }
 {
     match word.parse::<i16>() {
-        Ok(offset) if offset >= -720 && offset <= 840 => Ok(offset),
+        Ok(offset) if offset >= MIN_OFFSET && offset <= MAX_OFFSET => Ok(offset),
         _ => Err(ArgumentFault::Offset),
+    }
+}
+
+/// For how many seconds a finished step is kept at least, by the word behind `--keep`, or 60 where there is none.
+///
+/// Errors: those of `keep_of`.
+pub(crate) fn keep_asked(word: Option<&str>) -> Result<u32, ArgumentFault<'_>>
+    ensures { IfOk result (SaysKeep (option_map (λ w. w.now) word.entry)) }
+{
+    match word {
+        Some(word) => keep_of(word),
+        None => Ok(KEEP),
+    }
+}
+
+/// The offset of the local time from UTC in minutes, by the word behind `--offset`, or 0 where there is none.
+///
+/// Errors: those of `offset_of`.
+pub(crate) fn offset_asked(word: Option<&str>) -> Result<i16, ArgumentFault<'_>>
+    ensures { IfOk result (SaysOffset (option_map (λ w. w.now) word.entry)) }
+{
+    match word {
+        Some(word) => offset_of(word),
+        None => Ok(OFFSET),
     }
 }
 
 /// The peers that words name.
 ///
-/// Errors: Peer where a word names none; Doubled where two words name the same; TooMany; want of memory.
+/// Errors: TooMany where there are more than 1,000 words; else by the first word that is wrong: Peer where it names none,
+/// Doubled where a word before it names one of the same title; lack of memory.
 #[tactic(auto, using(crate::proofs::Naming::twice_on))]
-pub(crate) fn peers_of<A: Allocator + Copy>(
+pub(crate) fn peers_of<'a, A: Allocator + Copy>(
     alloc: A,
-    words: &[&str],
-) -> Result<Vec<Peer, A>, ArgumentFault>
+    words: &[&'a str],
+) -> Result<Vec<Peer, A>, ArgumentFault<'a>>
+    ensures named { IfOk result (λ peers. NamePeers (map (λ w. w.now) words.now) peers.items) }
     ensures few { IfOk result (λ peers. length peers.items ≤ peer_limit) }
     ensures once { IfOk result (λ peers. is_twice peers.items ≡ false) }
+    ensures fault { IfErr result (FailToName (map (λ w. w.now) words.now)) }
 {
     let mut peers = Vec::new(alloc);
     if words.len() > MAX_PEERS {
@@ -173,7 +255,7 @@ pub(crate) fn peers_of<A: Allocator + Copy>(
     }
     for word in words {
         let Some(peer) = peer_of(word) else {
-            return Err(ArgumentFault::Peer);
+            return Err(ArgumentFault::Peer(word));
         };
         if is_named(&peers, peer.ae) {
             return Err(ArgumentFault::Doubled);

@@ -1,12 +1,16 @@
 //! `upsd`, a DICOM Unified Procedure Step manager.
 #![tactic(auto)]
 
-ghost use Rattle.std.specs.Prelude.{◌≡◌, ◌≤◌, length, None, IfOk};
+ghost use Rattle.std.specs.Prelude.{◌≡◌, ◌≤◌, [], codes, length, None, IfOk, unwrap_or};
+ghost use Rattle.clap.specs.Matches.{first_value, found_of};
 ghost use Rattle.ups_manager.specs.Refusal.{refusal};
 ghost use Rattle.ups_life.specs.Limits.{history_limit, peer_limit};
+ghost use Rattle.ups_pdu.specs.Title.{SpellsAe};
+ghost use Rattle.upsd.specs.Arguments.{IsFlag, NamePeers, words_of};
 ghost use Rattle.upsd.specs.Limits.{local_offset};
 
 mod arguments;
+mod ending;
 mod gate;
 mod hexing;
 mod limits;
@@ -19,24 +23,17 @@ use crate::arguments::{ArgumentFault, ae_of, command, peers_of};
 use crate::limits::TURNS;
 use crate::scripting::{answer_script, script_arguments};
 use clap::ArgMatches;
+pub use ending::{Status, parse_status, script_status, session_status};
+pub use hexing::DigitFault;
 pub use limits::limits_are_as_defined;
-pub use piping::pipe;
+pub use piping::{Piped, pipe, pipe_told};
 pub use scripting::script;
 use std::alloc::{AllocError, Global};
-use std::io::{self, BufReader};
+use std::io::{self, BufReader, ErrorKind};
 use std::process::ExitCode;
 use ups_life::Peer;
 use ups_pdu::Ae;
-pub use ups_session::{End, SessionFault};
-
-/// The exit status where the command line is not one that is taken.
-const USAGE: u8 = 1;
-
-/// The exit status where a session stopped before its association came to an end.
-const STOPPED: u8 = 2;
-
-/// The exit status where memory ran out.
-const MEMORY: u8 = 3;
+pub use ups_session::{End, SessionFault, WatchedReader, WatchedWriter};
 
 /// What a command line asks of `pipe`.
 #[derive(Drop)]
@@ -50,7 +47,13 @@ struct PipeArguments {
 ///
 /// Errors: those of its words.
 #[tactic(auto, using(crate::proofs::Naming::unrefused))]
-fn pipe_arguments(alloc: Global, matches: &ArgMatches<'_>) -> Result<PipeArguments, ArgumentFault>
+fn pipe_arguments<'a>(
+    alloc: Global,
+    matches: &ArgMatches<'a>,
+) -> Result<PipeArguments, ArgumentFault<'a>>
+    ensures title { IfOk result (λ asked. SpellsAe (unwrap_or (first_value (found_of matches.now) (codes "ae")) []) asked.ae) }
+    ensures hex { IfOk result (λ asked. IsFlag (found_of matches.now) (codes "hex") asked.hex) }
+    ensures peers { IfOk result (λ asked. NamePeers (words_of (found_of matches.now) (codes "peer")) asked.peers.items) }
     ensures few { IfOk result (λ asked. length asked.peers.items ≤ peer_limit) }
     ensures allowed { IfOk result (λ asked. refusal asked.peers.items local_offset history_limit ≡ None) }
 {
@@ -61,17 +64,23 @@ fn pipe_arguments(alloc: Global, matches: &ArgMatches<'_>) -> Result<PipeArgumen
     })
 }
 
-/// Answers one association, and gives the exit status.
-fn answer(rt: &HostRuntime, asked: &PipeArguments) -> Result<u8, AllocError>
+/// Answers one association from standard input to standard output, tells its fault, and gives how the program ends.
+///
+/// Errors: lack of memory before it begins.
+fn answer<R: Input + Print + Eprint + AllocGlobal>(
+    rt: &R,
+    asked: &PipeArguments,
+) -> Result<Status, AllocError>
     requires few { length asked.now.peers.items ≤ peer_limit }
     requires allowed { refusal asked.now.peers.items local_offset history_limit ≡ None }
 {
     let alloc = rt.alloc();
-    let Ok(mut reader) = BufReader::new(alloc, rt.reader()) else {
+    let Ok(reader) = BufReader::new(alloc, rt.reader()) else {
         return Err(AllocError);
     };
-    let mut writer = io::writer(rt);
-    let ended = pipe(
+    let mut reader = WatchedReader::new(reader);
+    let mut writer = WatchedWriter::new(io::writer(rt));
+    let piped = pipe_told(
         alloc,
         &mut reader,
         &mut writer,
@@ -80,44 +89,65 @@ fn answer(rt: &HostRuntime, asked: &PipeArguments) -> Result<u8, AllocError>
         asked.hex,
         TURNS,
     );
-    let Err(fault) = ended else {
-        return Ok(0);
-    };
-    let _ = eprintln!(rt; "upsd: {fault}");
-    match fault {
-        SessionFault::Memory => Ok(MEMORY),
-        _ => Ok(STOPPED),
-    }
+    tell(rt, &piped);
+    Ok(session_status(&piped.ended))
 }
 
-/// Tells why the words of a command line are refused, and gives the exit status.
-fn refused(rt: &HostRuntime, fault: ArgumentFault) -> Result<u8, AllocError> {
+/// Tells why a session stopped, where it did: digits that are none are told as such, and not as a failed read.
+fn tell<R: Eprint>(rt: &R, piped: &Piped) {
+    let _ = match (piped.ended, piped.digits) {
+        (Err(SessionFault::Read), Some(fault)) => eprintln!(rt; "upsd: {fault}"),
+        (Err(fault), _) => eprintln!(rt; "upsd: {fault}"),
+        (Ok(_), _) => return,
+    };
+}
+
+/// Tells why the words of a command line are refused, and gives how the program ends.
+///
+/// Errors: lack of memory, where that is why.
+fn refuse<R: Eprint>(rt: &R, fault: ArgumentFault<'_>) -> Result<Status, AllocError> {
     if fault == ArgumentFault::Memory {
         return Err(AllocError);
     }
     let _ = eprintln!(rt; "upsd: {fault}");
-    Ok(USAGE)
+    Ok(Status::Usage)
 }
 
-/// Does what the words of a command line ask, and gives the exit status.
-fn run(rt: &HostRuntime, words: &[String]) -> Result<u8, AllocError> {
+/// Does what the words of a command line ask, and gives how the program ends.
+///
+/// Errors: lack of memory before anything is done.
+fn perform<R: Input + Print + Eprint + AllocGlobal>(
+    rt: &R,
+    words: &[String],
+) -> Result<Status, AllocError> {
     let matches = match command(rt.alloc())?.try_get_matches_from(words) {
         Ok(matches) => matches,
         Err(error) => {
             let _ = error.print(rt);
-            return Ok(if error.use_stderr() { USAGE } else { 0 });
+            return Ok(parse_status(error.kind()));
         }
     };
     match matches.subcommand() {
         Some(("script", matches)) => match script_arguments(rt.alloc(), matches) {
             Ok(asked) => answer_script(rt, &asked),
-            Err(fault) => refused(rt, fault),
+            Err(fault) => refuse(rt, fault),
         },
         Some((_, matches)) => match pipe_arguments(rt.alloc(), matches) {
             Ok(asked) => answer(rt, &asked),
-            Err(fault) => refused(rt, fault),
+            Err(fault) => refuse(rt, fault),
         },
-        None => Ok(USAGE),
+        None => Ok(Status::Usage),
+    }
+}
+
+/// Does what the words of a command line ask, and gives how the program ends.
+fn run<R: Input + Print + Eprint + AllocGlobal>(rt: &R, words: &[String]) -> Status {
+    match perform(rt, words) {
+        Ok(status) => status,
+        Err(_) => {
+            let _ = eprintln!(rt; "upsd: out of memory");
+            Status::Memory
+        }
     }
 }
 
@@ -127,16 +157,21 @@ fn words(rt: &HostRuntime) -> io::Result<Vec<String>> {
     Ok(words)
 }
 
-fn main(rt: HostRuntime) -> ExitCode {
-    let Ok(words) = words(&rt) else {
-        let _ = eprintln!(rt; "upsd: the words of the command line could not be read");
-        return ExitCode::from(MEMORY);
-    };
-    match run(&rt, &words) {
-        Ok(status) => ExitCode::from(status),
-        Err(_) => {
-            let _ = eprintln!(rt; "upsd: out of memory");
-            ExitCode::from(MEMORY)
-        }
+/// Tells why the words of the command line could not be read, and gives how the program ends: they are no text, or
+/// memory ran out.
+fn unread<R: Eprint>(rt: &R, error: ErrorKind) -> Status {
+    if error == ErrorKind::OutOfMemory {
+        let _ = eprintln!(rt; "upsd: out of memory");
+        return Status::Memory;
     }
+    let _ = eprintln!(rt; "upsd: the command line is not UTF-8");
+    Status::Usage
+}
+
+fn main(rt: HostRuntime) -> ExitCode {
+    let status = match words(&rt) {
+        Ok(words) => run(&rt, &words),
+        Err(error) => unread(&rt, error.kind()),
+    };
+    ExitCode::from(status)
 }

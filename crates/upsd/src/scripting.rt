@@ -1,20 +1,24 @@
 //! A script from a reader, and the replies to a writer.
 
-ghost use Rattle.std.specs.Prelude.{◌≡◌, ◌≤◌, length, None, Result, IfOk, IfErr};
+ghost use Rattle.std.specs.Prelude.{◌≡◌, ◌≤◌, ◌⊎◌, List, [], codes, length, None, Result, Err, IfOk, IfErr};
+ghost use Rattle.clap.specs.Matches.{first_value, found_of};
 ghost use Rattle.ups_manager.specs.Refusal.{refusal};
 ghost use Rattle.ups_script.specs.declared.fault.ScriptFault.{ScriptFault};
-ghost use Rattle.ups_script.specs.Running.{TellsLine};
+ghost use Rattle.ups_script.specs.declared.fault.ScriptFault.TheVariants.{Memory};
+ghost use Rattle.ups_script.specs.Limits.{max_lines};
+ghost use Rattle.ups_script.specs.Running.{Runs, TellsLine};
+ghost use Rattle.ups_life.specs.declared.entry.Entry.{Entry};
 ghost use Rattle.ups_life.specs.Limits.{history_limit, peer_limit};
-ghost use Rattle.upsd.specs.Scripting.{status_of};
+ghost use Rattle.upsd.specs.Arguments.{NamePeers, SaysKeep, SaysOffset, words_of};
+ghost use Rattle.upsd.specs.Statuses.{code, script_status};
 
-use crate::arguments::{ArgumentFault, keep_of, offset_of, peers_of};
-use crate::limits::{KEEP, OFFSET};
-use crate::{MEMORY, STOPPED};
+use crate::arguments::{ArgumentFault, keep_asked, offset_asked, peers_of};
+use crate::ending::{Status, script_status};
 use clap::ArgMatches;
 use std::alloc::{AllocError, Allocator, Global};
 use std::io::{self, BufRead, BufReader, BufWriter, Write};
 use ups_life::Peer;
-use ups_script::{ScriptFault, run};
+use ups_script::run;
 
 /// What a command line asks of `script`.
 #[derive(Drop)]
@@ -28,32 +32,31 @@ pub(crate) struct ScriptArguments {
 ///
 /// Errors: those of its words.
 #[tactic(auto, using(crate::proofs::Naming::unrefused_at))]
-pub(crate) fn script_arguments(
+pub(crate) fn script_arguments<'a>(
     alloc: Global,
-    matches: &ArgMatches<'_>,
-) -> Result<ScriptArguments, ArgumentFault>
+    matches: &ArgMatches<'a>,
+) -> Result<ScriptArguments, ArgumentFault<'a>>
+    ensures peers { IfOk result (λ asked. NamePeers (words_of (found_of matches.now) (codes "peer")) asked.peers.items) }
+    ensures keep { IfOk result (λ asked. SaysKeep (first_value (found_of matches.now) (codes "keep")) asked.keep) }
+    ensures offset { IfOk result (λ asked. SaysOffset (first_value (found_of matches.now) (codes "offset")) asked.offset) }
     ensures few { IfOk result (λ asked. length asked.peers.items ≤ peer_limit) }
     ensures allowed { IfOk result (λ asked. refusal asked.peers.items asked.offset history_limit ≡ None) }
 {
-    let peers = peers_of(alloc, matches.get_strs("peer").unwrap_or(&[]))?;
-    let keep = match matches.get_str("keep") {
-        Some(word) => keep_of(word)?,
-        None => KEEP,
-    };
-    let offset = match matches.get_str("offset") {
-        Some(word) => offset_of(word)?,
-        None => OFFSET,
-    };
     Ok(ScriptArguments {
-        peers,
-        keep,
-        offset,
+        peers: peers_of(alloc, matches.get_strs("peer").unwrap_or(&[]))?,
+        keep: keep_asked(matches.get_str("keep"))?,
+        offset: offset_asked(matches.get_str("offset"))?,
     })
 }
 
-/// Answers a script from standard input, tells its fault, and gives the exit status. A line that is none is told among
-/// the replies.
-pub(crate) fn answer_script(rt: &HostRuntime, asked: &ScriptArguments) -> Result<u8, AllocError>
+/// Answers a script from standard input, tells its fault, and gives how the program ends. A line that is none is told
+/// among the replies too.
+///
+/// Errors: lack of memory before it begins.
+pub(crate) fn answer_script<R: Input + Print + Eprint + AllocGlobal>(
+    rt: &R,
+    asked: &ScriptArguments,
+) -> Result<Status, AllocError>
     requires few { length asked.now.peers.items ≤ peer_limit }
     requires allowed { refusal asked.now.peers.items asked.now.offset history_limit ≡ None }
 {
@@ -72,24 +75,10 @@ pub(crate) fn answer_script(rt: &HostRuntime, asked: &ScriptArguments) -> Result
         asked.keep,
         asked.offset,
     );
-    match &ended {
-        Ok(()) | Err(ScriptFault::BadLine(_)) => {}
-        Err(fault) => {
-            let _ = eprintln!(rt; "upsd: {fault}");
-        }
+    if let Err(fault) = &ended {
+        let _ = eprintln!(rt; "upsd: {fault}");
     }
-    Ok(status_of(&ended))
-}
-
-/// The exit status of a script that ended so.
-pub(crate) fn status_of(ended: &Result<(), ScriptFault>) -> u8
-    ensures { result ≡ status_of ended.now }
-{
-    match ended {
-        Ok(()) => 0,
-        Err(ScriptFault::Memory) => MEMORY,
-        Err(_) => STOPPED,
-    }
+    Ok(script_status(&ended))
 }
 
 /// Runs a script on a manager that has no history before it, and gives the exit status: 0 where the input came to its
@@ -106,7 +95,9 @@ pub fn script<A: Allocator + Copy, R: BufRead, W: Write>(
 ) -> u8
     requires few { length peers.now ≤ peer_limit }
     requires allowed { refusal peers.now offset history_limit ≡ None }
-    ensures { (ended : Result Unit ScriptFault) × IfErr ended TellsLine × (result ≡ status_of ended) }
+    ensures { (ended : Result Unit ScriptFault) × IfErr ended TellsLine
+        × ((ended ≡ Err Memory) ⊎ ((history : List (Entry A)) × Runs (record { peers = peers.now; keep = keep; offset = offset; limit = history_limit }) max_lines (R.remaining reader.old) (R.remaining reader.new) (W.contents writer.old) (W.contents writer.new) [] history ended))
+        × (result ≡ code (script_status ended)) }
 {
-    status_of(&run(alloc, reader, writer, peers, keep, offset))
+    script_status(&run(alloc, reader, writer, peers, keep, offset)).code()
 }

@@ -1,575 +1,330 @@
 //! Sessions of the program, and the words of its command line.
 
+mod arguments;
+mod devices;
+mod running;
 mod scripts;
+mod words;
 
+use self::devices::Device;
+use self::words::{columns, digits, said};
 use super::*;
-use crate::arguments::peer_of;
-use fixtures::vectors::*;
-use fixtures::{Refusing, bytes_of, bytes_of_all, title};
+use fixtures::{Refusing, title};
 use std::alloc::Allocator;
-use std::io::{Error, ErrorKind, Read, Write};
-use std::process::Abort;
+use std::io::{Read, Write};
 use std::test::Fail;
 
-/// The command of an N-GET request that lists (0074,1000) and (0008,1195), and of one that lists (0008,1195) alone.
-const GET_STATE: &str =
-    "04 00 00000072 0000006e 01 03 00000000 04000000 60000000 00000300 1a000000 PUSH 00000001 02000000 1001 00001001 02000000 0200 00000008 02000000 0101 00000110 08000000 \"1.2.3.4\" 00 00000510 08000000 74000010 08009511";
+/// Sessions without peers. A row says how the input and the output are written, what is said, what is answered, and how
+/// the session ends.
+///
+/// They are written as `bytes`; or in hex digits: as the `text` of the row, or as the `digits` of its words, of which the
+/// answered ones have a line each. The digits may be said in `capitals`, or be `shaky`: given and taken one by one, with
+/// a signal that interrupts each call once.
+///
+/// Behind that the row may say what is short, for all numbers from the first to the second: the input has so many bytes
+/// (`end`), or fails behind them (`break`), the output has so much `room`, or the session has so many `turns`. With `left`
+/// so many bytes are not read. No more is answered than there is room for.
+const SESSIONS: &str = r#"# A step is created and read back
+bytes | REQUEST CREATE STEP GET RELEASE | ACCEPTED CREATED GOT GOT_STEP RELEASED | Ok(Released)
+# A data set whose tags fall is not processed and nothing is held
+bytes | REQUEST CREATE FALLING_STEP GET RELEASE | ACCEPTED NOT_PROCESSED NOT_HELD RELEASED | Ok(Released)
+# The Transaction UID is left out and the rest is shown
+bytes | REQUEST CREATE STEP GET_STATE GET_LOCK RELEASE | ACCEPTED CREATED GOT_PART GOT_STATE GOT_PART GOT_NOTHING RELEASED | Ok(Released)
+# What comes where it is not expected is answered by an abort
+bytes | RELEASE | ABORT | Ok(AbortSent)
+bytes | CREATE STEP | ABORT | Ok(AbortSent)
+bytes | REQUEST STEP | ACCEPTED ABORT | Ok(AbortSent)
+bytes | REQUEST REQUEST | ACCEPTED UNEXPECTED_ABORT | Ok(AbortSent)
+# A response that nobody asked for is not answered
+bytes | REQUEST CREATED RELEASE | ACCEPTED RELEASED | Ok(Released)
+# Bytes that are no PDU are answered by an abort
+bytes | 09 00 00000004 00000000 | ABORT | Ok(AbortSent)
+bytes | REQUEST 09 00 00000004 00000000 | ACCEPTED UNKNOWN_ABORT | Ok(AbortSent)
+bytes | REQUEST 05 00 00000005 0000000000 | ACCEPTED INVALID_ABORT | Ok(AbortSent)
+# A PDU over its limit is refused by its header and one at it is read on
+bytes | REQUEST 04 00 00004000 | ACCEPTED | Err(Read)
+bytes | REQUEST 04 00 00004001 | ACCEPTED INVALID_ABORT | Ok(AbortSent)
+bytes | REQUEST 05 00 00020000 | ACCEPTED | Err(Read)
+bytes | REQUEST 05 00 00020001 | ACCEPTED INVALID_ABORT | Ok(AbortSent)
+# A message has 1,048,576 bytes at most: a command of 92 bytes, and a data set of zeros
+bytes | REQUEST CREATE ZEROS*64 04 00 0000012a 00000126 01 02 00*292 RELEASE | ACCEPTED NOT_PROCESSED RELEASED | Ok(Released)
+bytes | REQUEST CREATE ZEROS*64 04 00 0000012b 00000127 01 02 00*293 RELEASE | ACCEPTED ABORT | Ok(AbortSent)
+# An association for another title is rejected
+bytes | REQUEST_OF_OTHER | 03 00 00000004 00 01 01 07 | Ok(Rejected)
+# An input that ends between two PDUs closes the association
+bytes |  |  | Ok(Closed)
+bytes | REQUEST | ACCEPTED | Ok(Closed)
+bytes | REQUEST CREATE STEP | ACCEPTED CREATED | Ok(Closed)
+# An abort of the peer ends the association
+bytes | REQUEST ABORT | ACCEPTED | Ok(AbortReceived)
+# An echo is answered
+bytes | ECHO_REQUEST ECHO RELEASE | ACCEPTED ECHOED RELEASED | Ok(Released)
+# A message in fragments of a byte is answered in short ones; the last byte of the release is missing
+bytes | SHORT_REQUEST CREATE_IN_BYTES STEP_IN_BYTES 05 00 00000004 000000 | ACCEPTED CREATED_IN_PARTS | Err(Read)
+# The input is not read behind the release
+bytes left 1 1 | REQUEST RELEASE ff | ACCEPTED RELEASED | Ok(Released)
+# A request of 128 presentation contexts is answered for each
+bytes | REQUEST_OF_128 CONTEXT*128 REQUEST_END RELEASE | ACCEPTED_OF_128 ACCEPTED_CONTEXT*128 ACCEPTED_END RELEASED | Ok(Released)
+# A 129th presentation context has the ID of another and is no request
+bytes | REQUEST_OF_129 CONTEXT*128 CONTEXT_255 REQUEST_END | ABORT | Ok(AbortSent)
+# An input that ends early was answered as far as it went, and closes the association between two PDUs alone
+bytes end 0 0 | REQUEST CREATE STEP GET RELEASE |  | Ok(Closed)
+bytes end 1 178 | REQUEST CREATE STEP GET RELEASE |  | Err(Read)
+bytes end 179 179 | REQUEST CREATE STEP GET RELEASE | ACCEPTED | Ok(Closed)
+bytes end 180 282 | REQUEST CREATE STEP GET RELEASE | ACCEPTED | Err(Read)
+bytes end 283 283 | REQUEST CREATE STEP GET RELEASE | ACCEPTED | Ok(Closed)
+bytes end 284 378 | REQUEST CREATE STEP GET RELEASE | ACCEPTED | Err(Read)
+bytes end 379 379 | REQUEST CREATE STEP GET RELEASE | ACCEPTED CREATED | Ok(Closed)
+bytes end 380 482 | REQUEST CREATE STEP GET RELEASE | ACCEPTED CREATED | Err(Read)
+bytes end 483 483 | REQUEST CREATE STEP GET RELEASE | ACCEPTED CREATED GOT GOT_STEP | Ok(Closed)
+bytes end 484 492 | REQUEST CREATE STEP GET RELEASE | ACCEPTED CREATED GOT GOT_STEP | Err(Read)
+bytes end 493 493 | REQUEST CREATE STEP GET RELEASE | ACCEPTED CREATED GOT GOT_STEP RELEASED | Ok(Released)
+# A reader that fails was answered as far as it went
+bytes break 0 178 | REQUEST CREATE STEP GET RELEASE |  | Err(Read)
+bytes break 179 378 | REQUEST CREATE STEP GET RELEASE | ACCEPTED | Err(Read)
+bytes break 379 482 | REQUEST CREATE STEP GET RELEASE | ACCEPTED CREATED | Err(Read)
+bytes break 483 492 | REQUEST CREATE STEP GET RELEASE | ACCEPTED CREATED GOT GOT_STEP | Err(Read)
+# A writer that fails has the first bytes
+bytes room 0 546 | REQUEST CREATE STEP GET RELEASE | ACCEPTED CREATED GOT GOT_STEP RELEASED | Err(Write)
+bytes room 547 547 | REQUEST CREATE STEP GET RELEASE | ACCEPTED CREATED GOT GOT_STEP RELEASED | Ok(Released)
+# As many turns as are allowed are taken
+bytes turns 0 0 | REQUEST CREATE STEP GET RELEASE |  | Err(Turns)
+bytes turns 1 2 | REQUEST CREATE STEP GET RELEASE | ACCEPTED | Err(Turns)
+bytes turns 3 3 | REQUEST CREATE STEP GET RELEASE | ACCEPTED CREATED | Err(Turns)
+bytes turns 4 4 | REQUEST CREATE STEP GET RELEASE | ACCEPTED CREATED GOT GOT_STEP | Err(Turns)
+bytes turns 5 5 | REQUEST CREATE STEP GET RELEASE | ACCEPTED CREATED GOT GOT_STEP RELEASED | Ok(Released)
+# As many turns as are allowed are taken of digits
+digits turns 4 4 | REQUEST CREATE STEP GET RELEASE | ACCEPTED CREATED GOT GOT_STEP | Err(Turns)
+digits turns 5 5 | REQUEST CREATE STEP GET RELEASE | ACCEPTED CREATED GOT GOT_STEP RELEASED | Ok(Released)
+# Digits are read with white space and each PDU is a line
+text | " 05 00" 09 "000000" 0d0a "04 0000" 0a "0000 " | "07000000000400000000" 0a | Ok(AbortSent)
+# An association in digits is answered in digits
+digits | REQUEST RELEASE | ACCEPTED RELEASED | Ok(Released)
+# Digits are read in either case
+text | "0500000000060A0B0C0D0E0F" | "07000000000400000000" 0a | Ok(AbortSent)
+text | "0500000000060a0b0c0d0e0f" | "07000000000400000000" 0a | Ok(AbortSent)
+capitals | REQUEST RELEASE | ACCEPTED RELEASED | Ok(Released)
+# Interrupted reads and writes of digits are tried again
+shaky | REQUEST RELEASE | ACCEPTED RELEASED | Ok(Released)
+# What is no digit or ends within a byte is not read
+text | "0" |  | Err(Read)
+text | "0g" |  | Err(Read)
+text | "050000000004000000 0" |  | Err(Read)
+text | "-1" |  | Err(Read)"#;
 
-const GET_LOCK: &str =
-    "04 00 0000006e 0000006a 01 03 00000000 04000000 5c000000 00000300 1a000000 PUSH 00000001 02000000 1001 00001001 02000000 0200 00000008 02000000 0101 00000110 08000000 \"1.2.3.4\" 00 00000510 04000000 08009511";
+/// An association that creates a step and reads it, what it is answered, and in a line each what it may be answered where
+/// a growth is refused: no step was created, or it can't be shown.
+const ASKED: &str = "REQUEST CREATE STEP GET RELEASE";
 
-/// The response to them, and its data sets.
-const GOT_PART: &str =
-    "04 00 0000006c 00000068 01 03 00000000 04000000 5a000000 00000200 1a000000 PUSH 00000001 02000000 1081 00002001 02000000 0200 00000008 02000000 0100 00000009 02000000 0100 00000010 08000000 \"1.2.3.4\" 00";
+const ANSWERED: &str = "ACCEPTED CREATED GOT GOT_STEP RELEASED";
 
-const GOT_STATE: &str = "04 00 00000018 00000014 01 02 74000010 0a000000 \"SCHEDULED\" 20";
+const LACKING: &str = "\
+ACCEPTED OUT_OF_RESOURCES NOT_HELD RELEASED
+ACCEPTED CREATED NOT_SHOWN RELEASED";
 
-const GOT_NOTHING: &str = "04 00 00000006 00000002 01 02";
+/// How a session is written, and what is short in it: from this number to the last one.
+#[derive(Clone, Copy)]
+struct Form<'a> {
+    spelling: &'a str,
+    what: &'a str,
+    number: u64,
+    last: u64,
+}
 
-/// An A-ASSOCIATE-RQ for the Verification class, a C-ECHO request, and its response.
-const ECHO_REQUEST: &str =
-    "01 00 000000a4 0001 0000 \"UPSD\" 20*12 \"SCHED1\" 20*10 00*32 10 00 0015 \"1.2.840.10008.3.1.1.1\" 20 00 002e 01 000000 30 00 0011 \"1.2.840.10008.1.1\" 40 00 0011 \"1.2.840.10008.1.2\" 50 00 0011 51 00 0004 00004000 52 00 0005 \"1.2.3\"";
+/// The form of bytes where this is short.
+fn short_of(what: &str, number: u64) -> Form<'_> {
+    Form {
+        spelling: "bytes",
+        what,
+        number,
+        last: number,
+    }
+}
 
-const ECHO: &str =
-    "04 00 0000004a 00000046 01 03 00000000 04000000 38000000 00000200 12000000 \"1.2.840.10008.1.1\" 00 00000001 02000000 3000 00001001 02000000 0700 00000008 02000000 0101";
+/// Reads a form.
+fn form_of(words: &str) -> Result<Form<'_>, Fail> {
+    let mut words = words.split(' ');
+    let spelling = words.next().unwrap_or("");
+    let what = words.next().unwrap_or("");
+    let number = words.next().unwrap_or("0").parse::<u64>()?;
+    let last = words.next().unwrap_or("0").parse::<u64>()?;
+    if last < number {
+        return Err("no number from the first to the last".into());
+    }
+    Ok(Form {
+        spelling,
+        what,
+        number,
+        last,
+    })
+}
 
-const ECHOED: &str =
-    "04 00 00000054 00000050 01 03 00000000 04000000 42000000 00000200 12000000 \"1.2.840.10008.1.1\" 00 00000001 02000000 3080 00002001 02000000 0700 00000008 02000000 0101 00000009 02000000 0000";
+impl Form<'_> {
+    /// The number where this is what is short, or else what it is otherwise.
+    fn limit(&self, what: &str, otherwise: u64) -> u64 {
+        if self.what == what {
+            self.number
+        } else {
+            otherwise
+        }
+    }
 
-/// An association that creates a step and reads it, and what it is answered.
-const ASKED: [&str; 5] = [REQUEST, CREATE, STEP, GET, RELEASE];
-
-const ANSWERED: [&str; 5] = [ACCEPTED, CREATED, GOT, GOT_STEP, RELEASED];
+    /// The device of this form that gives bytes, or takes them.
+    fn device<'a>(&self, rt: &impl AllocGlobal, input: &'a [u8]) -> Device<'a> {
+        let is_shaky = self.spelling == "shaky";
+        let fails = self.what == "break";
+        let len = self.limit("end", self.limit("break", u64::MAX)) as usize;
+        Device {
+            input: input.get(..len).unwrap_or(input),
+            output: Vec::new(rt.alloc()),
+            fails,
+            room: self.limit("room", u64::MAX) as usize,
+            step: if is_shaky || fails { 1 } else { usize::MAX },
+            is_shaky,
+            was_interrupted: false,
+        }
+    }
+}
 
 /// Answers an association as UPSD without peers.
 fn pipe_of<A: Allocator + Copy, R: Read, W: Write>(
     alloc: A,
     reader: &mut R,
     writer: &mut W,
-    hex: bool,
-    turns: u64,
+    form: Form<'_>,
 ) -> Result<Result<End, SessionFault>, Fail> {
     let ae = title("UPSD")?;
-    Ok(pipe(alloc, reader, writer, ae, &[], hex, turns))
+    let hex = form.spelling != "bytes";
+    let turns = form.limit("turns", TURNS);
+    let mut reader = WatchedReader::new(reader);
+    let mut writer = WatchedWriter::new(writer);
+    Ok(pipe(alloc, &mut reader, &mut writer, ae, &[], hex, turns))
 }
 
-/// How a session ends, and what it writes.
+/// How a session ends, what it writes, how many bytes it leaves, and whether a growth is still to be refused.
 #[derive(Drop)]
 struct Told {
     ended: Result<End, SessionFault>,
     output: Vec<u8>,
-}
-
-fn session(rt: &impl AllocGlobal, input: &[u8], hex: bool, turns: u64) -> Result<Told, Fail> {
-    let mut reader = input;
-    let mut output = Vec::new(rt.alloc());
-    let ended = pipe_of(rt.alloc(), &mut reader, &mut output, hex, turns)?;
-    Ok(Told { ended, output })
-}
-
-/// A session that is asked one text and answers another.
-fn answers<R: Abort + AllocGlobal>(
-    rt: &R,
-    asked: &[&str],
-    ended: Result<End, SessionFault>,
-    answered: &[&str],
-) -> Result<(), Fail> {
-    let found = session(rt, &bytes_of_all(rt, asked)?, false, TURNS)?;
-    assert_eq!(rt; found.ended, ended);
-    assert!(rt; found.output == bytes_of_all(rt, answered)?);
-    Ok(())
-}
-
-#[test]
-fn a_step_is_created_and_read_back(rt: HostRuntime) -> Result<(), Fail> {
-    answers(&rt, &ASKED, Ok(End::Released), &ANSWERED)
-}
-
-#[test]
-fn a_data_set_whose_tags_fall_is_not_processed_and_nothing_is_held(
-    rt: HostRuntime,
-) -> Result<(), Fail> {
-    answers(
-        &rt,
-        &[REQUEST, CREATE, FALLING_STEP, GET, RELEASE],
-        Ok(End::Released),
-        &[ACCEPTED, NOT_PROCESSED, NOT_HELD, RELEASED],
-    )
-}
-
-#[test]
-fn the_transaction_uid_is_left_out_and_the_rest_is_shown(rt: HostRuntime) -> Result<(), Fail> {
-    answers(
-        &rt,
-        &[REQUEST, CREATE, STEP, GET_STATE, GET_LOCK, RELEASE],
-        Ok(End::Released),
-        &[
-            ACCEPTED,
-            CREATED,
-            GOT_PART,
-            GOT_STATE,
-            GOT_PART,
-            GOT_NOTHING,
-            RELEASED,
-        ],
-    )
-}
-
-#[test]
-fn what_comes_where_it_is_not_expected_is_answered_by_an_abort(
-    rt: HostRuntime,
-) -> Result<(), Fail> {
-    let aborted = Ok(End::AbortSent);
-    answers(&rt, &[RELEASE], aborted, &[ABORT])?;
-    answers(&rt, &[CREATE, STEP], aborted, &[ABORT])?;
-    answers(&rt, &[REQUEST, STEP], aborted, &[ACCEPTED, ABORT])?;
-    answers(
-        &rt,
-        &[REQUEST, REQUEST],
-        aborted,
-        &[ACCEPTED, UNEXPECTED_ABORT],
-    )
-}
-
-#[test]
-fn a_response_that_nobody_asked_for_is_not_answered(rt: HostRuntime) -> Result<(), Fail> {
-    answers(
-        &rt,
-        &[REQUEST, CREATED, RELEASE],
-        Ok(End::Released),
-        &[ACCEPTED, RELEASED],
-    )
-}
-
-#[test]
-fn bytes_that_are_no_pdu_are_answered_by_an_abort(rt: HostRuntime) -> Result<(), Fail> {
-    let aborted = Ok(End::AbortSent);
-    answers(&rt, &["09 00 00000004 00000000"], aborted, &[ABORT])?;
-    answers(
-        &rt,
-        &[REQUEST, "09 00 00000004 00000000"],
-        aborted,
-        &[ACCEPTED, UNKNOWN_ABORT],
-    )?;
-    answers(
-        &rt,
-        &[REQUEST, "05 00 00000005 0000000000"],
-        aborted,
-        &[ACCEPTED, INVALID_ABORT],
-    )
-}
-
-#[test]
-fn an_association_for_another_title_is_rejected(rt: HostRuntime) -> Result<(), Fail> {
-    answers(
-        &rt,
-        &[REQUEST_OF_OTHER],
-        Ok(End::Rejected),
-        &["03 00 00000004 00 01 01 07"],
-    )
-}
-
-#[test]
-fn an_input_that_ends_between_two_pdus_closes_the_association(rt: HostRuntime) -> Result<(), Fail> {
-    answers(&rt, &[], Ok(End::Closed), &[])?;
-    answers(&rt, &[REQUEST], Ok(End::Closed), &[ACCEPTED])?;
-    answers(
-        &rt,
-        &[REQUEST, CREATE, STEP],
-        Ok(End::Closed),
-        &[ACCEPTED, CREATED],
-    )
-}
-
-#[test]
-fn an_abort_of_the_peer_ends_the_association(rt: HostRuntime) -> Result<(), Fail> {
-    answers(&rt, &[REQUEST, ABORT], Ok(End::AbortReceived), &[ACCEPTED])
-}
-
-#[test]
-fn an_echo_is_answered(rt: HostRuntime) -> Result<(), Fail> {
-    answers(
-        &rt,
-        &[ECHO_REQUEST, ECHO, RELEASE],
-        Ok(End::Released),
-        &[ACCEPTED, ECHOED, RELEASED],
-    )
-}
-
-/// Puts a part of a message, cut into fragments of one byte: eight to a PDU, and four to the last one. `control` is the
-/// message control header of each but the last, which is one of `last`.
-fn put_cut(bytes: &mut Vec<u8>, value: &[u8], control: u8, last: u8) -> Result<(), Fail> {
-    let count = value.len();
-    for (place, byte) in value.iter().enumerate() {
-        let left = count.saturating_sub(place);
-        if place % 8 == 0 {
-            let len = if left < 8 { 28 } else { 56 };
-            bytes.extend_from_slice([4, 0, 0, 0, 0, len].as_slice())?;
-        }
-        let header = if left == 1 { last } else { control };
-        bytes.extend_from_slice([0, 0, 0, 3, 1, header, *byte].as_slice())?;
-    }
-    Ok(())
-}
-
-/// An association that creates a step in fragments of one byte, and all but the last byte of its release.
-fn in_fragments(rt: &impl AllocGlobal) -> Result<Vec<u8>, Fail> {
-    let mut input = bytes_of(rt, SHORT_REQUEST)?;
-    let command = bytes_of(rt, CREATE)?;
-    put_cut(&mut input, command.get(12..).ok_or("a command")?, 1, 3)?;
-    let step = bytes_of(rt, STEP)?;
-    put_cut(&mut input, step.get(12..).ok_or("a data set")?, 0, 2)?;
-    input.extend_from_slice(&[5, 0, 0, 0, 0, 4, 0, 0, 0])?;
-    Ok(input)
-}
-
-/// Puts a part of a message in a PDU with this header.
-fn put_part(bytes: &mut Vec<u8>, header: &[u8], part: Option<&[u8]>) -> Result<(), Fail> {
-    bytes.extend_from_slice(header)?;
-    bytes.extend_from_slice(part.ok_or("a part")?)?;
-    Ok(())
-}
-
-/// What it is answered: the response to an N-CREATE in four PDUs of up to 32 bytes.
-fn answered_in_parts(rt: &impl AllocGlobal) -> Result<Vec<u8>, Fail> {
-    let mut bytes = bytes_of(rt, ACCEPTED)?;
-    let created = bytes_of(rt, CREATED)?;
-    for from in [12, 38, 64] {
-        let header = [4, 0, 0, 0, 0, 0x20, 0, 0, 0, 0x1c, 1, 1];
-        put_part(&mut bytes, &header, created.get(from..from + 26))?;
-    }
-    let header = [4, 0, 0, 0, 0, 0x1e, 0, 0, 0, 0x1a, 1, 3];
-    put_part(&mut bytes, &header, created.get(90..114))?;
-    Ok(bytes)
-}
-
-#[test]
-fn a_message_in_fragments_of_a_byte_is_answered_in_short_ones(rt: HostRuntime) -> Result<(), Fail> {
-    let found = session(&rt, &in_fragments(&rt)?, false, TURNS)?;
-    assert_eq!(rt; found.ended, Err(SessionFault::Read));
-    assert!(rt; found.output == answered_in_parts(&rt)?);
-    Ok(())
-}
-
-#[test]
-fn the_input_is_not_read_behind_the_release(rt: HostRuntime) -> Result<(), Fail> {
-    let input = bytes_of_all(&rt, &[REQUEST, RELEASE, "ff"])?;
-    let mut reader = input.as_slice();
-    let mut output = Vec::new(rt.alloc());
-    let ended = pipe_of(rt.alloc(), &mut reader, &mut output, false, TURNS)?;
-    assert_eq!(rt; ended, Ok(End::Released));
-    assert_eq!(rt; reader, [255].as_slice());
-    Ok(())
-}
-
-/// How many bytes are answered to the first bytes of the association.
-fn answered_to(len: usize) -> usize {
-    match len {
-        0..=178 => 0,
-        179..=378 => ACCEPTED_LENGTH,
-        379..=482 => CREATED_LENGTH,
-        _ => SHOWN_LENGTH,
-    }
-}
-
-/// How many bytes there are in what is answered, up to each response.
-const ACCEPTED_LENGTH: usize = 163;
-
-const CREATED_LENGTH: usize = 277;
-
-const SHOWN_LENGTH: usize = 537;
-
-/// How a session ends whose input ends after the first bytes of the association: between two PDUs or inside one.
-fn ended_after(len: usize) -> Result<End, SessionFault> {
-    match len {
-        0 | 179 | 283 | 379 | 483 => Ok(End::Closed),
-        _ => Err(SessionFault::Read),
-    }
-}
-
-#[test]
-fn an_input_that_ends_early_was_answered_as_far_as_it_went(rt: HostRuntime) -> Result<(), Fail> {
-    let input = bytes_of_all(&rt, &ASKED)?;
-    let answered = bytes_of_all(&rt, &ANSWERED)?;
-    assert_eq!(rt; input.len(), 493);
-    for len in 0..493 {
-        let found = session(&rt, input.get(..len).ok_or("a part")?, false, TURNS)?;
-        assert_eq!(rt; found.ended, ended_after(len));
-        assert_eq!(rt;
-            Some(found.output.as_slice()),
-            answered.get(..answered_to(len))
-        );
-    }
-    Ok(())
-}
-
-#[test]
-fn as_many_turns_as_are_allowed_are_taken(rt: HostRuntime) -> Result<(), Fail> {
-    let input = bytes_of_all(&rt, &ASKED)?;
-    let answered = bytes_of_all(&rt, &ANSWERED)?;
-    for (turns, len) in [
-        (0, 0),
-        (1, ACCEPTED_LENGTH),
-        (2, ACCEPTED_LENGTH),
-        (3, CREATED_LENGTH),
-        (4, SHOWN_LENGTH),
-    ] {
-        let found = session(&rt, &input, false, turns)?;
-        assert_eq!(rt; found.ended, Err(SessionFault::Turns));
-        assert_eq!(rt; Some(found.output.as_slice()), answered.get(..len));
-    }
-    assert_eq!(rt; session(&rt, &input, false, 5)?.ended, Ok(End::Released));
-    Ok(())
-}
-
-/// A writer that takes so many bytes, and then fails.
-#[derive(Drop)]
-struct Narrow {
-    output: Vec<u8>,
-    room: usize,
-}
-
-impl Write for Narrow {
-    fn write(&mut self, buf: &[u8]) -> io::Result<usize> {
-        if self.room == 0 {
-            return Err(Error::from(ErrorKind::BrokenPipe));
-        }
-        let taken = buf.get(..self.room).unwrap_or(buf);
-        self.output.extend_from_slice(taken)?;
-        self.room = self.room.saturating_sub(taken.len());
-        Ok(taken.len())
-    }
-
-    fn flush(&mut self) -> io::Result<()> {
-        Ok(())
-    }
-}
-
-/// How a session ends, and what it wrote, whose writer takes so many bytes.
-fn narrowed(rt: &impl AllocGlobal, input: &[u8], room: usize) -> Result<Told, Fail> {
-    let mut reader = input;
-    let mut writer = Narrow {
-        output: Vec::new(rt.alloc()),
-        room,
-    };
-    let ended = pipe_of(rt.alloc(), &mut reader, &mut writer, false, TURNS)?;
-    let Narrow { output, .. } = writer;
-    Ok(Told { ended, output })
-}
-
-#[test]
-fn a_writer_that_fails_has_the_first_bytes(rt: HostRuntime) -> Result<(), Fail> {
-    let input = bytes_of_all(&rt, &ASKED)?;
-    let answered = bytes_of_all(&rt, &ANSWERED)?;
-    assert_eq!(rt; answered.len(), 547);
-    for room in 0..547 {
-        let found = narrowed(&rt, &input, room)?;
-        assert_eq!(rt; found.ended, Err(SessionFault::Write));
-        assert_eq!(rt; Some(found.output.as_slice()), answered.get(..room));
-    }
-    Ok(())
-}
-
-/// A reader that gives the first bytes one by one, and then fails.
-#[derive(Drop)]
-struct Broken<'a> {
-    input: &'a [u8],
-}
-
-impl Read for Broken<'_> {
-    fn read(&mut self, buf: &mut [u8]) -> io::Result<usize> {
-        let Some((first, rest)) = self.input.split_first() else {
-            return Err(Error::from(ErrorKind::ConnectionReset));
-        };
-        let Some(place) = buf.first_mut() else {
-            return Ok(0);
-        };
-        *place = *first;
-        self.input = rest;
-        Ok(1)
-    }
-}
-
-/// How a session ends, and what it wrote, whose reader fails behind these bytes.
-fn broken_off(rt: &impl AllocGlobal, input: &[u8]) -> Result<Told, Fail> {
-    let mut reader = Broken { input };
-    let mut output = Vec::new(rt.alloc());
-    let ended = pipe_of(rt.alloc(), &mut reader, &mut output, false, TURNS)?;
-    Ok(Told { ended, output })
-}
-
-#[test]
-fn a_reader_that_fails_was_answered_as_far_as_it_went(rt: HostRuntime) -> Result<(), Fail> {
-    let input = bytes_of_all(&rt, &ASKED)?;
-    let answered = bytes_of_all(&rt, &ANSWERED)?;
-    for len in 0..493 {
-        let found = broken_off(&rt, input.get(..len).ok_or("a part")?)?;
-        assert_eq!(rt; found.ended, Err(SessionFault::Read));
-        assert_eq!(rt;
-            Some(found.output.as_slice()),
-            answered.get(..answered_to(len))
-        );
-    }
-    Ok(())
-}
-
-/// A session in which a growth is refused: what it came to, and whether the growth was still to come.
-#[derive(Drop)]
-struct Lacking {
-    told: Told,
+    left: usize,
     is_armed: bool,
 }
 
-/// A session that lacks the growth of this number.
-fn without_growth(rt: &impl AllocGlobal, input: &[u8], growth: u64) -> Result<Lacking, Fail> {
+/// What comes of a session.
+fn told_of(rt: &impl AllocGlobal, input: &[u8], form: Form<'_>) -> Result<Told, Fail> {
     let heap = Refusing::new(rt.alloc());
-    heap.refuse(growth);
-    let mut reader = input;
-    let mut output = Vec::new(rt.alloc());
-    let ended = pipe_of(&heap, &mut reader, &mut output, false, TURNS)?;
-    Ok(Lacking {
-        told: Told { ended, output },
+    heap.refuse(form.limit("growth", 0));
+    let mut reader = form.device(rt, input);
+    let mut writer = form.device(rt, &[]);
+    let ended = pipe_of(&heap, &mut reader, &mut writer, form)?;
+    let Device { output, .. } = writer;
+    Ok(Told {
+        ended,
+        output,
+        left: reader.input.len(),
         is_armed: heap.is_armed(),
     })
 }
 
-/// Whether the session with the growth refused is the last one: it ended for want of memory behind a beginning of what
-/// is `answered`; or could do without; or the peer was told one of `others`.
-fn is_last<R: Abort>(rt: &R, found: &Lacking, answered: &[u8], others: &[Vec<u8>]) -> bool {
-    match found.told.ended {
-        Err(fault) => {
-            assert_eq!(rt; fault, SessionFault::Memory);
-            assert!(rt; answered.starts_with(&found.told.output));
-            false
-        }
-        Ok(_) if found.is_armed => {
-            assert_eq!(rt; found.told.output.as_slice(), answered);
-            true
-        }
-        Ok(_) => {
-            assert!(rt; others.iter().any(|other| *other == found.told.output));
-            false
-        }
+/// What is said in a session.
+fn input_of(rt: &impl AllocGlobal, spelling: &str, asked: &str) -> Result<Vec<u8>, Fail> {
+    match spelling {
+        "bytes" | "text" => said(rt, asked),
+        "capitals" => Ok(digits(rt, asked, "")?.to_ascii_uppercase(rt.alloc())?),
+        _ => digits(rt, asked, ""),
     }
 }
 
-/// What the peer is told where a growth is refused: no step was created, or it can't be shown.
-fn told_to_the_peer(rt: &impl AllocGlobal) -> Result<Vec<Vec<u8>>, Fail> {
-    let mut others = Vec::new(rt.alloc());
-    others.push(bytes_of_all(rt, &[ACCEPTED, OUT_OF_RESOURCES, NOT_HELD, RELEASED])?)?;
-    others.push(bytes_of_all(rt, &[ACCEPTED, CREATED, NOT_SHOWN, RELEASED])?)?;
-    Ok(others)
+/// What is answered in a session.
+fn output_of(rt: &impl AllocGlobal, spelling: &str, answered: &str) -> Result<Vec<u8>, Fail> {
+    match spelling {
+        "bytes" | "text" => said(rt, answered),
+        _ => digits(rt, answered, "\n"),
+    }
+}
+
+/// Whether a session comes to this output, as far as there is room, and this end.
+fn comes_to(
+    rt: &impl AllocGlobal,
+    input: &[u8],
+    form: Form<'_>,
+    output: &[u8],
+    ended: &str,
+) -> Result<bool, Fail> {
+    let found = told_of(rt, input, form)?;
+    let end = format!(in rt.alloc(); "{:?}", found.ended)?;
+    let room = form.limit("room", u64::MAX) as usize;
+    let left = found.left as u64;
+    Ok(
+        end.as_str() == ended
+            && found.output.as_slice() == output.get(..room).unwrap_or(output)
+            && form.limit("left", left) == left,
+    )
+}
+
+/// Whether the sessions of a row come to what it says.
+fn is_so(rt: &impl AllocGlobal, row: &str) -> Result<bool, Fail> {
+    let [words, asked, answered, ended, _] = columns(row);
+    let form = form_of(words)?;
+    let input = input_of(rt, form.spelling, asked)?;
+    let output = output_of(rt, form.spelling, answered)?;
+    for number in form.number..=form.last {
+        let form = Form { number, ..form };
+        if !comes_to(rt, &input, form, &output, ended)? {
+            return Ok(false);
+        }
+    }
+    Ok(true)
+}
+
+#[test]
+fn each_session_comes_to_what_its_row_says(rt: HostRuntime) -> Result<(), Fail> {
+    for row in SESSIONS.lines() {
+        assert!(rt; row.starts_with("# ") || is_so(&rt, row)?, "{row}");
+    }
+    Ok(())
+}
+
+/// Whether an output is that of one of these lines.
+fn is_one_of(rt: &impl AllocGlobal, output: &[u8], lines: &str) -> Result<bool, Fail> {
+    for words in lines.lines() {
+        if said(rt, words)?.as_slice() == output {
+            return Ok(true);
+        }
+    }
+    Ok(false)
+}
+
+/// Whether a session with a growth that is refused, or was still to come, ends as it may: for lack of memory, behind a
+/// beginning of what is answered else; with what the peer may be told; or as any other where it has fewer growths.
+fn is_fair(rt: &impl AllocGlobal, found: &Told) -> Result<bool, Fail> {
+    match found.ended {
+        Ok(_) if found.is_armed => is_one_of(rt, &found.output, ANSWERED),
+        Ok(_) => is_one_of(rt, &found.output, LACKING),
+        Err(SessionFault::Memory) => Ok(said(rt, ANSWERED)?.starts_with(&found.output)),
+        Err(_) => Ok(false),
+    }
+}
+
+/// Tells how the association fares where the growth of this number is refused: `over` where it has fewer growths, or else
+/// `fair` or not.
+fn fares(rt: &impl AllocGlobal, input: &[u8], number: u64) -> Result<&'static str, Fail> {
+    let found = told_of(rt, input, short_of("growth", number))?;
+    if !is_fair(rt, &found)? {
+        return Ok("not fair");
+    }
+    Ok(if found.is_armed { "over" } else { "fair" })
 }
 
 #[test]
 fn each_refused_growth_is_memory_or_told_to_the_peer(rt: HostRuntime) -> Result<(), Fail> {
-    let input = bytes_of_all(&rt, &ASKED)?;
-    let answered = bytes_of_all(&rt, &ANSWERED)?;
-    let others = told_to_the_peer(&rt)?;
-    for growth in 1..2000 {
-        if is_last(
-            &rt,
-            &without_growth(&rt, &input, growth)?,
-            &answered,
-            &others,
-        ) {
+    let input = said(&rt, ASKED)?;
+    for number in 1..2000 {
+        let fares = fares(&rt, &input, number)?;
+        if fares == "over" {
             return Ok(());
         }
+        assert_eq!(rt; fares, "fair", "{number}");
     }
     Err("no end of growths".into())
-}
-
-/// Puts the digits of a PDU.
-fn put_digits(rt: &impl AllocGlobal, text: &mut String, pdu: &str) -> Result<(), Fail> {
-    text.push_str(hex::encode(rt.alloc(), bytes_of(rt, pdu)?)?.as_str())?;
-    Ok(())
-}
-
-#[test]
-fn digits_are_read_with_white_space_and_each_pdu_is_a_line(rt: HostRuntime) -> Result<(), Fail> {
-    let input = b" 05 00\t000000\r\n04 0000\n0000 ";
-    let found = session(&rt, input, true, TURNS)?;
-    assert_eq!(rt; found.ended, Ok(End::AbortSent));
-    assert_eq!(rt;
-        found.output.as_slice(),
-        b"07000000000400000000\n".as_slice()
-    );
-    Ok(())
-}
-
-#[test]
-fn an_association_in_digits_is_answered_in_digits(rt: HostRuntime) -> Result<(), Fail> {
-    let mut asked = String::new(rt.alloc());
-    put_digits(&rt, &mut asked, REQUEST)?;
-    put_digits(&rt, &mut asked, RELEASE)?;
-    let mut answered = String::new(rt.alloc());
-    put_digits(&rt, &mut answered, ACCEPTED)?;
-    answered.push('\n')?;
-    put_digits(&rt, &mut answered, RELEASED)?;
-    answered.push('\n')?;
-    let found = session(&rt, asked.as_bytes(), true, TURNS)?;
-    assert_eq!(rt; found.ended, Ok(End::Released));
-    assert_eq!(rt; found.output.as_slice(), answered.as_bytes());
-    Ok(())
-}
-
-#[test]
-fn what_is_no_digit_or_ends_within_a_byte_is_not_read(rt: HostRuntime) -> Result<(), Fail> {
-    for text in ["0", "0g", "050000000004000000 0", "-1"] {
-        let found = session(&rt, text.as_bytes(), true, TURNS)?;
-        assert_eq!(rt; found.ended, Err(SessionFault::Read));
-        assert!(rt; found.output.is_empty());
-    }
-    Ok(())
-}
-
-#[test]
-fn a_peer_is_a_title_with_an_address(rt: HostRuntime) -> Result<(), Fail> {
-    let peer = peer_of("WATCH1=host:104").ok_or("a peer")?;
-    assert!(rt; peer.ae == title("WATCH1")?);
-    assert!(rt; !peer.lock);
-    assert!(rt; peer_of("WATCH1=host:104,lock").ok_or("a peer")?.lock);
-    Ok(())
-}
-
-/// Words that name no peer; the first is empty.
-const NO_PEERS: &str = r"
-WATCH1
-WATCH1=
-WATCH1=host
-WATCH1=:104
-WATCH1=host:
-WATCH1=host:0
-WATCH1=host:65536
-WATCH1=host:+1
-=host:104
-WATCH1=host:104,keep
-A\B=host:104
-12345678901234567=host:104";
-
-#[test]
-fn other_words_name_no_peer(rt: HostRuntime) {
-    for word in NO_PEERS.lines() {
-        assert!(rt; peer_of(word).is_none(), "{word}");
-    }
-}
-
-#[test]
-fn peers_are_named_once_and_are_a_thousand_at_most(rt: HostRuntime) -> Result<(), Fail> {
-    let two = peers_of(rt.alloc(), &["A=h:1", "B=h:1,lock"])?;
-    assert_eq!(rt; two.len(), 2);
-    assert_eq!(rt;
-        fault_of(&rt, &["A=h:1", " A=i:2,lock"]),
-        Some(ArgumentFault::Doubled)
-    );
-    assert_eq!(rt; fault_of(&rt, &["A=h:1", "B"]), Some(ArgumentFault::Peer));
-    let many = ["A=h:1"; 1001];
-    assert_eq!(rt; fault_of(&rt, &many), Some(ArgumentFault::TooMany));
-    assert!(rt; ae_of("UPSD").is_ok());
-    assert_eq!(rt; ae_of("").err(), Some(ArgumentFault::Ae));
-    Ok(())
-}
-
-fn fault_of(rt: &impl AllocGlobal, words: &[&str]) -> Option<ArgumentFault> {
-    peers_of(rt.alloc(), words).err()
 }

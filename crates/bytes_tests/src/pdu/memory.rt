@@ -20,7 +20,7 @@ fn growths_of_reading(rt: &impl AllocGlobal, bytes: &[u8]) -> Result<u64, Fail> 
         match taken(&heap, bytes) {
             Err(PduFault::Memory) => {}
             Ok(len) if len == bytes.len() => return Ok(growth - 1),
-            _ => return Err("neither the PDU nor want of memory".into()),
+            _ => return Err("neither the PDU nor lack of memory".into()),
         }
     }
     Err("no end of growths".into())

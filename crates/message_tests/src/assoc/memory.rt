@@ -13,7 +13,7 @@ type Heap<'a> = &'a Refusing<Global>;
 /// The greatest number of growths that a test refuses in turn.
 const GROWTHS: u64 = 100;
 
-/// The growth at which a request is accepted; each before it is refused, which is want of memory.
+/// The growth at which a request is accepted; each before it is refused, which is lack of memory.
 fn growth_of_negotiating<'a>(
     heap: Heap<'a>,
     config: &Config,
@@ -77,7 +77,7 @@ fn is_whole<'a>(
 }
 
 /// Whether a fragment was not taken where the growth of this number is refused, and whether a message came: the first
-/// fault is want of memory, and after it there is no message and no other fault than that.
+/// fault is lack of memory, and after it there is no message and no other fault than that.
 fn course<'a>(
     heap: Heap<'a>,
     fragments: &[Pdv<Heap<'a>>],
@@ -112,7 +112,7 @@ fn each_refused_growth_of_feeding_is_memory_for_ever(rt: HostRuntime) -> Result<
     Err("no end of growths".into())
 }
 
-/// The growth at which a message is cut into four PDUs; each before it is refused, which is want of memory.
+/// The growth at which a message is cut into four PDUs; each before it is refused, which is lack of memory.
 fn growth_of_cutting(heap: Heap<'_>, command: &[u8]) -> Result<u64, Fail> {
     for growth in 1..GROWTHS {
         heap.refuse(growth);

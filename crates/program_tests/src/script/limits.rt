@@ -1,110 +1,90 @@
 //! How much a script may be, and what happens where its reader, its writer or its memory gives out.
 
 use super::*;
+use crate::devices::Interrupted;
 use fixtures::Refusing;
 use std::io::{self, BufReader, Error, ErrorKind, Read};
-use ups_manager::Manager;
-use ups_script::answer_lines;
 
-/// A line as often as is said.
-fn repeated<R: Abort + AllocGlobal>(rt: &R, line: &str, count: usize) -> Result<Vec<u8>, Fail> {
-    let mut script = Vec::new(rt.alloc());
-    for _ in 0..count {
-        script.extend_from_slice(line.as_bytes())?;
-    }
-    Ok(script)
-}
-
-#[test]
-fn a_hundred_thousand_lines_are_answered(rt: HostRuntime) -> Result<(), Fail> {
-    let mut create = String::new(rt.alloc());
-    put_line(&mut create, "0 P1 create U1 B")?;
-    let script = repeated(&rt, "0 P1 get 1.2.3.1 00741000\n", 99_999)?;
-    let mut reader = create.as_bytes().chain(script.as_slice());
-    let mut output = Vec::new(rt.alloc());
-    let ended = run_at(rt.alloc(), &mut reader, &mut output, 0)?;
-    assert_eq!(rt; ended, Ok(()));
-    assert!(rt; output.starts_with(b"0000\n0000 00741000=SCHEDULED\n0000 "));
-    assert_eq!(rt; output.len(), 5 + 99_999 * 24);
-    Ok(())
-}
-
-/// What comes of three lines, of which so many are allowed.
-fn limited(rt: &impl AllocGlobal, limit: u16) -> Result<Told, Fail> {
-    let mut manager = Manager::new(rt.alloc(), &[], 60, 0, 1000)?;
-    let mut reader = LINES.as_bytes();
-    let mut output = Vec::new(rt.alloc());
-    let ended = answer_lines(
-        rt.alloc(),
-        &mut manager,
-        &mut reader,
-        &mut output,
-        u64::from(limit),
-    );
-    Ok(Told { ended, output })
-}
-
-#[test]
-fn as_many_lines_as_are_allowed_are_answered(rt: HostRuntime) -> Result<(), Fail> {
-    for (limit, ended, answered) in [
-        (0, Err(ScriptFault::TooManyLines), 0),
-        (1, Err(ScriptFault::TooManyLines), 5),
-        (2, Err(ScriptFault::TooManyLines), 12),
-        (3, Ok(()), 17),
-    ] {
-        let found = limited(&rt, limit)?;
-        assert_eq!(rt; found.ended, ended);
-        assert_eq!(rt;
-            Some(found.output.as_slice()),
-            REPLIES.as_bytes().get(..answered)
-        );
-    }
-    Ok(())
-}
-
-/// A line of so many bytes: a request to cancel a step for a long reason.
-fn long_line(rt: &impl AllocGlobal, count: usize) -> Result<Vec<u8>, Fail> {
-    let head = b"0 P cancel 1.2 00741238=";
-    let mut line = Vec::new(rt.alloc());
-    line.extend_from_slice(head)?;
-    line.resize(count.max(24), b'x')?;
-    Ok(line)
-}
-
-/// What comes of such a line, with its line feed or without.
-fn tell_long(rt: &impl AllocGlobal, count: usize, is_ended: bool) -> Result<Told, Fail> {
-    let mut line = long_line(rt, count)?;
-    if is_ended {
-        line.push(b'\n')?;
-    }
-    tell_at(rt, 0, &line)
-}
+// A length of two bytes says 65,534 at most, and what is longer has a representation whose length has four. The front of
+// the long lines has 24 bytes.
+const LIMITS: &str = "\
+# A hundred thousand lines are answered
+0 P1 create U1 B -> 0000
+99999 times: 0 P1 get 1.2.3.1 00741000 -> 0000 00741000=SCHEDULED
+# As many lines as are allowed are answered: none (lines 0)
+0 P held
+0 P holder 1.2
+0 P cancel 1.2
+! a script has at most 1,000,000 lines
+# As many lines as are allowed are answered: one (lines 1)
+0 P held -> 0000
+0 P holder 1.2
+0 P cancel 1.2
+! a script has at most 1,000,000 lines
+# As many lines as are allowed are answered: two (lines 2)
+0 P held -> 0000
+0 P holder 1.2 -> 0000 -
+0 P cancel 1.2
+! a script has at most 1,000,000 lines
+# As many lines as are allowed are answered: all three (lines 3)
+0 P held -> 0000
+0 P holder 1.2 -> 0000 -
+0 P cancel 1.2 -> C307
+# A last line has sixteen mebibytes at most (without its line feed)
+0 P cancel 1.2 00741238=x*16777192 -> C307
+# A line has sixteen mebibytes before its line feed at most
+0 P cancel 1.2 00741238=x*16777192 -> C307
+# A line that is longer by a byte is none (without its line feed)
+0 P cancel 1.2 00741238=x*16777193 -> bad line 1
+! line 1 is none of a script: it has more than 16,777,216 bytes
+# A value of 65,533 bytes is kept whole
+0 P1 create U1 B 00741202=x*65533 -> 0000
+0 P1 get 1.2.3.1 00741202 -> 0000 00741202=x*65533
+# A value of 65,534 bytes is kept whole
+0 P1 create U1 B 00741202=x*65534 -> 0000
+0 P1 get 1.2.3.1 00741202 -> 0000 00741202=x*65534
+# A value of 65,535 bytes is kept whole
+0 P1 create U1 B 00741202=x*65535 -> 0000
+0 P1 get 1.2.3.1 00741202 -> 0000 00741202=x*65535
+# A value of 65,536 bytes is kept whole
+0 P1 create U1 B 00741202=x*65536 -> 0000
+0 P1 get 1.2.3.1 00741202 -> 0000 00741202=x*65536
+# A value of 131,072 bytes is kept whole
+0 P1 create U1 B 00741202=x*131072 -> 0000
+0 P1 get 1.2.3.1 00741202 -> 0000 00741202=x*131072
+# A full history enters no request and refuses what is wrong by its own status (entries 2)
+0 P1 create U1 B -> 0000
+0 P1 create U2 B -> 0000
+0 P1 create U3 B -> 0213
+0 P1 create U1 B -> 0111
+0 P1 held -> 0000 1.2.3.1 1.2.3.2
+# A history with room enters them (entries 3)
+0 P1 create U1 B -> 0000
+0 P1 create U2 B -> 0000
+0 P1 create U3 B -> 0000
+0 P1 create U1 B -> 0111
+0 P1 held -> 0000 1.2.3.1 1.2.3.2 1.2.3.3";
 
 #[test]
-fn a_line_has_sixteen_mebibytes_at_most(rt: HostRuntime) -> Result<(), Fail> {
-    let bad = Err(ScriptFault::BadLine(1));
-    for (count, is_ended, ended, output) in [
-        (16_777_216, false, Ok(()), "C307\n"),
-        (16_777_216, true, Ok(()), "C307\n"),
-        (16_777_217, false, bad, "bad line 1\n"),
-    ] {
-        let found = tell_long(&rt, count, is_ended)?;
-        assert_eq!(rt; found.ended, ended);
-        assert_eq!(rt; found.output.as_slice(), output.as_bytes());
-    }
-    Ok(())
+fn a_script_is_as_much_as_is_allowed(rt: HostRuntime) -> Result<(), Fail> {
+    are_answered(&rt, LIMITS)
 }
 
-/// A reader that gives its bytes one by one, and then fails.
+/// A reader that gives its bytes one by one, and then fails or ends.
 #[derive(Drop)]
-struct Broken<'a> {
+struct Slow<'a> {
     input: &'a [u8],
+    fails: bool,
 }
 
-impl Read for Broken<'_> {
+impl Read for Slow<'_> {
     fn read(&mut self, buf: &mut [u8]) -> io::Result<usize> {
         let Some((first, rest)) = self.input.split_first() else {
-            return Err(Error::from(ErrorKind::ConnectionReset));
+            return if self.fails {
+                Err(Error::from(ErrorKind::ConnectionReset))
+            } else {
+                Ok(0)
+            };
         };
         let Some(place) = buf.first_mut() else {
             return Ok(0);
@@ -113,39 +93,6 @@ impl Read for Broken<'_> {
         self.input = rest;
         Ok(1)
     }
-}
-
-/// Three lines, and their replies.
-const LINES: &str = "0 P held\n0 P holder 1.2\n0 P cancel 1.2\n";
-
-const REPLIES: &str = "0000\n0000 -\nC307\n";
-
-/// What comes of a script whose reader fails behind these bytes.
-fn broken_off(rt: &impl AllocGlobal, input: &[u8]) -> Result<Told, Fail> {
-    let mut reader = BufReader::new(rt.alloc(), Broken { input })?;
-    let mut output = Vec::new(rt.alloc());
-    let ended = run_at(rt.alloc(), &mut reader, &mut output, 0)?;
-    Ok(Told { ended, output })
-}
-
-#[test]
-fn a_reader_that_fails_was_answered_as_far_as_it_went(rt: HostRuntime) -> Result<(), Fail> {
-    let script = repeated(&rt, LINES, 1)?;
-    for len in 0..LINES.len() {
-        let input = script.get(..len).ok_or("a part")?;
-        let found = broken_off(&rt, input)?;
-        assert_eq!(rt; found.ended, Err(ScriptFault::Read));
-        let answered = match len {
-            0..=8 => 0,
-            9..=23 => 5,
-            _ => 12,
-        };
-        assert_eq!(rt;
-            Some(found.output.as_slice()),
-            REPLIES.as_bytes().get(..answered)
-        );
-    }
-    Ok(())
 }
 
 /// A writer that takes so many bytes and then fails, and counts how often it is flushed.
@@ -173,145 +120,192 @@ impl Write for Narrow {
     }
 }
 
-/// What comes of a script whose writer takes so many bytes.
-fn narrowed(
+/// What comes of a script that is given byte by byte and whose writer takes so many bytes: the replies, why it ended where
+/// it ended early, and how often the writer was flushed. What is told of the devices is that the reader `fails` at the
+/// end, or that `reads` or `writes` are interrupted.
+fn told_over(
     rt: &impl AllocGlobal,
-    script: &str,
+    devices: &str,
+    input: &str,
     room: usize,
-) -> Result<(Result<(), ScriptFault>, Narrow), Fail> {
-    let mut reader = script.as_bytes();
-    let mut writer = Narrow {
+) -> Result<String, Fail> {
+    let slow = Slow {
+        input: input.as_bytes(),
+        fails: devices == "fails",
+    };
+    let narrow = Narrow {
         output: Vec::new(rt.alloc()),
         room,
         flushes: 0,
     };
+    let mut reader = BufReader::new(rt.alloc(), Interrupted::new(slow, devices == "reads"))?;
+    let mut writer = Interrupted::new(narrow, devices == "writes");
     let ended = run_at(rt.alloc(), &mut reader, &mut writer, 0)?;
-    Ok((ended, writer))
+    let Narrow {
+        output,
+        flushes,
+        ..
+    } = writer.device;
+    let told = text_of(rt, &Told { ended, output })?;
+    Ok(format!(in rt.alloc(); "{told}{flushes} flushes")?)
+}
+
+/// Three lines, and their replies.
+const LINES: &str = "0 P held\n0 P holder 1.2\n0 P cancel 1.2\n";
+
+const REPLIES: &str = "0000\n0000 -\nC307\n";
+
+#[test]
+fn each_reply_is_flushed_and_what_is_interrupted_is_tried_again(
+    rt: HostRuntime,
+) -> Result<(), Fail> {
+    for devices in ["", "reads", "writes"] {
+        let told = told_over(&rt, devices, LINES, 1000)?;
+        assert_eq!(rt; told.as_str(), "0000\n0000 -\nC307\n3 flushes", "{devices}");
+    }
+    assert!(rt; told_over(&rt, "", "0 P none\n", 1000)?.ends_with("\n1 flushes"));
+    Ok(())
+}
+
+/// Whether a script that lacks what its devices do not give or take is answered so far, and ends for this reason.
+fn is_broken_off(
+    rt: &impl AllocGlobal,
+    input: &str,
+    room: usize,
+    answered: usize,
+    reason: &str,
+) -> Result<bool, Fail> {
+    let told = told_over(rt, "fails", input, room)?;
+    let replies = REPLIES.get(..answered).ok_or("a part")?;
+    let rest = told.strip_prefix(replies).ok_or("replies")?;
+    Ok(rest.starts_with(reason))
+}
+
+#[test]
+fn a_reader_that_fails_was_answered_as_far_as_it_went(rt: HostRuntime) -> Result<(), Fail> {
+    for len in 0..LINES.len() {
+        let input = LINES.get(..len).ok_or("a part")?;
+        let answered = match len {
+            0..=8 => 0,
+            9..=23 => 5,
+            _ => 12,
+        };
+        assert!(rt;
+            is_broken_off(&rt, input, 1000, answered, "! a read failed\n")?,
+            "{len}"
+        );
+    }
+    Ok(())
 }
 
 #[test]
 fn a_writer_that_fails_has_the_first_bytes(rt: HostRuntime) -> Result<(), Fail> {
     for room in 0..REPLIES.len() {
-        let (ended, writer) = narrowed(&rt, LINES, room)?;
-        assert_eq!(rt; ended, Err(ScriptFault::Write));
-        assert_eq!(rt;
-            Some(writer.output.as_slice()),
-            REPLIES.as_bytes().get(..room)
+        assert!(rt;
+            is_broken_off(&rt, LINES, room, room, "! a write failed\n")?,
+            "{room}"
         );
     }
     for room in 0..11 {
-        let (ended, _) = narrowed(&rt, "0 P none\n", room)?;
-        assert_eq!(rt; ended, Err(ScriptFault::Write));
+        let told = told_over(&rt, "", "0 P none\n", room)?;
+        assert!(rt; told.contains("! a write failed\n"), "{room}");
     }
     Ok(())
 }
 
-#[test]
-fn each_reply_is_flushed(rt: HostRuntime) -> Result<(), Fail> {
-    let (ended, writer) = narrowed(&rt, LINES, 1000)?;
-    assert_eq!(rt; ended, Ok(()));
-    assert_eq!(rt; writer.flushes, 3);
-    let (_, writer) = narrowed(&rt, "0 P none\n", 1000)?;
-    assert_eq!(rt; writer.flushes, 1);
-    Ok(())
-}
-
-/// A script in which a growth is refused: what it came to, and whether the growth was still to come.
-#[derive(Drop)]
-struct Lacking {
-    told: Told,
-    is_armed: bool,
-}
-
-/// Runs a script that lacks the growth of this number.
-fn without_growth(rt: &impl AllocGlobal, script: &[u8], growth: u64) -> Result<Lacking, Fail> {
+/// What comes of a script that lacks the growth of this number; `all: ` stands before it where there are not so many.
+fn without_growth(rt: &impl AllocGlobal, script: &str, growth: u64) -> Result<String, Fail> {
     let heap = Refusing::new(rt.alloc());
     heap.refuse(growth);
-    let mut reader = script;
+    let mut reader = script.as_bytes();
     let mut output = Vec::new(rt.alloc());
     let ended = run_at(&heap, &mut reader, &mut output, 0)?;
-    Ok(Lacking {
-        told: Told { ended, output },
-        is_armed: heap.is_armed(),
-    })
+    let told = text_of(rt, &Told { ended, output })?;
+    let front = if heap.is_armed() { "all: " } else { "" };
+    Ok(format!(in rt.alloc(); "{front}{told}")?)
 }
 
-/// Whether the script with the growth refused is the last one: it ended for want of memory behind a beginning of
-/// `replies`; or could do without; or the service told it, so that the replies are one of `others`.
+/// Whether a script with a growth refused may come to this: it ended for lack of memory behind a beginning of `replies`;
+/// or could do without; or the service told it, so that the replies are one of `others`.
+fn is_allowed(told: &str, replies: &str, others: &str) -> bool {
+    if let Some(front) = told.strip_suffix("! out of memory\n") {
+        return replies.starts_with(front);
+    }
+    for other in others.split("\nor\n") {
+        if told.strip_suffix('\n') == Some(other) {
+            return true;
+        }
+    }
+    told == replies
+}
+
+/// Whether a script has fewer growths than this number; else it may come to what it does without that growth.
 fn is_last<R: Abort + AllocGlobal>(
     rt: &R,
-    found: &Lacking,
+    script: &str,
+    growth: u64,
     replies: &str,
-    others: &[&str],
-) -> bool {
-    match found.told.ended {
-        Err(fault) => {
-            assert_eq!(rt; fault, ScriptFault::Memory);
-            assert!(rt; replies.as_bytes().starts_with(&found.told.output));
-            false
-        }
-        Ok(()) if found.is_armed => {
-            assert_eq!(rt; found.told.output.as_slice(), replies.as_bytes());
-            true
-        }
-        Ok(()) => {
-            let told = std::str::from_utf8(&found.told.output).ok();
-            let known = others.iter().any(|other| told == Some(*other));
-            assert!(rt; known || told == Some(replies), "{told:?}");
-            false
-        }
+    others: &str,
+) -> Result<bool, Fail> {
+    let told = without_growth(rt, script, growth)?;
+    if told.strip_prefix("all: ") == Some(replies) {
+        return Ok(true);
     }
+    assert!(rt; is_allowed(told.as_str(), replies, others), "{told}");
+    Ok(false)
 }
 
-/// Runs a script with each of its growths refused in turn.
-fn lacks<R: Abort + AllocGlobal>(
-    rt: &R,
-    lines: &[&str],
-    replies: &str,
-    others: &[&str],
-) -> Result<(), Fail> {
-    let mut script = String::new(rt.alloc());
-    for line in lines {
-        put_line(&mut script, line)?;
-    }
+/// Runs a script with each of its growths refused in turn: its rows, and, each behind a line `or`, other replies.
+fn lacks<R: Abort + AllocGlobal>(rt: &R, section: &str) -> Result<(), Fail> {
+    let (rows, others) = section.split_once("\nor\n").unwrap_or((section, ""));
+    let (script, replies) = split_rows(rt, rows)?;
     for growth in 1..2000 {
-        if is_last(
-            rt,
-            &without_growth(rt, script.as_bytes(), growth)?,
-            replies,
-            others,
-        ) {
+        if is_last(rt, script.as_str(), growth, replies.as_str(), others)? {
             return Ok(());
         }
     }
     Err("no end of growths".into())
 }
 
+/// Scripts, and what else is replied where memory lacks.
+const LACKING: &str = "\
+0 P1 create U1 B 00404025/00080100=A%20B -> 0000
+0 P1 get U1 00741000 00404025 -> 0000 00404025/00080100=A%20B 00741000=SCHEDULED
+or
+0213
+C307
+or
+0000
+0213
+
+0 P1 create U1 B 00404025/00080100=A%20B -> 0000
+0 P1 find 00080018=1.2%2e3.1 00741202= -> 0000 [00080018=1.2.3.1 00741202=]
+or
+0213
+0000
+or
+0000
+A700
+
+0 P%31 cancel 1%2e2 00741238=A 00741238=B -> C307
+0 P1 held -> 0000
+
+0 P1 create U1 B 00404025/00080100=A%20B -> 0000
+0 P1 set U1 - 00741202=X -> 0000
+0 P1 held -> 0000 1.2.3.1
+or
+0213
+C307
+0000
+or
+0000
+0213
+0000 1.2.3.1";
+
 #[test]
 fn each_refused_growth_ends_the_script_or_is_a_status(rt: HostRuntime) -> Result<(), Fail> {
-    let create = "0 P1 create U1 B 00404025/00080100=A%20B";
-    lacks(
-        &rt,
-        &[create, "0 P1 get U1 00741000 00404025"],
-        "0000\n0000 00404025/00080100=A%20B 00741000=SCHEDULED\n",
-        &["0213\nC307\n", "0000\n0213\n"],
-    )?;
-    lacks(
-        &rt,
-        &[create, "0 P1 find 00080018=1.2%2e3.1 00741202="],
-        "0000\n0000 [00080018=1.2.3.1 00741202=]\n",
-        &["0213\n0000\n", "0000\nA700\n"],
-    )?;
-    lacks(
-        &rt,
-        &["0 P%31 cancel 1%2e2 00741238=A 00741238=B", "0 P1 held"],
-        "C307\n0000\n",
-        &[],
-    )?;
-    lacks(
-        &rt,
-        &[create, "0 P1 set U1 - 00741202=X", "0 P1 held"],
-        "0000\n0000\n0000 1.2.3.1\n",
-        &["0213\nC307\n0000\n", "0000\n0213\n0000 1.2.3.1\n"],
-    )
+    for section in LACKING.split("\n\n") {
+        lacks(&rt, section)?;
+    }
+    Ok(())
 }

@@ -1,8 +1,13 @@
-use Rattle.std.proofs.Common.{◌∙◌}
+use Rattle.std.proofs.Common.{sym, subst, ◌∙◌}
 use Rattle.std.specs.Option.{unwrap_or}
+use Rattle.ups_life.specs.declared.entry.Entry.{Entry}
+use Rattle.ups_life.specs.Settings.{IsMoment}
 use Rattle.ups_life.specs.Steps.{nothing}
 use Rattle.ups_life.proofs.Rows.{row_step, row_found, row_empty}
 use Rattle.ups_life.proofs.plain.row.Goals as goal
+
+pub after_entry-requires-clause-moment : goal.after_entry-requires-clause-moment
+after_entry-requires-clause-moment g c = subst (λ (e : Entry g.row.A.Denot). IsMoment e.moment) (sym c.entry-item.is) (c.requires.moments c.loop-entry.entry-index c.entry-item.result c.loop-entry-test.true)
 
 pub loop-entry-preserved : goal.loop-entry-preserved
 loop-entry-preserved g c =

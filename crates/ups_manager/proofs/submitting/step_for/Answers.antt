@@ -9,7 +9,11 @@ use Rattle.ups_life.specs.History.{repeats}
 use Rattle.ups_manager.specs.declared.rows.HeldStep.{HeldStep}
 use Rattle.ups_manager.specs.Faults.{RowFails}
 use Rattle.ups_manager.specs.Held.{row_in, row_of_step}
+use Rattle.ups_manager.proofs.Entering.{no_step}
 use Rattle.ups_manager.proofs.submitting.step_for.Goals as goal
+
+pub returns-in_default-clause-fault : goal.returns-in_default-clause-fault
+returns-in_default-clause-fault g c = no_step c.args.offset c.args.call.now.moment c.args.steps.now (repeats (past c.args.history.now) c.args.call.now.request) c.args.call.now.request c.requires.kind (sym c.step.ensures ∙ c.in_default.is)
 
 pub returns-in_err-row-clause-fault : goal.returns-in_err-row-clause-fault
 returns-in_err-row-clause-fault g c =

@@ -9,7 +9,7 @@ use Rattle.ups_manager.proofs.manager.Manager.find.Goals as goal
 sets_are : (g : given.Over) (c : goal.In-Ok g) → c.in-Ok.sets ≡ found g.M.Matcher.says c.self.inside.configuration (past c.self.inside.history.items) c.args.keys.now
 sets_are g c =
     let m = c.self.inside in
-    c.in-Ok.ensures ∙ found_is g.M.Matcher.says m.configuration (past m.history.items) c.args.keys.now m.steps.items c.as_slice.result.now c.self.invariant.steps c.as_slice.ensures.value
+    c.in-Ok.ensures.found ∙ found_is g.M.Matcher.says m.configuration (past m.history.items) c.args.keys.now m.steps.items c.as_slice.result.now c.self.invariant.steps c.as_slice.ensures.value
 
 pub returns-in-Ok-clause-among : goal.returns-in-Ok-clause-among
 returns-in-Ok-clause-among g c =

@@ -1,70 +1,84 @@
-use Rattle.std.proofs.Common.{◌≡◌, ◌++◌, ◌∷◌, [], w16, to_z, of_z, List, inl, sym, ap, subst, ◌∙◌, rules}
+use Rattle.std.proofs.Common.{◌≡◌, ◌<◌, ◌++◌, ◌∷◌, [], List, length, inl, sym, ap, subst, ◌∙◌, rules}
 use Rattle.std.specs.List.{AllByRecursion}
-use Rattle.std.proofs.lemmas.Int.{to_z-of_z}
 use Rattle.ups_life.specs.declared.entry.Entry.{Entry}
 use Rattle.ups_life.specs.declared.request.Reply.TheVariants.{Status as Answered}
-use Rattle.ups_life.specs.Settings.{IsOffset}
+use Rattle.ups_life.specs.declared.status.Status.{Status}
 use Rattle.ups_life.specs.Steps.{past}
+use Rattle.ups_life.proofs.Past.{past-push}
 use Rattle.ups_manager.specs.declared.rows.HeldStep.{HeldStep}
+use Rattle.ups_manager.specs.Deciding.{entry_of, after_effect, IsDecided}
 use Rattle.ups_manager.specs.Faults.{status_of}
-use Rattle.ups_manager.specs.Held.{held_steps, put_step, IsSmallStep}
-use Rattle.ups_manager.specs.Law.{entry, is_legal}
-use Rattle.ups_manager.proofs.Entering.{Accepted, accepted, succeeds, legal_after, steps_after, small_kept, answers_fault, answers_full, none_entered, step_not_done, room_not_done, HaveDates, moments_after}
+use Rattle.ups_manager.specs.Held.{held_steps, IsSmallStep}
+use Rattle.ups_manager.specs.Kept.{Stands}
+use Rattle.ups_manager.specs.Law.{Answers, entry}
+use Rattle.ups_manager.specs.State.{State}
+use Rattle.ups_life.specs.declared.request.Ask.TheVariants.{Do}
+use Rattle.ups_manager.proofs.Entering.{of_slices, answers_full, none_entered, one_entered, room_not_done, small_done, succeeds, legal_after, HaveDates, moments_after}
 use Rattle.ups_manager.proofs.manager.Manager.submit.Given as given
 use Rattle.ups_manager.proofs.manager.Manager.submit.Goals as goal
 
-pub step_for-requires-clause-offset : goal.step_for-requires-clause-offset
-step_for-requires-clause-offset g c = subst IsOffset (sym (to_z-of_z w16 c.offset-offset.result (search rules) ∙ c.offset-offset.ensures)) c.self.invariant.offset
+pub decide-decided-requires-clause-stands : goal.decide-decided-requires-clause-stands
+decide-decided-requires-clause-stands g c =
+    let m = c.self.inside in
+    subst (λ (l : List (Entry g.row.A.Denot)). Stands m.configuration l c.as_slice-2.result.now) (sym c.as_slice.ensures.value)
+    (subst (λ (l : List (HeldStep g.row.A.Denot)). Stands m.configuration m.history.items l) (sym c.as_slice-2.ensures.value) c.self.invariant)
 
 pub returns-in-Err-clause-answer : goal.returns-in-Err-clause-answer
 returns-in-Err-clause-answer g c =
     let m = c.self.inside in
-    rw (← c.self.view_is, c.status.ensures) (answers_fault m.configuration m.history.items _ m.steps.items _ c.args.call _ c.in-Err.fault c.as_slice.ensures.value c.as_slice-2.ensures.value c.self.invariant.steps c.in-Err.ensures.fault)
+    let call = c.args.call in
+    subst (λ (st : State g.row.A.Denot). Answers st.settings st.history call.caller call.ae call.moment (Do call.request) c.in-Err.reply) c.self.view_is
+    (subst (λ (l : List (Entry g.row.A.Denot)). Answers m.configuration l call.caller call.ae call.moment (Do call.request) c.in-Err.reply) c.as_slice.ensures.value c.in-Err.ensures.answer)
 
 pub returns-in-Err-clause-history : goal.returns-in-Err-clause-history
-returns-in-Err-clause-history g c =
-    let m = c.self.inside in
-    rw (← c.self.view_is, c.status.ensures) (none_entered m.history.items c.args.call (status_of c.in-Err.fault) (step_not_done _ _ _ _ c.args.call.request c.in-Err.fault c.in-Err.ensures.fault))
+returns-in-Err-clause-history g c = rw (← c.self.view_is) (none_entered c.self.inside.history.items c.args.call c.in-Err.reply c.in-Err.ensures.nothing)
+
+pub returns-in-Err-clause-small : goal.returns-in-Err-clause-small
+returns-in-Err-clause-small g c = c.in-Err.ensures.small
 
 pub returns-in-Err-make_room-clause-history : goal.returns-in-Err-make_room-clause-history
 returns-in-Err-make_room-clause-history g c =
-    let m = c.self.inside in
-    rw (← c.self.view_is, c.status-in-Err-make_room.ensures) (c.make_room.ensures.history
-    ∙ none_entered m.history.items c.args.call (status_of c.in-Err-make_room.fault) (room_not_done _ _ c.in-Err-make_room.fault c.in-Err-make_room.ensures.fault))
+    rw (← c.self.view_is, c.status.ensures) (c.make_room.ensures.history
+    ∙ none_entered c.self.inside.history.items c.args.call (Answered (status_of c.in-Err-make_room.fault)) (room_not_done _ _ c.in-Err-make_room.fault c.in-Err-make_room.ensures.fault))
 
 pub returns-in-Err-make_room-clause-answer : goal.returns-in-Err-make_room-clause-answer
 returns-in-Err-make_room-clause-answer g c =
     let m = c.self.inside in
-    rw (← c.self.view_is, c.status-in-Err-make_room.ensures) (answers_full m.configuration m.history.items _ m.steps.items _ c.args.call c.in-Ok.held _ c.in-Err-make_room.fault c.as_slice.ensures.value c.as_slice-2.ensures.value c.self.invariant.steps
-    c.in-Ok.ensures.step c.in-Ok.ensures.allowed c.in-Err-make_room.ensures.fault)
+    let d = of_slices m.configuration c.as_slice.result.now m.history.items c.as_slice-2.result.now m.steps.items c.args.call c.in-Ok.decision c.as_slice.ensures.value c.as_slice-2.ensures.value c.in-Ok.ensures in
+    let call = c.args.call in
+    subst (λ (st : State g.row.A.Denot). Answers st.settings st.history call.caller call.ae call.moment (Do call.request) (Answered c.status.result)) c.self.view_is
+    (subst (λ (x : Status). Answers m.configuration m.history.items call.caller call.ae call.moment (Do call.request) (Answered x)) (sym c.status.ensures)
+    (answers_full m.configuration m.history.items call c.in-Ok.decision.reply _ c.in-Err-make_room.fault d.reply d.accepted c.in-Err-make_room.ensures.fault))
 
 pub invariant_of-self-in-Err-make_room : goal.invariant_of-self-in-Err-make_room
 invariant_of-self-in-Err-make_room g c =
     let m = c.self.inside in
-    record {
-      offset = c.self.invariant.offset;
-      legal = subst (is_legal m.configuration) (sym c.make_room.ensures.history) c.self.invariant.legal;
-      moments = subst HaveDates (sym c.make_room.ensures.history) c.self.invariant.moments;
-      steps = c.make_room.ensures.steps ∙ c.self.invariant.steps ∙ ap (λ l. held_steps m.configuration (past l)) (sym c.make_room.ensures.history);
-      small = subst (λ (l : List (HeldStep g.row.A.Denot)). AllByRecursion IsSmallStep l) (sym c.make_room.ensures.steps) c.self.invariant.small;
-    }
+    subst (λ (l : List (Entry g.row.A.Denot)). Stands m.configuration l c.make_room.new.steps.items) (sym c.make_room.ensures.history)
+    (subst (λ (l : List (HeldStep g.row.A.Denot)). Stands m.configuration m.history.items l) (sym c.make_room.ensures.steps) c.self.invariant)
 
-entered : (g : given.Over) (c : goal.After-put g) → Accepted c.self.inside.configuration c.self.inside.history.items c.self.inside.steps.items c.args.call c.in-Ok.held
-entered g c =
+pub apply-requires : goal.apply-requires
+apply-requires g c = c.in_default.ensures.room.1
+
+decided : (g : given.Over) (c : goal.After-apply g) → IsDecided c.self.inside.configuration c.self.inside.history.items c.self.inside.steps.items c.args.call c.in-Ok.decision
+decided g c =
     let m = c.self.inside in
-    accepted m.configuration m.history.items c.as_slice.result.now m.steps.items c.as_slice-2.result.now c.args.call c.in-Ok.held (to_z w16 (of_z w16 c.offset-offset.result)) c.as_slice.ensures.value c.as_slice-2.ensures.value
-    (to_z-of_z w16 c.offset-offset.result (search rules) ∙ c.offset-offset.ensures)
-    c.in-Ok.ensures.step c.in-Ok.ensures.allowed c.in-Ok.ensures.row c.in-Ok.ensures.holder c.in-Ok.ensures.fits (search rules)
+    of_slices m.configuration c.as_slice.result.now m.history.items c.as_slice-2.result.now m.steps.items c.args.call c.in-Ok.decision c.as_slice.ensures.value c.as_slice-2.ensures.value c.in-Ok.ensures
 
-history_is : (g : given.Over) (c : goal.After-put g) → c.push_reserved.new.self.items ≡ c.self.inside.history.items ++ entry c.args.call.caller c.args.call.ae c.args.call.moment c.args.call.request ∷ []
+room : (g : given.Over) (c : goal.After-apply g) → length c.self.inside.history.items < c.self.inside.configuration.limit
+room g c = search rules
+
+history_is : (g : given.Over) (c : goal.After-apply g) → c.push_reserved.new.self.items ≡ c.self.inside.history.items ++ entry c.args.call.caller c.args.call.ae c.args.call.moment c.args.call.request ∷ []
 history_is g c =
     c.push_reserved.ensures.items ∙ ap (λ (l : List (Entry g.row.A.Denot)). l ++ c.into_entry.result ∷ []) c.make_room.ensures.history
     ∙ ap (λ (e : Entry g.row.A.Denot). c.self.inside.history.items ++ e ∷ []) c.into_entry.ensures
 
+steps_are : (g : given.Over) (c : goal.After-apply g) → c.apply.new.steps.items ≡ after_effect c.in-Ok.decision.effect c.self.inside.steps.items
+steps_are g c = c.apply.ensures ∙ ap (after_effect c.in-Ok.decision.effect) c.make_room.ensures.steps
+
 pub returns-clause-legal_after : goal.returns-clause-legal_after
 returns-clause-legal_after g c =
     let m = c.self.inside in
-    legal_after m.configuration m.history.items c.push_reserved.new.self.items m.steps.items c.args.call c.in-Ok.held c.self.invariant.legal c.self.invariant.steps (history_is g c) (entered g c)
+    legal_after m.configuration m.history.items c.push_reserved.new.self.items c.args.call c.in-Ok.decision.reply c.self.invariant.legal (history_is g c) (decided g c).reply (decided g c).accepted (room g c)
 
 pub invariant_of-self-2 : goal.invariant_of-self-2
 invariant_of-self-2 g c =
@@ -73,12 +87,21 @@ invariant_of-self-2 g c =
       offset = c.self.invariant.offset;
       legal = returns-clause-legal_after g c;
       moments = moments_after m.history.items c.push_reserved.new.self.items c.args.call c.self.invariant.moments c.requires.moment (history_is g c);
-      steps = steps_after m.configuration m.history.items c.push_reserved.new.self.items m.steps.items c.put.new.steps.items c.args.call c.in-Ok.held c.self.invariant.legal c.self.invariant.steps (history_is g c)
-          (c.put.ensures ∙ ap (put_step c.in-Ok.held) c.make_room.ensures.steps) (entered g c);
-      small = small_kept m.configuration m.history.items m.steps.items c.make_room.new.steps.items c.put.new.steps.items c.args.call c.in-Ok.held c.self.invariant.small c.make_room.ensures.steps c.put.ensures (entered g c);
+      steps = steps_are g c ∙ (decided g c).steps
+          ∙ ap (λ (l : List (Entry g.row.A.Denot)). held_steps m.configuration l) (sym (ap past (history_is g c) ∙ past-push m.history.items (entry_of c.args.call)));
+      small = subst (λ (l : List (HeldStep g.row.A.Denot)). AllByRecursion IsSmallStep l) (sym (steps_are g c)) (decided g c).small;
     }
 
 pub returns-clause-answer : goal.returns-clause-answer
 returns-clause-answer g c =
     let m = c.self.inside in
-    rw (← c.self.view_is) (inl (sym (succeeds m.configuration m.history.items m.steps.items c.args.call c.in-Ok.held c.self.invariant.steps (entered g c))))
+    let call = c.args.call in
+    subst (λ (st : State g.row.A.Denot). Answers st.settings st.history call.caller call.ae call.moment (Do call.request) c.in-Ok.decision.reply) c.self.view_is
+    (inl (sym (succeeds m.configuration m.history.items call c.in-Ok.decision.reply (decided g c).reply (room g c))))
+
+pub returns-clause-history : goal.returns-clause-history
+returns-clause-history g c =
+    rw (← c.self.view_is) (history_is g c ∙ one_entered c.self.inside.history.items c.args.call c.in-Ok.decision.reply (decided g c).accepted)
+
+pub returns-clause-small : goal.returns-clause-small
+returns-clause-small g c = small_done g.row.A.Denot c.in-Ok.decision.reply (decided g c).accepted

@@ -1,0 +1,11 @@
+//! Tests of desks: threads whose passes share a manager.
+#![tactic(auto)]
+
+#[cfg(test)]
+mod calls;
+#[cfg(test)]
+mod claims;
+#[cfg(test)]
+mod crowd;
+#[cfg(test)]
+mod seats;

@@ -1,0 +1,203 @@
+//! What event reports say, as bytes in Explicit VR Little Endian.
+
+use crate::steps::step_uid;
+use fixtures::{Refusing, bytes_of, title};
+use std::alloc::{Allocator, Global};
+use std::test::Fail;
+use ups_dataset::{DataSet, TransferSyntax, read_set, write_set};
+use ups_events::{payload, type_id};
+use ups_life::{Entry, Event, EventKind, InputReadiness, Request, StepState, Transaction};
+
+/// The greatest number of growths that a test refuses in turn.
+const GROWTHS: u64 = 100;
+
+/// Words, and the bytes that each stands for.
+const WORDS: &str = r#"READY: 40004140 "CS" 0600 "READY "
+INCOMPLETE: 40004140 "CS" 0a00 "INCOMPLETE"
+UNAVAILABLE: 40004140 "CS" 0c00 "UNAVAILABLE "
+NO_READINESS: 40004140 "CS" 0000
+SCHEDULED: 74000010 "CS" 0a00 "SCHEDULED "
+IN_PROGRESS: 74000010 "CS" 0c00 "IN PROGRESS "
+COMPLETED: 74000010 "CS" 0a00 "COMPLETED "
+CANCELED: 74000010 "CS" 0800 "CANCELED"
+CONTACT: 74000a10 "UR" 0000 08000000 "urn:x:1 " 74000c10 "LO" 0400 "Duty"
+CODE: 74000e10 "SQ" 0000 16000000 feff00e0 0e000000 08000001 "SH" 0600 "110513"
+LABEL: 74000412 "LO" 0800 "CT READ "
+REQUESTER: 74003612 "AE" 0400 "DOC "
+REASON: 74003812 "LT" 0400 "stop"
+STATION: 40002540 "SQ" 0000 14000000 feff00e0 0c000000 08000001 "SH" 0400 "CT1 "
+PROGRESS: 74000210 "SQ" 0000 12000000 feff00e0 0a000000 74000410 "DS" 0200 "50"
+PERFORMERS: 40003440 "SQ" 0000 ffffffff
+ITEM: feff00e0 ffffffff
+ITEM_END: feff0de0 00000000
+SEQUENCE_END: feffdde0 00000000
+NAME: 40003740 "PN" 0400 "A^B "
+DR1: 40000940 "SQ" 0000 14000000 feff00e0 0c000000 08000001 "SH" 0400 "DR1 "
+DR2: 40000940 "SQ" 0000 14000000 feff00e0 0c000000 08000001 "SH" 0400 "DR2 "
+NO_PERFORMER: 40000940 "SQ" 0000 00000000
+HOSP: 40003640 "LO" 0400 "HOSP"
+HOME: 40003640 "LO" 0400 "HOME"
+NO_ORGANIZATION: 40003640 "LO" 0000"#;
+
+/// How many growths there are at least; the type of an event, the state of the step after it, and its readiness; the
+/// request of DOC that made the event; and what it says.
+const ROWS: &str = "\
+# The state of a step is reported, and nothing that its creation sent beside
+1: 1|SCHEDULED|READY; create CONTACT CODE LABEL REASON -> READY SCHEDULED
+1: 1|IN PROGRESS|READY; create CONTACT CODE LABEL REASON -> READY IN_PROGRESS
+1: 1|COMPLETED|READY; create CONTACT CODE LABEL REASON -> READY COMPLETED
+1: 1|CANCELED|READY; create CONTACT CODE LABEL REASON -> READY CANCELED
+# The readiness of a step is reported
+1: 1|SCHEDULED|READY; create CONTACT CODE LABEL REASON -> READY SCHEDULED
+1: 1|SCHEDULED|INCOMPLETE; create CONTACT CODE LABEL REASON -> INCOMPLETE SCHEDULED
+1: 1|SCHEDULED|UNAVAILABLE; create CONTACT CODE LABEL REASON -> UNAVAILABLE SCHEDULED
+1: 1|SCHEDULED|; create CONTACT CODE LABEL REASON -> NO_READINESS SCHEDULED
+# A cancellation is reported with its reason
+1: 1|IN PROGRESS|READY; cancel CONTACT CODE LABEL REASON -> READY IN_PROGRESS
+8: 1|CANCELED|READY; cancel CONTACT CODE LABEL REASON -> READY CANCELED CODE REASON
+1: 1|CANCELED|READY; cancel -> READY CANCELED
+# A performer is told who asks to cancel
+8: 2|IN PROGRESS|READY; cancel CONTACT CODE LABEL REASON -> CONTACT CODE REQUESTER REASON
+8: 2|CANCELED|READY; cancel CONTACT CODE LABEL REASON -> CONTACT CODE REQUESTER REASON
+1: 2|IN PROGRESS|READY; cancel -> REQUESTER
+# Progress is reported as it is set
+1: 3|IN PROGRESS|READY; set STATION PROGRESS -> PROGRESS
+0: 3|IN PROGRESS|READY; set CONTACT CODE LABEL REASON ->
+4: 3|CANCELED|READY; set STATION PERFORMERS ITEM DR1 NAME ITEM_END SEQUENCE_END PROGRESS -> PROGRESS
+# An assignment names the first performer
+1: 5|SCHEDULED|READY; set STATION PROGRESS -> STATION
+1: 5|SCHEDULED|READY; set STATION PERFORMERS SEQUENCE_END PROGRESS -> NO_PERFORMER STATION NO_ORGANIZATION
+1: 5|SCHEDULED|READY; set STATION PERFORMERS ITEM NAME ITEM_END SEQUENCE_END PROGRESS -> NO_PERFORMER STATION NO_ORGANIZATION
+1: 5|SCHEDULED|READY; set STATION PERFORMERS ITEM DR1 HOSP NAME ITEM_END ITEM DR2 HOME NAME ITEM_END SEQUENCE_END PROGRESS -> DR1 STATION HOSP
+12: 5|CANCELED|READY; set STATION PERFORMERS ITEM DR1 NAME ITEM_END SEQUENCE_END PROGRESS -> DR1 STATION NO_ORGANIZATION";
+
+/// Returns the text of the bytes that a word stands for.
+fn meaning(word: &str) -> Result<&'static str, Fail> {
+    for line in WORDS.lines() {
+        if let Some((name, bytes)) = line.split_once(": ") {
+            if name == word {
+                return Ok(bytes);
+            }
+        }
+    }
+    Err("a word".into())
+}
+
+/// Returns the bytes that words stand for.
+fn bytes_by(rt: &impl AllocGlobal, words: &str) -> Result<Vec<u8>, Fail> {
+    let mut bytes = Vec::new(rt.alloc());
+    for word in words.split_ascii_whitespace() {
+        let part = bytes_of(rt, meaning(word)?)?;
+        bytes.extend_from_slice(&part)?;
+    }
+    Ok(bytes)
+}
+
+/// Returns an event of the step 1.2.3.4: the number of its type, the state and the readiness.
+fn event_of(text: &str) -> Result<Event, Fail> {
+    let (number, rest) = text.split_once('|').ok_or("a state")?;
+    let (state, readiness) = rest.split_once('|').ok_or("a readiness")?;
+    let kind = match number {
+        "1" => EventKind::StateReport,
+        "2" => EventKind::CancelRequested,
+        "3" => EventKind::ProgressReport,
+        _ => EventKind::Assigned,
+    };
+    if type_id(kind) != number.parse::<u16>()? {
+        return Err("a kind has another type".into());
+    }
+    Ok(Event {
+        number: 1,
+        entry: 0,
+        kind,
+        step: step_uid("1.2.3.4")?,
+        state: StepState::of(state.as_bytes()).ok_or("a state")?,
+        readiness: InputReadiness::of(readiness.as_bytes()),
+    })
+}
+
+/// Returns a request on the step with a set.
+fn request_of<A: Allocator + Copy>(verb: &str, set: DataSet<A>) -> Result<Request<A>, Fail> {
+    let step = step_uid("1.2.3.4")?;
+    Ok(match verb {
+        "create" => Request::Create {
+            step,
+            attributes: set,
+        },
+        "cancel" => Request::AskCancel {
+            step: Some(step),
+            reasons: set,
+        },
+        _ => Request::Set {
+            step: Some(step),
+            transaction: Transaction::Absent,
+            attributes: set,
+        },
+    })
+}
+
+/// Returns the entry of a request: a verb, and the words of a set.
+fn entry_of<'a>(
+    rt: &impl AllocGlobal,
+    heap: &'a Refusing<Global>,
+    text: &str,
+) -> Result<Entry<&'a Refusing<Global>>, Fail> {
+    heap.refuse(0);
+    let (verb, words) = text.split_once(' ').unwrap_or((text, ""));
+    let bytes = bytes_by(rt, words)?;
+    let set = read_set(heap, TransferSyntax::Explicit, &bytes)?;
+    Ok(Entry {
+        caller: 0,
+        ae: title("DOC")?,
+        moment: 0,
+        request: request_of(verb, set)?,
+    })
+}
+
+/// Returns what an event says, each growth refused in turn, and how many growths that takes.
+fn told_in_turn<'a>(
+    heap: &'a Refusing<Global>,
+    event: &Event,
+    entry: &Entry<&'a Refusing<Global>>,
+) -> Result<(u64, DataSet<&'a Refusing<Global>>), Fail> {
+    for growths in 0..GROWTHS {
+        heap.refuse(growths + 1);
+        let set = payload(heap, event, entry);
+        let is_refused = !heap.is_armed();
+        match set {
+            Ok(set) if !is_refused => return Ok((growths, set)),
+            Err(_) if is_refused => (),
+            _ => return Err("no lack of memory where a growth is refused".into()),
+        }
+    }
+    Err("there are more growths".into())
+}
+
+/// Whether a set is written as these bytes.
+fn is_written<A: Allocator + Copy>(set: &DataSet<A>, bytes: &[u8]) -> Result<bool, Fail> {
+    if set.size() >= 0x1_0000_0000 {
+        return Err("a set of 4 GB or more".into());
+    }
+    Ok(write_set(set.allocator(), TransferSyntax::Explicit, set)?.as_slice() == bytes)
+}
+
+/// Whether an event says what its row says.
+fn is_so(rt: &impl AllocGlobal, heap: &Refusing<Global>, row: &str) -> Result<bool, Fail> {
+    let (rest, said) = row.split_once(" ->").ok_or("words")?;
+    let (least, rest) = rest.split_once(": ").ok_or("an event")?;
+    let (event, request) = rest.split_once("; ").ok_or("a request")?;
+    let entry = entry_of(rt, heap, request)?;
+    let (growths, set) = told_in_turn(heap, &event_of(event)?, &entry)?;
+    heap.refuse(0);
+    let bytes = bytes_by(rt, said)?;
+    Ok(growths >= least.parse::<u64>()? && is_written(&set, &bytes)?)
+}
+
+#[test]
+fn events_say_what_their_rows_say(rt: HostRuntime) -> Result<(), Fail> {
+    let heap = Refusing::new(rt.alloc());
+    for row in ROWS.lines() {
+        assert!(rt; row.starts_with("# ") || is_so(&rt, &heap, row)?, "{row}");
+    }
+    Ok(())
+}

@@ -1,0 +1,165 @@
+//! What requests make of steps, and what is shown of them, with each growth refused in turn.
+//!
+//! A row begins with the number of growths that there are at least. A growth that is refused fails the call, and leaves
+//! what it was given as it was: the last call, of which no growth is refused, does what its row says.
+
+use super::words::{request_of, row_of, set_of, tags_of};
+use super::*;
+use fixtures::described;
+use ups_dataset::Tag;
+
+/// What is held of a step, or `none`; a request at the second minute of 1970; and what is held after it: the state, the
+/// Transaction UID of the claim, when the state became final, and the attributes. With `show` and tags what is held are
+/// attributes, and a status and those of them that are listed are shown.
+const CHANGED: &str = "\
+# A step is created with its UIDs, and without a Transaction UID
+1: none | create 1.2.3.1 B -> SCHEDULED none never 00080016=1.2.840.10008.5.1.4.34.6.1 00080018=1.2.3.1_ 00404005=20240229120000 00404041=READY_ 00741000=SCHEDULED_ 00741200=MEDIUM 00741204=CT_READ_
+1: none | create 1.2.3.1 B 00080016=2.99 00080018=2.98 -> SCHEDULED none never 00080016=1.2.840.10008.5.1.4.34.6.1 00080018=1.2.3.1_ 00404005=20240229120000 00404041=READY_ 00741000=SCHEDULED_ 00741200=MEDIUM 00741204=CT_READ_
+1: none | create 1.2.3.44 -> SCHEDULED none never 00080016=1.2.840.10008.5.1.4.34.6.1 00080018=1.2.3.44
+6: none | create 1.2.3.1 B 00081195= -> SCHEDULED none never 00080016=1.2.840.10008.5.1.4.34.6.1 00080018=1.2.3.1_ 00404005=20240229120000 00404041=READY_ 00741000=SCHEDULED_ 00741200=MEDIUM 00741204=CT_READ_
+1: none | create 1.2.3.1 B 00081195=~~ -> SCHEDULED none never 00080016=1.2.840.10008.5.1.4.34.6.1 00080018=1.2.3.1_ 00404005=20240229120000 00404041=READY_ 00741000=SCHEDULED_ 00741200=MEDIUM 00741204=CT_READ_
+1: none | create 1.2.3.1 B 00081195=2.1234 -> SCHEDULED none never 00080016=1.2.840.10008.5.1.4.34.6.1 00080018=1.2.3.1_ 00404005=20240229120000 00404041=READY_ 00741000=SCHEDULED_ 00741200=MEDIUM 00741204=CT_READ_
+# A step is claimed
+4: SCHEDULED - 00741000=SCHEDULED 00741204=CT_READ | 1 1.2.3.1 00741000=IN_PROGRESS 00081195=2.1 -> IN_PROGRESS 2.1 never 00741000=IN_PROGRESS_ 00741204=CT_READ_
+# A step is set
+3: SCHEDULED - 00741000=SCHEDULED 00741204=CT_READ | set 1.2.3.1 00081195=2.1 00741204=MR_READ -> SCHEDULED none never 00741000=SCHEDULED_ 00741204=MR_READ_
+# A step that nobody has claimed is canceled by request
+9: SCHEDULED - B | 2 1.2.3.1 00081195=2.1 00741204=MR_READ 00741238=stop 0074100e=[00080100=110513] -> CANCELED none 120 00404005=20240229120000 00404041=READY_ 00741000=CANCELED 00741002=[00404052=19700101000200+0000_ 0074100e=* 00741238=stop ] 00741200=MEDIUM 00741204=CT_READ_
+9: SCHEDULED - 00741000=SCHEDULED 00741204=CT_READ | 2 1.2.3.1 00741238=stop 0074100e=[00080100=110513] -> CANCELED none 120 00741000=CANCELED 00741002=[00404052=19700101000200+0000_ 0074100e=* 00741238=stop ] 00741204=CT_READ_
+# A claimed step is left as it is
+2: IN_PROGRESS 2.1 00741000=SCHEDULED 00741204=CT_READ | 2 1.2.3.1 00741238=stop 0074100e=[00080100=110513] -> IN_PROGRESS 2.1 never 00741000=SCHEDULED_ 00741204=CT_READ_
+# The ninth level of items is not held, which is told without memory
+1: SCHEDULED - | 2 1.2.3.1 deep 7 -> CANCELED none 120 00741000=CANCELED 00741002=[00404052=19700101000200+0000_ 0074100e=* ]
+0: SCHEDULED - | 2 1.2.3.1 deep 8 -> the items of the step would nest more than 8 deep, after 0 growths
+0: IN_PROGRESS - | 2 1.2.3.1 deep 8 -> IN_PROGRESS none never
+# All attributes
+7: B 00080016=1.2.840.10008.5.1.4.34.6.1 00080018=1.2.3.1 | show -> 0000 00080016=1.2.840.10008.5.1.4.34.6.1 00080018=1.2.3.1_ 00404005=20240229120000 00404041=READY_ 00741000=SCHEDULED_ 00741200=MEDIUM 00741204=CT_READ_
+# Those that are listed, of which each is there
+1: B 00080016=1.2.840.10008.5.1.4.34.6.1 00080018=1.2.3.1 | show 00741204 00741000 -> 0000 00741000=SCHEDULED_ 00741204=CT_READ_
+# Those that are listed, of which one is absent
+1: B 00080016=1.2.840.10008.5.1.4.34.6.1 00080018=1.2.3.1 | show 00100010 00741204 -> 0001 00741204=CT_READ_
+# The Transaction UID is never shown
+2: B 00080016=1.2.840.10008.5.1.4.34.6.1 00080018=1.2.3.1 | show 00081195 00741000 -> 0001 00741000=SCHEDULED_
+2: B 00080016=1.2.840.10008.5.1.4.34.6.1 00080018=1.2.3.1 | show 00741000 00081195 -> 0001 00741000=SCHEDULED_
+0: B 00080016=1.2.840.10008.5.1.4.34.6.1 00080018=1.2.3.1 | show 00081195 -> 0001";
+
+/// Returns what is made of a step, and how many growths that takes.
+fn change_in_turn<'a>(
+    heap: &'a Refusing<Global>,
+    before: Option<&Row<&'a Refusing<Global>>>,
+    request: &Request<&'a Refusing<Global>>,
+) -> Result<(u64, Result<Row<&'a Refusing<Global>>, ChangeFault>), Fail> {
+    for growths in 0..GROWTHS {
+        heap.refuse(growths + 1);
+        let found = change(heap, before, request, 120, 0);
+        if heap.is_armed() {
+            return Ok((growths, found));
+        }
+        if found.err() != Some(ChangeFault::Memory) {
+            return Err("a growth was refused, and the change is made".into());
+        }
+    }
+    Err("there are more growths".into())
+}
+
+/// Returns what is held of a step as text.
+fn held_text<A: Allocator + Copy>(rt: &impl AllocGlobal, row: &Row<A>) -> Result<String, Fail> {
+    let mut text = String::new(rt.alloc());
+    add_bytes(&mut text, row.state.text())?;
+    text.push(' ')?;
+    match row.transaction {
+        Some(uid) => add_bytes(&mut text, uid.as_bytes())?,
+        None => text.push_str("none")?,
+    }
+    let moment = match row.final_at {
+        Some(moment) => format!(in rt.alloc(); " {moment} ")?,
+        None => format!(in rt.alloc(); " never ")?,
+    };
+    text.push_str(moment.as_str())?;
+    text.push_str(described(&row.attributes, rt)?.as_str())?;
+    Ok(text)
+}
+
+/// Returns what is made of a step, with how many growths that takes, as text.
+fn changed(
+    rt: &impl AllocGlobal,
+    heap: &Refusing<Global>,
+    held: &str,
+    message: &str,
+) -> Result<(u64, String), Fail> {
+    heap.refuse(0);
+    let before = row_of(heap, held)?;
+    let request = request_of(heap, message)?;
+    let (growths, found) = change_in_turn(heap, before.as_ref(), &request)?;
+    Ok(match found {
+        Ok(after) => (growths, held_text(rt, &after)?),
+        Err(fault) => (
+            growths,
+            format!(in rt.alloc(); "{fault}, after {growths} growths")?,
+        ),
+    })
+}
+
+/// Returns what is shown of attributes, and how many growths that takes.
+fn show_in_turn<'a>(
+    heap: &'a Refusing<Global>,
+    held: &DataSet<&'a Refusing<Global>>,
+    listed: &[Tag],
+) -> Result<(u64, Reply<&'a Refusing<Global>>), Fail> {
+    for growths in 0..GROWTHS {
+        heap.refuse(growths + 1);
+        let found = shown(held, listed);
+        let is_refused = !heap.is_armed();
+        if let Ok(reply) = found {
+            if is_refused {
+                return Err("a growth was refused, and the reply is made".into());
+            }
+            return Ok((growths, reply));
+        }
+    }
+    Err("there are more growths".into())
+}
+
+/// Returns what is shown of attributes, with how many growths that takes, as text.
+fn shown_in_row(
+    rt: &impl AllocGlobal,
+    heap: &Refusing<Global>,
+    held: &str,
+    listed: &str,
+) -> Result<(u64, String), Fail> {
+    heap.refuse(0);
+    let held = set_of(heap, held)?;
+    let listed = tags_of(rt.alloc(), listed)?;
+    let (growths, reply) = show_in_turn(heap, &held, &listed)?;
+    let Reply::Set(status, set) = &reply else {
+        return Err("a reply without attributes".into());
+    };
+    let set = described(set, rt)?;
+    Ok((
+        growths,
+        format!(in rt.alloc(); "{:04X} {set}", status.code())?,
+    ))
+}
+
+/// Whether a row says what is found, and how many growths there are at least.
+fn is_so(rt: &impl AllocGlobal, heap: &Refusing<Global>, row: &str) -> Result<bool, Fail> {
+    let (rest, expected) = row.split_once(" -> ").ok_or("a text")?;
+    let (least, rest) = rest.split_once(": ").ok_or("a number")?;
+    let (held, asked) = rest.split_once(" | ").ok_or("what is asked")?;
+    let (growths, found) = match asked.strip_prefix("show") {
+        Some(listed) => shown_in_row(rt, heap, held, listed)?,
+        None => changed(rt, heap, held, asked)?,
+    };
+    Ok(growths >= least.parse::<u64>()? && found.as_str().trim_end() == expected)
+}
+
+#[test]
+fn steps_are_changed_and_shown_as_their_rows_say(rt: HostRuntime) -> Result<(), Fail> {
+    let heap = Refusing::new(rt.alloc());
+    for row in CHANGED.lines() {
+        assert!(rt; row.starts_with("# ") || is_so(&rt, &heap, row)?, "{row}");
+    }
+    let memory = format!(in rt.alloc(); "{}", ChangeFault::Memory)?;
+    assert_eq!(rt; memory.as_str(), "out of memory");
+    Ok(())
+}

@@ -1,0 +1,361 @@
+//! The manager as code asks it: by numbers of callers, and as a service. Its rows for a service alone are scripts
+//! (`program_tests`).
+
+ghost use Rattle.std.specs.Prelude.{[], ◌∷◌};
+ghost use Rattle.ups_life.specs.Settings.{IsMoment};
+ghost use Rattle.ups_manager.specs.Law.{Calls};
+
+use crate::steps::{a_step, step_uid, transaction};
+use fixtures::{described, put_item, put_text, tag_of, title};
+use std::alloc::{Allocator, Global};
+use std::test::Fail;
+use ups_dataset::DataSet;
+use ups_dimse::Tags;
+use ups_life::{Ask, Entry, MAX_MOMENT, Reply, Request, StepState, StepUid, Transaction};
+use ups_manager::*;
+use ups_match::Keys;
+use ups_pdu::Ae;
+
+mod entries;
+mod memory;
+mod plain;
+mod starting;
+
+/// The steps that the tests create.
+const STEPS: [&str; 3] = ["1.2.3.1", "1.2.3.2", "1.2.3.3"];
+
+/// What is asked.
+#[derive(Clone, Copy)]
+enum Verb {
+    Create,
+    Change,
+    Cancel,
+    Set,
+    Get,
+    Find,
+}
+
+/// What a line asks, by whom and when.
+///
+/// A line is the number of the caller, the title of the application entity, the moment, the verb, the step, its new state
+/// and the Transaction UID, `-` where there is none, and behind a bar the attributes: with a bar between two of them, and
+/// those of an item behind a slash. A new step has the usual attributes under them.
+#[derive(Clone, Copy)]
+struct Line {
+    caller: u32,
+    ae: Ae,
+    moment: u64,
+    verb: Verb,
+    step: StepUid,
+    state: StepState,
+    transaction: Transaction,
+}
+
+/// Returns the verb that a word is.
+fn verb_of(word: &str) -> Verb {
+    match word {
+        "create" => Verb::Create,
+        "change" => Verb::Change,
+        "cancel" => Verb::Cancel,
+        "set" => Verb::Set,
+        "find" => Verb::Find,
+        _ => Verb::Get,
+    }
+}
+
+/// Returns the state that a word names.
+fn state_of(word: &str) -> StepState {
+    match word {
+        "IN_PROGRESS" => StepState::InProgress,
+        "COMPLETED" => StepState::Completed,
+        "CANCELED" => StepState::Canceled,
+        _ => StepState::Scheduled,
+    }
+}
+
+/// Reads the part of a line that stands before its attributes.
+fn line_of(front: &str) -> Result<Line, Fail> {
+    let mut words = front.split(' ');
+    Ok(Line {
+        caller: words.next().ok_or("a caller")?.parse::<u32>()?,
+        ae: title(words.next().ok_or("a title")?)?,
+        moment: words.next().ok_or("a moment")?.parse::<u64>()?,
+        verb: verb_of(words.next().ok_or("a verb")?),
+        step: step_uid(words.next().ok_or("a step")?)?,
+        state: state_of(words.next().ok_or("a state")?),
+        transaction: transaction(words.next().ok_or("a UID")?.trim_start_matches('-')),
+    })
+}
+
+/// Puts a value, which stands behind its tag and `=`.
+fn put_value<A: Allocator + Copy>(
+    alloc: A,
+    set: &mut DataSet<A>,
+    attribute: &str,
+) -> Result<(), Fail> {
+    let (tag, value) = attribute.split_once('=').ok_or("a value")?;
+    put_text(alloc, set, tag_of(tag)?, value.as_bytes())
+}
+
+/// Returns the item with these values, which commas part.
+fn item_of<A: Allocator + Copy>(alloc: A, values: &str) -> Result<DataSet<A>, Fail> {
+    let mut item = DataSet::new(alloc);
+    for value in values.split_terminator(',') {
+        put_value(alloc, &mut item, value)?;
+    }
+    Ok(item)
+}
+
+/// Puts an attribute: a value, or an item behind its tag and a slash.
+fn put_attribute<A: Allocator + Copy>(
+    alloc: A,
+    set: &mut DataSet<A>,
+    attribute: &str,
+) -> Result<(), Fail> {
+    match attribute.split_once('/') {
+        Some((tag, values)) => put_item(alloc, set, tag_of(tag)?, item_of(alloc, values)?),
+        None => put_value(alloc, set, attribute),
+    }
+}
+
+/// Returns a set with these attributes over its own.
+pub(crate) fn with<A: Allocator + Copy>(
+    alloc: A,
+    mut set: DataSet<A>,
+    attributes: &str,
+) -> Result<DataSet<A>, Fail> {
+    for attribute in attributes.split_terminator('|') {
+        put_attribute(alloc, &mut set, attribute)?;
+    }
+    Ok(set)
+}
+
+/// Returns the keys that these attributes are. Those without a zone are in UTC.
+pub(crate) fn keys_of<A: Allocator + Copy>(alloc: A, attributes: &str) -> Result<Keys<A>, Fail> {
+    Ok(Keys::of(with(alloc, DataSet::new(alloc), attributes)?, 0)?)
+}
+
+/// Returns the request of a line with these attributes.
+fn request_of<A: Allocator + Copy>(line: &Line, attributes: DataSet<A>) -> Request<A> {
+    let (step, state, transaction) = (line.step, line.state, line.transaction);
+    match line.verb {
+        Verb::Create => Request::Create { step, attributes },
+        Verb::Change => Request::Change {
+            step: Some(step),
+            state,
+            transaction,
+        },
+        Verb::Cancel => Request::AskCancel {
+            step: Some(step),
+            reasons: attributes,
+        },
+        _ => Request::Set {
+            step: Some(step),
+            transaction,
+            attributes,
+        },
+    }
+}
+
+/// Returns what a line with these attributes asks.
+fn ask_of<A: Allocator + Copy>(alloc: A, line: &Line, attributes: &str) -> Result<Ask<A>, Fail> {
+    let own = match line.verb {
+        Verb::Create => a_step(alloc)?,
+        Verb::Find => return Ok(Ask::Find(keys_of(alloc, attributes)?)),
+        Verb::Get => {
+            return Ok(Ask::Get {
+                step: Some(line.step),
+                attributes: Tags::new(alloc),
+            });
+        }
+        _ => DataSet::new(alloc),
+    };
+    Ok(Ask::Do(request_of(line, with(alloc, own, attributes)?)))
+}
+
+/// Asks any service, by what it says of itself.
+fn asked_of<A: Allocator + Copy, S: Service<A>>(
+    service: &mut S,
+    ae: Ae,
+    moment: u64,
+    ask: Ask<A>,
+) -> Reply<A>
+    requires { IsMoment moment }
+    ensures { Calls (S.settings service.old) (S.others service.old) (S.caller service.old) (S.seen service.old) ae (ask ∷ []) (moment ∷ []) (result ∷ []) (S.seen service.new) }
+{
+    service.call(ae, moment, ask)
+}
+
+/// Asks a manager itself, or as a service.
+fn reply_to<A: Allocator + Copy>(
+    manager: &mut Manager<A>,
+    line: &Line,
+    ask: Ask<A>,
+    is_service: bool,
+) -> Result<Reply<A>, Fail> {
+    if line.moment > MAX_MOMENT {
+        return Err("no moment".into());
+    }
+    Ok(if is_service {
+        asked_of(manager, line.ae, line.moment, ask)
+    } else {
+        manager.answer_as(line.caller, line.ae, line.moment, ask)
+    })
+}
+
+/// Returns the number of the status of a reply; 0xFFFF where it tells that an acknowledgement is ahead or stale, which has
+/// none.
+fn status_of<A: Allocator + Copy>(reply: &Reply<A>) -> u16 {
+    match reply {
+        Reply::Status(status) => status.code(),
+        Reply::Set(status, _) => status.code(),
+        Reply::Sets(_) | Reply::Swept(_) | Reply::Reports(_) => 0x0000,
+        Reply::AckAhead | Reply::AckStale => 0xffff,
+    }
+}
+
+/// Puts a set behind a text, as it is described.
+fn put_set<A: Allocator + Copy>(
+    rt: &impl AllocGlobal,
+    text: &mut String,
+    set: &DataSet<A>,
+) -> Result<(), Fail> {
+    text.push_str(" ")?;
+    text.push_str(described(set, rt)?.as_str().trim_end())?;
+    Ok(())
+}
+
+/// Returns a reply as a text: its status, and the sets that it shows.
+fn told<A: Allocator + Copy>(rt: &impl AllocGlobal, reply: &Reply<A>) -> Result<String, Fail> {
+    let mut text = format!(in rt.alloc(); "{:04X}", status_of(reply))?;
+    match reply {
+        Reply::Set(_, set) => put_set(rt, &mut text, set)?,
+        Reply::Sets(sets) => {
+            for set in sets.as_slice() {
+                put_set(rt, &mut text, set)?;
+            }
+        }
+        _ => {}
+    }
+    Ok(text)
+}
+
+/// Asks what a line says: the reply as a text.
+pub(crate) fn answer_to(
+    rt: &impl AllocGlobal,
+    manager: &mut Manager<Global>,
+    line: &str,
+    is_service: bool,
+) -> Result<String, Fail> {
+    let (front, attributes) = line.split_once('|').ok_or("attributes")?;
+    let line = line_of(front)?;
+    let ask = ask_of(rt.alloc(), &line, attributes)?;
+    told(rt, &reply_to(manager, &line, ask, is_service)?)
+}
+
+/// Returns bytes as a text.
+fn text_of(bytes: &[u8]) -> Result<&str, Fail> {
+    Ok(std::str::from_utf8(bytes).ok().ok_or("a text")?)
+}
+
+/// Returns the bytes of a Transaction UID; a dash where there is none.
+fn uid_in(transaction: &Transaction) -> &[u8] {
+    match transaction {
+        Transaction::Absent => b"-",
+        Transaction::Malformed => b"malformed",
+        Transaction::Proper(uid) => uid.as_bytes(),
+    }
+}
+
+/// Returns the verb of a request, the state and the Transaction UID; a dash where it has none.
+fn words_of<A: Allocator + Copy>(request: &Request<A>) -> (&'static str, &'static [u8], &[u8]) {
+    let none = b"-".as_slice();
+    match request {
+        Request::Create { .. } => ("create", none, none),
+        Request::Change {
+            state,
+            transaction,
+            ..
+        } => ("change", state.text(), uid_in(transaction)),
+        Request::AskCancel { .. } => ("cancel", none, none),
+        Request::Set { transaction, .. } => ("set", none, uid_in(transaction)),
+        _ => ("watch", none, none),
+    }
+}
+
+/// Returns the attributes of a request; none where it has none.
+fn attributes_in<A: Allocator + Copy>(request: &Request<A>) -> Option<&DataSet<A>> {
+    match request {
+        Request::Create { attributes, .. } | Request::Set { attributes, .. } => Some(attributes),
+        Request::AskCancel { reasons, .. } => Some(reasons),
+        _ => None,
+    }
+}
+
+/// Returns an entry as a line, with its attributes as they are described.
+fn entry_of<A: Allocator + Copy>(rt: &impl AllocGlobal, entry: &Entry<A>) -> Result<String, Fail> {
+    let (verb, state, uid) = words_of(&entry.request);
+    let (state, uid) = (text_of(state)?, text_of(uid)?);
+    let step = entry.request.step().ok_or("a step")?;
+    let (ae, step) = (text_of(entry.ae.as_bytes())?, text_of(step.as_bytes())?);
+    let mut text = format!(in rt.alloc();
+        "{} {ae} {} {verb} {step} {state} {uid}|",
+        entry.caller, entry.moment
+    )?;
+    if let Some(set) = attributes_in(&entry.request) {
+        text.push_str(described(set, rt)?.as_str().trim_end())?;
+    }
+    Ok(text)
+}
+
+/// Returns who holds a step: the number of the caller and its title, or a dash.
+fn holder_of<A: Allocator + Copy>(
+    rt: &impl AllocGlobal,
+    manager: &Manager<A>,
+    step: StepUid,
+) -> Result<String, Fail> {
+    match manager.holder(step) {
+        Some(holder) => {
+            let ae = text_of(holder.ae.as_bytes())?;
+            Ok(format!(in rt.alloc(); "{} {ae}", holder.caller)?)
+        }
+        None => Ok(format!(in rt.alloc(); "-")?),
+    }
+}
+
+/// Returns who holds a step, and all that is shown of it.
+fn step_of<A: Allocator + Copy>(
+    rt: &impl AllocGlobal,
+    manager: &Manager<A>,
+    step: &str,
+) -> Result<String, Fail> {
+    let step = step_uid(step)?;
+    let shown = told(rt, &manager.get(Some(step), &[]))?;
+    let holder = holder_of(rt, manager, step)?;
+    Ok(format!(in rt.alloc(); "{holder}: {shown}\n")?)
+}
+
+/// Returns the history of a manager, an entry a line.
+fn history_of<A: Allocator + Copy>(
+    rt: &impl AllocGlobal,
+    manager: &Manager<A>,
+) -> Result<String, Fail> {
+    let mut text = String::new(rt.alloc());
+    for entry in manager.history() {
+        text.push_str(entry_of(rt, entry)?.as_str())?;
+        text.push('\n')?;
+    }
+    Ok(text)
+}
+
+/// Returns all that a manager tells: its history, who holds each step, and what is shown of it.
+pub(crate) fn picture<A: Allocator + Copy>(
+    rt: &impl AllocGlobal,
+    manager: &Manager<A>,
+) -> Result<String, Fail> {
+    let mut text = history_of(rt, manager)?;
+    for step in STEPS {
+        text.push_str(step_of(rt, manager, step)?.as_str())?;
+    }
+    Ok(text)
+}

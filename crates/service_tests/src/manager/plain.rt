@@ -1,0 +1,178 @@
+ghost use Rattle.std.specs.Prelude.{IfOk};
+ghost use Rattle.ups_life.specs.Settings.{IsOffset};
+
+use super::{answer_to, keys_of};
+use std::alloc::{AllocError, Global};
+use std::test::Fail;
+use ups_dataset::{DataSet, TransferSyntax, write_set};
+use ups_life::{Configuration, Filter, Reply, plain_find};
+use ups_manager::*;
+use ups_match::Probe;
+
+/// Numbers that look random, the same at each run.
+#[derive(Drop)]
+struct Dice {
+    state: u64,
+}
+
+impl Dice {
+    /// Returns a number below that of the sides.
+    fn roll(&mut self, sides: u64) -> u64 {
+        let grown = self.state.wrapping_mul(6_364_136_223_846_793_005);
+        self.state = grown.wrapping_add(1_442_695_040_888_963_407);
+        if sides == 0 {
+            0
+        } else {
+            (self.state >> 33) % sides
+        }
+    }
+
+    /// Returns one of the lines of a text.
+    fn one_of<'a>(&mut self, lines: &'a str) -> Result<&'a str, Fail> {
+        let place = self.roll(lines.split('\n').count() as u64);
+        Ok(lines.split('\n').nth(place as usize).ok_or("a line")?)
+    }
+}
+
+/// The attributes that are sent with the generated requests.
+const SENT: &str = "
+00741202=READS
+00741202=REPROC
+00404005=20240301
+00741200=HIGH
+00741216/00404050=20240229120100,00404051=20240229120200
+00741002/00404052=20240229120300";
+
+/// The Transaction UIDs.
+const UIDS: &str = "-\n2.1\n2.1\n2.2";
+
+/// The states.
+const STATES: &str = "IN_PROGRESS\nIN_PROGRESS\nCOMPLETED\nCANCELED";
+
+/// The keys that are asked of what they make.
+const KEYS: &str = r"00080018=|00741000=
+00080018=|00741000=SCHEDULED
+00080018=|00741000=IN PROGRESS
+00080018=|00741000=C*
+00080018=1.2.3.7\1.2.3.30|00741000=
+00741202=RE?D*|00741000=
+00741202=*C|00404005=20240301-
+00741202=|00404005=-20240229
+00741202=|00404005=20240229-202402
+00080018=|00741200=HIGH
+00100010=|00741204=CT*
+00100010=DOE*|00741000=";
+
+/// Returns a line that asks for something of one of 40 steps.
+fn any_line(rt: &impl AllocGlobal, dice: &mut Dice, moment: u64) -> Result<String, Fail> {
+    let step = dice.roll(40);
+    let sent = dice.one_of(SENT)?;
+    let uid = dice.one_of(UIDS)?;
+    let (verb, state, sent) = match dice.roll(8) {
+        0 | 1 => ("create", "-", sent),
+        2 | 3 => ("change", dice.one_of(STATES)?, ""),
+        4 => ("cancel", "-", ""),
+        _ => ("set", "-", sent),
+    };
+    Ok(format!(in rt.alloc(); "0 SCHED1 {moment} {verb} 1.2.3.{step} {state} {uid}|{sent}")?)
+}
+
+/// Returns the bytes of data sets, one after another.
+fn spelled(rt: &impl AllocGlobal, sets: &[DataSet<Global>]) -> Result<Vec<u8>, Fail> {
+    let mut bytes = Vec::new(rt.alloc());
+    for set in sets {
+        if set.size() >= 0x1_0000_0000 {
+            return Err("a set of 4 GB or more".into());
+        }
+        let spelled = write_set(rt.alloc(), TransferSyntax::Explicit, set)?;
+        bytes.extend_from_slice(spelled.as_slice())?;
+    }
+    Ok(bytes)
+}
+
+/// Returns the settings of a manager.
+fn settings_of(
+    alloc: Global,
+    manager: &Manager<Global>,
+) -> Result<Configuration<Global>, AllocError>
+    ensures { IfOk result (λ settings. IsOffset settings.offset) }
+{
+    let peers = Vec::from_slice(alloc, manager.peers())?;
+    Ok(Configuration::new(peers, manager.keep(), manager.offset(), manager.limit()))
+}
+
+/// Finds by the plain program: the bytes of the sets.
+fn plainly_found(
+    rt: &impl AllocGlobal,
+    manager: &Manager<Global>,
+    keys: &str,
+) -> Result<Vec<u8>, Fail> {
+    let keys = keys_of(rt.alloc(), keys)?;
+    let settings = settings_of(rt.alloc(), manager)?;
+    let sets = plain_find(rt.alloc(), &settings, manager.history(), &keys)?;
+    spelled(rt, sets.as_slice())
+}
+
+/// Finds by a manager, whose matcher is asked once for each step that is held: the bytes of the sets, and how many they
+/// are.
+fn found(
+    rt: &impl AllocGlobal,
+    manager: &Manager<Global>,
+    keys: &str,
+) -> Result<(Vec<u8>, usize), Fail> {
+    let keys = keys_of(rt.alloc(), keys)?;
+    let mut probe = Probe::new();
+    let Reply::Sets(sets) = manager.find(&keys, &mut probe) else {
+        return Err("a status alone".into());
+    };
+    if probe.count() != manager.held()?.len() as u64 {
+        return Err("a matcher that is asked more or less often".into());
+    }
+    Ok((spelled(rt, sets.as_slice())?, sets.as_slice().len()))
+}
+
+/// Finds by a manager and by the plain program: how many sets both found.
+fn found_by_both(
+    rt: &impl AllocGlobal,
+    manager: &Manager<Global>,
+    keys: &str,
+) -> Result<usize, Fail> {
+    let (bytes, count) = found(rt, manager, keys)?;
+    if bytes.as_slice() != plainly_found(rt, manager, keys)?.as_slice() {
+        return Err("the plain program finds other steps".into());
+    }
+    Ok(count)
+}
+
+#[test]
+fn the_plain_program_finds_the_same(rt: HostRuntime) -> Result<(), Fail> {
+    let mut dice = Dice { state: 1 };
+    let mut manager = Manager::new(rt.alloc(), &[], 60, 0, 1_000)?;
+    let mut count = found_by_both(&rt, &manager, "00080018=")?;
+    for call in 0..1_000u64 {
+        let line = any_line(&rt, &mut dice, 1_709_208_000 + call)?;
+        answer_to(&rt, &mut manager, line.as_str(), false)?;
+        if call % 20 == 0 {
+            count = count.saturating_add(found_by_both(&rt, &manager, dice.one_of(KEYS)?)?);
+        }
+    }
+    assert!(rt; manager.history().len() > 150);
+    assert!(rt; count > 100);
+    Ok(())
+}
+
+/// Returns how many keys a filter of these attributes has; None where it is none.
+fn keys_in_filter(alloc: Global, keys: &str) -> Result<Option<usize>, Fail> {
+    match Filter::of(alloc, keys_of(alloc, keys)?) {
+        Some(filter) => Ok(Some(filter.keys().attributes().elements().len())),
+        None => Ok(None),
+    }
+}
+
+#[test]
+fn keys_that_are_all_universal_are_no_filter(rt: HostRuntime) -> Result<(), Fail> {
+    assert_eq!(rt; keys_in_filter(rt.alloc(), "00741202=")?, None);
+    assert_eq!(rt; keys_in_filter(rt.alloc(), "00741202=* ")?, None);
+    assert_eq!(rt; keys_in_filter(rt.alloc(), "00741202=READS")?, Some(1));
+    Ok(())
+}

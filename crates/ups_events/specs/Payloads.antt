@@ -1,0 +1,104 @@
+-- What an event report says (PS3.4 CC.2.4): the type of an event, and its Event Information.
+use Rattle.std.specs.Prelude.{ℕ, List, [], ◌∷◌, filter, Option, None, Some}
+use Rattle.ups_dataset.specs.declared.dictionary.TheConstants.{HUMAN_PERFORMER_CODE_SEQUENCE, SCHEDULED_STATION_NAME_CODE_SEQUENCE, SCHEDULED_HUMAN_PERFORMERS_SEQUENCE, HUMAN_PERFORMER_ORGANIZATION, INPUT_READINESS_STATE, PROCEDURE_STEP_STATE, PROCEDURE_STEP_PROGRESS_INFORMATION_SEQUENCE, CONTACT_URI, CONTACT_DISPLAY_NAME, REQUESTING_AE}
+use Rattle.ups_dataset.specs.declared.tag.Tag.{Tag}
+use Rattle.ups_dataset.specs.declared.vr.Vr.{Vr}
+use Rattle.ups_dataset.specs.declared.vr.Vr.TheVariants.{Ae, Cs, Lo, Sq}
+use Rattle.ups_dataset.specs.Code.{list_of}
+use Rattle.ups_dataset.specs.Data.{Data, bytes, items, no_items, item, El, element_at, put, laid_over, is_listed, answer}
+use Rattle.ups_life.specs.declared.entry.Entry.{Entry}
+use Rattle.ups_life.specs.declared.event.Event.{Event}
+use Rattle.ups_life.specs.declared.event.EventKind.{EventKind}
+use Rattle.ups_life.specs.declared.event.EventKind.TheVariants.{StateReport, CancelRequested, ProgressReport, Assigned}
+use Rattle.ups_life.specs.declared.request.Request.{Request}
+use Rattle.ups_life.specs.declared.request.Request.TheVariants.{AskCancel, Set}
+use Rattle.ups_life.specs.declared.state.StepState.{StepState}
+use Rattle.ups_life.specs.declared.state.StepState.TheVariants.{Canceled}
+use Rattle.ups_life.specs.Readiness.{readiness_word}
+use Rattle.ups_life.specs.States.{state_text}
+use Rattle.ups_life.specs.Steps.{REASONS}
+use Rattle.ups_life.specs.Values.{text_value}
+
+-- THE TYPES
+
+-- the Event Type IDs (PS3.4 table CC.2.4-1)
+abbrev pub type_id : EventKind → ℕ
+type_id StateReport = 1
+type_id CancelRequested = 2
+type_id ProgressReport = 3
+type_id Assigned = 5
+
+-- THE PARTS
+
+-- a text, which has an even length as a value
+abbrev pub text_element : Tag → Vr → List ℕ → El
+text_element tag vr text = record { tag = tag; vr = vr; value = bytes (text_value text) }
+
+-- these attributes, as far as they are given
+abbrev pub given_of : List Tag → List El → List El
+given_of tags attributes = filter (λ e. is_listed e.tag tags) attributes
+
+-- what a cancel request was sent with
+abbrev pub sent_to_cancel : {A : Type 0} → Request A → List El
+sent_to_cancel (AskCancel step reasons) = reasons
+sent_to_cancel request = []
+
+-- what an N-SET sets
+abbrev pub sent_to_set : {A : Type 0} → Request A → List El
+sent_to_set (Set step transaction attributes) = attributes
+sent_to_set request = []
+
+-- STATE REPORTS
+
+-- why a step was canceled: told where a cancel request made it CANCELED (PS3.4 CC.2.2)
+abbrev pub reason_told : {A : Type 0} → StepState → Request A → List El
+reason_told Canceled request = given_of REASONS (sent_to_cancel request)
+reason_told state request = []
+
+-- the state of the step, and whether its input is ready
+abbrev pub state_report : {A : Type 0} → Event → Request A → List El
+state_report x request =
+    put (text_element INPUT_READINESS_STATE Cs (readiness_word x.readiness)) (put (text_element PROCEDURE_STEP_STATE Cs (state_text x.state)) (reason_told x.state request))
+
+-- CANCEL REQUESTS
+
+-- why a step is to be canceled, and who can be asked about it
+abbrev pub CANCEL_ATTRIBUTES : List Tag
+CANCEL_ATTRIBUTES = CONTACT_URI ∷ CONTACT_DISPLAY_NAME ∷ REASONS
+
+-- who asks for it
+abbrev pub cancel_requested : {A : Type 0} → Entry A → List El
+cancel_requested e = put (text_element REQUESTING_AE Ae e.ae) (given_of CANCEL_ATTRIBUTES (sent_to_cancel e.request))
+
+-- ASSIGNMENTS
+
+-- a human performer of whom nothing is said
+abbrev pub NO_PERFORMER : List El
+NO_PERFORMER = record { tag = HUMAN_PERFORMER_CODE_SEQUENCE; vr = Sq; value = items no_items } ∷ record { tag = HUMAN_PERFORMER_ORGANIZATION; vr = Lo; value = bytes [] } ∷ []
+
+-- the first item of a sequence; nothing where it has none
+abbrev pub first_item : Data → List El
+first_item (items (item es more)) = list_of es
+first_item d = []
+
+-- the code and the organization of the first human performer, where performers are given: each without a value where
+-- there is none
+abbrev pub performer : Option El → List El
+performer None = []
+performer (Some e) = answer (first_item e.value) NO_PERFORMER
+
+-- the station and the human performer that are to do the step
+abbrev pub assignment : List El → List El
+assignment attributes = laid_over (performer (element_at SCHEDULED_HUMAN_PERFORMERS_SEQUENCE attributes)) (given_of (SCHEDULED_STATION_NAME_CODE_SEQUENCE ∷ []) attributes)
+
+-- THE PAYLOADS
+
+-- THE EVENT INFORMATION of an event of this kind, which the entry e made (PS3.4 table CC.2.4-1)
+abbrev pub payload_of : {A : Type 0} → EventKind → Event → Entry A → List El
+payload_of StateReport x e = state_report x e.request
+payload_of CancelRequested x e = cancel_requested e
+payload_of ProgressReport x e = given_of (PROCEDURE_STEP_PROGRESS_INFORMATION_SEQUENCE ∷ []) (sent_to_set e.request)
+payload_of Assigned x e = assignment (sent_to_set e.request)
+
+abbrev pub payload : {A : Type 0} → Event → Entry A → List El
+payload x e = payload_of x.kind x e

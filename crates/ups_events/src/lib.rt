@@ -1,0 +1,8 @@
+//! What event reports of Unified Procedure Steps say (PS3.4 CC.2.4): the type of each event, and its Event Information.
+#![tactic(auto)]
+
+mod kinds;
+mod payloads;
+
+pub use kinds::type_id;
+pub use payloads::payload;

@@ -1,0 +1,127 @@
+-- What each watcher is told (PS3.4 CC.2.4). A history is looked at with its newest entry first.
+use Rattle.std.specs.Prelude.{ℕ, ◌+◌, Bool, true, false, not, ◌&&◌, ◌||◌, nat_lt, List, [], ◌∷◌, ◌++◌, length, map, filter, Option, None, Some, is_some, if◌then◌else◌}
+use Rattle.std.specs.Option.{option_or}
+use Rattle.std.specs.Str.{bytes_eq}
+use Rattle.ups_dataset.specs.declared.dictionary.TheConstants.{INPUT_READINESS_STATE, PROCEDURE_STEP_PROGRESS_INFORMATION_SEQUENCE, SCHEDULED_STATION_NAME_CODE_SEQUENCE, SCHEDULED_HUMAN_PERFORMERS_SEQUENCE}
+use Rattle.ups_dataset.specs.declared.tag.Tag.{Tag}
+use Rattle.ups_dataset.specs.Data.{El, element_at}
+use Rattle.ups_life.specs.declared.entry.Entry.{Entry}
+use Rattle.ups_life.specs.declared.event.EventKind.{EventKind}
+use Rattle.ups_life.specs.declared.event.EventKind.TheVariants.{StateReport, CancelRequested, ProgressReport, Assigned}
+use Rattle.ups_life.specs.declared.event.Report.{Report}
+use Rattle.ups_life.specs.declared.event.Event.{Event}
+use Rattle.ups_life.specs.declared.readiness.InputReadiness.{InputReadiness}
+use Rattle.ups_life.specs.declared.request.Request.{Request}
+use Rattle.ups_life.specs.declared.request.Request.TheVariants.{Create, Change, AskCancel, Set, Subscribe, Ack}
+use Rattle.ups_life.specs.declared.state.StepState.{StepState}
+use Rattle.ups_life.specs.declared.state.StepState.TheVariants.{Scheduled, InProgress, Canceled}
+use Rattle.ups_life.specs.Settings.{Settings}
+use Rattle.ups_life.specs.Readiness.{readiness_in, is_same_readiness}
+use Rattle.ups_life.specs.Steps.{step_of, state, row}
+use Rattle.ups_life.specs.Watching.{takes_in, cover, watch, held}
+
+-- THE REPORTS OF AN ENTRY
+
+-- the readiness of u
+abbrev pub readiness : {A : Type 0} → Settings → List (Entry A) → List ℕ → Option InputReadiness
+readiness s es u = readiness_in (row s es u)
+
+abbrev pub report : EventKind → List ℕ → StepState → Option InputReadiness → Report
+report kind u state readiness = record { kind = kind; step = u; state = state; readiness = readiness }
+
+-- a State Report of u as it is
+abbrev pub as_it_is : {A : Type 0} → Settings → List (Entry A) → List ℕ → Report
+as_it_is s es u = report StateReport u (state es u) (readiness s es u)
+
+abbrev pub only_if : Bool → Report → List Report
+only_if told x = if told then x ∷ [] else []
+
+-- of a cancel request: a step that is SCHEDULED goes through IN PROGRESS to CANCELED, else its performer is asked
+-- (PS3.4 CC.2.2)
+abbrev pub cancel_reports : List ℕ → StepState → Option InputReadiness → List Report
+cancel_reports u Scheduled readiness = report StateReport u InProgress readiness ∷ report StateReport u Canceled readiness ∷ []
+cancel_reports u InProgress readiness = report CancelRequested u InProgress readiness ∷ []
+cancel_reports u state readiness = []
+
+abbrev pub has : List El → Tag → Bool
+has attributes tag = is_some (element_at tag attributes)
+
+-- of an N-SET: another readiness, progress, and who is to do the step (PS3.4 CC.2.4, CC.2.6); `before` and `after` are
+-- the readiness
+abbrev pub set_reports : List ℕ → StepState → Option InputReadiness → Option InputReadiness → List El → List Report
+set_reports u state before after attributes =
+    only_if (has attributes INPUT_READINESS_STATE && not (is_same_readiness before after)) (report StateReport u state after)
+    ++ (only_if (has attributes PROCEDURE_STEP_PROGRESS_INFORMATION_SEQUENCE) (report ProgressReport u state after)
+    ++ only_if (has attributes SCHEDULED_STATION_NAME_CODE_SEQUENCE || has attributes SCHEDULED_HUMAN_PERFORMERS_SEQUENCE) (report Assigned u state after))
+
+-- what is told of the step u to whoever watches it, of a request on it
+abbrev pub told_of : {A : Type 0} → Settings → List (Entry A) → Entry A → List ℕ → Request A → List Report
+told_of s es e u (Change step state transaction) = as_it_is s (e ∷ es) u ∷ []
+told_of s es e u (AskCancel step reasons) = cancel_reports u (state es u) (readiness s (e ∷ es) u)
+told_of s es e u (Set step transaction attributes) = set_reports u (state es u) (readiness s es u) (readiness s (e ∷ es) u) attributes
+told_of s es e u request = []
+
+-- of the step of a request, where w watches it
+abbrev pub if_watched : {A : Type 0} → Settings → List (Entry A) → List ℕ → Option (List ℕ) → (List ℕ → List Report) → List Report
+if_watched s es w None told = []
+if_watched s es w (Some u) told = if is_some (watch s es w u) then told u else []
+
+-- What w is told of the entry e, of which `request` is the request: of a new step, where its global subscription takes
+-- it in; where it subscribes, of each step held that the subscription takes in, in order of creation; and of each
+-- request on a step that it watches.
+abbrev pub reports_of : {A : Type 0} → Settings → List (Entry A) → Entry A → List ℕ → Request A → List Report
+reports_of s es e w (Create step attributes) = only_if (is_some (cover s.peers es w (row s (e ∷ es) step))) (as_it_is s (e ∷ es) step)
+reports_of s es e w (Subscribe target receiver lock) = if bytes_eq receiver w then map (as_it_is s es) (filter (λ u. takes_in target u (row s es u)) (held s es)) else []
+reports_of s es e w request = if_watched s es w (step_of request) (λ u. told_of s es e u request)
+
+-- THE EVENTS
+
+-- reports of the entry at this place as events, numbered from n
+abbrev pub numbered : ℕ → ℕ → List Report → List Event
+numbered n place [] = []
+numbered n place (x ∷ xs) = record { number = n; entry = place; kind = x.kind; step = x.step; state = x.state; readiness = x.readiness } ∷ numbered (n + 1) place xs
+
+-- THE EVENTS (PS3.4 CC.2.4): all that w was told, oldest first, numbered from 1
+abbrev pub events : {A : Type 0} → Settings → List (Entry A) → List ℕ → List Event
+events s [] w = []
+events s (e ∷ es) w = events s es w ++ numbered (length (events s es w) + 1) (length es) (reports_of s es e w e.request)
+
+-- ACKNOWLEDGEMENTS
+
+-- the number up to which w has acknowledged its events after a request of ae, where it was so before
+abbrev pub acked_after : {A : Type 0} → List ℕ → List ℕ → ℕ → Request A → ℕ
+acked_after w ae before (Ack upto) = if bytes_eq ae w then upto else before
+acked_after w ae before request = before
+
+-- the number up to which w has acknowledged its events; 0 where it has not
+abbrev pub acked : {A : Type 0} → List (Entry A) → List ℕ → ℕ
+acked [] w = 0
+acked (e ∷ es) w = acked_after w e.ae (acked es w) e.request
+
+-- THE EVENTS THAT w HAS NOT ACKNOWLEDGED, oldest first
+abbrev pub pending : {A : Type 0} → Settings → List (Entry A) → List ℕ → List Event
+pending s es w = filter (λ (x : Event). nat_lt (acked es w) x.number) (events s es w)
+
+-- THE VIEW
+
+-- what a watcher has learned of a step
+pub record Seen : Type 0 where
+  pub state : StepState
+  pub readiness : Option InputReadiness
+
+abbrev pub is_state_report : EventKind → Bool
+is_state_report StateReport = true
+is_state_report kind = false
+
+-- what an event shows of u
+abbrev pub shows : List ℕ → Event → Option Seen
+shows u x = if bytes_eq x.step u && is_state_report x.kind then Some (record { state = x.state; readiness = x.readiness }) else None
+
+-- THE VIEW of a watcher: what the last State Report of u shows
+abbrev pub view : List Event → List ℕ → Option Seen
+view [] u = None
+view (x ∷ xs) u = option_or (view xs u) (shows u x)
+
+-- what is so of u
+abbrev pub present : {A : Type 0} → Settings → List (Entry A) → List ℕ → Seen
+present s es u = record { state = state es u; readiness = readiness s es u }

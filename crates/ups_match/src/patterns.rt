@@ -1,0 +1,27 @@
+//! Patterns with few bytes: of `*` next to each other one says the same (PS3.4 section C.2.2.2.4).
+
+ghost use Rattle.std.specs.Prelude.{◌≡◌, ℕ, List, IfOk};
+ghost use Rattle.ups_match.specs.Likeness.{is_like};
+
+use std::alloc::{AllocError, Allocator};
+
+/// A pattern with one `*` for each row of them.
+///
+/// Errors: where memory runs out.
+pub(crate) fn shortened<A: Allocator + Copy>(
+    alloc: A,
+    pattern: &[u8],
+) -> Result<Vec<u8, A>, AllocError>
+    ensures { IfOk result (λ short. (text : List ℕ) → is_like short.items text ≡ is_like pattern.now text) }
+{
+    let mut short = Vec::new(alloc);
+    let mut behind_star = false;
+    for byte in pattern {
+        if *byte == b'*' && behind_star {
+            continue;
+        }
+        short.push(*byte)?;
+        behind_star = *byte == b'*';
+    }
+    Ok(short)
+}

@@ -1,0 +1,43 @@
+-- The lines of a script: how they are taken from what a reader has left, where that is known, and their words.
+use Rattle.std.specs.Prelude.{◌≡◌, ◌≢◌, ◌<◌, ◌⊎◌, ℕ, ◌+◌, Bool, true, false, List, [], ◌∷◌, ◌++◌, length, take, All, Option, OnSome}
+use Rattle.std.specs.Io.KnownBytes.{Keeps, Consumes, IsAtEnd}
+use Rattle.std.specs.List.{slice_split}
+use Rattle.ups_pdu.specs.Padding.{is_space}
+use Rattle.ups_script.specs.Limits.{max_line}
+
+-- the end of a line is met: a line feed is behind these bytes; or the input ends there, or the line is too long
+abbrev pub MeetsEnd : Option (List ℕ) → Option (List ℕ) → List ℕ → List ℕ → Type 0
+MeetsEnd before after bytes line =
+    Consumes before after (bytes ++ 10 ∷ [])
+    ⊎ (Consumes before after bytes × (OnSome before (IsAtEnd after) ⊎ (max_line < length line)))
+
+-- a line is taken from a reader's bytes, up to its line feed
+pub record TakesLine (before : Option (List ℕ)) (line : List ℕ) (after : Option (List ℕ)) : Type 0 where
+  pub no_feed : All (λ b. b ≢ 10) line
+  pub bytes : MeetsEnd before after line line
+
+-- bytes that were put behind a line are taken from a reader: its end is met there, or not
+abbrev pub Goes : Option (List ℕ) → Option (List ℕ) → List ℕ → List ℕ → Bool → Type 0
+Goes before after bytes line true = MeetsEnd before after bytes line
+Goes before after bytes line false = Consumes before after bytes
+
+pub record Lengthens (before after : Option (List ℕ)) (from line : List ℕ) (whole : Bool) : Type 0 where
+  pub more : List ℕ
+  pub grown : line ≡ from ++ more
+  pub no_feed : All (λ b. b ≢ 10) more
+  pub taken : Goes before after more line whole
+
+-- so many of the bytes that a reader shows are of a line that has some already, and so many are taken: the line is whole
+-- where its line feed is there, or nothing is, or it is too long
+abbrev pub IsPart : List ℕ → ℕ → ℕ → ℕ → Bool → Type 0
+IsPart shown before count taken true = (take taken shown ≡ take count shown ++ 10 ∷ []) ⊎ ((taken ≡ count) × ((length shown ≡ 0) ⊎ (max_line < before + count)))
+IsPart shown before count taken false = taken ≡ count
+
+-- lines are taken, one after the other
+abbrev pub TakesLines : Option (List ℕ) → List (List ℕ) → Option (List ℕ) → Type 0
+TakesLines before [] after = Keeps before after
+TakesLines before (line ∷ lines) after = (then : Option (List ℕ)) × TakesLine before line then × TakesLines then lines after
+
+-- the words of a line: a space parts two
+abbrev pub words_of : List ℕ → List (List ℕ)
+words_of line = slice_split is_space line

@@ -1,0 +1,57 @@
+-- What the questions of a script are told by a manager that nobody else uses.
+use Rattle.std.specs.Prelude.{◌≡◌, ℕ, List, Option, None, Some, Result, Ok, Err}
+use Rattle.std.specs.Option.{option_map}
+use Rattle.ups_dimse.specs.declared.command.Operation.{Operation}
+use Rattle.ups_life.specs.declared.entry.Entry.{Entry}
+use Rattle.ups_life.specs.declared.request.Ask.{Ask}
+use Rattle.ups_life.specs.declared.request.Ask.TheVariants.{Do, Pending}
+use Rattle.ups_life.specs.declared.request.Reply.{Reply}
+use Rattle.ups_life.specs.declared.request.Reply.TheVariants.{Status as Answered}
+use Rattle.ups_life.specs.declared.request.Request.TheVariants.{Ack, Sweep}
+use Rattle.ups_life.specs.declared.row.Holder.{Holder}
+use Rattle.ups_life.specs.declared.status.Status.{Status}
+use Rattle.ups_life.specs.Instances.{step_in}
+use Rattle.ups_life.specs.Settings.{Settings}
+use Rattle.ups_life.specs.Steps.{past}
+use Rattle.ups_life.specs.Watching.{held, watched}
+use Rattle.ups_manager.specs.Held.{holder_of}
+use Rattle.ups_manager.specs.Law.{nobody, Serves}
+use Rattle.ups_script.specs.declared.asking.Asked.{Asked}
+use Rattle.ups_script.specs.declared.asking.Question.{Question}
+use Rattle.ups_script.specs.declared.asking.Question.TheVariants as questions
+use Rattle.ups_script.specs.declared.telling.Told.{Told}
+use Rattle.ups_script.specs.declared.telling.Told.TheVariants as told
+use Rattle.ups_script.specs.Asking.{Asks}
+
+-- What is asked at a moment is answered by the law of the manager; what is refused has its status, and changes nothing.
+abbrev pub Meets : {A : Type 0} → Settings → List (Entry A) → List ℕ → ℕ → Result (Ask A) Status → Reply A → List (Entry A) → Type 0
+Meets settings history ae moment (Ok ask) reply after = Serves settings nobody 0 history ae moment ask reply after
+Meets settings history ae moment (Err status) reply after = (reply ≡ Answered status) × (after ≡ history)
+
+-- the reply to a message, by the bytes of its data set
+abbrev pub Replies : {A : Type 0} → Settings → List (Entry A) → List ℕ → ℕ → Operation A → List ℕ → Reply A → List (Entry A) → Type 0
+Replies {A} settings history ae moment operation bytes reply after =
+    (meaning : Result (Ask A) Status) × Asks settings.offset operation bytes meaning × Meets settings history ae moment meaning reply after
+
+-- the title of who holds the step that an instance is
+abbrev pub title_at : {A : Type 0} → Settings → List (Entry A) → Option (List ℕ) → Option (List ℕ)
+title_at settings history None = None
+title_at settings history (Some uid) = option_map (λ (h : Holder). h.ae) (holder_of settings (past history) uid)
+
+abbrev pub title_of : {A : Type 0} → Settings → List (Entry A) → Option (List ℕ) → Option (List ℕ)
+title_of settings history instance = title_at settings history (step_in instance)
+
+-- what each question is told by a history, and the history after it
+abbrev pub TellsOf : {A : Type 0} → Settings → List (Entry A) → List ℕ → ℕ → Question A → Told A → List (Entry A) → Type 0
+TellsOf settings history ae moment (questions.Message operation data_set) (told.Replied reply) after = Replies settings history ae moment operation data_set.items reply after
+TellsOf settings history ae moment questions.Sweep (told.Replied reply) after = Serves settings nobody 0 history ae moment (Do Sweep) reply after
+TellsOf settings history ae moment (questions.Pending max) (told.Replied reply) after = Serves settings nobody 0 history ae moment (Pending max) reply after
+TellsOf settings history ae moment (questions.Acknowledge upto) (told.Replied reply) after = Serves settings nobody 0 history ae moment (Do (Ack upto)) reply after
+TellsOf settings history ae moment questions.Watches (told.Watched steps) after = (steps.items ≡ watched settings (past history) ae) × (after ≡ history)
+TellsOf settings history ae moment questions.Held (told.Steps steps) after = (steps.items ≡ held settings (past history)) × (after ≡ history)
+TellsOf settings history ae moment (questions.Holder instance) (told.Holder title) after = (title ≡ title_of settings history instance) × (after ≡ history)
+TellsOf settings history ae moment question answer after = ⊥
+
+-- the same of a question with when it is asked and by whom
+abbrev pub Tells : {A : Type 0} → Settings → List (Entry A) → Asked A → Told A → List (Entry A) → Type 0
+Tells settings history asked answer after = TellsOf settings history asked.ae asked.moment asked.question answer after

@@ -1,0 +1,145 @@
+//! What the questions of a script are told by a manager.
+
+ghost use Rattle.std.specs.Prelude.{◌≡◌, Ok, IfOk, IfErr, OnErr};
+ghost use Rattle.ups_life.specs.Settings.{IsMoment};
+ghost use Rattle.ups_script.specs.Asking.{unread, without_set, Asks, IsUnasked};
+ghost use Rattle.ups_script.specs.Telling.{Replies, title_of, TellsOf, Tells};
+
+use crate::asking::{Asked, Question};
+use std::alloc::{AllocError, Allocator};
+use ups_dataset::{SetFault, TransferSyntax, read_set};
+use ups_dimse::Operation;
+use ups_life::{Ask, Reply, Request, Status, StepUid, Watched, read_request};
+use ups_manager::{Manager, Service};
+use ups_pdu::{Ae, Uid};
+
+/// What a question is told.
+#[derive(Drop)]
+pub(crate) enum Told<A: Allocator + Copy> {
+    /// The reply to a message, a sweep, an acknowledgement, and to who asks for events.
+    Replied(Reply<A>),
+    /// The steps that are held.
+    Steps(Vec<StepUid, A>),
+    /// The steps that a watcher is subscribed to.
+    Watched(Vec<Watched, A>),
+    /// The title of who holds a step; None where nobody does.
+    Holder(Option<Ae>),
+}
+
+/// Why a message asks nothing of the manager.
+pub(crate) enum Unasked {
+    /// It is refused with a status.
+    Refused(Status),
+    /// Memory ran out.
+    Memory,
+}
+
+/// The status of a message whose data set can't be read (PS3.7 annex C, PS3.4 section C.4.1.1.4).
+fn unread<A: Allocator + Copy>(operation: &Operation<A>) -> Status
+    ensures { result ≡ unread operation.now }
+{
+    match operation {
+        Operation::Find { .. } => Status::UnableToProcess,
+        _ => Status::ProcessingFailure,
+    }
+}
+
+/// What a fault in reading a data set makes of its message.
+fn without_set<A: Allocator + Copy>(operation: &Operation<A>, fault: SetFault) -> Unasked
+    ensures { result ≡ without_set operation.now fault }
+{
+    match fault {
+        SetFault::Memory => Unasked::Memory,
+        _ => Unasked::Refused(unread(operation)),
+    }
+}
+
+/// What a message asks, by its operation and the bytes of its data set in Explicit VR Little Endian. `offset` is that
+/// of the local time from UTC in minutes, by which a key's DT is read that says none.
+fn ask_of<A: Allocator + Copy>(
+    alloc: A,
+    operation: &Operation<A>,
+    data_set: &[u8],
+    offset: i16,
+) -> Result<Ask<A>, Unasked>
+    ensures asks { IfOk result (λ ask. Asks offset operation.now data_set.now (Ok ask)) }
+    ensures unasked { IfErr result (IsUnasked offset operation.now data_set.now) }
+{
+    let attributes = match read_set(alloc, TransferSyntax::Explicit, data_set) {
+        Ok(attributes) => attributes,
+        Err(fault) => return Err(without_set(operation, fault)),
+    };
+    match read_request(alloc, operation, attributes, offset) {
+        Ok(ask) => Ok(ask),
+        Err(Status::ResourceLimitation) => Err(Unasked::Memory),
+        Err(status) => Err(Unasked::Refused(status)),
+    }
+}
+
+/// The reply to a message that is asked at a moment, in seconds since 1970-01-01 UTC.
+///
+/// Errors: lack of memory outside of the manager, which then has not changed.
+fn reply_to<A: Allocator + Copy>(
+    alloc: A,
+    manager: &mut Manager<A>,
+    ae: Ae,
+    moment: u64,
+    operation: &Operation<A>,
+    data_set: &[u8],
+) -> Result<Reply<A>, AllocError>
+    requires moment { IsMoment moment }
+    ensures replies { IfOk result (λ reply. Replies manager.old.settings manager.old.history ae moment operation.now data_set.now reply manager.new.history) }
+    ensures nothing { OnErr result (manager.new.history ≡ manager.old.history) }
+    ensures settings { manager.new.settings ≡ manager.old.settings }
+{
+    match ask_of(alloc, operation, data_set, manager.offset()) {
+        Ok(ask) => Ok(manager.call(ae, moment, ask)),
+        Err(Unasked::Refused(status)) => Ok(Reply::Status(status)),
+        Err(Unasked::Memory) => Err(AllocError),
+    }
+}
+
+/// The title of who holds the step that an instance is.
+fn title_of<A: Allocator + Copy>(manager: &Manager<A>, instance: Option<Uid>) -> Option<Ae>
+    ensures { result ≡ title_of manager.now.settings manager.now.history instance }
+{
+    let step = StepUid::of(instance?)?;
+    let holder = manager.holder(step)?;
+    Some(holder.ae)
+}
+
+/// What a question is told at its moment.
+///
+/// Errors: lack of memory outside of the manager, which then has not changed.
+pub(crate) fn tell<A: Allocator + Copy>(
+    alloc: A,
+    manager: &mut Manager<A>,
+    asked: &Asked<A>,
+) -> Result<Told<A>, AllocError>
+    ensures tells { IfOk result (λ told. Tells manager.old.settings manager.old.history asked.now told manager.new.history) }
+    ensures nothing { OnErr result (manager.new.history ≡ manager.old.history) }
+    ensures settings { manager.new.settings ≡ manager.old.settings }
+{
+    match &asked.question {
+        Question::Message(operation, data_set) => {
+            let reply = reply_to(alloc, manager, asked.ae, asked.moment, operation, data_set)?;
+            Ok(Told::Replied(reply))
+        }
+        Question::Sweep => {
+            let reply = manager.call(asked.ae, asked.moment, Ask::Do(Request::Sweep));
+            Ok(Told::Replied(reply))
+        }
+        Question::Pending(max) => {
+            let reply = manager.call(asked.ae, asked.moment, Ask::Pending { max: *max });
+            Ok(Told::Replied(reply))
+        }
+        Question::Acknowledge(upto) => {
+            let request = Request::Ack { upto: *upto };
+            let reply = manager.call(asked.ae, asked.moment, Ask::Do(request));
+            Ok(Told::Replied(reply))
+        }
+        Question::Watches => Ok(Told::Watched(manager.watches(asked.ae)?)),
+        Question::Held => Ok(Told::Steps(manager.held()?)),
+        Question::Holder(instance) => Ok(Told::Holder(title_of(manager, *instance))),
+    }
+}

@@ -1,7 +1,0 @@
-use Rattle.ups_session.proofs.Accepting.{accepting}
-use Rattle.ups_session.proofs.live.Live.request.Goals as goal
-
-pub answer-requires : goal.answer-requires
-answer-requires g c =
-    let (bytes, spells) = c.requires.spelled in
-    record { accepting = accepting c.args.config.now.ae c.args.request.now c.in-Ok.outcome c.in-Ok.ensures.outcome (c.in-Ok.ensures.fits bytes spells) }

@@ -1,0 +1,76 @@
+-- How the program's types are seen: an association, an effect, the outcome of a request.
+use Rattle.std.specs.Prelude.{◌≤◌, List, [], Option, None, Some}
+use Rattle.std.specs.List.{AllByRecursion}
+use Rattle.std.specs.Option.{option_map}
+use Rattle.ups_pdu.specs.declared.pdu.Pdu.{Pdu}
+use Rattle.ups_pdu.specs.declared.pdu.Pdu.TheVariants.{AssociateAc}
+use Rattle.ups_pdu.specs.Fits.{Fits}
+use Rattle.ups_assoc.specs.declared.negotiating.Outcome.{Outcome}
+use Rattle.ups_assoc.specs.declared.negotiating.Outcome.TheVariants.{Accept, Reject}
+use Rattle.ups_session.specs.declared.dispatch.Dispatch.{Dispatch}
+use Rattle.ups_session.specs.declared.dispatch.Dispatch.TheVariants.{Answer, Question}
+use Rattle.ups_session.specs.declared.effect.Effect.{Effect}
+use Rattle.ups_session.specs.declared.effect.Effect.TheVariants.{Send, Call}
+use Rattle.ups_session.specs.declared.effect.AwaitedRequest.{AwaitedRequest}
+use Rattle.ups_session.specs.declared.association.Established.{Established}
+use Rattle.ups_session.specs.declared.association.Association.{Association}
+use Rattle.ups_session.specs.declared.association.Parameters.{Parameters}
+use Rattle.ups_session.specs.Association.{ParametersView, EstablishedView, AssociationView}
+use Rattle.ups_session.specs.Dispatch.{DispatchView, answered, asking, AwaitedRequestView}
+use Rattle.ups_session.specs.Acceptor.{ReactionOf, MessageEffect}
+
+-- the negotiated parameters, the established association, and the association
+abbrev pub parameters_view : {A : Type 0} → Parameters A → ParametersView
+parameters_view parameters = record { ae = parameters.ae; contexts = parameters.contexts; max = parameters.max }
+
+abbrev pub established_view : {A : Type 0} → Established A → EstablishedView A
+established_view established = record { parameters = parameters_view established.parameters; assembler = established.assembler }
+
+abbrev pub association_view : {A : Type 0} → Association A → AssociationView A
+association_view association = record { state = association.state; established = option_map established_view association.established; ending = association.ending }
+
+-- the outcome of a request
+abbrev pub dispatch_view : {A : Type 0} → Dispatch A → DispatchView A
+dispatch_view (Answer status) = answered status
+dispatch_view (Question ask) = asking ask
+
+-- the request whose reply is awaited
+abbrev pub awaited_view : {A : Type 0} → AwaitedRequest A → AwaitedRequestView A
+awaited_view w = record { ae = w.ae; ask = w.ask; max = w.max; context = w.context; command = w.command }
+
+-- the PDUs that it sends, and the request whose reply it awaits
+abbrev pub said_by : {A : Type 0} → Effect A → List (Pdu A)
+said_by (Send said) = said.items
+said_by (Call waiting) = []
+
+abbrev pub awaited_by : {A : Type 0} → Effect A → Option (AwaitedRequestView A)
+awaited_by (Send said) = None
+awaited_by (Call waiting) = Some (awaited_view waiting)
+
+-- the reaction of a session with this effect
+abbrev pub reaction_of : {A : Type 0} → AssociationView A → Effect A → ReactionOf A
+reaction_of association effect = record { association = association; send = said_by effect; waiting = awaited_by effect }
+
+-- the effect of a message
+abbrev pub message_effect : {A : Type 0} → Option (Effect A) → MessageEffect A
+message_effect None = None
+message_effect (Some effect) = Some (said_by effect, awaited_by effect)
+
+-- each PDU that it sends, or will send, can be written
+abbrev pub IsSendable : {A : Type 0} → Effect A → Type 0
+IsSendable (Send said) = AllByRecursion (λ p. Fits p) said.items
+IsSendable (Call waiting) = 8 ≤ waiting.max
+
+abbrev pub AreSendable : {A : Type 0} → Option (Effect A) → Type 0
+AreSendable None = Unit {0}
+AreSendable (Some effect) = IsSendable effect
+
+-- the peer takes PDUs of eight bytes at least
+abbrev pub IsRoomy : {A : Type 0} → Option (Established A) → Type 0
+IsRoomy None = Unit {0}
+IsRoomy (Some established) = 8 ≤ established.parameters.max
+
+-- an acceptance can be written, and the peer takes PDUs of eight bytes at least
+abbrev pub IsAccepting : {A : Type 0} → Outcome A → Type 0
+IsAccepting (Accept a) = Fits (AssociateAc a.ac) × (8 ≤ a.max)
+IsAccepting (Reject r) = Unit {0}

@@ -1,0 +1,244 @@
+//! PDUs read from a reader and written to a writer.
+
+ghost use Rattle.std.specs.Prelude.{◌≡◌, ℕ, List, ◌++◌, ◌<◌, ◌≤◌, false, true, length, take, ◌≢◌, ◌⊎◌, Ok, Err, ◌+◌, ◌^◌, [], IfOk, IfErr, MatchResult, ◌∷◌};
+ghost use Rattle.std.specs.Io.KnownBytes.{Appends, Consumes};
+ghost use Rattle.ups_session.specs.WatchedIo.{HasEnded};
+ghost use Rattle.ups_session.specs.declared.watched_io.LastRead.TheVariants as last_reads;
+ghost use Rattle.ups_session.specs.Tells.{IsAnnounced};
+ghost use Rattle.ups_session.specs.Wire.{Sent};
+ghost use Rattle.ups_pdu.specs.declared.kind.PduKind.{PduKind};
+ghost use Rattle.ups_pdu.specs.Header.{IsHeader, code, limit};
+ghost use Rattle.ups_session.specs.Reading.{IsRead};
+ghost use Rattle.ups_session.specs.declared.pdu_io.PduRead.TheVariants.{Bad, Cut, Failed};
+ghost use Rattle.ups_session.specs.declared.fault.SessionFault.TheVariants.{Memory};
+ghost use Rattle.std.specs.List.{AllByRecursion};
+ghost use Rattle.ups_pdu.specs.Fits.{Fits};
+ghost use Rattle.ups_session.specs.Visits.{SendsPdus};
+ghost use Rattle.ups_pdu.specs.declared.fault.PduFault.TheVariants as faults;
+
+use crate::fault::SessionFault;
+use crate::gate::Gate;
+use crate::watched_io::{WatchedReader, WatchedWriter};
+use std::alloc::Allocator;
+use std::io::{Read, Write};
+use ups_pdu::{Pdu, PduFault, body_len, read_pdu, write_pdu};
+
+/// How far a buffer was filled, and whether the reader failed.
+#[derive(Clone, Copy, Debug)]
+pub(crate) struct Filled {
+    pub count: usize,
+    pub failed: bool,
+}
+
+/// Fills a buffer from an index on, until it is full or the reader ends or fails.
+pub(crate) fn fill<R: Read>(reader: &mut WatchedReader<R>, buf: &mut [u8], from: usize) -> Filled
+    requires { from ≤ length buf.old }
+    ensures within { (from ≤ result.count) × (result.count ≤ length buf.new) }
+    ensures bytes { (input : List ℕ) × Consumes reader.old.left reader.new.left input
+        × (take result.count buf.new ≡ take from buf.old ++ input) }
+    ensures end { result.count < length buf.new → result.failed ≡ false → HasEnded reader.new }
+    ensures failed { result.failed ≡ true → reader.new.last ≡ last_reads.Failed }
+{
+    let mut at = from;
+    while at < buf.len() {
+        match reader.read(&mut buf[at..]) {
+            Ok(0) => return Filled {
+                count: at,
+                failed: false,
+            },
+            Ok(n) => at += n,
+            Err(_) => return Filled {
+                count: at,
+                failed: true,
+            },
+        }
+    }
+    Filled {
+        count: at,
+        failed: false,
+    }
+}
+
+/// Writes bytes for which the gate was called just before. If a write fails, a beginning of them was written.
+///
+/// Errors: a failed write.
+pub(crate) fn write_announced<W: Write, G: Gate>(
+    writer: &mut WatchedWriter<W>,
+    gate: &G,
+    bytes: &[u8],
+) -> Result<(), SessionFault>
+    requires { IsAnnounced (G.told gate.now) }
+    ensures { (sent : List ℕ) × Appends writer.old.written writer.new.written sent × Sent bytes.now sent writer.new.failed result }
+{
+    let mut rest = bytes;
+    while !rest.is_empty() {
+        match writer.write(rest) {
+            Ok(n) => rest = &rest[n..],
+            Err(_) => return Err(SessionFault::Write),
+        }
+    }
+    Ok(())
+}
+
+/// The length of a PDU's header, in bytes (PS3.8 section 9.3.1).
+const HEADER_LENGTH: usize = 6;
+
+/// The outcome of reading one PDU.
+#[derive(Drop)]
+pub(crate) enum PduRead<A: Allocator + Copy> {
+    /// A PDU.
+    Pdu(Pdu<A>),
+    /// Bytes that begin no PDU, whatever follows.
+    Bad(PduFault),
+    /// The input ended before a PDU.
+    Closed,
+    /// The input ended inside a PDU.
+    Cut,
+    /// A read failed before the end of a PDU.
+    Failed,
+}
+
+/// The outcome of reading a header or a body that did not come whole.
+fn cut_off<A: Allocator + Copy>(filled: Filled) -> PduRead<A>
+    ensures failed { filled.failed ≡ true → result ≡ Failed }
+    ensures ended { filled.failed ≡ false → result ≡ Cut }
+{
+    if filled.failed {
+        PduRead::Failed
+    } else {
+        PduRead::Cut
+    }
+}
+
+/// The outcome of reading bytes that are not a PDU.
+///
+/// Errors: out of memory.
+fn no_pdu<A: Allocator + Copy>(fault: PduFault) -> Result<PduRead<A>, SessionFault>
+    ensures { ((fault ≡ faults.Memory) × (result ≡ Err Memory)) ⊎ ((fault ≢ faults.Memory) × (result ≡ Ok (Bad fault))) }
+{
+    match fault {
+        PduFault::Memory => Err(SessionFault::Memory),
+        _ => Ok(PduRead::Bad(fault)),
+    }
+}
+
+/// A buffer with a header, and room for the body that it announces.
+///
+/// Errors: out of memory.
+fn buffer<A: Allocator + Copy>(
+    alloc: A,
+    header: &[u8],
+    len: usize,
+) -> Result<Vec<u8, A>, SessionFault>
+    requires six { length header.now ≡ 6 }
+    requires len { len < 2 ^ 32 }
+    ensures front { IfOk result (λ v. take 6 v.items ≡ header.now) }
+    ensures len { IfOk result (λ v. length v.items ≡ 6 + len) }
+    ensures memory { IfErr result (λ e. e ≡ Memory) }
+{
+    let mut bytes = Vec::new(alloc);
+    bytes.extend_from_slice(header)?;
+    bytes.resize(HEADER_LENGTH + len, 0)?;
+    Ok(bytes)
+}
+
+/// Reads the body that a header announces, and not a byte more.
+///
+/// Errors: out of memory.
+fn read_body<A: Allocator + Copy, R: Read>(
+    alloc: A,
+    reader: &mut WatchedReader<R>,
+    header: &[u8],
+    len: usize,
+) -> Result<PduRead<A>, SessionFault>
+    requires six { length header.now ≡ 6 }
+    requires header { (kind : PduKind) × (rest : List ℕ) × IsHeader header.now (code kind) len rest × (len ≤ limit kind) }
+    requires len { len < 2 ^ 32 }
+    ensures { (body : List ℕ) × Consumes reader.old.left reader.new.left body × IsRead reader.new (header.now ++ body) result }
+{
+    let mut bytes = buffer(alloc, header, len)?;
+    let whole = fill(reader, bytes.as_mut_slice(), HEADER_LENGTH);
+    if whole.count < bytes.len() {
+        return Ok(cut_off(whole));
+    }
+    match read_pdu(alloc, bytes.as_slice()) {
+        Ok((pdu, _)) => Ok(PduRead::Pdu(pdu)),
+        Err(fault) => no_pdu(fault),
+    }
+}
+
+/// Reads the header of a PDU.
+///
+/// Errors: the outcome where no header came.
+fn read_header<A: Allocator + Copy, R: Read>(
+    reader: &mut WatchedReader<R>,
+) -> Result<[u8; 6], PduRead<A>>
+    ensures { (input : List ℕ) × Consumes reader.old.left reader.new.left input
+        × MatchResult result (λ header. (header ≡ input) × (length input ≡ 6)) (λ got. IsRead reader.new input (Ok got)) }
+{
+    let mut header = [0; HEADER_LENGTH];
+    let front = fill(reader, &mut header, 0);
+    if front.count == 0 && !front.failed {
+        return Err(PduRead::Closed);
+    }
+    if front.count < HEADER_LENGTH {
+        return Err(cut_off(front));
+    }
+    Ok(header)
+}
+
+/// Reads one PDU, and not a byte more than its header and its length announce.
+///
+/// Errors: out of memory.
+pub(crate) fn read_one<A: Allocator + Copy, R: Read>(
+    alloc: A,
+    reader: &mut WatchedReader<R>,
+) -> Result<PduRead<A>, SessionFault>
+    ensures { (input : List ℕ) × Consumes reader.old.left reader.new.left input × IsRead reader.new input result }
+{
+    let header = match read_header(reader) {
+        Ok(header) => header,
+        Err(got) => return Ok(got),
+    };
+    match body_len(&header) {
+        Ok(len) => read_body(alloc, reader, &header, len),
+        Err(fault) => Ok(PduRead::Bad(fault)),
+    }
+}
+
+/// Sends one PDU, between two calls of the gate.
+///
+/// Errors: a failed write, or out of memory; a beginning of the bytes was then written.
+fn send_pdu<A: Allocator + Copy, W: Write, G: Gate>(
+    alloc: A,
+    writer: &mut WatchedWriter<W>,
+    gate: &mut G,
+    pdu: &Pdu<A>,
+) -> Result<(), SessionFault>
+    requires { Fits pdu.now }
+    ensures { SendsPdus (pdu.now ∷ []) writer.old writer.new (G.told gate.old) (G.told gate.new) result }
+{
+    let bytes = write_pdu(alloc, pdu)?;
+    gate.before_write();
+    let sent = write_announced(writer, gate, &bytes);
+    gate.after_write();
+    sent
+}
+
+/// Sends PDUs, each written by itself.
+///
+/// Errors: a failed write, or out of memory; a beginning of the bytes was then written.
+pub(crate) fn send_pdus<A: Allocator + Copy, W: Write, G: Gate>(
+    alloc: A,
+    writer: &mut WatchedWriter<W>,
+    gate: &mut G,
+    said: &[Pdu<A>],
+) -> Result<(), SessionFault>
+    requires { AllByRecursion (λ p. Fits p) said.now }
+    ensures { SendsPdus said.now writer.old writer.new (G.told gate.old) (G.told gate.new) result }
+{
+    for pdu in said {
+        send_pdu(alloc, writer, gate, pdu)?;
+    }
+    Ok(())
+}

@@ -1,0 +1,201 @@
+//! Responses: built as PDUs, and sent.
+
+ghost use Rattle.std.specs.Prelude.{◌≡◌, ◌≤◌, ◌<◌, ◌^◌, ◌⊎◌, Some, IfOk, IfErr, length, option_copied};
+ghost use Rattle.std.specs.List.{AllByRecursion, flat_map};
+ghost use Rattle.ups_pdu.specs.Fits.{Fits};
+ghost use Rattle.ups_assoc.specs.Cutting.{pieces};
+ghost use Rattle.ups_dataset.specs.declared.syntax.TransferSyntax.TheVariants.{Explicit};
+ghost use Rattle.ups_dataset.specs.Written.{written};
+ghost use Rattle.ups_life.specs.Statuses.{code};
+ghost use Rattle.ups_session.specs.declared.fault.SessionFault.TheVariants.{Memory};
+ghost use Rattle.ups_session.specs.Responses.{response_bytes, bare_response, set_response, response};
+ghost use Rattle.ups_life.specs.declared.status.Status.TheVariants.{Pending};
+ghost use Rattle.ups_manager.specs.Law.{SmallReply};
+ghost use Rattle.ups_session.specs.Visits.{SendsPdus};
+
+use crate::fault::SessionFault;
+use crate::gate::Gate;
+use crate::pdu_io::send_pdus;
+use crate::watched_io::WatchedWriter;
+use std::alloc::{AllocError, Allocator};
+use std::io::Write;
+use ups_assoc::{AcceptedContext, cut};
+use ups_dataset::{DataSet, write_set};
+use ups_dimse::{Command, RequestCommand, write_command};
+use ups_life::{Reply, Status};
+use ups_pdu::{Pdu, RegisteredUid};
+
+/// Encodes the command set of a response.
+///
+/// Errors: out of memory.
+fn response_bytes<A: Allocator + Copy>(
+    alloc: A,
+    request: &RequestCommand<A>,
+    status: Status,
+    has_data_set: bool,
+) -> Result<Vec<u8, A>, AllocError>
+    ensures { IfOk result (λ v. v.items ≡ response_bytes request.now (code status) has_data_set) }
+{
+    let push = RegisteredUid::UpsPush.uid();
+    let response = request.answered(push, status.code(), has_data_set);
+    write_command(alloc, &Command::Response(response))
+}
+
+/// Cuts a message into PDUs of at most `max` bytes.
+///
+/// Errors: out of memory.
+fn pieces<A: Allocator + Copy>(
+    alloc: A,
+    max: u32,
+    context: u8,
+    command: &[u8],
+    body: Option<&[u8]>,
+) -> Result<Vec<Pdu<A>, A>, SessionFault>
+    requires { 8 ≤ max }
+    ensures pieces { IfOk result (λ v. v.items ≡ pieces context command.now (option_copied body.entry) max) }
+    ensures writable { IfOk result (λ v. AllByRecursion (λ p. Fits p) v.items) }
+    ensures memory { IfErr result (λ e. e ≡ Memory) }
+{
+    match cut(alloc, context, command, body, max) {
+        Ok(pdus) => Ok(pdus),
+        Err(_) => Err(SessionFault::Memory),
+    }
+}
+
+/// A response without a data set, in PDUs of at most `max` bytes.
+///
+/// Errors: out of memory.
+pub(crate) fn bare_response<A: Allocator + Copy>(
+    alloc: A,
+    max: u32,
+    context: &AcceptedContext,
+    request: &RequestCommand<A>,
+    status: Status,
+) -> Result<Vec<Pdu<A>, A>, SessionFault>
+    requires max { 8 ≤ max }
+    ensures response { IfOk result (λ v. v.items ≡ bare_response max context.now request.now status) }
+    ensures writable { IfOk result (λ v. AllByRecursion (λ p. Fits p) v.items) }
+    ensures memory { IfErr result (λ e. e ≡ Memory) }
+{
+    let command = response_bytes(alloc, request, status, false)?;
+    pieces(alloc, max, context.id, &command, None)
+}
+
+/// A response with a data set, in PDUs of at most `max` bytes.
+///
+/// Errors: out of memory.
+pub(crate) fn set_response<A: Allocator + Copy>(
+    alloc: A,
+    max: u32,
+    context: &AcceptedContext,
+    request: &RequestCommand<A>,
+    status: Status,
+    set: &DataSet<A>,
+) -> Result<Vec<Pdu<A>, A>, SessionFault>
+    requires max { 8 ≤ max }
+    requires short { length (written Explicit set.now) < 2 ^ 32 }
+    ensures response { IfOk result (λ v. v.items ≡ set_response max context.now request.now status set.now) }
+    ensures writable { IfOk result (λ v. AllByRecursion (λ p. Fits p) v.items) }
+    ensures memory { IfErr result (λ e. e ≡ Memory) }
+{
+    let command = response_bytes(alloc, request, status, true)?;
+    let body = write_set(alloc, context.transfer_syntax, set)?;
+    pieces(alloc, max, context.id, &command, Some(body.as_slice()))
+}
+
+/// Sends a response without a data set.
+///
+/// Errors: a failed write, or out of memory; a beginning of the bytes was then written.
+fn send_status<A: Allocator + Copy, W: Write, G: Gate>(
+    alloc: A,
+    writer: &mut WatchedWriter<W>,
+    gate: &mut G,
+    max: u32,
+    context: &AcceptedContext,
+    request: &RequestCommand<A>,
+    status: Status,
+) -> Result<(), SessionFault>
+    requires max { 8 ≤ max }
+    ensures { SendsPdus (bare_response max context.now request.now status) writer.old writer.new (G.told gate.old) (G.told gate.new) result }
+{
+    let said = bare_response(alloc, max, context, request, status)?;
+    send_pdus(alloc, writer, gate, said.as_slice())
+}
+
+/// Sends one match of a query: a response of status Pending, with its data set. A match of 2^32 bytes or more counts as
+/// out of memory.
+///
+/// Errors: a failed write, or out of memory; a beginning of the bytes was then written.
+fn send_match<A: Allocator + Copy, W: Write, G: Gate>(
+    alloc: A,
+    writer: &mut WatchedWriter<W>,
+    gate: &mut G,
+    max: u32,
+    context: &AcceptedContext,
+    request: &RequestCommand<A>,
+    set: &DataSet<A>,
+) -> Result<(), SessionFault>
+    requires max { 8 ≤ max }
+    ensures { SendsPdus (set_response max context.now request.now Pending set.now) writer.old writer.new (G.told gate.old) (G.told gate.new) result }
+{
+    if set.size() > u64::from(u32::MAX) {
+        return Err(SessionFault::Memory);
+    }
+    let said = set_response(alloc, max, context, request, Status::Pending, set)?;
+    send_pdus(alloc, writer, gate, said.as_slice())
+}
+
+/// Sends the matches of a query, one after another; memory is taken for one at a time.
+///
+/// Errors: a failed write, or out of memory; a beginning of the bytes was then written.
+fn send_matches<A: Allocator + Copy, W: Write, G: Gate>(
+    alloc: A,
+    writer: &mut WatchedWriter<W>,
+    gate: &mut G,
+    max: u32,
+    context: &AcceptedContext,
+    request: &RequestCommand<A>,
+    sets: &[DataSet<A>],
+) -> Result<(), SessionFault>
+    requires max { 8 ≤ max }
+    ensures { SendsPdus (flat_map (set_response max context.now request.now Pending) sets.now) writer.old writer.new (G.told gate.old) (G.told gate.new) result }
+{
+    for set in sets {
+        send_match(alloc, writer, gate, max, context, request, set)?;
+    }
+    Ok(())
+}
+
+/// Sends the reply of the service to a request, in PDUs of at most `max` bytes.
+///
+/// Errors: a failed write, or out of memory; a beginning of the bytes was then written.
+pub(crate) fn send_reply<A: Allocator + Copy, W: Write, G: Gate>(
+    alloc: A,
+    writer: &mut WatchedWriter<W>,
+    gate: &mut G,
+    max: u32,
+    context: &AcceptedContext,
+    request: &RequestCommand<A>,
+    reply: &Reply<A>,
+) -> Result<(), SessionFault>
+    requires max { 8 ≤ max }
+    requires small { SmallReply reply.now }
+    ensures { SendsPdus (response max context.now request.now reply.now) writer.old writer.new (G.told gate.old) (G.told gate.new) result }
+{
+    match reply {
+        Reply::Status(status) => {
+            send_status(alloc, writer, gate, max, context, request, *status)
+        }
+        Reply::Swept(_) | Reply::AckAhead | Reply::AckStale | Reply::Reports(_) => {
+            send_status(alloc, writer, gate, max, context, request, Status::Success)
+        }
+        Reply::Set(status, set) => {
+            let said = set_response(alloc, max, context, request, *status, set)?;
+            send_pdus(alloc, writer, gate, said.as_slice())
+        }
+        Reply::Sets(sets) => {
+            send_matches(alloc, writer, gate, max, context, request, sets.as_slice())?;
+            send_status(alloc, writer, gate, max, context, request, Status::Success)
+        }
+    }
+}

@@ -1,0 +1,8 @@
+pub mod Crosses
+mod Sums
+mod Prefixes
+mod Steps
+mod Turns
+mod Meets
+mod Opens
+mod Closes

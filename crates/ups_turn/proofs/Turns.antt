@@ -1,0 +1,135 @@
+-- What the steps of a turn come to, one after the other.
+use Rattle.std.proofs.Common.{inl, inr, ◌≡◌, ℕ, ◌+◌, Bool, true, false, nat_lt, List, [], ◌∷◌, ◌++◌, length, Some, None, refl, sym, ap, ◌∙◌, subst}
+use Rattle.std.specs.Prelude.{Option, MatchBool, ◌≢◌}
+use Rattle.std.proofs.lemmas.List.{append-nil}
+use Rattle.std.proofs.lemmas.List.Elements.{All-nil, All-head, All-from_recursion}
+use Rattle.atomic_table.specs.Table.{rest}
+use Rattle.atomic_table.specs.Seated.{TableId}
+use Rattle.ups_life.specs.declared.entry.Entry.{Entry}
+use Rattle.ups_life.specs.declared.request.Ask.{Ask}
+use Rattle.ups_life.specs.declared.request.Reply.{Reply}
+use Rattle.ups_life.specs.Settings.{Settings}
+use Rattle.ups_manager.specs.State.{State}
+use Rattle.ups_manager.specs.Law.{callers, Serves as Law, Answers, entered, is_legal}
+use Rattle.ups_manager.proofs.Legality.{entered_numbered, lacking_enters_nothing}
+use Rattle.ups_turn.specs.Rule.{Behind, state}
+use Rattle.ups_turn.specs.Plays.{Knows, with_ticket, at_turn, served, TakesTurn, Took, MayGive, MayDecide, MayServe, seeing, history_in}
+use Rattle.ups_turn.specs.Pass.{Standing, resting, most_calls, IsServed, IsSpent, IsCall}
+
+module _ {A : Type 0} where
+  -- the value that was taken last
+  held_of : List (ℕ × Option (State A)) → Option (State A)
+  held_of [] = None
+  held_of (x ∷ xs) = x.1
+
+  pub in_hands : (drawn waited : Knows A) → TakesTurn drawn waited → (x : Option (State A)) × (waited.1 ≡ (0, x) ∷ rest waited.1)
+  in_hands drawn waited turn =
+      let hands = ap (λ (w : Knows A). w.1) turn.after_is in
+      let x : Option (State A) = Some (state drawn.0.settings turn.log) in
+      (x, hands ∙ ap (λ (r : List (ℕ × Option (State A))). (0, x) ∷ r) (sym (ap rest hands)))
+
+  some_same : {x y : State A} → Some x ≡ Some y → x ≡ y
+  some_same e = cc
+
+  pub took : (me drawn waited after : Knows A) (t : ℕ) (found : Option (State A)) (m : State A) → drawn ≡ (with_ticket me.0 t, me.1) → TakesTurn drawn waited → waited.1 ≡ (0, found) ∷ rest waited.1 → found ≡ Some m → after ≡ (waited.0, (0, None) ∷ rest waited.1)
+      → Took me after m
+  unfolding held_of
+  took me drawn waited after t found m drawn_is turn slot some_is after_is =
+      let now = subst (λ (d : Knows A). TakesTurn d waited) drawn_is turn in
+      let hands = ap (λ (w : Knows A). w.1) now.after_is in
+      record {
+        ticket = t;
+        log = now.log;
+        behind = now.behind;
+        legal = now.legal;
+        manager_is = some_same (sym some_is ∙ ap held_of (sym slot ∙ hands));
+        after_is = after_is ∙ ap (λ (w : Knows A). (w.0, (0, None) ∷ rest w.1)) now.after_is;
+      }
+
+  -- the turn of a pass that rested, in which the manager answered
+  module _ (settings : Settings) (number calls : ℕ) (seen : List (Entry A)) (ae : List ℕ) (moment : ℕ) (ask : Ask A) (reply : Reply A) (me after : Knows A) (m n : State A) (rested : me ≡ (resting settings number calls seen, [])) (turn : Took me after m)
+      (history_is : n.history ≡ m.history ++ entered number ae moment ask reply) (settings_is : n.settings ≡ m.settings) where
+    pub at_rest : Took (resting settings number calls seen, []) after m
+    at_rest = subst (λ (x : Knows A). Took x after m) rested turn
+
+    pub manager_before : m ≡ state settings at_rest.log
+    manager_before = at_rest.manager_is
+
+    pub manager_after : n ≡ state settings (at_rest.log ++ entered number ae moment ask reply)
+    manager_after = λ i. state ((settings_is ∙ ap (λ (x : State A). x.settings) manager_before) i) ((history_is ∙ ap (λ (x : State A). x.history ++ entered number ae moment ask reply) manager_before) i)
+
+    pub may_give : (count : ℕ) → length (entered number ae moment ask reply) ≡ count → is_legal n.settings n.history → MayGive after n count
+    may_give count counted legal = subst (λ (a : Knows A). MayGive a n count) (sym at_rest.after_is) (record {
+      number = number;
+      seen = at_rest.log;
+      added = entered number ae moment ask reply;
+      turn = refl;
+      parts = refl;
+      holds = refl;
+      manager_is = manager_after;
+      counted = counted;
+      own = All-from_recursion (λ (e : Entry A). e.caller ≡ number) (entered number ae moment ask reply) (entered_numbered number ae moment ask reply);
+      legal = subst (λ (x : State A). is_legal x.settings x.history) manager_after legal;
+    })
+
+    pub rests_again : (last : Knows A) → last ≡ (served (at_turn after.0 true n.history), []) → last ≡ (resting settings number (calls + 1) n.history, [])
+    rests_again last is = is ∙ ap (λ (a : Knows A). (served (at_turn a.0 true n.history), [])) at_rest.after_is
+
+    pub answered : (table same : TableId) → same ≡ table → Answers m.settings m.history number ae moment ask reply
+        → IsServed (record { table = table; settings = settings; number = number; calls = calls; seen = seen }) ae moment ask reply (record { table = same; settings = settings; number = number; calls = calls + 1; seen = n.history })
+    answered table same here answers =
+        let b = All-head (Behind at_rest.log) record { number = number; seen = seen } [] at_rest.behind in record {
+          same = (here, refl, refl);
+          calls = refl;
+          between = b.0;
+          others = b.2;
+          legal = subst (is_legal settings) (sym b.1) at_rest.legal;
+          answers = subst (λ (h : List (Entry A)). Answers settings h number ae moment ask reply) (sym b.1) (subst (λ (x : State A). Answers x.settings x.history number ae moment ask reply) manager_before answers);
+          seen = ap (λ (x : State A). x.history) manager_after ∙ ap (λ (h : List (Entry A)). h ++ entered number ae moment ask reply) (sym b.1);
+        }
+
+    pub legal_again : is_legal n.settings n.history → is_legal settings n.history
+    legal_again legal = subst (λ l. is_legal l n.history) (settings_is ∙ ap (λ (x : State A). x.settings) manager_before) legal
+
+  -- the manager was given back into the seat's hands
+  pub may_decide : (me given : Knows A) (m : State A) (count : ℕ) → MayGive me m count → given ≡ (me.0, (0, Some m) ∷ rest me.1) → MayDecide given count
+  may_decide me given m count may is = subst (λ (g : Knows A). MayDecide g count) (sym is) (record {
+    number = may.number;
+    seen = may.seen;
+    added = may.added;
+    has = record { turn = may.turn; parts = may.parts; holds = λ i. (0, Some (may.manager_is i)) ∷ rest (may.holds i) };
+    counted = may.counted;
+    own = may.own;
+    legal = may.legal;
+  })
+
+  -- and then it was decided
+  pub may_serve : (me given last : Knows A) (m : State A) (count : ℕ) → MayGive me m count → given ≡ (me.0, (0, Some m) ∷ rest me.1) → last ≡ (at_turn given.0 true (history_in given.1), given.1) → MayServe last
+  may_serve me given last m count may is decided =
+      let now : last ≡ (at_turn me.0 true m.history, (0, Some m) ∷ rest me.1) = decided ∙ ap (λ (g : Knows A). (at_turn g.0 true (history_in g.1), g.1)) is in
+      let whole : m ≡ state me.0.settings m.history = may.manager_is ∙ ap (state me.0.settings) (sym (ap (λ (x : State A). x.history) may.manager_is)) in
+      subst (λ (g : Knows A). MayServe g) (sym now) (record { number = may.number; seen = m.history; has = record { turn = refl; parts = ap (seeing m.history) may.parts; holds = λ i. (0, Some (whole i)) ∷ rest (may.holds i) } })
+
+  -- each call of a pass is one of a service that callers share
+  pub call_serves : (old : Standing A) (ae : List ℕ) (moment : ℕ) (ask : Ask A) (reply : Reply A) (new : Standing A) → is_legal old.settings old.seen → IsCall old ae moment ask reply new
+      → (new.settings ≡ old.settings) × (new.number ≡ old.number) × (new.table ≡ old.table) × Law old.settings callers old.number old.seen ae moment ask reply new.seen
+  call_serves old ae moment ask reply new legal called = at (nat_lt old.calls most_calls) called
+    where
+      at : (b : Bool) → MatchBool b (IsServed old ae moment ask reply new) (IsSpent old ask reply new)
+          → (new.settings ≡ old.settings) × (new.number ≡ old.number) × (new.table ≡ old.table) × Law old.settings callers old.number old.seen ae moment ask reply new.seen
+      at true turn = (turn.same.1, turn.same.2, turn.same.0, (turn.between, turn.others, turn.legal, inl turn.answers, turn.seen))
+      at false spent =
+          let same = spent.1 in
+          let none = sym (append-nil old.seen) in
+          let nothing = lacking_enters_nothing old.number ae moment ask in (
+            ap (λ (p : Standing A). p.settings) same,
+            ap (λ (p : Standing A). p.number) same,
+            ap (λ (p : Standing A). p.table) same,
+            (
+              [],
+              All-nil (λ (e : Entry A). e.caller ≢ old.number),
+              subst (is_legal old.settings) none legal,
+              inr spent.0,
+              ap (λ (p : Standing A). p.seen) same ∙ (none ∙ (sym (append-nil (old.seen ++ [])) ∙ (λ i. (old.seen ++ []) ++ sym (ap (λ r. entered old.number ae moment ask r) spent.0 ∙ nothing) i))),
+            ),
+          )

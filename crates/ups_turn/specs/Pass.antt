@@ -1,0 +1,115 @@
+-- What a pass and a desk are seen as, and what one call, a meeting and the close of a desk promise.
+use Rattle.std.specs.Prelude.{◌≡◌, ◌≢◌, ℕ, zero, suc, ◌+◌, ◌^◌, nat_lt, nat_le, ◌&&◌, Bool, true, false, List, [], ◌∷◌, ◌++◌, All, None, MatchBool, ◌≤◌, ◌==◌, count_by}
+use Rattle.atomic_table.specs.Seated.{TableId}
+use Rattle.ups_life.specs.declared.entry.Entry.{Entry}
+use Rattle.ups_life.specs.declared.request.Ask.{Ask}
+use Rattle.ups_life.specs.declared.request.Reply.{Reply}
+use Rattle.ups_life.specs.declared.request.Reply.TheVariants.{Status as Answered}
+use Rattle.ups_life.specs.Settings.{Settings}
+use Rattle.ups_manager.specs.State.{State}
+use Rattle.ups_manager.specs.Law.{is_legal, Answers, entered, lacking}
+use Rattle.ups_turn.specs.declared.fault.OpenFault.{OpenFault}
+use Rattle.ups_turn.specs.declared.fault.OpenFault.TheVariants.{BadSeats, Memory}
+use Rattle.ups_turn.specs.declared.view.Part.{Part}
+use Rattle.ups_turn.specs.declared.view.View.{View}
+use Rattle.ups_turn.specs.Rule.{Behind, IsPrefix, IsPassNumber}
+use Rattle.ups_turn.specs.Plays.{longer}
+
+-- how a pass stands: at which desk, with which number, how many calls it has made, and the history that it has seen
+pub record Standing (A : Type 0) : Type 0 where
+  pub table : TableId
+  pub settings : Settings
+  pub number : ℕ
+  pub calls : ℕ
+  pub seen : List (Entry A)
+
+-- a desk: its table, how many passes it has, and the manager that it opened with
+pub record Opened (A : Type 0) : Type 0 where
+  pub table : TableId
+  pub seats : ℕ
+  pub opening : State A
+
+-- how many passes a desk may have, and how many calls a pass may make
+abbrev pub most_seats : ℕ
+most_seats = 1024
+
+abbrev pub most_calls : ℕ
+most_calls = 2 ^ 40
+
+-- so many passes a desk may have
+abbrev pub are_seats : ℕ → Bool
+are_seats seats = nat_le 1 seats && nat_le seats most_seats
+
+abbrev pub fault_of : Bool → OpenFault
+fault_of true = Memory
+fault_of false = BadSeats
+
+-- why a desk with so many seats does not open
+abbrev pub open_fault : ℕ → OpenFault
+open_fault seats = fault_of (are_seats seats)
+
+abbrev pub part : {A : Type 0} → ℕ → List (Entry A) → List (Part A)
+part number seen = record { number = number; seen = seen } ∷ []
+
+-- the view of the seat of a pass between its calls
+abbrev pub resting : {A : Type 0} → Settings → ℕ → ℕ → List (Entry A) → View A
+resting settings number calls seen = record { settings = settings; draws = calls; ticket = None; turn = false; parts = part number seen; notes = [] }
+
+abbrev pub seen_in : {A : Type 0} → List (Part A) → List (Entry A)
+seen_in [] = []
+seen_in (p ∷ ps) = p.seen
+
+abbrev pub IsShelf : TableId → TableId → Type 0
+IsShelf place table = (place ≡ table) × (table.words ≡ 3) × (table.slots ≡ 1)
+
+abbrev pub part_of : {A : Type 0} → Standing A → Part A
+part_of p = record { number = p.number; seen = p.seen }
+
+-- the pass is at its desk, with its number, as before
+abbrev pub SamePass : {A : Type 0} → Standing A → Standing A → Type 0
+SamePass old new = (new.table ≡ old.table) × (new.settings ≡ old.settings) × (new.number ≡ old.number)
+
+-- A call in its turn: others made a legal history of what the pass had seen. The reply is the one by that history, which the
+-- pass has seen afterwards, with the call's own request at its end where that was accepted.
+pub record IsServed {A : Type 0} (old : Standing A) (ae : List ℕ) (moment : ℕ) (ask : Ask A) (reply : Reply A) (new : Standing A) : Type 0 where
+  pub same : SamePass old new
+  pub calls : new.calls ≡ old.calls + 1
+  pub between : List (Entry A)
+  pub others : All (λ (e : Entry A). e.caller ≢ old.number) between
+  pub legal : is_legal old.settings (old.seen ++ between)
+  pub answers : Answers old.settings (old.seen ++ between) old.number ae moment ask reply
+  pub seen : new.seen ≡ (old.seen ++ between) ++ entered old.number ae moment ask reply
+
+-- A pass that has made as many calls as it may refuses each later one, and has seen no more.
+abbrev pub IsSpent : {A : Type 0} → Standing A → Ask A → Reply A → Standing A → Type 0
+IsSpent old ask reply new = (reply ≡ Answered (lacking ask)) × (new ≡ old)
+
+abbrev pub IsCall : {A : Type 0} → Standing A → List ℕ → ℕ → Ask A → Reply A → Standing A → Type 0
+IsCall old ae moment ask reply new = MatchBool (nat_lt old.calls most_calls) (IsServed old ae moment ask reply new) (IsSpent old ask reply new)
+
+-- a pass has learned what another has seen: where that is longer, it has seen it too, to which its own goes on by others'
+-- requests alone
+pub record Learns {A : Type 0} (old from new : Standing A) : Type 0 where
+  pub same : SamePass old new
+  pub calls : new.calls ≡ old.calls
+  pub seen : new.seen ≡ longer old.seen from.seen
+  pub behind : Behind new.seen (part_of old)
+  pub told : IsPrefix from.seen new.seen
+  pub legal : is_legal new.settings new.seen
+
+-- a pass that has made no call
+abbrev pub fresh : {A : Type 0} → TableId → State A → ℕ → Standing A
+fresh table m k = record { table = table; settings = m.settings; number = k; calls = 0; seen = m.history }
+
+-- n passes from the number k on that have made no call
+abbrev pub passes_from : {A : Type 0} → TableId → State A → ℕ → ℕ → List (Standing A)
+passes_from table m k zero = []
+passes_from table m k (suc n) = fresh table m k ∷ passes_from table m (suc k) n
+
+-- what each pass has seen goes on to the history by requests of others alone: so its own are all there
+abbrev pub EndsFor : {A : Type 0} → List (Entry A) → List (Standing A) → Type 0
+EndsFor history passes = All (λ p. Behind history (part_of p)) passes
+
+-- the numbers of passes go from 1 to that of the seats, and no two passes have the same
+abbrev pub HaveNumbers : {A : Type 0} → ℕ → List (Standing A) → Type 0
+HaveNumbers seats passes = All (λ p. IsPassNumber seats p.number) passes × ((k : ℕ) → count_by (λ p. p.number == k) passes ≤ 1)

@@ -1,0 +1,116 @@
+-- What holds of a desk's table between any two steps, whichever threads take them.
+-- The table has three words: how many requests are entered, the next ticket, and the ticket whose turn it is. Its one slot
+-- has the manager, or nothing while a pass works with it.
+use Rattle.std.specs.Prelude.{◌≡◌, ◌≢◌, ◌⊎◌, ℕ, zero, suc, ◌*◌, ◌^◌, ◌<◌, ◌≤◌, Bool, true, false, ◌==◌, ◌&&◌, nat_lt, nat_le, List, [], ◌∷◌, ◌++◌, length, All, sum_by, count_by, Option, Some, None, if◌then◌else◌}
+use mathlib.Core.Option as maybe
+use lib.ListN.{get_elem?}
+use Rattle.atomic_table.specs.Table.{State as Table}
+use Rattle.ups_life.specs.declared.entry.Entry.{Entry}
+use Rattle.ups_life.specs.Settings.{Settings}
+use Rattle.ups_manager.specs.State.{State}
+use Rattle.ups_manager.specs.Law.{is_legal}
+use Rattle.ups_turn.specs.declared.view.Part.{Part}
+use Rattle.ups_turn.specs.declared.view.View.{View}
+use Rattle.ups_turn.specs.declared.view.Opening.{Opening}
+
+-- passes have the numbers from 1 to the number of seats
+abbrev pub IsPassNumber : ℕ → ℕ → Type 0
+IsPassNumber seats number = (1 ≤ number) × (number ≤ seats)
+
+-- after a history come requests of passes alone
+abbrev pub EnteredByPasses : {A : Type 0} → ℕ → List (Entry A) → List (Entry A) → Type 0
+EnteredByPasses {A} seats before log = (rest : List (Entry A)) × (before ++ rest ≡ log) × All (λ (e : Entry A). IsPassNumber seats e.caller) rest
+
+abbrev pub IsPrefix : {A : Type 0} → List (Entry A) → List (Entry A) → Type 0
+IsPrefix {A} seen log = (rest : List (Entry A)) × (seen ++ rest ≡ log)
+
+-- what a pass has seen goes on to the history by requests of other callers alone
+abbrev pub Behind : {A : Type 0} → List (Entry A) → Part A → Type 0
+Behind {A} log p = (rest : List (Entry A)) × (p.seen ++ rest ≡ log) × All (λ (e : Entry A). e.caller ≢ p.number) rest
+
+abbrev pub state : {A : Type 0} → Settings → List (Entry A) → State A
+state settings log = record { settings = settings; history = log }
+
+-- what was fixed at the start of the manager that the desk opened with
+abbrev pub settings_of : {A : Type 0} → Opening A → Settings
+settings_of o = o.manager.value.settings
+
+abbrev pub is_mine : ℕ → Option ℕ → Bool
+is_mine x None = false
+is_mine x (Some t) = t == x
+
+abbrev pub one_if : Bool → ℕ
+one_if b = if b then 1 else 0
+
+-- What views are counted by: who has the ticket x, who has the turn, how many tickets were drawn, for how many passes a seat
+-- stands, and how many of these have the number k.
+abbrev pub tickets : {A : Type 0} → ℕ → View A → ℕ
+tickets x v = one_if (is_mine x v.ticket)
+
+abbrev pub turns : {A : Type 0} → View A → ℕ
+turns v = one_if v.turn
+
+abbrev pub draws : {A : Type 0} → View A → ℕ
+draws v = v.draws
+
+abbrev pub passes : {A : Type 0} → View A → ℕ
+passes v = length v.parts
+
+abbrev pub numbered : {A : Type 0} → ℕ → View A → ℕ
+numbered {A} k v = count_by (λ (p : Part A). p.number == k) v.parts
+
+-- 1 where x is a ticket that was drawn and is not yet served
+abbrev pub between : ℕ → ℕ → ℕ → ℕ
+between x low high = one_if (nat_le low x && nat_lt x high)
+
+-- What one seat knows is true: each of its passes is behind the history by others' requests alone, and has seen all of it
+-- while it has the turn.
+pub record FitsView {A : Type 0} (o : Opening A) (log : List (Entry A)) (serving : ℕ) (v : View A) : Type 0 where
+  pub settings_is : 0 < length v.parts → v.settings ≡ settings_of o
+  pub numbers : All (λ (p : Part A). IsPassNumber o.seats p.number) v.parts
+  pub busy : v.turn ≡ true → 0 < length v.parts
+  pub behind : All (Behind log) v.parts
+  pub noted : All (λ x. IsPrefix x log) v.notes
+  pub turn_is : v.turn ≡ true → (v.ticket ≡ Some serving) × All (λ (p : Part A). p.seen ≡ log) v.parts
+  pub draws_few : v.draws ≤ length v.parts * 2 ^ 40
+
+-- the manager is at home where nobody has the turn, and else it is with the one who has it
+abbrev pub Slot : {A : Type 0} → Settings → List (Entry A) → List (maybe.Option (Option (State A))) → ℕ → Type 0
+Slot settings log homes out =
+    ((out ≡ 0) × (homes ≡ maybe.some (Some (state settings log)) ∷ []))
+    ⊎ ((out ≡ 1) × (homes ≡ maybe.none ∷ []))
+
+-- The rule. There is one legal history. It begins with the opening's, and goes on by requests of passes. Each ticket between
+-- the one whose turn it is and the next is with one seat; no number is with two.
+pub record Kept {A : Type 0} (o : Opening A) (s : Table (Option (State A)) (View A)) : Type 0 where
+  pub log : List (Entry A)
+  pub ticket : ℕ
+  pub serving : ℕ
+  pub order : serving ≤ ticket
+  pub legal : is_legal (settings_of o) log
+  pub since : EnteredByPasses o.seats o.manager.value.history log
+  pub words : s.words ≡ length log ∷ ticket ∷ serving ∷ []
+  pub slot : Slot (settings_of o) log s.homes (sum_by turns s.views)
+  pub each : (i : ℕ) (v : View A) → get_elem? s.views i ≡ maybe.some v → FitsView o log serving v
+  pub ticketed : (x : ℕ) → sum_by (tickets x) s.views ≡ between x serving ticket
+  pub drawn : sum_by draws s.views ≡ ticket
+  pub all_passes : sum_by passes s.views ≡ o.seats
+  pub apart : (k : ℕ) → sum_by (numbered k) s.views ≤ 1
+  pub few : o.seats ≤ 1024
+  pub word_sized : (settings_of o).limit < 2 ^ 64
+
+-- passes that have seen one history, n of them from the number k on
+abbrev pub parts_from : {A : Type 0} → List (Entry A) → ℕ → ℕ → List (Part A)
+parts_from log k zero = []
+parts_from log k (suc n) = record { number = k; seen = log } ∷ parts_from log (suc k) n
+
+-- the view of a seat that stands for n new passes from the number k on
+abbrev pub opening_view : {A : Type 0} → State A → ℕ → ℕ → View A
+opening_view m k n = record { settings = m.settings; draws = 0; ticket = None; turn = false; parts = parts_from m.history k n; notes = [] }
+
+-- the first seat stands for all passes
+abbrev pub first_view : {A : Type 0} → Opening A → View A
+first_view o = opening_view o.manager.value 1 o.seats
+
+abbrev pub Holds : {A : Type 0} → Opening A → Table (Option (State A)) (View A) → Type 0
+Holds o s = Kept o s

@@ -1,0 +1,60 @@
+//! A pass at its desk, as a service.
+ghost use Rattle.std.specs.Prelude.{◌≡◌, ℕ, true, is_some};
+ghost use Rattle.std.specs.Option.{IfSome};
+ghost use Rattle.ups_life.specs.Settings.{IsMoment};
+ghost use Rattle.ups_manager.specs.Law.{Others, callers, Serves, SmallReply};
+ghost use Rattle.ups_turn.specs.Pass.{IsCall};
+
+use crate::desk::Desk;
+use crate::pass::Pass;
+use std::alloc::Allocator;
+use std::sync::Wait;
+use ups_life::{Ask, Reply};
+use ups_manager::Service;
+use ups_pdu::Ae;
+
+/// A pass at its desk: the service that a session of this pass asks. Other passes enter requests between two of its
+/// calls. A pass that has made 2^40 calls refuses each later one: with 0213, or with A700 where it is a query.
+#[derive(Drop)]
+pub struct At<'a, A: Allocator + Copy, R: Wait> {
+    rt: &'a R,
+    desk: &'a Desk<A>,
+    pass: &'a mut Pass<A>,
+    ghost here: { pass.now.table ≡ desk.now.table },
+}
+
+impl<'a, A: Allocator + Copy, R: Wait> At<'a, A, R> {
+    pub(crate) fn new(rt: &'a R, desk: &'a Desk<A>, pass: &'a mut Pass<A>) -> At<'a, A, R>
+        requires here { pass.old.table ≡ desk.now.table }
+        ensures same_reference { result.pass.ghost_name ≡ pass.entry.ghost_name }
+        ensures stands { result.pass.now ≡ pass.old }
+    {
+        At { rt, desk, pass }
+    }
+}
+
+impl<'a, A: Allocator + Copy, R: Wait> Service<A> for At<'a, A, R> {
+    ghost settings = { λ s. s.pass.now.settings };
+
+    ghost others = { λ _. callers };
+
+    ghost caller = { λ s. s.pass.now.number };
+
+    ghost seen = { λ s. s.pass.now.seen };
+
+    fn answer(&mut self, ae: Ae, moment: u64, ask: &mut Option<Ask<A>>) -> Reply<A>
+        requires given { is_some ask.old ≡ true }
+        requires moment { IsMoment moment }
+        ensures same { (self.new.pass.now.settings ≡ self.old.pass.now.settings) × (◌≡◌ {A = Others} callers callers) × (self.new.pass.now.number ≡ self.old.pass.now.number) }
+        ensures serves { IfSome ask.old (λ asked. Serves self.old.pass.now.settings callers self.old.pass.now.number self.old.pass.now.seen ae moment asked result self.new.pass.now.seen) }
+        ensures small { SmallReply result }
+        ensures called { IfSome ask.old (λ asked. IsCall self.old.pass.now ae moment asked result self.new.pass.now) }
+        ensures same_reference { self.new.pass.ghost_name ≡ self.old.pass.ghost_name }
+        ensures stays { self.new.pass.now.table ≡ self.old.pass.now.table }
+    {
+        let Some(ask) = ask.take() else {
+            unreachable!();
+        };
+        self.desk.call(self.rt, self.pass, ae, moment, ask)
+    }
+}

@@ -1,0 +1,295 @@
+//! The desk: it opens over a manager, lets passes meet, and closes when all passes are back.
+ghost use Rattle.std.specs.Prelude.{◌≡◌, ◌≢◌, ℕ, ◌≤◌, ◌<◌, [], ◌∷◌, All, length, map, true, false, Some, None, vec_capacity, IfOk, IfErr, OnOk};
+ghost use Rattle.ups_life.specs.Settings.{IsMoment};
+ghost use Rattle.ups_manager.specs.State.{State};
+ghost use Rattle.ups_manager.specs.Law.{SmallReply, is_legal};
+ghost use Rattle.ups_turn.specs.Pass.{IsCall, Learns, SamePass, IsShelf, EndsFor, HaveNumbers, are_seats, most_seats, open_fault, passes_from, part_of};
+ghost use Rattle.ups_turn.specs.Rule.{Behind, EnteredByPasses, opening_view};
+
+use crate::at::At;
+use crate::fault::{CloseFault, OpenFault};
+use crate::pass::Pass;
+use crate::rule::{InTurn, Place, Shelf};
+use crate::turn::{absorb, deal, give, note, settle, take};
+use crate::view::{Opening, View};
+use atomic_table::{Refused, Table};
+use std::alloc::Allocator;
+use std::marker::Model;
+use std::snapshot::Snapshot;
+use std::sync::Wait;
+use ups_life::{Ask, Reply, Status};
+use ups_manager::Manager;
+use ups_pdu::Ae;
+
+/// How many passes a desk may have: with so many, each making all its calls, the tickets stay far below what a
+/// word holds.
+const MOST_SEATS: u32 = 1024;
+
+/// How many calls a pass may make.
+const MOST_CALLS: u64 = 1 << 40;
+
+/// A desk with one manager, which threads share. A contract sees it as its table, how many passes it has, and the
+/// manager that it opened with.
+#[derive(Drop)]
+pub struct Desk<A: Allocator + Copy> {
+    table: Table<Option<Manager<A>>, View<A>, Opening<A>, InTurn, A>,
+    seats: u64,
+}
+
+impl<A: Allocator + Copy> Model for Desk<A> {
+    ghost use Rattle.std.specs.Prelude.{◌≡◌, ◌<◌};
+    ghost use Rattle.ups_turn.specs.Pass.{Opened};
+
+    ghost Value = { Opened A };
+
+    ghost use Rattle.std.specs.Coded.{codes};
+    ghost use Rattle.ups_dataset.specs.Code.{set_code};
+
+    ghost coded = { Prim.hlevel (set_code, codes) };
+
+    ghost view = { λ d. record { table = d.table.shared.table_id; seats = d.table.shared.key.seats; opening = d.table.shared.key.manager.value } };
+
+    ghost invariant = { λ d. (d.table.shared.table_id.words ≡ 3) × (d.table.shared.table_id.slots ≡ 1) × (d.seats ≡ d.table.shared.key.seats) × (0 < d.seats) };
+}
+
+// Whether a desk may have so many passes.
+fn are_seats(seats: u32) -> bool
+    ensures { result ≡ are_seats seats }
+{
+    1 <= seats && seats <= MOST_SEATS
+}
+
+// One seat that stands for all these passes.
+fn gather<A: Allocator + Copy>(shelf: &Shelf<A>, mut passes: Vec<Pass<A>, A>) -> Place<A>
+    requires some { 0 < length passes.items }
+    requires table { (shelf.now.table_id.words ≡ 3) × (shelf.now.table_id.slots ≡ 1) × All (λ p. p.table ≡ shelf.now.table_id) passes.items }
+    ensures table { result.table_id ≡ shelf.now.table_id }
+    ensures rests { (result.me.0.ticket ≡ None) × (result.me.0.turn ≡ false) × (result.me.1 ≡ []) }
+    ensures all { result.me.0.parts ≡ map part_of passes.items }
+{
+    let Some(last) = passes.pop() else {
+        unreachable!()
+    };
+    let mut place = last.into_place();
+    while let Some(pass) = passes.pop() {
+        let mut next = pass.into_place();
+        absorb(shelf, &mut next, place);
+        place = next;
+    }
+    place
+}
+
+// The manager of a table that was not made.
+fn back<A: Allocator + Copy>(refused: Refused<Option<Manager<A>>, A>) -> Manager<A>
+    requires { (manager : State A) × (refused.slots.items ≡ Some manager ∷ []) }
+    ensures { refused.slots.items ≡ Some result ∷ [] }
+{
+    let Refused { mut slots } = refused;
+    let Some(Some(manager)) = slots.pop() else {
+        unreachable!()
+    };
+    manager
+}
+
+// The passes of a new desk, in the order of their numbers.
+fn deal_out<A: Allocator + Copy>(
+    shelf: &Shelf<A>,
+    place: Place<A>,
+    passes: &mut Vec<Pass<A>, A>,
+    seats: u32,
+    front: u64,
+)
+    requires table { IsShelf place.table_id shelf.now.table_id }
+    requires all { place.me ≡ (opening_view shelf.now.key.manager.value 1 seats, []) }
+    requires front { (front ≡ length shelf.now.key.manager.value.history) × is_legal shelf.now.key.manager.value.settings shelf.now.key.manager.value.history }
+    requires room { (passes.old.items ≡ []) × (seats ≤ vec_capacity passes.old) }
+    ensures { passes.new.items ≡ passes_from shelf.now.table_id shelf.now.key.manager.value 1 seats }
+{
+    let mut place = place;
+    for dealt in 0..seats {
+        let seat = deal(shelf, &mut place);
+        passes.push_reserved(Pass {
+            place: seat,
+            number: dealt + 1,
+            calls: 0,
+            front,
+        });
+    }
+}
+
+// What a pass that has made all its calls tells: the status of each kind of ask that says that there is no more to
+// be had (PS3.7 annex C, PS3.4 section C.4.1.1.4).
+fn lacking<A: Allocator + Copy>(ask: &Ask<A>) -> Status
+    ensures { result ≡ Rattle.ups_manager.specs.Law.lacking ask.now }
+{
+    match ask {
+        Ask::Find(_) => Status::OutOfResources,
+        _ => Status::ResourceLimitation,
+    }
+}
+
+impl<A: Allocator + Copy> Desk<A> {
+    /// A desk over a manager, and its passes, which have the numbers from 1 to `seats` in this order. Its memory is
+    /// `alloc`'s.
+    ///
+    /// # Errors
+    ///
+    /// The manager comes back as it was, with the first of these: BadSeats where `seats` is 0 or above 1,024; Memory
+    /// where memory runs out.
+    pub fn open(
+        alloc: A,
+        manager: Manager<A>,
+        seats: u32,
+    ) -> Result<(Desk<A>, Vec<Pass<A>, A>), (Manager<A>, OpenFault)>
+        ensures allowed { OnOk result (are_seats seats ≡ true) }
+        ensures desk { IfOk result (λ r. (r.0.seats ≡ seats) × (r.0.opening ≡ manager)) }
+        ensures passes { IfOk result (λ r. r.1.items ≡ passes_from r.0.table manager 1 seats) }
+        ensures refused { IfErr result (λ r. (r.0 ≡ manager) × (r.1 ≡ open_fault seats)) }
+    {
+        if !are_seats(seats) {
+            return Err((manager, OpenFault::BadSeats));
+        }
+        match Desk::with_seats(alloc, manager, seats) {
+            Ok(opened) => Ok(opened),
+            Err(manager) => Err((manager, OpenFault::Memory)),
+        }
+    }
+
+    // A desk with so many seats; or the manager, where memory runs out.
+    fn with_seats(
+        alloc: A,
+        manager: Manager<A>,
+        seats: u32,
+    ) -> Result<(Desk<A>, Vec<Pass<A>, A>), Manager<A>>
+        requires { (1 ≤ seats) × (seats ≤ most_seats) }
+        ensures desk { IfOk result (λ r. (r.0.seats ≡ seats) × (r.0.opening ≡ manager)) }
+        ensures passes { IfOk result (λ r. r.1.items ≡ passes_from r.0.table manager 1 seats) }
+        ensures refused { IfErr result (λ m. m ≡ manager) }
+    {
+        let Ok(mut passes) = Vec::with_capacity(alloc, seats as usize) else {
+            return Err(manager);
+        };
+        let Ok(mut slots) = Vec::with_capacity(alloc, 1) else {
+            return Err(manager);
+        };
+        let count = manager.history().len() as u64;
+        let _limit = manager.limit();
+        let about = Opening {
+            manager: Snapshot::of(&manager),
+            seats: u64::from(seats),
+        };
+        slots.push_reserved(Some(manager));
+        match Table::new(alloc, &[count, 0, 0], slots, &about) {
+            Ok((table, place)) => {
+                deal_out(&table.shared, place, &mut passes, seats, count);
+                Ok((
+                    Desk {
+                        table,
+                        seats: u64::from(seats),
+                    },
+                    passes,
+                ))
+            }
+            Err(refused) => Err(back(refused)),
+        }
+    }
+
+    /// A pass at this desk, as a service: each of its calls waits for its turn, which `rt` allows.
+    pub fn at<'a, R: Wait>(&'a self, rt: &'a R, pass: &'a mut Pass<A>) -> At<'a, A, R>
+        requires here { pass.old.table ≡ self.now.table }
+        ensures same_reference { result.pass.ghost_name ≡ pass.entry.ghost_name }
+        ensures stands { result.pass.now ≡ pass.old }
+    {
+        At::new(rt, self, pass)
+    }
+
+    /// One call of a pass, in its turn. A pass that has made 2^40 calls is refused.
+    pub(crate) fn call<R: Wait>(
+        &self,
+        rt: &R,
+        pass: &mut Pass<A>,
+        ae: Ae,
+        moment: u64,
+        ask: Ask<A>,
+    ) -> Reply<A>
+        requires moment { IsMoment moment }
+        requires here { pass.old.table ≡ self.now.table }
+        ensures called { IsCall pass.old ae moment ask result pass.new }
+        ensures legal { is_legal pass.old.settings pass.old.seen }
+        ensures small { SmallReply result }
+    {
+        if pass.calls >= MOST_CALLS {
+            return Reply::Status(lacking(&ask));
+        }
+        let shelf = &self.table.shared;
+        let mut manager = take(rt, shelf, &mut pass.place);
+        let before = manager.history().len() as u64;
+        let reply = manager.answer_as(pass.number, ae, moment, ask);
+        pass.front = manager.history().len() as u64;
+        pass.calls += 1;
+        give(shelf, &mut pass.place, manager, pass.front - before);
+        reply
+    }
+
+    // Has a pass learn what another has seen.
+    fn tell(&self, pass: &mut Pass<A>, from: &mut Pass<A>)
+        requires pass { pass.old.table ≡ self.now.table }
+        requires from { from.old.table ≡ self.now.table }
+        ensures from { from.new ≡ from.old }
+        ensures learns { Learns pass.old from.old pass.new }
+    {
+        let shelf = &self.table.shared;
+        let told = note(shelf, &mut from.place);
+        absorb(shelf, &mut pass.place, told);
+        settle(shelf, &mut pass.place);
+        pass.front = pass.front.max(from.front);
+    }
+
+    /// Has two passes tell each other what they have seen: both then have seen the longer of the two histories.
+    /// Returns how many entries that has. Nobody waits.
+    pub fn meet(&self, left: &mut Pass<A>, right: &mut Pass<A>) -> u64
+        requires left { left.old.table ≡ self.now.table }
+        requires right { right.old.table ≡ self.now.table }
+        ensures same { SamePass left.old left.new × SamePass right.old right.new }
+        ensures calls { (left.new.calls ≡ left.old.calls) × (right.new.calls ≡ right.old.calls) }
+        ensures one { left.new.seen ≡ right.new.seen }
+        ensures left { Behind left.new.seen (part_of left.old) }
+        ensures right { Behind right.new.seen (part_of right.old) }
+        ensures legal { is_legal left.new.settings left.new.seen }
+        ensures count { result ≡ length left.new.seen }
+    {
+        self.tell(right, left);
+        self.tell(left, right);
+        left.front
+    }
+
+    /// Closes the desk, and returns its manager. No call of a pass is under way, since all passes are here.
+    ///
+    /// # Errors
+    ///
+    /// Missing where these are not all of its passes: desk and passes come back as they were.
+    pub fn close(
+        self,
+        passes: Vec<Pass<A>, A>,
+    ) -> Result<Manager<A>, (Desk<A>, Vec<Pass<A>, A>, CloseFault)>
+        requires here { All (λ p. p.table ≡ self.table) passes.items }
+        ensures settings { IfOk result (λ m. m.settings ≡ self.opening.settings) }
+        ensures legal { IfOk result (λ m. is_legal m.settings m.history) }
+        ensures callers { IfOk result (λ m. EnteredByPasses self.seats self.opening.history m.history) }
+        ensures passes { IfOk result (λ m. EndsFor m.history passes.items) }
+        ensures all { OnOk result (length passes.items ≡ self.seats) }
+        ensures numbers { OnOk result (HaveNumbers self.seats passes.items) }
+        ensures refused { IfErr result (λ r. (r.0 ≡ self) × (r.1.items ≡ passes.items) × (length passes.items ≢ self.seats)) }
+    {
+        if passes.len() as u64 != self.seats {
+            return Err((self, passes, CloseFault::Missing));
+        }
+        let Desk { table, seats: _ } = self;
+        let place = gather(&table.shared, passes);
+        let mut closed = table.close_with(place);
+        let slot = closed.take(0);
+        closed.free();
+        let Some(manager) = slot else { unreachable!() };
+        Ok(manager)
+    }
+}

@@ -1,0 +1,22 @@
+//! Why a desk does not open, or does not close.
+
+use thiserror::Error;
+
+/// Why no desk was opened: the first of the tests that fails.
+#[derive(Clone, Copy, Debug, PartialEq, Eq, Error)]
+pub enum OpenFault {
+    /// There are no seats, or more than 1,024.
+    #[error("a desk has from 1 to 1024 seats")]
+    BadSeats,
+    /// Memory ran out.
+    #[error("out of memory")]
+    Memory,
+}
+
+/// Why a desk was not closed.
+#[derive(Clone, Copy, Debug, PartialEq, Eq, Error)]
+pub enum CloseFault {
+    /// Not all of its passes are there.
+    #[error("not all passes of the desk are back")]
+    Missing,
+}

@@ -1,0 +1,19 @@
+//! The desk: passes that threads hold take turns with one manager, and are answered by one history.
+//!
+//! A desk is a ticket counter. A pass that calls draws the next ticket, waits until it is served, has the
+//! manager to itself for one call, and serves the next ticket before the call returns. Each pass is a service
+//! of the law that `ups_manager` gives, under its own caller number.
+#![tactic(auto)]
+
+mod at;
+mod desk;
+mod fault;
+mod pass;
+mod rule;
+mod turn;
+mod view;
+
+pub use at::At;
+pub use desk::Desk;
+pub use fault::{CloseFault, OpenFault};
+pub use pass::Pass;

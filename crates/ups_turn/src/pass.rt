@@ -1,0 +1,52 @@
+//! A pass to a desk.
+ghost use Rattle.std.specs.Prelude.{◌≡◌, [], ◌∷◌, ◌+◌, ◌<◌, ◌^◌, false, None, length};
+ghost use Rattle.ups_turn.specs.Pass.{part_of};
+
+use crate::rule::Place;
+use std::alloc::Allocator;
+use std::marker::Model;
+
+/// A pass to a desk, which one thread at a time may hold. A contract sees it as its desk's table, what was fixed at
+/// the start of the manager there, its number, how many calls it has made, and the history that it has seen.
+#[derive(Drop)]
+pub struct Pass<A: Allocator + Copy> {
+    pub(crate) place: Place<A>,
+    pub(crate) number: u32,
+    pub(crate) calls: u64,
+    /// How many entries it has seen.
+    pub(crate) front: u64,
+}
+
+impl<A: Allocator + Copy> Model for Pass<A> {
+    ghost use Rattle.std.specs.Prelude.{◌≡◌, ◌≤◌, [], length};
+    ghost use Rattle.ups_manager.specs.Law.{is_legal};
+    ghost use Rattle.ups_turn.specs.Pass.{Standing, resting, seen_in, most_calls};
+
+    ghost Value = { Standing A };
+
+    ghost use Rattle.std.specs.Coded.{codes};
+    ghost use Rattle.ups_dataset.specs.Code.{set_code};
+
+    ghost coded = { Prim.hlevel (set_code, codes) };
+
+    ghost view = { λ p. record { table = p.place.table_id; settings = p.place.me.0.settings; number = p.number; calls = p.calls; seen = seen_in p.place.me.0.parts } };
+
+    ghost invariant = { λ p. (p.place.me ≡ (resting p.place.me.0.settings p.number p.calls (seen_in p.place.me.0.parts), [])) × (p.front ≡ length (seen_in p.place.me.0.parts)) × (p.calls ≤ most_calls) × is_legal p.place.me.0.settings (seen_in p.place.me.0.parts) };
+}
+
+impl<A: Allocator + Copy> Pass<A> {
+    /// The seat of the pass.
+    pub(crate) fn into_place(self) -> Place<A>
+        ensures table { result.table_id ≡ self.table }
+        ensures rests { (result.me.0.ticket ≡ None) × (result.me.0.turn ≡ false) × (result.me.1 ≡ []) }
+        ensures part { result.me.0.parts ≡ part_of self ∷ [] }
+    {
+        let Pass {
+            place,
+            number: _,
+            calls: _,
+            front: _,
+        } = self;
+        place
+    }
+}

@@ -1,0 +1,101 @@
+//! The rule of the desk's table, and its kinds of step. Taking the manager out of the slot, and giving it back,
+//! are plain memory, and no steps.
+
+use crate::view::{Opening, View};
+use atomic_table::{Join, Play, Seat, Shared, Split, TableRule};
+use std::alloc::Allocator;
+use ups_manager::Manager;
+
+pub struct InTurn;
+
+impl<A: Allocator + Copy> TableRule<Option<Manager<A>>, View<A>, Opening<A>> for InTurn {
+    ghost use Rattle.ups_turn.specs.Rule.{Holds, first_view};
+
+    ghost holds = { Holds };
+
+    ghost first = { first_view };
+}
+
+/// Draws a ticket.
+pub struct Draw;
+
+impl<A: Allocator + Copy> Play<Option<Manager<A>>, View<A>> for Draw {
+    ghost use Rattle.ups_turn.specs.Plays.{Draws};
+
+    ghost then = { Draws };
+}
+
+/// Looks which ticket is served.
+pub struct Look;
+
+impl<A: Allocator + Copy> Play<Option<Manager<A>>, View<A>> for Look {
+    ghost use Rattle.ups_turn.specs.Plays.{Looks};
+
+    ghost then = { Looks };
+}
+
+/// Decides how many requests the call has entered.
+pub struct Decide;
+
+impl<A: Allocator + Copy> Play<Option<Manager<A>>, View<A>> for Decide {
+    ghost use Rattle.ups_turn.specs.Plays.{Decides};
+
+    ghost then = { Decides };
+}
+
+/// Serves the next ticket.
+pub struct Serve;
+
+impl<A: Allocator + Copy> Play<Option<Manager<A>>, View<A>> for Serve {
+    ghost use Rattle.ups_turn.specs.Plays.{Serves};
+
+    ghost then = { Serves };
+}
+
+/// Enters nothing, and learns what was noted.
+pub struct Settle;
+
+impl<A: Allocator + Copy> Play<Option<Manager<A>>, View<A>> for Settle {
+    ghost use Rattle.ups_turn.specs.Plays.{Settles};
+
+    ghost then = { Settles };
+}
+
+/// Makes a note of what a seat's passes have seen.
+pub struct Note;
+
+impl<A: Allocator + Copy> Split<View<A>> for Note {
+    ghost use Rattle.ups_turn.specs.Plays.{note_of};
+
+    ghost left = { λ v. v };
+
+    ghost right = { note_of };
+}
+
+/// Deals out the first of a seat's passes.
+pub struct Deal;
+
+impl<A: Allocator + Copy> Split<View<A>> for Deal {
+    ghost use Rattle.ups_turn.specs.Plays.{kept_back, dealt};
+
+    ghost left = { kept_back };
+
+    ghost right = { dealt };
+}
+
+/// Puts the passes and the notes of two seats together.
+pub struct Both;
+
+impl<A: Allocator + Copy> Join<View<A>> for Both {
+    ghost use Rattle.ups_turn.specs.Plays.{joined, nobody};
+
+    ghost both = { joined };
+
+    ghost spent = { nobody };
+}
+
+/// The words and the slot, as all passes share them.
+pub type Shelf<A> = Shared<Option<Manager<A>>, View<A>, Opening<A>, InTurn>;
+
+/// A pass's seat.
+pub type Place<A> = Seat<Option<Manager<A>>, View<A>>;

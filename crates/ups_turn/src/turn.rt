@@ -1,0 +1,194 @@
+//! The steps of a turn: draw a ticket, look until it is served, take the manager, give it back, decide, serve.
+ghost use Rattle.std.specs.Prelude.{◌≡◌, ℕ, ◌+◌, ◌^◌, ◌<◌, ◌≤◌, ◌*◌, ◌==◌, length, [], true, false, All, Some, None, MatchBool};
+ghost use Rattle.ups_turn.specs.Pass.{IsShelf};
+ghost use Rattle.ups_turn.specs.Plays.{with_ticket, at_turn, served, history_in, TakesTurn, MayDecide, MayServe, Took, MayGive, note_of, joined, kept_back, dealt, settled, CaughtUp};
+
+use crate::rule::{Both, Deal, Decide, Draw, Look, Note, Place, Serve, Settle, Shelf};
+use std::alloc::Allocator;
+use std::hint::spin_loop;
+use std::sync::Wait;
+use ups_manager::Manager;
+
+/// The word that counts the requests that are entered.
+const COUNT: usize = 0;
+
+/// The word with the ticket that is drawn next.
+const TICKET: usize = 1;
+
+/// The word with the ticket whose turn it is.
+const SERVING: usize = 2;
+
+/// How often a pass looks before it sleeps. A turn is short: most often it comes while the pass still looks,
+/// and a pass that only looks takes the processor from the one that has the turn.
+const LOOKS: u32 = 100;
+
+/// Draws a ticket.
+fn draw<A: Allocator + Copy>(shelf: &Shelf<A>, place: &mut Place<A>) -> u64
+    requires table { IsShelf place.old.table_id shelf.now.table_id }
+    requires rests { place.old.me.0.ticket ≡ None }
+    requires left { place.old.me.0.draws + 1 ≤ length place.old.me.0.parts * 2 ^ 40 }
+    ensures same { (place.new.table_id ≡ place.old.table_id) × (place.new.id ≡ place.old.id) }
+    ensures drawn { place.new.me ≡ (with_ticket place.old.me.0 result, place.old.me.1) }
+{
+    shelf.fetch_add::<Draw>(place, TICKET, 1)
+}
+
+/// Looks which ticket is served. Where it is the seat's own, the seat has the turn, and the manager.
+fn look<A: Allocator + Copy>(shelf: &Shelf<A>, place: &mut Place<A>, ticket: u64) -> u64
+    requires table { IsShelf place.old.table_id shelf.now.table_id }
+    requires waits { (place.old.me.0.ticket ≡ Some ticket) × (place.old.me.0.turn ≡ false) × (place.old.me.1 ≡ []) × (0 < length place.old.me.0.parts) }
+    ensures same { (place.new.table_id ≡ place.old.table_id) × (place.new.id ≡ place.old.id) }
+    ensures turn { MatchBool (ticket == result) (TakesTurn place.old.me place.new.me) (place.new.me ≡ place.old.me) }
+{
+    shelf.load::<Look>(place, SERVING)
+}
+
+/// Looks a number of times, or until the ticket is served. Returns the ticket that was served last.
+fn look_often<A: Allocator + Copy>(shelf: &Shelf<A>, place: &mut Place<A>, ticket: u64) -> u64
+    requires table { IsShelf place.old.table_id shelf.now.table_id }
+    requires waits { (place.old.me.0.ticket ≡ Some ticket) × (place.old.me.0.turn ≡ false) × (place.old.me.1 ≡ []) × (0 < length place.old.me.0.parts) }
+    ensures same { (place.new.table_id ≡ place.old.table_id) × (place.new.id ≡ place.old.id) }
+    ensures turn { MatchBool (ticket == result) (TakesTurn place.old.me place.new.me) (place.new.me ≡ place.old.me) }
+{
+    for _ in 0..LOOKS {
+        let serving = look(shelf, place, ticket);
+        if ticket == serving {
+            return serving;
+        }
+        spin_loop();
+    }
+    look(shelf, place, ticket)
+}
+
+/// Waits for the turn: looks, and then sleeps until another ticket is served than the one that was found.
+fn wait<A: Allocator + Copy, R: Wait>(rt: &R, shelf: &Shelf<A>, place: &mut Place<A>, ticket: u64)
+    requires table { IsShelf place.old.table_id shelf.now.table_id }
+    requires waits { (place.old.me.0.ticket ≡ Some ticket) × (place.old.me.0.turn ≡ false) × (place.old.me.1 ≡ []) × (0 < length place.old.me.0.parts) }
+    ensures same { (place.new.table_id ≡ place.old.table_id) × (place.new.id ≡ place.old.id) }
+    ensures turn { TakesTurn place.old.me place.new.me }
+{
+    for _ in rt.forever() {
+        let serving = look_often(shelf, place, ticket);
+        if ticket == serving {
+            return;
+        }
+        shelf.park(rt, SERVING, low_half(serving));
+    }
+    unreachable!()
+}
+
+// The half of a word that a sleeping thread watches.
+fn low_half(word: u64) -> u32 {
+    (word % (1 << 32)) as u32
+}
+
+/// Enters as many requests as the manager in the seat's hands has more than the pass has seen.
+fn decide<A: Allocator + Copy>(shelf: &Shelf<A>, place: &mut Place<A>, entered: u64)
+    requires table { IsShelf place.old.table_id shelf.now.table_id }
+    requires may { MayDecide place.old.me entered }
+    ensures same { (place.new.table_id ≡ place.old.table_id) × (place.new.id ≡ place.old.id) }
+    ensures decided { place.new.me ≡ (at_turn place.old.me.0 true (history_in place.old.me.1), place.old.me.1) }
+{
+    shelf.fetch_add::<Decide>(place, COUNT, entered);
+}
+
+/// Sends the manager home and serves the next ticket. Returns the ticket that was served until then.
+fn serve<A: Allocator + Copy>(shelf: &Shelf<A>, place: &mut Place<A>) -> u64
+    requires table { IsShelf place.old.table_id shelf.now.table_id }
+    requires may { MayServe place.old.me }
+    ensures same { (place.new.table_id ≡ place.old.table_id) × (place.new.id ≡ place.old.id) }
+    ensures served { place.new.me ≡ (served place.old.me.0, []) }
+{
+    shelf.fetch_add::<Serve>(place, SERVING, 1)
+}
+
+/// Wakes the passes that sleep, where a ticket was drawn behind the one that was served until now. Where none was,
+/// nobody waits, and the system is not called.
+fn wake<A: Allocator + Copy>(shelf: &Shelf<A>, served: u64)
+    requires { shelf.now.table_id.words ≡ 3 }
+{
+    if shelf.peek(TICKET) != served.wrapping_add(1) {
+        shelf.wake_all(SERVING);
+    }
+}
+
+/// Waits for a turn, and takes the manager.
+pub(crate) fn take<A: Allocator + Copy, R: Wait>(
+    rt: &R,
+    shelf: &Shelf<A>,
+    place: &mut Place<A>,
+) -> Manager<A>
+    requires table { IsShelf place.old.table_id shelf.now.table_id }
+    requires rests { (place.old.me.0.ticket ≡ None) × (place.old.me.0.turn ≡ false) × (place.old.me.1 ≡ []) }
+    requires left { place.old.me.0.draws + 1 ≤ length place.old.me.0.parts * 2 ^ 40 }
+    ensures same { (place.new.table_id ≡ place.old.table_id) × (place.new.id ≡ place.old.id) }
+    ensures took { Took place.old.me place.new.me result }
+{
+    let ticket = draw(shelf, place);
+    wait(rt, shelf, place, ticket);
+    let Some(manager) = shelf.exchange(place, 0, None) else {
+        unreachable!()
+    };
+    manager
+}
+
+/// Gives the manager back with so many new entries, and ends the turn.
+pub(crate) fn give<A: Allocator + Copy>(
+    shelf: &Shelf<A>,
+    place: &mut Place<A>,
+    manager: Manager<A>,
+    count: u64,
+)
+    requires table { IsShelf place.old.table_id shelf.now.table_id }
+    requires may { MayGive place.old.me manager count }
+    ensures same { (place.new.table_id ≡ place.old.table_id) × (place.new.id ≡ place.old.id) }
+    ensures gave { place.new.me ≡ (served (at_turn place.old.me.0 true manager.history), []) }
+{
+    let None = shelf.exchange(place, 0, Some(manager)) else {
+        unreachable!()
+    };
+    decide(shelf, place, count);
+    let served = serve(shelf, place);
+    wake(shelf, served);
+}
+
+/// Makes a note of what the seat's passes have seen.
+pub(crate) fn note<A: Allocator + Copy>(shelf: &Shelf<A>, place: &mut Place<A>) -> Place<A>
+    requires table { IsShelf place.old.table_id shelf.now.table_id }
+    ensures same { (place.new.table_id ≡ place.old.table_id) × (place.new.id ≡ place.old.id) × (place.new.me ≡ place.old.me) }
+    ensures note { (result.table_id ≡ place.old.table_id) × (result.me ≡ (note_of place.old.me.0, [])) }
+{
+    shelf.split_seat::<Note>(place)
+}
+
+/// Deals out a seat for the first of the seat's passes.
+pub(crate) fn deal<A: Allocator + Copy>(shelf: &Shelf<A>, place: &mut Place<A>) -> Place<A>
+    requires table { IsShelf place.old.table_id shelf.now.table_id }
+    requires fresh { (place.old.me.0.draws ≡ 0) × (place.old.me.0.turn ≡ false) }
+    ensures same { (place.new.table_id ≡ place.old.table_id) × (place.new.id ≡ place.old.id) × (place.new.me ≡ (kept_back place.old.me.0, place.old.me.1)) }
+    ensures pass { (result.table_id ≡ place.old.table_id) × (result.me ≡ (dealt place.old.me.0, [])) }
+{
+    shelf.split_seat::<Deal>(place)
+}
+
+/// Makes the seat stand for the other's passes too, with its notes.
+pub(crate) fn absorb<A: Allocator + Copy>(shelf: &Shelf<A>, place: &mut Place<A>, other: Place<A>)
+    requires table { IsShelf place.old.table_id shelf.now.table_id × (other.table_id ≡ shelf.now.table_id) }
+    requires rests { (place.old.me.0.turn ≡ false) × (other.me.0.ticket ≡ None) × (other.me.0.turn ≡ false) × (other.me.1 ≡ []) }
+    requires some { 0 < length other.me.0.parts → 0 < length place.old.me.0.parts }
+    ensures same { (place.new.table_id ≡ place.old.table_id) × (place.new.id ≡ place.old.id) }
+    ensures joined { place.new.me ≡ (joined place.old.me.0 other.me.0, place.old.me.1) }
+{
+    shelf.join_seat::<Both>(place, other);
+}
+
+/// Has the seat's passes learn what was noted.
+pub(crate) fn settle<A: Allocator + Copy>(shelf: &Shelf<A>, place: &mut Place<A>)
+    requires table { IsShelf place.old.table_id shelf.now.table_id }
+    requires rests { (place.old.me.0.turn ≡ false) × (0 < length place.old.me.0.parts) }
+    ensures same { (place.new.table_id ≡ place.old.table_id) × (place.new.id ≡ place.old.id) }
+    ensures settled { place.new.me ≡ (settled place.old.me.0, place.old.me.1) }
+    ensures caught_up { All (CaughtUp place.old.me.0.settings place.old.me.0.notes) place.old.me.0.parts }
+{
+    shelf.fetch_add::<Settle>(place, COUNT, 0);
+}

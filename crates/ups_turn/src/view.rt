@@ -1,0 +1,36 @@
+//! What a seat of the desk's table knows, and what the table is told once. A view is never made: the proofs
+//! alone speak of it.
+
+use std::alloc::Allocator;
+use std::collections::LinkedList;
+use std::snapshot::Snapshot;
+use ups_life::{Configuration, Entry};
+use ups_manager::Manager;
+
+/// What the desk opens with: the manager as it is then, and how many passes there are.
+#[derive(Drop)]
+pub struct Opening<A: Allocator + Copy> {
+    pub manager: Snapshot<Manager<A>>,
+    pub seats: u64,
+}
+
+/// A pass as its seat knows it.
+pub struct Part<A: Allocator + Copy> {
+    pub number: u64,
+    /// The history that it has seen, oldest entry first.
+    pub seen: LinkedList<Entry<A>>,
+}
+
+/// What a seat knows.
+pub struct View<A: Allocator + Copy> {
+    pub settings: Configuration<A>,
+    /// How many tickets its passes have drawn.
+    pub draws: u64,
+    /// The ticket with which it waits or has the turn.
+    pub ticket: Option<u64>,
+    pub turn: bool,
+    /// The passes for which it stands.
+    pub parts: LinkedList<Part<A>>,
+    /// Histories that passes of other seats have seen.
+    pub notes: LinkedList<LinkedList<Entry<A>>>,
+}

@@ -1,0 +1,37 @@
+-- The exit statuses of the program.
+use Rattle.std.specs.Prelude.{ℕ, Result, Ok, Err}
+use Rattle.clap.specs.declared.error.kind.ErrorKind.{ErrorKind}
+use Rattle.clap.specs.declared.error.kind.ErrorKind.TheVariants as kinds
+use Rattle.ups_session.specs.declared.fault.End.{End}
+use Rattle.ups_session.specs.declared.fault.SessionFault.{SessionFault}
+use Rattle.ups_session.specs.declared.fault.SessionFault.TheVariants as sessions
+use Rattle.ups_script.specs.declared.fault.ScriptFault.{ScriptFault}
+use Rattle.ups_script.specs.declared.fault.ScriptFault.TheVariants as scripts
+use Rattle.upsd.specs.declared.ending.Status.{Status}
+use Rattle.upsd.specs.declared.ending.Status.TheVariants.{Done, Usage, Stopped, Memory}
+
+abbrev pub code : Status → ℕ
+code Done = 0
+code Usage = 1
+code Stopped = 2
+code Memory = 3
+
+-- of an association: 0 at each End, 3 for lack of memory, 2 for any other fault
+abbrev pub session_status : Result End SessionFault → Status
+session_status (Ok end) = Done
+session_status (Err sessions.Memory) = Memory
+session_status (Err fault) = Stopped
+
+-- of a script: 0 at the end of its input, 3 for lack of memory, 2 for any other fault
+abbrev pub script_status : Result Unit ScriptFault → Status
+script_status (Ok done) = Done
+script_status (Err scripts.Memory) = Memory
+script_status (Err fault) = Stopped
+
+-- of a command line of which the parser makes nothing: 0 where it asks for the usage or the version, 3 for want of
+-- memory, 1 for any other
+abbrev pub parse_status : ErrorKind → Status
+parse_status kinds.DisplayHelp = Done
+parse_status kinds.DisplayVersion = Done
+parse_status kinds.OutOfMemory = Memory
+parse_status kind = Usage
