@@ -1,6 +1,7 @@
 ghost use Rattle.std.specs.Prelude.{◌≡◌};
 
 use crate::calls::{Claim, STEPS, callers_of, claim_one, creation, enter, step_of};
+use crate::counts::Claims;
 use fixtures::title;
 use std::alloc::Global;
 use std::sync::Wait;
@@ -9,13 +10,6 @@ use std::thread::{Threads, join};
 use ups_manager::Manager;
 use ups_pdu::Ae;
 use ups_turn::{Desk, Pass};
-
-/// What became of a pass's claims.
-#[derive(Clone, Copy)]
-struct Claims {
-    accepted: u32,
-    refused: u32,
-}
 
 /// A manager that holds the steps.
 fn with_steps(alloc: Global, ae: Ae) -> Result<Manager<Global>, Fail> {

@@ -1,6 +1,7 @@
 ghost use Rattle.std.specs.Prelude.{◌≡◌, All};
 
 use crate::calls::{Claim, STEPS, answered, creation, request_of, set_of, step_of, transaction_of};
+use crate::counts::Tally;
 use fixtures::title;
 use std::alloc::Global;
 use std::sync::Wait;
@@ -20,15 +21,6 @@ const PASSES: u32 = 8;
 
 /// How many calls each of them makes: five on each step, and these again.
 const CALLS: u32 = 1_000;
-
-/// What the passes are answered, over all of them.
-#[derive(Drop)]
-struct Tally {
-    /// How many requests are accepted.
-    accepted: AtomicU64,
-    /// How many calls are answered with a status that they should not get.
-    odd: AtomicU64,
-}
 
 /// What a pass asks.
 #[derive(Clone, Copy)]

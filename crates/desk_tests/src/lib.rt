@@ -5,6 +5,7 @@
 mod calls;
 #[cfg(test)]
 mod claims;
+mod counts;
 #[cfg(test)]
 mod crowd;
 #[cfg(test)]
