@@ -20,7 +20,7 @@ use Rattle.ups_dimse.specs.declared.command.Operation.TheVariants as operations
 use Rattle.ups_dimse.specs.declared.command.OperationResult.{OperationResult}
 use Rattle.ups_dimse.specs.declared.command.OperationResult.TheVariants as results
 use Rattle.ups_dimse.specs.declared.message.Message.{Message}
-use Rattle.ups_dimse.specs.declared.message.Message.TheVariants.{GetRequest, GetResponse, SetRequest, SetResponse, ActionRequest, ActionResponse, CreateRequest, CreateResponse, EchoRequest, EchoResponse, FindRequest, FindResponse, CancelRequest}
+use Rattle.ups_dimse.specs.declared.message.Message.TheVariants.{EventReportRequest, EventReportResponse, GetRequest, GetResponse, SetRequest, SetResponse, ActionRequest, ActionResponse, CreateRequest, CreateResponse, EchoRequest, EchoResponse, FindRequest, FindResponse, CancelRequest}
 use Rattle.ups_dimse.specs.Elements.{CommandElement, IsElement, SpellsElements, value_in}
 use Rattle.ups_dimse.specs.Limits.{max_attributes}
 use Rattle.ups_dimse.specs.Messages.{field_of}
@@ -71,7 +71,12 @@ good_only_uid : (from n : ℕ) (o : Option (List ℕ)) → n < 2 ^ 16 → from �
 good_only_uid from n None small l h = tt
 good_only_uid from n (Some u) small l h = (record { in_group = small; defined = omega (arith, padded_short u h); even = padded_even u h }, l, tt)
 
+good_only_us : (from n : ℕ) (o : Option ℕ) → n < 2 ^ 16 → from ≤ n → AreGood from (optional_us_element n o)
+good_only_us from n None small l = tt
+good_only_us from n (Some v) small l = good_us from n v [] small l tt
+
 good_operation : {A : Type 0} (o : Operation A) → length (tags_of o) ≤ max_attributes → IsHeldOperation o → AreGood 0x0801 (operation_elements o)
+good_operation (operations.EventReport i v) short h = good_uid 0x0801 0x1000 i (us_element 0x1002 v ∷ []) (omega arith) (omega arith) h.0 (good_us 0x1001 0x1002 v [] (omega arith) (omega arith) tt)
 good_operation (operations.Create i) short h = good_only_uid 0x0801 0x1000 i (omega arith) (omega arith) h
 good_operation (operations.Get i ts) short h = good_uid 0x0801 0x1001 i (tags_element 0x1005 ts) (omega arith) (omega arith) h.0 (good_tags 0x1002 0x1005 ts (omega arith) (omega arith) short)
 good_operation (operations.Set i) short h = good_only_uid 0x0801 0x1001 i (omega arith) (omega arith) h
@@ -80,6 +85,7 @@ good_operation operations.Echo short h = tt
 good_operation (operations.Find p) short h = tt
 
 good_result : (o : OperationResult) → IsHeldResult o → AreGood 0x0901 (result_elements o)
+good_result (results.EventReport i v) h = good_uid 0x0901 0x1000 i (optional_us_element 0x1002 v) (omega arith) (omega arith) h.0 (good_only_us 0x1001 0x1002 v (omega arith) (omega arith))
 good_result (results.Create i) h = good_only_uid 0x0901 0x1000 i (omega arith) (omega arith) h
 good_result (results.Get i) h = good_only_uid 0x0901 0x1000 i (omega arith) (omega arith) h
 good_result (results.Set i) h = good_only_uid 0x0901 0x1000 i (omega arith) (omega arith) h
@@ -88,6 +94,7 @@ good_result results.Echo h = tt
 good_result results.Find h = tt
 
 class_low : {A : Type 0} (o : Operation A) → (1 ≤ class_element o) × (class_element o + 1 ≤ 0x0100)
+class_low (operations.EventReport i v) = (omega arith, omega arith)
 class_low (operations.Create i) = (omega arith, omega arith)
 class_low (operations.Get i ts) = (omega arith, omega arith)
 class_low (operations.Set i) = (omega arith, omega arith)
@@ -170,6 +177,8 @@ data_set_again es true e = (0x0001, record { fits = omega arith; is = e }, refl)
 data_set_again es false e = (0x0101, record { fits = omega arith; is = e }, refl)
 
 field_small : (m : Message) → field_of m < 2 ^ 16
+field_small EventReportRequest = omega arith
+field_small EventReportResponse = omega arith
 field_small GetRequest = omega arith
 field_small GetResponse = omega arith
 field_small SetRequest = omega arith
@@ -193,8 +202,18 @@ past_us : (n k : ℕ) (o : Option ℕ) (es : List CommandElement) → eqb k n �
 past_us n k None es e = refl
 past_us n k (Some v) es e = skip n k (to_le_bytes w16 v) es e
 
+not_us : (n k : ℕ) (o : Option ℕ) → eqb k n ≡ false → value_in n (optional_us_element k o) ≡ None
+not_us n k None e = refl
+not_us n k (Some v) e = skip n k (to_le_bytes w16 v) [] e
+
+only_us : (n : ℕ) (o : Option ℕ) → eqb n n ≡ true → value_in n (optional_us_element n o) ≡ option_map (to_le_bytes w16) o
+only_us n None same = refl
+only_us n (Some v) same = ap (λ b. cond b (Some (to_le_bytes w16 v)) None) same
+
 -- the elements that are an operation's own, by a number that they may have
 own_none : {A : Type 0} (n : ℕ) (o : Operation A) → n < 0x1000 → value_in n (operation_elements o) ≡ None
+own_none n (operations.EventReport i v) l =
+    past n 0x1000 i (us_element 0x1002 v ∷ []) (ne_eqb 0x1000 n (λ e. omega (arith, l, e))) ∙ skip n 0x1002 (to_le_bytes w16 v) [] (ne_eqb 0x1002 n (λ e. omega (arith, l, e)))
 own_none n (operations.Create i) l = not_uid n 0x1000 i (ne_eqb 0x1000 n (λ e. omega (arith, l, e)))
 own_none n (operations.Get i ts) l =
     past n 0x1001 i (tags_element 0x1005 ts) (ne_eqb 0x1001 n (λ e. omega (arith, l, e))) ∙ not_tags n 0x1005 ts (ne_eqb 0x1005 n (λ e. omega (arith, l, e)))
@@ -205,6 +224,8 @@ own_none n operations.Echo l = refl
 own_none n (operations.Find p) l = refl
 
 own_result_none : (n : ℕ) (o : OperationResult) → n < 0x1000 → value_in n (result_elements o) ≡ None
+own_result_none n (results.EventReport i v) l =
+    past n 0x1000 i (optional_us_element 0x1002 v) (ne_eqb 0x1000 n (λ e. omega (arith, l, e))) ∙ not_us n 0x1002 v (ne_eqb 0x1002 n (λ e. omega (arith, l, e)))
 own_result_none n (results.Create i) l = not_uid n 0x1000 i (ne_eqb 0x1000 n (λ e. omega (arith, l, e)))
 own_result_none n (results.Get i) l = not_uid n 0x1000 i (ne_eqb 0x1000 n (λ e. omega (arith, l, e)))
 own_result_none n (results.Set i) l = not_uid n 0x1000 i (ne_eqb 0x1000 n (λ e. omega (arith, l, e)))
@@ -264,6 +285,10 @@ us_by es n None h e = e
 us_by es n (Some v) h e = record { fits = h; is = e }
 
 operation_again : {A : Type 0} (es : List CommandElement) (o : Operation A) → ((n : ℕ) → 0x1000 ≤ n → value_in n es ≡ value_in n (operation_elements o)) → MayHaveUs es 0x0700 (priority_of o) → IsHeldOperation o → HasOperation es o
+operation_again es (operations.EventReport i v) same u h = (
+  uid_by es 0x1000 i h.0 (same 0x1000 (omega arith) ∙ here 0x1000 i (us_element 0x1002 v ∷ []) refl refl),
+  record { fits = h.1; is = same 0x1002 (omega arith) ∙ past 0x1002 0x1000 i (us_element 0x1002 v ∷ []) refl },
+)
 operation_again es (operations.Create i) same u h = uid_by es 0x1000 i h (same 0x1000 (omega arith) ∙ only_here 0x1000 i refl)
 operation_again es (operations.Get i ts) same u h = (
   uid_by es 0x1001 i h.0 (same 0x1001 (omega arith) ∙ here 0x1001 i (tags_element 0x1005 ts) refl (not_tags 0x1001 0x1005 ts refl)),
@@ -278,6 +303,10 @@ operation_again es operations.Echo same u h = tt
 operation_again es (operations.Find p) same u h = u
 
 result_again : (es : List CommandElement) (o : OperationResult) → ((n : ℕ) → 0x1000 ≤ n → value_in n es ≡ value_in n (result_elements o)) → IsHeldResult o → HasResult es o
+result_again es (results.EventReport i v) same h = (
+  uid_by es 0x1000 i h.0 (same 0x1000 (omega arith) ∙ here 0x1000 i (optional_us_element 0x1002 v) refl (not_us 0x1000 0x1002 v refl)),
+  us_by es 0x1002 v h.1 (same 0x1002 (omega arith) ∙ past 0x1002 0x1000 i (optional_us_element 0x1002 v) refl ∙ only_us 0x1002 v refl),
+)
 result_again es (results.Create i) same h = uid_by es 0x1000 i h (same 0x1000 (omega arith) ∙ only_here 0x1000 i refl)
 result_again es (results.Get i) same h = uid_by es 0x1000 i h (same 0x1000 (omega arith) ∙ only_here 0x1000 i refl)
 result_again es (results.Set i) same h = uid_by es 0x1000 i h (same 0x1000 (omega arith) ∙ only_here 0x1000 i refl)
@@ -296,6 +325,8 @@ us_value (Some v) there o = refl
 -- the class of a request stands first, and nowhere else
 class_by_operation : {A : Type 0} (sop_class : Option (List ℕ)) (id : ℕ) (there : Bool) (o : Operation A)
     → value_in (class_element o) (grouped (uid_element (class_element o) sop_class ++ (us_element 0x0100 (field_of (request_of o)) ∷ us_element 0x0110 id ∷ (optional_us_element 0x0700 (priority_of o) ++ (data_set_element there ∷ operation_elements o))))) ≡ option_map padded sop_class
+class_by_operation sop_class id there (operations.EventReport i v) =
+    here 0x0002 sop_class (us_element 0x0100 0x0100 ∷ us_element 0x0110 id ∷ data_set_element there ∷ (uid_element 0x1000 i ++ us_element 0x1002 v ∷ [])) refl (own_none {A = ℕ} 0x0002 (operations.EventReport i v) (omega arith))
 class_by_operation sop_class id there (operations.Create i) =
     here 0x0002 sop_class (us_element 0x0100 0x0140 ∷ us_element 0x0110 id ∷ data_set_element there ∷ uid_element 0x1000 i) refl (own_none {A = ℕ} 0x0002 (operations.Create i) (omega arith))
 class_by_operation sop_class id there (operations.Get i ts) =

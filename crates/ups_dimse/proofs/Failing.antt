@@ -50,6 +50,7 @@ all_no es (need ∷ more) f h (inl k) = need_no es need f h.0 k
 all_no es (need ∷ more) f h (inr k) = all_no es more f h.1 k.1
 
 operation_holds : {A : Type 0} (es : List CommandElement) (o : Operation A) (id : ℕ) (there : Rattle.std.proofs.Common.Bool) → HasUs es 0x0110 id → HasDataSet es there → HasOperation es o → AllHold es (needs (request_of o))
+operation_holds es (operations.EventReport i v) id there h d k = ((id, h), ((d.0, d.1), ((v, k.1), tt)))
 operation_holds es (operations.Create i) id there h d k = ((id, h), ((d.0, d.1), tt))
 operation_holds es (operations.Get i ts) id there h d k = ((id, h), ((d.0, d.1), ((ts, k.1), tt)))
 operation_holds es (operations.Set i) id there h d k = ((id, h), ((d.0, d.1), tt))
@@ -58,6 +59,7 @@ operation_holds es operations.Echo id there h d k = ((id, h), ((d.0, d.1), tt))
 operation_holds es (operations.Find p) id there h d k = ((id, h), ((p, k), ((d.0, d.1), tt)))
 
 result_holds : (es : List CommandElement) (o : OperationResult) (id status : ℕ) (there : Rattle.std.proofs.Common.Bool) → HasUs es 0x0120 id → HasDataSet es there → HasUs es 0x0900 status → HasResult es o → AllHold es (needs (response_of o))
+result_holds es (results.EventReport i v) id status there h d s k = ((id, h), ((d.0, d.1), ((status, s), ((v, k.1), tt))))
 result_holds es (results.Create i) id status there h d s k = ((id, h), ((d.0, d.1), ((status, s), tt)))
 result_holds es (results.Get i) id status there h d s k = ((id, h), ((d.0, d.1), ((status, s), tt)))
 result_holds es (results.Set i) id status there h d s k = ((id, h), ((d.0, d.1), ((status, s), tt)))

@@ -72,6 +72,7 @@ uid_us_size : (n m : ℕ) (o : Option (List ℕ)) (v : ℕ) → IfSome o IsUid �
 uid_us_size n m o v h = rw (flat_map-append written_element (uid_element n o) (us_element m v ∷ [])) (omega (arith, uid_size n o h, length-append (flat_map written_element (uid_element n o)) (flat_map written_element (us_element m v ∷ []))))
 
 operation_size : {A : Type 0} (o : Operation A) → IsHeldOperation o → length (flat_map written_element (operation_elements o)) ≤ 83 + 4 * length (tags_of o)
+operation_size (operations.EventReport i v) h = uid_us_size 0x1000 0x1002 i v h.0
 operation_size (operations.Create i) h = omega (arith, uid_size 0x1000 i h)
 operation_size (operations.Get i ts) h = rw (flat_map-append written_element (uid_element 0x1001 i) (tags_element 0x1005 ts)) (omega (arith, uid_size 0x1001 i h.0, tags_size 0x1005 ts, length-append (flat_map written_element (uid_element 0x1001 i)) (flat_map written_element (tags_element 0x1005 ts))))
 operation_size (operations.Set i) h = omega (arith, uid_size 0x1001 i h)
@@ -80,6 +81,9 @@ operation_size operations.Echo h = omega arith
 operation_size (operations.Find p) h = omega arith
 
 result_size : (o : OperationResult) → IsHeldResult o → length (flat_map written_element (result_elements o)) ≤ 83
+result_size (results.EventReport i v) h =
+    rw (flat_map-append written_element (uid_element 0x1000 i) (optional_us_element 0x1002 v))
+    (omega (arith, uid_size 0x1000 i h.0, optional_us_size 0x1002 v, length-append (flat_map written_element (uid_element 0x1000 i)) (flat_map written_element (optional_us_element 0x1002 v))))
 result_size (results.Create i) h = omega (arith, uid_size 0x1000 i h)
 result_size (results.Get i) h = omega (arith, uid_size 0x1000 i h)
 result_size (results.Set i) h = omega (arith, uid_size 0x1000 i h)

@@ -14,7 +14,7 @@ use Rattle.ups_dimse.specs.declared.command.Operation.TheVariants as operations
 use Rattle.ups_dimse.specs.declared.command.OperationResult.{OperationResult}
 use Rattle.ups_dimse.specs.declared.command.OperationResult.TheVariants as results
 use Rattle.ups_dimse.specs.declared.message.Message.{Message}
-use Rattle.ups_dimse.specs.declared.message.Message.TheVariants.{GetRequest, GetResponse, SetRequest, SetResponse, ActionRequest, ActionResponse, CreateRequest, CreateResponse, EchoRequest, EchoResponse, FindRequest, FindResponse, CancelRequest}
+use Rattle.ups_dimse.specs.declared.message.Message.TheVariants.{EventReportRequest, EventReportResponse, GetRequest, GetResponse, SetRequest, SetResponse, ActionRequest, ActionResponse, CreateRequest, CreateResponse, EchoRequest, EchoResponse, FindRequest, FindResponse, CancelRequest}
 use Rattle.ups_dimse.specs.Elements.{CommandElement}
 use Rattle.ups_dimse.specs.Messages.{field_of}
 use Rattle.ups_dimse.specs.Values.{HasUs, MayHaveUs, HasUid, HasDataSet}
@@ -24,9 +24,11 @@ use Rattle.ups_dimse.proofs.Walk.{one_list}
 
 -- a message back from its field
 abbrev message_at : ℕ → Option Message
-message_at field = cond (eqb field 0x0110) (Some GetRequest) (cond (eqb field 0x8110) (Some GetResponse) (cond (eqb field 0x0120) (Some SetRequest) (cond (eqb field 0x8120) (Some SetResponse) (cond (eqb field 0x0130) (Some ActionRequest) (cond (eqb field 0x8130) (Some ActionResponse) (cond (eqb field 0x0140) (Some CreateRequest) (cond (eqb field 0x8140) (Some CreateResponse) (cond (eqb field 0x0030) (Some EchoRequest) (cond (eqb field 0x8030) (Some EchoResponse) (cond (eqb field 0x0020) (Some FindRequest) (cond (eqb field 0x8020) (Some FindResponse) (Some CancelRequest))))))))))))
+message_at field = cond (eqb field 0x0100) (Some EventReportRequest) (cond (eqb field 0x8100) (Some EventReportResponse) (cond (eqb field 0x0110) (Some GetRequest) (cond (eqb field 0x8110) (Some GetResponse) (cond (eqb field 0x0120) (Some SetRequest) (cond (eqb field 0x8120) (Some SetResponse) (cond (eqb field 0x0130) (Some ActionRequest) (cond (eqb field 0x8130) (Some ActionResponse) (cond (eqb field 0x0140) (Some CreateRequest) (cond (eqb field 0x8140) (Some CreateResponse) (cond (eqb field 0x0030) (Some EchoRequest) (cond (eqb field 0x8030) (Some EchoResponse) (cond (eqb field 0x0020) (Some FindRequest) (cond (eqb field 0x8020) (Some FindResponse) (Some CancelRequest))))))))))))))
 
 message_again : (m : Message) → message_at (field_of m) ≡ Some m
+message_again EventReportRequest = refl
+message_again EventReportResponse = refl
 message_again GetRequest = refl
 message_again GetResponse = refl
 message_again SetRequest = refl
@@ -66,6 +68,10 @@ one_data_set : (es : List CommandElement) (a b : Bool) → HasDataSet es a → H
 one_data_set es a b h k = h.2 ∙ ap (λ (t : ℕ). not (eqb t 0x0101)) (one_us es 0x0800 h.0 k.0 h.1 k.1) ∙ sym k.2
 
 one_operation : {A : Type 0} (es : List CommandElement) (o p : Operation A) → request_of o ≡ request_of p → HasOperation es o → HasOperation es p → o ≡ p
+one_operation es (operations.EventReport i v) (operations.EventReport j w) e h k =
+    let same = one_uid es 0x1000 i j h.0 k.0 in
+    let event = one_us es 0x1002 v w h.1 k.1 in
+    λ t. operations.EventReport (same t) (event t)
 one_operation es (operations.Create i) (operations.Create j) e h k = let same = one_uid es 0x1000 i j h k in λ t. operations.Create (same t)
 one_operation es (operations.Get i ts) (operations.Get j bs) e h k =
     let same = one_uid es 0x1001 i j h.0 k.0 in
@@ -108,8 +114,24 @@ one_operation es (operations.Find m) (operations.Get j bs) e h k = cc
 one_operation es (operations.Find m) (operations.Set j) e h k = cc
 one_operation es (operations.Find m) (operations.Action j b) e h k = cc
 one_operation es (operations.Find m) operations.Echo e h k = cc
+one_operation es (operations.EventReport i v) (operations.Create j) e h k = cc
+one_operation es (operations.EventReport i v) (operations.Get j ts) e h k = cc
+one_operation es (operations.EventReport i v) (operations.Set j) e h k = cc
+one_operation es (operations.EventReport i v) (operations.Action j a) e h k = cc
+one_operation es (operations.EventReport i v) operations.Echo e h k = cc
+one_operation es (operations.EventReport i v) (operations.Find j) e h k = cc
+one_operation es (operations.Create i) (operations.EventReport j w) e h k = cc
+one_operation es (operations.Get i ts) (operations.EventReport j w) e h k = cc
+one_operation es (operations.Set i) (operations.EventReport j w) e h k = cc
+one_operation es (operations.Action i a) (operations.EventReport j w) e h k = cc
+one_operation es operations.Echo (operations.EventReport j w) e h k = cc
+one_operation es (operations.Find i) (operations.EventReport j w) e h k = cc
 
 one_result : (es : List CommandElement) (o p : OperationResult) → response_of o ≡ response_of p → HasResult es o → HasResult es p → o ≡ p
+one_result es (results.EventReport i v) (results.EventReport j w) e h k =
+    let same = one_uid es 0x1000 i j h.0 k.0 in
+    let event = one_optional_us es 0x1002 v w h.1 k.1 in
+    λ t. results.EventReport (same t) (event t)
 one_result es (results.Create i) (results.Create j) e h k = let same = one_uid es 0x1000 i j h k in λ t. results.Create (same t)
 one_result es (results.Get i) (results.Get j) e h k = let same = one_uid es 0x1000 i j h k in λ t. results.Get (same t)
 one_result es (results.Set i) (results.Set j) e h k = let same = one_uid es 0x1000 i j h k in λ t. results.Set (same t)
@@ -149,6 +171,18 @@ one_result es results.Find (results.Get j) e h k = cc
 one_result es results.Find (results.Set j) e h k = cc
 one_result es results.Find (results.Action j b) e h k = cc
 one_result es results.Find results.Echo e h k = cc
+one_result es (results.EventReport i v) (results.Create j) e h k = cc
+one_result es (results.EventReport i v) (results.Get j) e h k = cc
+one_result es (results.EventReport i v) (results.Set j) e h k = cc
+one_result es (results.EventReport i v) (results.Action j a) e h k = cc
+one_result es (results.EventReport i v) results.Echo e h k = cc
+one_result es (results.EventReport i v) results.Find e h k = cc
+one_result es (results.Create i) (results.EventReport j w) e h k = cc
+one_result es (results.Get i) (results.EventReport j w) e h k = cc
+one_result es (results.Set i) (results.EventReport j w) e h k = cc
+one_result es (results.Action i a) (results.EventReport j w) e h k = cc
+one_result es results.Echo (results.EventReport j w) e h k = cc
+one_result es results.Find (results.EventReport j w) e h k = cc
 
 one_request : {A : Type 0} (es : List CommandElement) (r s : RequestCommand A) → IsRequest es r → IsRequest es s → r ≡ s
 one_request es r s p q =
@@ -188,6 +222,8 @@ command_field es (Cancel c) p = p.field
 
 -- requests, responses and cancels, told apart
 abbrev kind : Message → ℕ
+kind EventReportRequest = 0
+kind EventReportResponse = 1
 kind GetRequest = 0
 kind SetRequest = 0
 kind ActionRequest = 0
@@ -203,6 +239,7 @@ kind FindResponse = 1
 kind CancelRequest = 2
 
 request_kind : {A : Type 0} (o : Operation A) → kind (request_of o) ≡ 0
+request_kind (operations.EventReport i v) = refl
 request_kind (operations.Create i) = refl
 request_kind (operations.Get i ts) = refl
 request_kind (operations.Set i) = refl
@@ -211,6 +248,7 @@ request_kind operations.Echo = refl
 request_kind (operations.Find p) = refl
 
 response_kind : (o : OperationResult) → kind (response_of o) ≡ 1
+response_kind (results.EventReport i v) = refl
 response_kind (results.Create i) = refl
 response_kind (results.Get i) = refl
 response_kind (results.Set i) = refl

@@ -36,6 +36,7 @@ answer_with id status result = Response (record { sop_class = Some class_uid; re
 
 -- the Command Field of a response is that of its request with the highest bit set (PS3.7 annex E.1)
 answered_field : {A : Type 0} (o : Operation A) → field_of (response_of (result_of o)) ≡ field_of (request_of o) + 0x8000
+answered_field (operations.EventReport instance event) = refl
 answered_field (operations.Create instance) = refl
 answered_field (operations.Get instance attributes) = refl
 answered_field (operations.Set instance) = refl
@@ -62,6 +63,21 @@ action_request = refl
 action_response : command_elements (answer_with 4 0xc302 (results.Action (Some step) 0x0103))
     ≡ element 0x0002 (codes "1.2" ++ 0x00 ∷ []) ∷ element 0x0100 (0x30 ∷ 0x81 ∷ []) ∷ element 0x0120 (0x04 ∷ 0x00 ∷ []) ∷ element 0x0800 (0x01 ∷ 0x01 ∷ []) ∷ element 0x0900 (0x02 ∷ 0xc3 ∷ []) ∷ element 0x1000 padded_step ∷ element 0x1008 (0x03 ∷ 0x01 ∷ []) ∷ []
 action_response = refl
+
+-- an N-EVENT-REPORT names its class and its instance as affected ones, and has its event type behind them (PS3.7
+-- section 10.3.1.1)
+event_report_request : command_elements (request_for 1 (operations.EventReport (Some step) 0x0001))
+    ≡ element 0x0002 (codes "1.2" ++ 0x00 ∷ []) ∷ element 0x0100 (0x00 ∷ 0x01 ∷ []) ∷ element 0x0110 (0x01 ∷ 0x00 ∷ []) ∷ element 0x0800 (0x01 ∷ 0x00 ∷ []) ∷ element 0x1000 padded_step ∷ element 0x1002 (0x01 ∷ 0x00 ∷ []) ∷ []
+event_report_request = refl
+
+-- and so has its response, where it has an event type (PS3.7 section 10.3.1.2)
+event_report_response : command_elements (answer_with 1 0x0000 (results.EventReport (Some step) (Some 0x0001)))
+    ≡ element 0x0002 (codes "1.2" ++ 0x00 ∷ []) ∷ element 0x0100 (0x00 ∷ 0x81 ∷ []) ∷ element 0x0120 (0x01 ∷ 0x00 ∷ []) ∷ element 0x0800 (0x01 ∷ 0x01 ∷ []) ∷ element 0x0900 (0x00 ∷ 0x00 ∷ []) ∷ element 0x1000 padded_step ∷ element 0x1002 (0x01 ∷ 0x00 ∷ []) ∷ []
+event_report_response = refl
+
+event_report_response_bare : command_elements (answer_with 1 0x0000 (results.EventReport None None))
+    ≡ element 0x0002 (codes "1.2" ++ 0x00 ∷ []) ∷ element 0x0100 (0x00 ∷ 0x81 ∷ []) ∷ element 0x0120 (0x01 ∷ 0x00 ∷ []) ∷ element 0x0800 (0x01 ∷ 0x01 ∷ []) ∷ element 0x0900 (0x00 ∷ 0x00 ∷ []) ∷ []
+event_report_response_bare = refl
 
 -- an N-ACTION without a class and an instance, in bytes
 bare_action : written {A = Unit {0}} (Request (record { sop_class = None; message_id = 4; has_data_set = false; operation = operations.Action None 5 }))

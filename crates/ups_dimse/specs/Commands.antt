@@ -1,5 +1,5 @@
 -- Which bytes spell which command (PS3.7 sections 9.3 and 10.3).
-use Rattle.std.specs.Prelude.{ℕ, List, []}
+use Rattle.std.specs.Prelude.{ℕ, List, [], Some}
 use Rattle.ups_dimse.specs.declared.command.Command.{Command}
 use Rattle.ups_dimse.specs.declared.command.Command.TheVariants.{Request, Response, Cancel}
 use Rattle.ups_dimse.specs.declared.command.RequestCommand.{RequestCommand}
@@ -10,13 +10,14 @@ use Rattle.ups_dimse.specs.declared.command.Operation.TheVariants as operations
 use Rattle.ups_dimse.specs.declared.command.OperationResult.{OperationResult}
 use Rattle.ups_dimse.specs.declared.command.OperationResult.TheVariants as results
 use Rattle.ups_dimse.specs.declared.message.Message.{Message}
-use Rattle.ups_dimse.specs.declared.message.Message.TheVariants.{GetRequest, GetResponse, SetRequest, SetResponse, ActionRequest, ActionResponse, CreateRequest, CreateResponse, EchoRequest, EchoResponse, FindRequest, FindResponse, CancelRequest}
+use Rattle.ups_dimse.specs.declared.message.Message.TheVariants.{EventReportRequest, EventReportResponse, GetRequest, GetResponse, SetRequest, SetResponse, ActionRequest, ActionResponse, CreateRequest, CreateResponse, EchoRequest, EchoResponse, FindRequest, FindResponse, CancelRequest}
 use Rattle.ups_dimse.specs.Elements.{CommandElement, SpellsElements}
 use Rattle.ups_dimse.specs.Messages.{field_of}
 use Rattle.ups_dimse.specs.Values.{HasUs, MayHaveUs, HasUid, HasDataSet, HasTags}
 
 -- the message that requests an operation
 abbrev pub request_of : {A : Type 0} → Operation A → Message
+request_of (operations.EventReport instance event) = EventReportRequest
 request_of (operations.Create instance) = CreateRequest
 request_of (operations.Get instance attributes) = GetRequest
 request_of (operations.Set instance) = SetRequest
@@ -26,6 +27,7 @@ request_of (operations.Find priority) = FindRequest
 
 -- the message that responds with a result
 abbrev pub response_of : OperationResult → Message
+response_of (results.EventReport instance event) = EventReportResponse
 response_of (results.Create instance) = CreateResponse
 response_of (results.Get instance) = GetResponse
 response_of (results.Set instance) = SetResponse
@@ -35,6 +37,7 @@ response_of results.Find = FindResponse
 
 -- the element that names the SOP class of a request: Affected (0002) or Requested (0003) SOP Class UID
 abbrev pub class_element : {A : Type 0} → Operation A → ℕ
+class_element (operations.EventReport instance event) = 0x0002
 class_element (operations.Create instance) = 0x0002
 class_element (operations.Get instance attributes) = 0x0003
 class_element (operations.Set instance) = 0x0003
@@ -42,9 +45,11 @@ class_element (operations.Action instance action) = 0x0003
 class_element operations.Echo = 0x0002
 class_element (operations.Find priority) = 0x0002
 
--- the elements of a request that are its operation's own: Affected (1000) or Requested (1001) SOP Instance UID,
--- Attribute Identifier List (1005), Action Type ID (1008), Priority (0700). A C-ECHO has none (PS3.7 section 9.3.5.1).
+-- the elements of a request that are its operation's own: Affected (1000) or Requested (1001) SOP Instance UID, Event
+-- Type ID (1002), Attribute Identifier List (1005), Action Type ID (1008), Priority (0700). A C-ECHO has none (PS3.7
+-- section 9.3.5.1).
 abbrev pub HasOperation : {A : Type 0} → List CommandElement → Operation A → Type 0
+HasOperation elements (operations.EventReport instance event) = HasUid elements 0x1000 instance × HasUs elements 0x1002 event
 HasOperation elements (operations.Create instance) = HasUid elements 0x1000 instance
 HasOperation elements (operations.Get instance attributes) = HasUid elements 0x1001 instance × HasTags elements 0x1005 attributes
 HasOperation elements (operations.Set instance) = HasUid elements 0x1001 instance
@@ -52,9 +57,10 @@ HasOperation elements (operations.Action instance action) = HasUid elements 0x10
 HasOperation elements operations.Echo = Unit {0}
 HasOperation elements (operations.Find priority) = MayHaveUs elements 0x0700 priority
 
--- the elements of a response that are its operation's own: Affected SOP Instance UID (1000), Action Type ID (1008). A
--- C-ECHO and a C-FIND have none (PS3.7 sections 9.3.5.2 and 9.3.2.2).
+-- the elements of a response that are its operation's own: Affected SOP Instance UID (1000), Event Type ID (1002), which
+-- may be absent, Action Type ID (1008). A C-ECHO and a C-FIND have none (PS3.7 sections 9.3.5.2 and 9.3.2.2).
 abbrev pub HasResult : List CommandElement → OperationResult → Type 0
+HasResult elements (results.EventReport instance event) = HasUid elements 0x1000 instance × MayHaveUs elements 0x1002 event
 HasResult elements (results.Create instance) = HasUid elements 0x1000 instance
 HasResult elements (results.Get instance) = HasUid elements 0x1000 instance
 HasResult elements (results.Set instance) = HasUid elements 0x1000 instance
@@ -102,6 +108,7 @@ pub record SpellsCommand {A : Type 0} (bytes : List ℕ) (command : Command A) :
 
 -- what a response to an operation is the result of
 abbrev pub result_of : {A : Type 0} → Operation A → OperationResult
+result_of (operations.EventReport instance event) = results.EventReport instance (Some event)
 result_of (operations.Create instance) = results.Create instance
 result_of (operations.Get instance attributes) = results.Get instance
 result_of (operations.Set instance) = results.Set instance

@@ -25,6 +25,7 @@ AreHeldTags tags = All IsHeldTag tags
 
 -- what is an operation's own, but its priority
 abbrev pub IsHeldOperation : {A : Type 0} → Operation A → Type 0
+IsHeldOperation (operations.EventReport instance event) = IfSome instance IsUid × (event < 2 ^ 16)
 IsHeldOperation (operations.Create instance) = IfSome instance IsUid
 IsHeldOperation (operations.Get instance attributes) = IfSome instance IsUid × AreHeldTags attributes
 IsHeldOperation (operations.Set instance) = IfSome instance IsUid
@@ -34,6 +35,7 @@ IsHeldOperation (operations.Find priority) = Unit {0}
 
 -- what is a result's own
 abbrev pub IsHeldResult : OperationResult → Type 0
+IsHeldResult (results.EventReport instance event) = IfSome instance IsUid × IfSome event (λ e. e < 2 ^ 16)
 IsHeldResult (results.Create instance) = IfSome instance IsUid
 IsHeldResult (results.Get instance) = IfSome instance IsUid
 IsHeldResult (results.Set instance) = IfSome instance IsUid

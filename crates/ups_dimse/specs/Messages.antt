@@ -2,10 +2,12 @@
 -- and 10.3).
 use Rattle.std.specs.Prelude.{ℕ, List, [], ◌∷◌}
 use Rattle.ups_dimse.specs.declared.message.Message.{Message}
-use Rattle.ups_dimse.specs.declared.message.Message.TheVariants.{GetRequest, GetResponse, SetRequest, SetResponse, ActionRequest, ActionResponse, CreateRequest, CreateResponse, EchoRequest, EchoResponse, FindRequest, FindResponse, CancelRequest}
+use Rattle.ups_dimse.specs.declared.message.Message.TheVariants.{EventReportRequest, EventReportResponse, GetRequest, GetResponse, SetRequest, SetResponse, ActionRequest, ActionResponse, CreateRequest, CreateResponse, EchoRequest, EchoResponse, FindRequest, FindResponse, CancelRequest}
 
 -- Command Field (0000,0100). That of a response has its highest bit set. A C-CANCEL has no response.
 abbrev pub field_of : Message → ℕ
+field_of EventReportRequest = 0x0100
+field_of EventReportResponse = 0x8100
 field_of GetRequest = 0x0110
 field_of GetResponse = 0x8110
 field_of SetRequest = 0x0120
@@ -28,9 +30,11 @@ pub data Need : Type 0 where
   may_have_at : ℕ → Need
 
 -- the elements of a message that can be at fault, by rising numbers: Message ID (0110), Message ID Being Responded To
--- (0120), Priority (0700), Command Data Set Type (0800), Status (0900), Attribute Identifier List (1005), Action Type ID
--- (1008)
+-- (0120), Priority (0700), Command Data Set Type (0800), Status (0900), Event Type ID (1002), Attribute Identifier List
+-- (1005), Action Type ID (1008)
 abbrev pub needs : Message → List Need
+needs EventReportRequest = has_us 0x0110 ∷ has_us 0x0800 ∷ has_us 0x1002 ∷ []
+needs EventReportResponse = has_us 0x0120 ∷ has_us 0x0800 ∷ has_us 0x0900 ∷ may_have_us 0x1002 ∷ []
 needs GetRequest = has_us 0x0110 ∷ has_us 0x0800 ∷ may_have_at 0x1005 ∷ []
 needs GetResponse = has_us 0x0120 ∷ has_us 0x0800 ∷ has_us 0x0900 ∷ []
 needs SetRequest = has_us 0x0110 ∷ has_us 0x0800 ∷ []

@@ -52,6 +52,7 @@ data_set_element there = us_element 0x0800 (if there then 0x0001 else 0x0101)
 
 -- Priority (0000,0700), of the one operation that has it (PS3.7 section 9.3.2.1)
 abbrev pub priority_of : {A : Type 0} → Operation A → Option ℕ
+priority_of (operations.EventReport instance event) = None
 priority_of (operations.Create instance) = None
 priority_of (operations.Get instance attributes) = None
 priority_of (operations.Set instance) = None
@@ -59,8 +60,9 @@ priority_of (operations.Action instance action) = None
 priority_of operations.Echo = None
 priority_of (operations.Find priority) = priority
 
--- the other elements that are an operation's own (PS3.7 sections 9.3.5.1, 10.3.2.1, 10.3.3.1, 10.3.4.1 and 10.3.5.1)
+-- the other elements that are an operation's own (PS3.7 sections 9.3.5.1, 10.3.1.1, 10.3.2.1, 10.3.3.1, 10.3.4.1 and 10.3.5.1)
 abbrev pub operation_elements : {A : Type 0} → Operation A → List CommandElement
+operation_elements (operations.EventReport instance event) = uid_element 0x1000 instance ++ us_element 0x1002 event ∷ []
 operation_elements (operations.Create instance) = uid_element 0x1000 instance
 operation_elements (operations.Get instance attributes) = uid_element 0x1001 instance ++ tags_element 0x1005 attributes
 operation_elements (operations.Set instance) = uid_element 0x1001 instance
@@ -68,8 +70,9 @@ operation_elements (operations.Action instance action) = uid_element 0x1001 inst
 operation_elements operations.Echo = []
 operation_elements (operations.Find priority) = []
 
--- the elements that are a result's own (PS3.7 sections 9.3.2.2, 9.3.5.2, 10.3.2.2, 10.3.3.2, 10.3.4.2 and 10.3.5.2)
+-- the elements that are a result's own (PS3.7 sections 9.3.2.2, 9.3.5.2, 10.3.1.2, 10.3.2.2, 10.3.3.2, 10.3.4.2 and 10.3.5.2)
 abbrev pub result_elements : OperationResult → List CommandElement
+result_elements (results.EventReport instance event) = uid_element 0x1000 instance ++ optional_us_element 0x1002 event
 result_elements (results.Create instance) = uid_element 0x1000 instance
 result_elements (results.Get instance) = uid_element 0x1000 instance
 result_elements (results.Set instance) = uid_element 0x1000 instance
@@ -107,6 +110,7 @@ written command = flat_map written_element (grouped (command_elements command))
 
 -- the attributes that a request lists
 abbrev pub tags_of : {A : Type 0} → Operation A → List Tag
+tags_of (operations.EventReport instance event) = []
 tags_of (operations.Create instance) = []
 tags_of (operations.Get instance attributes) = attributes
 tags_of (operations.Set instance) = []

@@ -34,6 +34,13 @@ pub struct RequestCommand<A: Allocator + Copy> {
 /// What a request asks for, with what is its own in the command.
 #[derive(Drop)]
 pub enum Operation<A: Allocator + Copy> {
+    /// N-EVENT-REPORT (PS3.7 section 10.3.1). The report is the data set.
+    EventReport {
+        /// Affected SOP Instance UID (0000,1000); None where it is absent or malformed.
+        instance: Option<Uid>,
+        /// Event Type ID (0000,1002).
+        event: u16,
+    },
     /// N-CREATE (PS3.7 section 10.3.5).
     Create {
         /// Affected SOP Instance UID (0000,1000); None where it is absent or malformed.
@@ -85,6 +92,13 @@ pub struct ResponseCommand {
 /// What a response answers, with what is its own in the command.
 #[derive(Clone, Copy)]
 pub enum OperationResult {
+    /// N-EVENT-REPORT (PS3.7 section 10.3.1.2).
+    EventReport {
+        /// Affected SOP Instance UID (0000,1000); None where it is absent or malformed.
+        instance: Option<Uid>,
+        /// Event Type ID (0000,1002); None where it is absent, which is allowed where no event reply is.
+        event: Option<u16>,
+    },
     /// N-CREATE (PS3.7 section 10.3.5.2).
     Create {
         /// Affected SOP Instance UID (0000,1000); None where it is absent or malformed.
@@ -149,6 +163,7 @@ impl<A: Allocator + Copy> Operation<A> {
         ensures { result ≡ request_of self.now }
     {
         match self {
+            Operation::EventReport { .. } => Message::EventReportRequest,
             Operation::Create { .. } => Message::CreateRequest,
             Operation::Get { .. } => Message::GetRequest,
             Operation::Set { .. } => Message::SetRequest,
@@ -163,7 +178,10 @@ impl<A: Allocator + Copy> Operation<A> {
         ensures { result ≡ class_element self.now }
     {
         match self {
-            Operation::Create { .. } | Operation::Echo | Operation::Find { .. } => AFFECTED_CLASS,
+            Operation::EventReport { .. }
+            | Operation::Create { .. }
+            | Operation::Echo
+            | Operation::Find { .. } => AFFECTED_CLASS,
             Operation::Get { .. } | Operation::Set { .. } | Operation::Action { .. } => {
                 REQUESTED_CLASS
             }
@@ -200,6 +218,7 @@ impl OperationResult {
         ensures { result ≡ response_of self }
     {
         match self {
+            OperationResult::EventReport { .. } => Message::EventReportResponse,
             OperationResult::Create { .. } => Message::CreateResponse,
             OperationResult::Get { .. } => Message::GetResponse,
             OperationResult::Set { .. } => Message::SetResponse,
@@ -216,7 +235,7 @@ impl<A: Allocator + Copy> RequestCommand<A> {
     ghost use Rattle.ups_dimse.specs.Commands.{result_of};
 
     /// The response to this request: of its SOP class, or of the one that is given where it names none; with its
-    /// message ID, its operation, its instance and its action type.
+    /// message ID, its operation, its instance and its event type or action type.
     pub fn answered(&self, sop_class: Uid, status: u16, has_data_set: bool) -> ResponseCommand
         ensures class { result.sop_class ≡ Some (unwrap_or self.now.sop_class sop_class) }
         ensures responded_to { result.responded_to ≡ self.now.message_id }
@@ -225,6 +244,10 @@ impl<A: Allocator + Copy> RequestCommand<A> {
         ensures operation { result.result ≡ result_of self.now.operation }
     {
         let result = match &self.operation {
+            Operation::EventReport { instance, event } => OperationResult::EventReport {
+                instance: *instance,
+                event: Some(*event),
+            },
             Operation::Create { instance } => OperationResult::Create {
                 instance: *instance,
             },

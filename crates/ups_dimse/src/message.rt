@@ -7,6 +7,10 @@ ghost use Rattle.ups_dimse.specs.Messages.{field_of};
 /// The messages that are read and written.
 #[derive(Clone, Copy, Debug, PartialEq, Eq)]
 pub(crate) enum Message {
+    /// N-EVENT-REPORT-RQ (PS3.7 section 10.3.1.1).
+    EventReportRequest,
+    /// N-EVENT-REPORT-RSP (PS3.7 section 10.3.1.2).
+    EventReportResponse,
     /// N-GET-RQ (PS3.7 section 10.3.2.1).
     GetRequest,
     /// N-GET-RSP (PS3.7 section 10.3.2.2).
@@ -37,6 +41,10 @@ pub(crate) enum Message {
 
 /// The values of Command Field (PS3.7 annex E.1).
 mod field {
+    pub(super) const EVENT_REPORT_REQUEST: u16 = 0x0100;
+
+    pub(super) const EVENT_REPORT_RESPONSE: u16 = 0x8100;
+
     pub(super) const GET_REQUEST: u16 = 0x0110;
 
     pub(super) const GET_RESPONSE: u16 = 0x8110;
@@ -70,6 +78,8 @@ impl Message {
         ensures { result ≡ field_of self }
     {
         match self {
+            Message::EventReportRequest => field::EVENT_REPORT_REQUEST,
+            Message::EventReportResponse => field::EVENT_REPORT_RESPONSE,
             Message::GetRequest => field::GET_REQUEST,
             Message::GetResponse => field::GET_RESPONSE,
             Message::SetRequest => field::SET_REQUEST,
@@ -91,6 +101,8 @@ impl Message {
         ensures { MatchOption result ((message : Message) → field_of message ≡ field → ⊥) (λ message. field_of message ≡ field) }
     {
         match field {
+            field::EVENT_REPORT_REQUEST => Some(Message::EventReportRequest),
+            field::EVENT_REPORT_RESPONSE => Some(Message::EventReportResponse),
             field::GET_REQUEST => Some(Message::GetRequest),
             field::GET_RESPONSE => Some(Message::GetResponse),
             field::SET_REQUEST => Some(Message::SetRequest),

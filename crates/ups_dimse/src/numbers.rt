@@ -27,6 +27,8 @@ pub(crate) const STATUS: u16 = 0x0900;
 pub(crate) const AFFECTED_INSTANCE: u16 = 0x1000;
 /// Requested SOP Instance UID, UI.
 pub(crate) const REQUESTED_INSTANCE: u16 = 0x1001;
+/// Event Type ID, US.
+pub(crate) const EVENT_TYPE: u16 = 0x1002;
 /// Attribute Identifier List, AT.
 pub(crate) const ATTRIBUTES: u16 = 0x1005;
 /// Action Type ID, US.

@@ -9,7 +9,7 @@ ghost use Rattle.ups_dimse.specs.Messages.{field_of, needs};
 ghost use Rattle.ups_dimse.specs.Values.{HasUs};
 ghost use Rattle.ups_dimse.specs.Commands.{HasOperation, HasResult, IsRequest, IsResponse, IsCancel, IsCommand, SpellsCommand, request_of, response_of};
 ghost use Rattle.ups_dimse.specs.Faults.{FirstFails, Gives, IsFault};
-ghost use Rattle.ups_dimse.specs.declared.message.Message.TheVariants.{GetRequest, ActionRequest, ActionResponse, FindRequest, CancelRequest};
+ghost use Rattle.ups_dimse.specs.declared.message.Message.TheVariants.{EventReportRequest, EventReportResponse, GetRequest, ActionRequest, ActionResponse, FindRequest, CancelRequest};
 
 use crate::command::{
     CancelCommand, Command, Operation, OperationResult, RequestCommand, ResponseCommand,
@@ -18,10 +18,27 @@ use crate::elements::{are_elements, has_data_set, optional_us_of, tags_of, uid_o
 use crate::fault::DimseFault;
 use crate::message::Message;
 use crate::numbers::{
-    ACTION_TYPE, AFFECTED_CLASS, AFFECTED_INSTANCE, ATTRIBUTES, COMMAND_FIELD, GROUP_LENGTH,
-    MESSAGE_ID, PRIORITY, REQUESTED_CLASS, REQUESTED_INSTANCE, RESPONDED_TO, STATUS, command_tag,
+    ACTION_TYPE, AFFECTED_CLASS, AFFECTED_INSTANCE, ATTRIBUTES, COMMAND_FIELD, EVENT_TYPE,
+    GROUP_LENGTH, MESSAGE_ID, PRIORITY, REQUESTED_CLASS, REQUESTED_INSTANCE, RESPONDED_TO, STATUS,
+    command_tag,
 };
 use std::alloc::Allocator;
+
+/// N-EVENT-REPORT-RQ (PS3.7 section 10.3.1.1).
+fn event_report_request<A: Allocator + Copy>(bytes: &[u8]) -> Result<RequestCommand<A>, DimseFault>
+    ensures { (elements : List CommandElement) → SpellsElements 0 bytes.now elements [] → HasUs elements 0x0100 (field_of EventReportRequest)
+        → MatchResult result (IsRequest elements) (FirstFails elements (needs EventReportRequest)) }
+{
+    Ok(RequestCommand {
+        sop_class: uid_of(bytes, AFFECTED_CLASS),
+        message_id: us_of(bytes, MESSAGE_ID)?,
+        has_data_set: has_data_set(bytes)?,
+        operation: Operation::EventReport {
+            instance: uid_of(bytes, AFFECTED_INSTANCE),
+            event: us_of(bytes, EVENT_TYPE)?,
+        },
+    })
+}
 
 /// N-GET-RQ (PS3.7 section 10.3.2.1).
 fn get_request<A: Allocator + Copy>(alloc: A, bytes: &[u8]) -> Result<RequestCommand<A>, DimseFault>
@@ -97,6 +114,23 @@ fn request<A: Allocator + Copy>(
     })
 }
 
+/// N-EVENT-REPORT-RSP (PS3.7 section 10.3.1.2).
+fn event_report_response(bytes: &[u8]) -> Result<ResponseCommand, DimseFault>
+    ensures { (elements : List CommandElement) → SpellsElements 0 bytes.now elements [] → HasUs elements 0x0100 (field_of EventReportResponse)
+        → MatchResult result (IsResponse elements) (FirstFails elements (needs EventReportResponse)) }
+{
+    Ok(ResponseCommand {
+        sop_class: uid_of(bytes, AFFECTED_CLASS),
+        responded_to: us_of(bytes, RESPONDED_TO)?,
+        has_data_set: has_data_set(bytes)?,
+        status: us_of(bytes, STATUS)?,
+        result: OperationResult::EventReport {
+            instance: uid_of(bytes, AFFECTED_INSTANCE),
+            event: optional_us_of(bytes, EVENT_TYPE)?,
+        },
+    })
+}
+
 /// N-ACTION-RSP (PS3.7 section 10.3.4.2).
 fn action_response(bytes: &[u8]) -> Result<ResponseCommand, DimseFault>
     ensures { (elements : List CommandElement) → SpellsElements 0 bytes.now elements [] → HasUs elements 0x0100 (field_of ActionResponse)
@@ -138,6 +172,8 @@ fn command_of<A: Allocator + Copy>(
         → Gives (IsCommand elements) (FirstFails elements (needs message)) result }
 {
     match message {
+        Message::EventReportRequest => Ok(Command::Request(event_report_request(bytes)?)),
+        Message::EventReportResponse => Ok(Command::Response(event_report_response(bytes)?)),
         Message::GetRequest => Ok(Command::Request(get_request(alloc, bytes)?)),
         Message::GetResponse => {
             let instance = uid_of(bytes, AFFECTED_INSTANCE);

@@ -16,7 +16,8 @@ use crate::command::{
 use crate::message::Message;
 use crate::numbers::{
     ACTION_TYPE, AFFECTED_CLASS, AFFECTED_INSTANCE, ATTRIBUTES, COMMAND_FIELD, DATA_SET_TYPE,
-    GROUP_LENGTH, MESSAGE_ID, PRIORITY, REQUESTED_INSTANCE, RESPONDED_TO, STATUS, command_tag,
+    EVENT_TYPE, GROUP_LENGTH, MESSAGE_ID, PRIORITY, REQUESTED_INSTANCE, RESPONDED_TO, STATUS,
+    command_tag,
 };
 use std::alloc::{AllocError, Allocator};
 use ups_dataset::Tag;
@@ -135,6 +136,10 @@ fn put_operation<A: Allocator + Copy>(
     ensures held { OnOk result (IsHeldOperation operation.now) }
 {
     match operation {
+        Operation::EventReport { instance, event } => {
+            put_uid(out, AFFECTED_INSTANCE, *instance)?;
+            put_us(out, EVENT_TYPE, *event)?;
+        }
         Operation::Create { instance } => put_uid(out, AFFECTED_INSTANCE, *instance)?,
         Operation::Get {
             instance,
@@ -181,6 +186,10 @@ fn put_result<A: Allocator + Copy>(
     ensures held { OnOk result (IsHeldResult outcome.now) }
 {
     match outcome {
+        OperationResult::EventReport { instance, event } => {
+            put_uid(out, AFFECTED_INSTANCE, *instance)?;
+            put_optional_us(out, EVENT_TYPE, *event)?;
+        }
         OperationResult::Create { instance } => put_uid(out, AFFECTED_INSTANCE, *instance)?,
         OperationResult::Get { instance } => put_uid(out, AFFECTED_INSTANCE, *instance)?,
         OperationResult::Set { instance } => put_uid(out, AFFECTED_INSTANCE, *instance)?,

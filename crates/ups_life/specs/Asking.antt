@@ -78,7 +78,7 @@ finds offset attributes None = Ok (Find (record { attributes = attributes; offse
 finds offset attributes (Some fault) = Err IdentifierMismatch
 
 -- What a message asks; `offset` is that of a key's DT which says none, in minutes east of UTC. A C-ECHO is none of the
--- services of the UPS SOP classes: it asks nothing of a step.
+-- services of the UPS SOP classes, and an N-EVENT-REPORT is the server's own: they ask nothing of a step.
 abbrev pub asked : {A : Type 0} → ℤ → Operation A → List El → Result (Ask A) Status
 asked offset (operations.Create instance) attributes = created (step_in instance) attributes
 asked offset (operations.Get instance listed) attributes = Ok (Get (step_in instance) listed)
@@ -86,3 +86,4 @@ asked offset (operations.Set instance) attributes = Ok (Do (Set (step_in instanc
 asked offset (operations.Action instance action) attributes = acted offset instance action attributes
 asked offset (operations.Find priority) attributes = finds offset attributes (fault_of offset attributes)
 asked offset operations.Echo attributes = Err UnrecognizedOperation
+asked offset (operations.EventReport instance event) attributes = Err UnrecognizedOperation

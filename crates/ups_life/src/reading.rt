@@ -137,8 +137,8 @@ fn finds<A: Allocator + Copy>(attributes: DataSet<A>, offset: i16) -> Result<Ask
 /// which is no step, and for the suspension of anything else, 0115 where a change names no state, where no receiving AE
 /// is named for a subscription, where a deletion lock is neither TRUE nor FALSE, and where a key of a filter can't be
 /// read, 0114 where a filter has universal keys alone; A900 where a key of a C-FIND can't be read (PS3.4 section
-/// C.4.1.1.4); 0211 for a C-ECHO, which asks nothing of a step (PS3.4 annex A); 0213 where memory runs out, and only
-/// for a message that asks something.
+/// C.4.1.1.4); 0211 for a C-ECHO (PS3.4 annex A) and an N-EVENT-REPORT, which ask nothing of a step; 0213 where memory
+/// runs out, and only for a message that asks something.
 pub fn read_request<A: Allocator + Copy>(
     alloc: A,
     operation: &Operation<A>,
@@ -173,6 +173,6 @@ pub fn read_request<A: Allocator + Copy>(
         })),
         Operation::Action { instance, action } => acted(instance, *action, attributes, offset),
         Operation::Find { .. } => finds(attributes, offset),
-        Operation::Echo => Err(Status::UnrecognizedOperation),
+        Operation::Echo | Operation::EventReport { .. } => Err(Status::UnrecognizedOperation),
     }
 }

@@ -125,6 +125,7 @@ asked_not {A} offset (operations.Action instance action) set e =
     (either_not _ (suspended instance set) _ (suspended_not A instance set) (no_action_not A))))) e
 asked_not {A} offset (operations.Find priority) set e = finds_not A offset set (fault_of offset set) e
 asked_not offset operations.Echo set e = cc
+asked_not offset (operations.EventReport instance event) set e = cc
 
 asks : {A : Type 0} (offset : ℤ) (operation : Operation A) (set : List El) (ask : Ask A) → (operation ≡ operations.Echo → ⊥) → asked offset operation set ≡ Ok ask → dispatched offset operation set ≡ asking ask
 asks offset (operations.Create instance) set ask other e = ap question e
@@ -133,6 +134,7 @@ asks offset (operations.Set instance) set ask other e = ap question e
 asks offset (operations.Action instance action) set ask other e = ap question e
 asks offset (operations.Find priority) set ask other e = ap question e
 asks offset operations.Echo set ask other e = absurd (other refl)
+asks offset (operations.EventReport instance event) set ask other e = ap question e
 
 -- where memory ran out, something is asked
 pub asks_lacking : {A : Type 0} (offset same : ℤ) (operation : Operation A) (set : List El) (status : Status) → same ≡ offset → (operation ≡ operations.Echo → ⊥) → status ≡ ResourceLimitation
