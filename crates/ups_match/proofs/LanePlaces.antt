@@ -1,5 +1,5 @@
 -- Places of a text, one in each lane of a vector.
-use Rattle.std.proofs.Common.{◌≡◌, ◌≢◌, ◌≤◌, ◌<◌, ◌+◌, ℕ, Bool, true, false, cond, eqb, List, length, drop, take, map, replicate, get_or, refl, sym, ap, ◌∙◌, arith}
+use Rattle.std.proofs.Common.{◌≡◌, ◌≢◌, ◌≤◌, ◌<◌, ◌+◌, ◌-◌, ℕ, Bool, true, false, cond, eqb, List, length, drop, take, map, replicate, get_or, refl, sym, ap, ◌∙◌, arith, drop-drop}
 use Rattle.std.specs.Prelude.{Option, None, Some}
 use Rattle.std.specs.Int.{bit_at}
 use Rattle.std.specs.Simd.Lanes.{zip2, sel_l, mask_l}
@@ -10,6 +10,7 @@ use Rattle.std.proofs.Math.ListN.{get_or-map}
 use Rattle.ups_match.specs.Likeness.{is_question_mark}
 use Rattle.ups_match.specs.Runs.{behind_front}
 use Rattle.ups_match.specs.Lanes.{HasLanes}
+use Rattle.ups_match.proofs.Begun.{by_order}
 use Rattle.ups_match.proofs.PatternRuns.{same_number}
 use Rattle.ups_match.proofs.Places.{fits, front_to, fits_same}
 
@@ -68,3 +69,14 @@ module _ (run text : List ℕ) (i : ℕ) (places : List ℕ) (old : Keeps run te
       go None is = refl
       go (Some left) is =
           absurd (none k low (old k low (λ j below. ap (fits (get_or run j 0)) (sym (get_or-drop k text j 0)) ∙ front_to run (drop k text) left is j (omega arith))))
+
+-- where no lane of two vectors has a place, whose places stand next to one another, the run fits at none
+pub fits_nowhere_in_two : (run text : List ℕ) (i : ℕ) (near far : List ℕ) → Keeps run text i near → Keeps run (drop 64 text) i far → i ≤ length run
+    → ((k : ℕ) → k < 64 → get_or near k 0 ≢ 255) → ((k : ℕ) → k < 64 → get_or far k 0 ≢ 255) → (k : ℕ) → k < 128 → behind_front run (drop k text) ≡ None
+fits_nowhere_in_two run text i near far kept_near kept_far within none_near none_far k low =
+    by_order k 64
+    (fits_nowhere run text i near kept_near within none_near k)
+    (λ high.
+    let place : 64 + (k - 64) ≡ k = omega arith in
+    ap (behind_front run) (sym (drop-drop (k - 64) 64 text ∙ ap (λ n. drop n text) place))
+    ∙ fits_nowhere run (drop 64 text) i far kept_far within none_far (k - 64) (omega arith))

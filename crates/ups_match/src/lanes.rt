@@ -26,8 +26,16 @@ pub(crate) fn places_with(places: u8x64, text: &[u8], byte: u8) -> u8x64
 }
 
 /// Whether no place is left.
-pub(crate) fn has_no_place(places: u8x64) -> bool
+fn has_no_place(places: u8x64) -> bool
     ensures { IsTrue result → (k : ℕ) → k < 64 → slice_index places k ≢ 255 }
 {
     places.simd_eq(u8x64::splat(255)).to_bitmask() == 0
+}
+
+/// Whether no place is left in either of two vectors.
+pub(crate) fn have_no_place(near: u8x64, far: u8x64) -> bool
+    ensures near { IsTrue result → (k : ℕ) → k < 64 → slice_index near k ≢ 255 }
+    ensures far { IsTrue result → (k : ℕ) → k < 64 → slice_index far k ≢ 255 }
+{
+    has_no_place(near) && has_no_place(far)
 }

@@ -5,7 +5,7 @@ ghost use Rattle.std.specs.List.{list_any};
 ghost use Rattle.ups_match.specs.Likeness.{is_question_mark};
 ghost use Rattle.ups_match.specs.Runs.{behind_front, behind_first};
 
-use crate::lanes::{LANES, all_places, has_no_place, places_with};
+use crate::lanes::{LANES, all_places, have_no_place, places_with};
 use memchr::memmem;
 
 /// What stands in a text behind bytes that those of a run stand for.
@@ -48,41 +48,56 @@ fn behind_first_copy<'a>(run: &[u8], text: &'a [u8]) -> Option<&'a [u8]>
     Some(behind)
 }
 
-/// The same of any run. It takes about a step for each byte of the run and each 64 places of the text.
+/// The same of any run. It takes about a step for each byte of the run and each 128 places of the text.
 fn behind_first_fit<'a>(run: &[u8], text: &'a [u8]) -> Option<&'a [u8]>
     ensures { option_copied result ≡ behind_first run.now text.now }
 {
     let mut left = text;
     while fits_nowhere_in_front(run, left) {
-        let (_, after) = left.split_at(LANES);
+        let (_, after) = left.split_at(PLACES);
         left = after;
     }
     behind_first_by_place(run, left)
 }
 
+/// How many places of a text are tried at once: two vectors of them, since what is done for each byte of the run beside
+/// the comparisons takes as long as a third of these.
+const PLACES: usize = 2 * LANES;
+
 /// At how many bytes of a run it is looked whether a place is left.
 const LOOK_EVERY: usize = 8;
 
-/// Whether a run fits at none of the first 64 places of a text. Where the text ends before all of them can be tried, it
+/// A text from a place on.
+fn behind(text: &[u8], place: usize) -> &[u8]
+    requires { place ≤ length text.now }
+    ensures { result.now ≡ drop place text.now }
+{
+    let (_, there) = text.split_at(place);
+    there
+}
+
+/// Whether a run fits at none of the first 128 places of a text. Where the text ends before all of them can be tried, it
 /// isn't told.
 fn fits_nowhere_in_front(run: &[u8], text: &[u8]) -> bool
-    ensures nowhere { IsTrue result → (k : ℕ) → k < 64 → behind_front run.now (drop k text.now) ≡ None }
-    ensures long { IsTrue result → 64 ≤ length text.now }
+    ensures nowhere { IsTrue result → (k : ℕ) → k < 128 → behind_front run.now (drop k text.now) ≡ None }
+    ensures long { IsTrue result → 128 ≤ length text.now }
 {
-    if text.len() < run.len() + LANES {
+    if text.len() < run.len() + PLACES {
         return false;
     }
-    let mut places = all_places();
+    let (_, far) = text.split_at(LANES);
+    let mut near_places = all_places();
+    let mut far_places = all_places();
     for i in 0..run.len() {
         if run[i] != b'?' {
-            let (_, there) = text.split_at(i);
-            places = places_with(places, there, run[i]);
-            if i % LOOK_EVERY == 0 && has_no_place(places) {
+            near_places = places_with(near_places, behind(text, i), run[i]);
+            far_places = places_with(far_places, behind(far, i), run[i]);
+            if i % LOOK_EVERY == 0 && have_no_place(near_places, far_places) {
                 return true;
             }
         }
     }
-    has_no_place(places)
+    have_no_place(near_places, far_places)
 }
 
 /// The same as `behind_first`, place by place.
