@@ -160,8 +160,10 @@ fn dispatched<A: Allocator + Copy>(
     }
     match read_request(alloc, operation, set, offset) {
         Ok(ask) => Ok(Dispatch::Question(ask)),
-        Err(Status::ResourceLimitation) => Err(AllocError),
-        Err(status) => Ok(Dispatch::Answer(status)),
+        Err(status) => match status {
+            Status::ResourceLimitation => Err(AllocError),
+            _ => Ok(Dispatch::Answer(status)),
+        },
     }
 }
 
