@@ -17,6 +17,7 @@ use ups_match::Keys;
 use ups_pdu::Ae;
 
 mod entries;
+mod histories;
 mod memory;
 mod plain;
 mod starting;

@@ -151,6 +151,17 @@ fn operation_of<A: Allocator + Copy>(
     })
 }
 
+/// Returns the operation of a message and its set.
+fn message_of<A: Allocator + Copy>(
+    alloc: A,
+    message: &str,
+) -> Result<(Operation<A>, DataSet<A>), Fail> {
+    let (verb, rest) = message.split_once(' ').ok_or("an instance")?;
+    let (instance, text) = rest.split_once(' ').unwrap_or((rest, ""));
+    let operation = operation_of(alloc, verb, instance_of(instance), text)?;
+    Ok((operation, set_of(alloc, text)?))
+}
+
 /// Returns what is read of a message where the growth of this number is refused; 0 refuses none.
 pub(super) fn read<'a>(
     heap: &'a Refusing<Global>,
@@ -158,12 +169,18 @@ pub(super) fn read<'a>(
     growth: u64,
 ) -> Result<Result<Ask<&'a Refusing<Global>>, Status>, Fail> {
     heap.refuse(0);
-    let (verb, rest) = message.split_once(' ').ok_or("an instance")?;
-    let (instance, text) = rest.split_once(' ').unwrap_or((rest, ""));
-    let operation = operation_of(heap, verb, instance_of(instance), text)?;
-    let set = set_of(heap, text)?;
+    let (operation, set) = message_of(heap, message)?;
     heap.refuse(growth);
     Ok(read_request(heap, &operation, set, OFFSET))
+}
+
+/// Returns what a message asks.
+pub(crate) fn ask_of<A: Allocator + Copy>(alloc: A, message: &str) -> Result<Ask<A>, Fail> {
+    let (operation, set) = message_of(alloc, message)?;
+    match read_request(alloc, &operation, set, OFFSET) {
+        Ok(ask) => Ok(ask),
+        Err(_) => Err("nothing to be done".into()),
+    }
 }
 
 /// Returns the request that a message asks for.

@@ -11,13 +11,13 @@ use ups_match::Probe;
 
 /// Numbers that look random, the same at each run.
 #[derive(Drop)]
-struct Dice {
-    state: u64,
+pub(super) struct Dice {
+    pub(super) state: u64,
 }
 
 impl Dice {
     /// Returns a number below that of the sides.
-    fn roll(&mut self, sides: u64) -> u64 {
+    pub(super) fn roll(&mut self, sides: u64) -> u64 {
         let grown = self.state.wrapping_mul(6_364_136_223_846_793_005);
         self.state = grown.wrapping_add(1_442_695_040_888_963_407);
         if sides == 0 {
@@ -28,7 +28,7 @@ impl Dice {
     }
 
     /// Returns one of the lines of a text.
-    fn one_of<'a>(&mut self, lines: &'a str) -> Result<&'a str, Fail> {
+    pub(super) fn one_of<'a>(&mut self, lines: &'a str) -> Result<&'a str, Fail> {
         let place = self.roll(lines.split('\n').count() as u64);
         Ok(lines.split('\n').nth(place as usize).ok_or("a line")?)
     }
@@ -50,7 +50,7 @@ const UIDS: &str = "-\n2.1\n2.1\n2.2";
 const STATES: &str = "IN_PROGRESS\nIN_PROGRESS\nCOMPLETED\nCANCELED";
 
 /// The keys that are asked of what they make.
-const KEYS: &str = r"00080018=|00741000=
+pub(super) const KEYS: &str = r"00080018=|00741000=
 00080018=|00741000=SCHEDULED
 00080018=|00741000=IN PROGRESS
 00080018=|00741000=C*
@@ -91,7 +91,7 @@ fn spelled(rt: &impl AllocGlobal, sets: &[DataSet<Global>]) -> Result<Vec<u8>, F
 }
 
 /// Returns the settings of a manager.
-fn settings_of(
+pub(super) fn settings_of(
     alloc: Global,
     manager: &Manager<Global>,
 ) -> Result<Configuration<Global>, AllocError>
@@ -132,7 +132,7 @@ fn found(
 }
 
 /// Finds by a manager and by the plain program: how many sets both found.
-fn found_by_both(
+pub(super) fn found_by_both(
     rt: &impl AllocGlobal,
     manager: &Manager<Global>,
     keys: &str,

@@ -1,0 +1,470 @@
+//! Histories of requests of all kinds, made by chance: what a manager tells by its steps is what the plain programs tell
+//! by walking the entries.
+
+use super::plain::{Dice, KEYS, found_by_both, settings_of};
+use crate::life::words;
+use fixtures::title;
+use std::alloc::Global;
+use std::process::Abort;
+use std::test::Fail;
+use ups_life::{
+    Ask, Entry, Event, MAX_MOMENT, Peer, Place, Reply, Request, StepState, Target, Watched, acked,
+    plain_events, plain_held, plain_watches,
+};
+use ups_manager::*;
+use ups_pdu::Ae;
+
+/// Words, and what each stands for by chance: one of the lines under it. A call is a message as `life::words` has it, an
+/// acknowledgement or a sweep, with words between bars.
+///
+/// Of the rows the last two are refused, and of the sets the last. The filters are of each kind of key that there is. Of
+/// the Transaction UIDs one is malformed, and one is none; NOBODY is no peer. Moments that are two lines apart are as far
+/// apart as a finished step is kept.
+const WORDS: &str = r"CALL
+create |STEP| B |ROW|
+create |STEP| B |ROW|
+1 |STEP| 00741000=IN_PROGRESS 00081195=|UID|
+1 |STEP| 00741000=IN_PROGRESS 00081195=|UID|
+1 |STEP| 00741000=COMPLETED 00081195=|UID|
+1 |STEP| 00741000=COMPLETED 00081195=|UID|
+1 |STEP| 00741000=CANCELED 00081195=|UID|
+1 |STEP| 00741000=CANCELED 00081195=|UID|
+2 |STEP| 00741238=stop
+set |STEP| |SET| 00081195=
+set |STEP| |SET| 00081195=|UID|
+3 |STEP| 00741234=|RECEIVER| 00741230=|LOCK|
+3 global 00741234=|RECEIVER| 00741230=|LOCK|
+3 filtered 00741234=|RECEIVER| 00741230=|LOCK| |FILTER|
+4 |STEP| 00741234=|RECEIVER|
+4 global 00741234=|RECEIVER|
+5 global 00741234=|RECEIVER|
+ack |NUMBER|
+sweep
+sweep
+# STEP
+1.2.3.1
+1.2.3.2
+1.2.3.3
+1.2.3.4
+1.2.3.5
+1.2.3.6
+# ROW
+00741202=READS
+00741200=HIGH 00100010=DOE^JOHN
+00741202=REPROC 00404005=20240301 00741216=[00404050=20240229120100,00404051=20240229120200]
+00404041=INCOMPLETE 00404025=[00080100=CT1] 00741216=[00404050=20240229120100,00404051=20240229120200]
+00741002=[00404052=20240229120300]
+00741002=[00404052=20240229120300] 00100010=ROE^JANE
+00741002=[00404052=20240229120300] 00741216=[00404050=20240229120100,00404051=20240229120200]
+00741002=[00404052=20240229120300] 00741216=[00404050=20240229120100,00404051=20240229120200] 00741202=READS
+00741000=COMPLETED
+-00741204
+# SET
+00741202=READS
+00741202=REPROC
+00404005=20240301
+00741200=LOW
+00404041=UNAVAILABLE
+00404041=READY
+00741002=[00741004=50]
+00404025=[00080100=CT1]
+00404034=[00404036=HOSP]
+00741216=[00404050=20240229120100,00404051=20240229120200]
+00741002=[00404052=20240229120300]
+00741000=COMPLETED
+# FILTER
+00741202=READS
+00741202=RE?D*
+00741202=*C 00741204=
+00080018=1.2.3.2\1.2.3.5
+00404005=20240301-
+00404005=-20240229
+00404005=20240229-202402
+00100010=DOE*
+00741200=HIGH
+00741000=SCHEDULED 00741202=
+00404025=[00080100=CT1]
+00741216=[00404050=20240229-]
+# UID
+2.1
+2.1
+2.1
+2.2
+01
+
+# RECEIVER
+W1
+W2
+W3
+NOBODY
+# LOCK
+TRUE
+FALSE
+FALSE
+# NUMBER
+1
+2
+4
+8
+16
+# TITLE
+W1
+W2
+W3
+P1
+# MOMENT
+1709208000
+1709208030
+1709208060
+1709208090
+1709208120
+1709208150
+1709208180
+1709208210";
+
+/// How many calls a history is made by.
+const LENGTH: u32 = 100;
+
+/// How many histories a test makes.
+const HISTORIES: u32 = 200;
+
+/// What is counted: requests that are accepted, by their kinds, and then what is compared.
+const COUNTED: usize = 18;
+
+/// How many there are at least: half of what is expected, or less.
+///
+/// By 200 histories of 100 calls each line of the calls is asked for 1,000 times. What is for a watcher alone is accepted
+/// for three receivers of four. A step is created by one call of 75, so in a history 4.4 of the six are (200 times, 887),
+/// and a call finds its step held 4 times in 9. One call of 90 claims a step that is scheduled and one of 120 cancels it,
+/// so 326 claims come before a cancel request; a claimed step is finished by the right UID, by half of the rows, 36 times
+/// in each way. One that is canceled or finished is due at a third of the moments, where none of two peers locks it. A
+/// peer is subscribed to all steps before the half of every second history, and acknowledges 1 or 2 events in a quarter of
+/// them behind it. Nine histories of ten have twenty entries, with three steps held.
+const LEAST: [(&str, u64); COUNTED] = [
+    ("creations", 440),
+    ("claims", 160),
+    ("completions", 18),
+    ("discontinuations", 18),
+    ("cancel requests", 170),
+    ("sets", 140),
+    ("subscriptions to a step", 160),
+    ("global subscriptions", 375),
+    ("filtered subscriptions", 375),
+    ("ends at a step", 160),
+    ("ends everywhere", 375),
+    ("suspensions", 375),
+    ("acknowledgements", 30),
+    ("sweeps", 40),
+    ("steps held", 200),
+    ("steps found", 50),
+    ("steps watched", 180),
+    ("events pending", 100),
+];
+
+/// A word, and what it may stand for.
+#[derive(Drop)]
+struct Word<'a> {
+    name: &'a str,
+    choices: Vec<&'a str>,
+}
+
+/// Words, and the dice that say what each stands for.
+#[derive(Drop)]
+struct Chance<'a> {
+    dice: Dice,
+    words: Vec<Word<'a>>,
+}
+
+/// Returns the lines of a text.
+fn lines_of<'a>(rt: &impl AllocGlobal, text: &'a str) -> Result<Vec<&'a str>, Fail> {
+    let mut lines = Vec::new(rt.alloc());
+    for line in text.split('\n') {
+        lines.push(line)?;
+    }
+    Ok(lines)
+}
+
+/// Returns the words of a text.
+fn words_of<'a>(rt: &impl AllocGlobal, text: &'a str) -> Result<Vec<Word<'a>>, Fail> {
+    let mut words = Vec::new(rt.alloc());
+    for section in text.split("\n# ") {
+        let (name, lines) = section.split_once('\n').ok_or("lines")?;
+        let choices = lines_of(rt, lines)?;
+        words.push(Word { name, choices })?;
+    }
+    Ok(words)
+}
+
+impl<'a> Chance<'a> {
+    /// Returns one of the lines that a word may stand for.
+    fn any(&mut self, name: &str) -> Result<&'a str, Fail> {
+        let word = self
+            .words
+            .iter()
+            .find(|word| word.name == name)
+            .ok_or("a word")?;
+        let place = self.dice.roll(word.choices.len() as u64);
+        Ok(*word.choices.get(place as usize).ok_or("a line")?)
+    }
+
+    /// Returns what any call asks.
+    fn any_call(&mut self, rt: &impl AllocGlobal) -> Result<String, Fail> {
+        let mut text = String::new(rt.alloc());
+        for (place, part) in self.any("CALL")?.split('|').enumerate() {
+            text.push_str(if place % 2 == 0 {
+                part
+            } else {
+                self.any(part)?
+            })?;
+        }
+        Ok(text)
+    }
+}
+
+/// Returns the request that a text is.
+fn request_of(alloc: Global, text: &str) -> Result<Request<Global>, Fail> {
+    if text == "sweep" {
+        return Ok(Request::Sweep);
+    }
+    if let Some(number) = text.strip_prefix("ack ") {
+        let upto = number.parse::<u64>()?;
+        return Ok(Request::Ack { upto });
+    }
+    match words::ask_of(alloc, text)? {
+        Ask::Do(request) => Ok(request),
+        _ => Err("no request".into()),
+    }
+}
+
+/// Makes any call: whether it was entered.
+fn is_entered(
+    rt: &impl AllocGlobal,
+    chance: &mut Chance,
+    manager: &mut Manager<Global>,
+) -> Result<bool, Fail> {
+    let moment = chance.any("MOMENT")?.parse::<u64>()?;
+    if moment > MAX_MOMENT {
+        return Err("no moment".into());
+    }
+    let ae = title(chance.any("TITLE")?)?;
+    let text = chance.any_call(rt)?;
+    let request = request_of(rt.alloc(), text.as_str())?;
+    let entries = manager.history().len();
+    manager.submit(Call {
+        caller: 0,
+        ae,
+        moment,
+        request,
+    });
+    Ok(manager.history().len() > entries)
+}
+
+/// Returns the place of a request's kind among what is counted.
+fn kind_of(request: &Request<Global>) -> usize {
+    match request {
+        Request::Create { .. } => 0,
+        Request::Change {
+            state: StepState::InProgress,
+            ..
+        } => 1,
+        Request::Change {
+            state: StepState::Completed,
+            ..
+        } => 2,
+        Request::Change { .. } => 3,
+        Request::AskCancel { .. } => 4,
+        Request::Set { .. } => 5,
+        Request::Subscribe {
+            target: Target::Single(_),
+            ..
+        } => 6,
+        Request::Subscribe {
+            target: Target::Global,
+            ..
+        } => 7,
+        Request::Subscribe { .. } => 8,
+        Request::Unsubscribe {
+            place: Place::At(_),
+            ..
+        } => 9,
+        Request::Unsubscribe { .. } => 10,
+        Request::Suspend { .. } => 11,
+        Request::Ack { .. } => 12,
+        Request::Sweep => 13,
+    }
+}
+
+/// Adds to a count.
+fn add(counts: &mut [u64; COUNTED], kind: usize, more: usize) {
+    if let Some(count) = counts.get_mut(kind) {
+        *count = count.saturating_add(more as u64);
+    }
+}
+
+/// Counts entries by their kinds.
+fn count_entries(counts: &mut [u64; COUNTED], entries: &[Entry<Global>]) {
+    for entry in entries {
+        add(counts, kind_of(&entry.request), 1);
+    }
+}
+
+/// Returns how many steps are held, by a manager and by the plain program.
+fn held_by_both(rt: &impl AllocGlobal, manager: &Manager<Global>) -> Result<usize, Fail> {
+    let settings = settings_of(rt.alloc(), manager)?;
+    let held = plain_held(rt.alloc(), &settings, manager.history())?;
+    if manager.held()?.as_slice() != held.as_slice() {
+        return Err("the plain program holds other steps".into());
+    }
+    Ok(held.len())
+}
+
+fn is_same_subscription(one: &Watched, other: &Watched) -> bool {
+    one.step == other.step && one.subscription == other.subscription
+}
+
+/// Returns how many steps a peer watches, by a manager and by the plain program.
+fn watched_by_both(
+    rt: &impl AllocGlobal,
+    manager: &Manager<Global>,
+    ae: Ae,
+) -> Result<usize, Fail> {
+    let settings = settings_of(rt.alloc(), manager)?;
+    let plain = plain_watches(rt.alloc(), &settings, manager.history(), ae)?;
+    let watched = manager.watches(ae)?;
+    let mut pairs = watched.iter().zip(plain.iter());
+    if watched.len() != plain.len() || !pairs.all(|(one, other)| is_same_subscription(one, other)) {
+        return Err("the plain program watches other steps".into());
+    }
+    Ok(watched.len())
+}
+
+fn is_same_event(one: &Event, other: &Event) -> bool {
+    one.number == other.number
+        && one.entry == other.entry
+        && one.kind == other.kind
+        && one.step == other.step
+        && one.state == other.state
+        && one.readiness == other.readiness
+}
+
+/// Whether events are those of others that come behind so many.
+fn are_behind(events: &[Event], all: &[Event], count: u64) -> bool {
+    let Some(rest) = all.get(count as usize..) else {
+        return false;
+    };
+    let mut pairs = events.iter().zip(rest.iter());
+    events.len() == rest.len() && pairs.all(|(one, other)| is_same_event(one, other))
+}
+
+/// Returns how many events a peer has not acknowledged, by a manager and by the plain programs.
+fn pending_by_both(
+    rt: &impl AllocGlobal,
+    manager: &Manager<Global>,
+    ae: Ae,
+) -> Result<usize, Fail> {
+    let settings = settings_of(rt.alloc(), manager)?;
+    let all = plain_events(rt.alloc(), &settings, manager.history(), ae)?;
+    let Reply::Reports(events) = manager.pending(ae, 1_000_000) else {
+        return Err("a status alone".into());
+    };
+    if !are_behind(events.as_slice(), &all, acked(manager.history(), ae)) {
+        return Err("the plain program tells other events".into());
+    }
+    Ok(events.as_slice().len())
+}
+
+/// Compares what is told of the peers.
+fn compare_watchers(
+    rt: &impl AllocGlobal,
+    counts: &mut [u64; COUNTED],
+    manager: &Manager<Global>,
+) -> Result<(), Fail> {
+    for name in ["W1", "W2", "W3"] {
+        add(counts, 16, watched_by_both(rt, manager, title(name)?)?);
+    }
+    Ok(())
+}
+
+/// Makes a history, and compares what is told after each twentieth entry.
+fn compare_history(
+    rt: &impl AllocGlobal,
+    chance: &mut Chance,
+    counts: &mut [u64; COUNTED],
+    manager: &mut Manager<Global>,
+) -> Result<(), Fail> {
+    for _ in 0..LENGTH {
+        if is_entered(rt, chance, manager)? && manager.history().len() % 20 == 0 {
+            add(counts, 14, held_by_both(rt, manager)?);
+            add(
+                counts,
+                15,
+                found_by_both(rt, manager, chance.dice.one_of(KEYS)?)?,
+            );
+            compare_watchers(rt, counts, manager)?;
+            let ae = title(chance.any("TITLE")?)?;
+            add(counts, 17, pending_by_both(rt, manager, ae)?);
+        }
+    }
+    count_entries(counts, manager.history());
+    Ok(())
+}
+
+/// Returns a manager with three peers, of which two may lock steps.
+fn a_manager(alloc: Global) -> Result<Manager<Global>, Fail> {
+    let peers = [
+        Peer {
+            ae: title("W1")?,
+            lock: true,
+        },
+        Peer {
+            ae: title("W2")?,
+            lock: true,
+        },
+        Peer {
+            ae: title("W3")?,
+            lock: false,
+        },
+    ];
+    Ok(Manager::new(alloc, &peers, 60, 60, 1_000)?)
+}
+
+/// Makes histories by chance that begins with a state, and compares what is told of each.
+fn histories_are_told<R: Abort + AllocGlobal>(rt: &R, state: u64) -> Result<(), Fail> {
+    let mut chance = Chance {
+        dice: Dice { state },
+        words: words_of(rt, WORDS)?,
+    };
+    let mut counts = [0; COUNTED];
+    for _ in 0..HISTORIES {
+        compare_history(rt, &mut chance, &mut counts, &mut a_manager(rt.alloc())?)?;
+    }
+    for ((name, least), count) in LEAST.iter().zip(counts.iter()) {
+        assert!(rt; count > least, "{name}: {count}");
+    }
+    Ok(())
+}
+
+#[test]
+fn histories_of_a_first_chance_are_told_plainly(rt: HostRuntime) -> Result<(), Fail> {
+    histories_are_told(&rt, 1)
+}
+
+#[test]
+fn histories_of_a_second_chance_are_told_plainly(rt: HostRuntime) -> Result<(), Fail> {
+    histories_are_told(&rt, 2)
+}
+
+#[test]
+fn histories_of_a_third_chance_are_told_plainly(rt: HostRuntime) -> Result<(), Fail> {
+    histories_are_told(&rt, 3)
+}
+
+#[test]
+fn histories_of_a_fourth_chance_are_told_plainly(rt: HostRuntime) -> Result<(), Fail> {
+    histories_are_told(&rt, 4)
+}
+
+#[test]
+fn histories_of_a_fifth_chance_are_told_plainly(rt: HostRuntime) -> Result<(), Fail> {
+    histories_are_told(&rt, 5)
+}
