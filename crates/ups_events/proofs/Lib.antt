@@ -1,1 +1,2 @@
+mod Sizes
 mod Worked

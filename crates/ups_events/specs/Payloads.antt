@@ -48,6 +48,12 @@ abbrev pub sent_to_set : {A : Type 0} → Request A → List El
 sent_to_set (Set step transaction attributes) = attributes
 sent_to_set request = []
 
+-- what was sent with either
+abbrev pub sent : {A : Type 0} → Request A → List El
+sent (AskCancel step reasons) = reasons
+sent (Set step transaction attributes) = attributes
+sent request = []
+
 -- STATE REPORTS
 
 -- why a step was canceled: told where a cancel request made it CANCELED (PS3.4 CC.2.2)

@@ -2,6 +2,7 @@
 #![tactic(auto)]
 
 mod kinds;
+pub mod laws;
 mod payloads;
 
 pub use kinds::type_id;
