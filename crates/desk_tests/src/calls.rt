@@ -5,7 +5,7 @@ use std::alloc::{Allocator, Global};
 use std::sync::Wait;
 use std::test::Fail;
 use ups_dataset::dictionary::*;
-use ups_dataset::{DataSet, Element, Tag, Vr, vr_of};
+use ups_dataset::{DataSet, Element, MAX_DEPTH, Tag, Vr, vr_of};
 use ups_life::{Ask, Reply, Request, StepState, StepUid, Transaction};
 use ups_manager::{Call, Manager, Service};
 use ups_pdu::{Ae, Bytes, Uid};
@@ -14,7 +14,7 @@ use ups_turn::{Desk, Pass};
 /// How many steps there are.
 pub(crate) const STEPS: u32 = 100;
 
-/// The moment of each request: 2024-02-29 12:00:00 UTC.
+/// The moment from which on requests are made: 2024-02-29 12:00:00 UTC.
 const NOON: u64 = 1_709_208_000;
 
 /// A step that is to begin at noon: ready, scheduled, of medium priority.
@@ -68,6 +68,24 @@ fn put<A: Allocator + Copy>(alloc: A, set: &mut DataSet<A>, tag: Tag, text: &str
     }
 }
 
+/// Puts a sequence of one item over the element of a tag, and returns whether it is there now.
+pub(crate) fn put_item<A: Allocator + Copy>(
+    alloc: A,
+    set: &mut DataSet<A>,
+    tag: Tag,
+    item: DataSet<A>,
+) -> bool {
+    let mut items = Vec::new(alloc);
+    if items.push(item).is_err() {
+        return false;
+    }
+    let element = Element::of_items(tag, items);
+    if tag.is_mark() || tag.is_group_length() || element.value.depth() > MAX_DEPTH {
+        return false;
+    }
+    set.replace(element).is_ok()
+}
+
 /// A set of texts; None where memory runs out.
 pub(crate) fn set_of<A: Allocator + Copy>(alloc: A, texts: &[(Tag, &str)]) -> Option<DataSet<A>> {
     let mut set = DataSet::new(alloc);
@@ -106,7 +124,41 @@ pub(crate) fn enter<A: Allocator + Copy>(manager: &mut Manager<A>, ae: Ae, reque
     });
 }
 
-/// The number of the status that a pass is answered with; 0000 for the steps that a query finds.
+/// What a pass is answered.
+#[derive(Clone, Copy, Debug, PartialEq, Eq)]
+pub(crate) enum Answer {
+    /// A status with this number, alone or with attributes.
+    Status(u16),
+    /// The steps that a query finds.
+    Found,
+    /// So many steps were removed.
+    Swept(u64),
+    /// Anything else, or there is no memory to ask.
+    Other,
+}
+
+/// What a pass is answered so many seconds after noon.
+pub(crate) fn answer_to<R: Wait>(
+    rt: &R,
+    desk: &Desk<Global>,
+    pass: &mut Pass<Global>,
+    ae: Ae,
+    seconds: u32,
+    ask: Ask<Global>,
+) -> Answer
+    requires here { pass.old.table ≡ desk.now.table }
+    ensures stays { pass.new.table ≡ pass.old.table }
+{
+    let moment = NOON + u64::from(seconds);
+    match desk.at(rt, pass).answer(ae, moment, &mut Some(ask)) {
+        Reply::Status(status) | Reply::Set(status, _) => Answer::Status(status.code()),
+        Reply::Sets(_) => Answer::Found,
+        Reply::Swept(count) => Answer::Swept(count),
+        _ => Answer::Other,
+    }
+}
+
+/// The number of the status that a pass is answered with at noon; FFFF where it is answered anything else.
 pub(crate) fn answered<R: Wait>(
     rt: &R,
     desk: &Desk<Global>,
@@ -117,9 +169,8 @@ pub(crate) fn answered<R: Wait>(
     requires here { pass.old.table ≡ desk.now.table }
     ensures stays { pass.new.table ≡ pass.old.table }
 {
-    match desk.at(rt, pass).answer(ae, NOON, &mut Some(ask)) {
-        Reply::Status(status) | Reply::Set(status, _) => status.code(),
-        Reply::Sets(_) => 0x0000,
+    match answer_to(rt, desk, pass, ae, 0, ask) {
+        Answer::Status(code) => code,
         _ => 0xffff,
     }
 }
@@ -152,4 +203,15 @@ pub(crate) fn callers_of(
         callers.push(entry.caller)?;
     }
     Ok(callers)
+}
+
+/// How many of these callers are the one with a number.
+pub(crate) fn count_of(callers: &[u32], caller: u32) -> u32 {
+    let mut count: u32 = 0;
+    for each in callers {
+        if *each == caller {
+            count = count.wrapping_add(1);
+        }
+    }
+    count
 }

@@ -1,6 +1,6 @@
 ghost use Rattle.std.specs.Prelude.{◌≡◌};
 
-use crate::calls::{Claim, STEPS, callers_of, claim_one, creation, enter, step_of};
+use crate::calls::{Claim, STEPS, callers_of, claim_one, count_of, creation, enter, step_of};
 use crate::counts::Claims;
 use fixtures::title;
 use std::alloc::Global;
@@ -106,17 +106,6 @@ fn outcome_of_race<R: Threads + Wait + Sync>(rt: &R, alloc: Global) -> Result<Ou
     })
 }
 
-/// How many entries a caller has.
-fn entries_of(callers: &[u32], caller: u32) -> u32 {
-    let mut entries: u32 = 0;
-    for each in callers {
-        if *each == caller {
-            entries = entries.wrapping_add(1);
-        }
-    }
-    entries
-}
-
 #[test]
 fn each_step_is_claimed_once(rt: HostRuntime) -> Result<(), Fail> {
     let outcome = outcome_of_race(&rt, rt.alloc())?;
@@ -131,8 +120,8 @@ fn each_step_is_claimed_once(rt: HostRuntime) -> Result<(), Fail> {
     );
     assert_eq!(rt; outcome.met, 200);
     assert_eq!(rt; callers.len(), 200);
-    assert_eq!(rt; entries_of(callers, 0), STEPS);
-    assert_eq!(rt; entries_of(callers, 1), outcome.one.accepted);
-    assert_eq!(rt; entries_of(callers, 2), outcome.two.accepted);
+    assert_eq!(rt; count_of(callers, 0), STEPS);
+    assert_eq!(rt; count_of(callers, 1), outcome.one.accepted);
+    assert_eq!(rt; count_of(callers, 2), outcome.two.accepted);
     Ok(())
 }

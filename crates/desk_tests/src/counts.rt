@@ -8,11 +8,11 @@ pub(crate) struct Claims {
     pub refused: u32,
 }
 
-/// What the passes are answered, over all of them.
+/// What eight passes are answered.
 #[derive(Drop)]
 pub(crate) struct Tally {
-    /// How many requests are accepted.
-    pub accepted: AtomicU64,
-    /// How many calls are answered with a status that they should not get.
+    /// How many requests of each pass are accepted.
+    pub accepted: [AtomicU64; 8],
+    /// How many calls of all of them are answered what they should not be.
     pub odd: AtomicU64,
 }

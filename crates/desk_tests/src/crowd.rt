@@ -1,91 +1,53 @@
 ghost use Rattle.std.specs.Prelude.{◌≡◌, All};
 
-use crate::calls::{Claim, STEPS, answered, creation, request_of, set_of, step_of, transaction_of};
+use crate::calls::{Answer, Claim, STEPS, answer_to, callers_of, count_of, step_of};
 use crate::counts::Tally;
+use crate::mix::{
+    CALLS, FOLLOWING, KEEP, LOCKING, Verb, ask_of, is_accepted, is_expected, number_of, seconds_of,
+    verb_of,
+};
+use crate::plain::{found_by_both, held_by_both, watched_by_both};
 use fixtures::title;
 use std::alloc::Global;
 use std::sync::Wait;
 use std::sync::atomic::{AtomicU64, Ordering};
 use std::test::Fail;
 use std::thread::{Threads, for_each_mut};
-use ups_dataset::dictionary::*;
-use ups_dimse::Tags;
-use ups_life::{Ask, Configuration, Entry, Request, StepUid, plain_held};
+use ups_life::{Entry, Peer, StepUid};
 use ups_manager::Manager;
-use ups_match::Keys;
 use ups_pdu::Ae;
 use ups_turn::{Desk, Pass};
 
 /// How many passes call at the same time.
 const PASSES: u32 = 8;
 
-/// How many calls each of them makes: five on each step, and these again.
-const CALLS: u32 = 1_000;
-
-/// What a pass asks.
-#[derive(Clone, Copy)]
-enum Verb {
-    Create,
-    Claim,
-    Set,
-    Get,
-    Find,
-}
-
-/// What is asked by the call of a number: five calls are about one step.
-fn verb_of(call: u32) -> Verb {
-    match call % 5 {
-        0 => Verb::Create,
-        1 => Verb::Claim,
-        2 => Verb::Set,
-        3 => Verb::Get,
-        _ => Verb::Find,
-    }
-}
-
-/// The request that sets the readiness of a claimed step.
-fn setting(alloc: Global, claim: Claim) -> Option<Request<Global>> {
-    Some(Request::Set {
-        step: step_of(alloc, claim.number),
-        transaction: transaction_of(alloc, claim.claimant)?,
-        attributes: set_of(alloc, &[(INPUT_READINESS_STATE, "READY ")])?,
-    })
-}
-
-/// The query for the steps that are in progress.
-fn query(alloc: Global) -> Option<Ask<Global>> {
-    let keys = set_of(alloc, &[(PROCEDURE_STEP_STATE, "IN PROGRESS ")])?;
-    match Keys::of(keys, 0) {
-        Ok(keys) => Some(Ask::Find(keys)),
-        Err(_) => None,
-    }
-}
-
-/// What a claimant asks about a step; None where memory runs out.
-fn ask_of(alloc: Global, verb: Verb, claim: Claim) -> Option<Ask<Global>> {
-    let step = step_of(alloc, claim.number)?;
-    match verb {
-        Verb::Create => Some(Ask::Do(creation(alloc, step)?)),
-        Verb::Claim => Some(Ask::Do(request_of(alloc, claim)?)),
-        Verb::Set => Some(Ask::Do(setting(alloc, claim)?)),
-        Verb::Get => Some(Ask::Get {
-            step: Some(step),
-            attributes: Tags::new(alloc),
-        }),
-        Verb::Find => query(alloc),
-    }
-}
-
-/// Counts a status that a call is answered with. A claim and a creation may come too late, and a change may be another's.
-fn count(tally: &Tally, verb: Verb, status: u16) {
-    match (verb, status) {
-        (Verb::Create | Verb::Claim | Verb::Set, 0x0000) => {
-            tally.accepted.fetch_add(1, Ordering::SeqCst);
+impl Tally {
+    /// Nothing is answered yet.
+    fn new() -> Tally {
+        Tally {
+            accepted: [
+                AtomicU64::new(0),
+                AtomicU64::new(0),
+                AtomicU64::new(0),
+                AtomicU64::new(0),
+                AtomicU64::new(0),
+                AtomicU64::new(0),
+                AtomicU64::new(0),
+                AtomicU64::new(0),
+            ],
+            odd: AtomicU64::new(0),
         }
-        (Verb::Create, 0x0111) | (Verb::Claim, 0xc302) | (Verb::Set, 0xc301) => {}
-        (Verb::Get | Verb::Find, 0x0000) => {}
-        _ => {
-            tally.odd.fetch_add(1, Ordering::SeqCst);
+    }
+
+    /// Counts what a call of the pass at a place is answered.
+    fn count(&self, place: usize, verb: Verb, answer: Answer) {
+        if is_accepted(verb, answer)
+            && let Some(accepted) = self.accepted.get(place)
+        {
+            accepted.fetch_add(1, Ordering::SeqCst);
+        }
+        if !is_expected(verb, answer) {
+            self.odd.fetch_add(1, Ordering::SeqCst);
         }
     }
 }
@@ -99,24 +61,24 @@ fn call<R: Wait>(
     ae: Ae,
     verb: Verb,
     claim: Claim,
-) -> u16
+) -> Answer
     requires here { pass.old.table ≡ desk.now.table }
     ensures stays { pass.new.table ≡ pass.old.table }
 {
     match ask_of(alloc, verb, claim) {
-        Some(ask) => answered(rt, desk, pass, ae, ask),
-        None => 0xffff,
+        Some(ask) => answer_to(rt, desk, pass, ae, seconds_of(verb), ask),
+        None => Answer::Other,
     }
 }
 
-/// All calls of a pass.
+/// All calls of the pass at a place.
 fn calls<R: Wait>(
     rt: &R,
     alloc: Global,
     desk: &Desk<Global>,
     pass: &mut Pass<Global>,
     ae: Ae,
-    claimant: u64,
+    place: usize,
     tally: &Tally,
 )
     requires here { pass.old.table ≡ desk.now.table }
@@ -124,11 +86,11 @@ fn calls<R: Wait>(
 {
     for number in 0..CALLS {
         let claim = Claim {
-            number: number / 5 % STEPS,
-            claimant,
+            number: number_of(number),
+            claimant: place as u64,
         };
         let verb = verb_of(number);
-        count(tally, verb, call(rt, alloc, desk, pass, ae, verb, claim));
+        tally.count(place, verb, call(rt, alloc, desk, pass, ae, verb, claim));
     }
 }
 
@@ -148,77 +110,23 @@ fn crowd<R: Threads + Wait + Sync>(
         rt,
         passes,
         PASSES as usize,
-        &|place, pass| { calls(rt, alloc, desk, pass, ae, place as u64, tally) },
+        &|place, pass| { calls(rt, alloc, desk, pass, ae, place, tally) },
     );
 }
 
-/// Whether a request is on a step.
-fn is_on(request: &Request<Global>, step: StepUid) -> bool {
-    match request.step() {
-        Some(named) => named.as_bytes() == step.as_bytes(),
-        None => false,
-    }
-}
-
-/// The callers of the requests on a step, in order.
-fn callers_on(
-    alloc: Global,
-    history: &[Entry<Global>],
-    step: StepUid,
-) -> Result<Vec<u32, Global>, Fail> {
-    let mut callers = Vec::new(alloc);
-    for entry in history {
-        if is_on(&entry.request, step) {
-            callers.push(entry.caller)?;
-        }
-    }
-    Ok(callers)
-}
-
-/// Whether a step was created by any pass, and then claimed and changed twice by its holder alone.
-fn is_held_by_one(alloc: Global, manager: &Manager<Global>, number: u32) -> Result<bool, Fail> {
-    let step = step_of(alloc, number).ok_or("a step")?;
-    let holder = manager.holder(step).ok_or("no holder")?.caller;
-    let callers = callers_on(alloc, manager.history(), step)?;
-    Ok(match callers.as_slice() {
-        [_, claim, once, twice] => *claim == holder && *once == holder && *twice == holder,
-        _ => false,
-    })
-}
-
-/// How many steps have one holder.
-fn held_by_one(alloc: Global, manager: &Manager<Global>) -> Result<u32, Fail> {
-    let mut held: u32 = 0;
-    for number in 0..STEPS {
-        if is_held_by_one(alloc, manager, number)? {
-            held = held.wrapping_add(1);
-        }
-    }
-    Ok(held)
-}
-
-/// Whether two lists are of the same steps.
-fn are_same(some: &[StepUid], others: &[StepUid]) -> bool {
-    for (step, other) in some.iter().zip(others.iter()) {
-        if step.as_bytes() != other.as_bytes() {
-            return false;
-        }
-    }
-    some.len() == others.len()
-}
-
-/// Whether the manager holds the steps that the plain program finds in its history.
-fn holds_what_its_history_says(alloc: Global, manager: &Manager<Global>) -> Result<bool, Fail> {
-    let peers = Vec::new(alloc);
-    let configuration = Configuration::new(
-        peers,
-        manager.keep(),
-        manager.offset(),
-        manager.limit(),
-    );
-    let plain = plain_held(alloc, &configuration, manager.history())?;
-    let held = manager.held()?;
-    Ok(are_same(plain.as_slice(), held.as_slice()))
+/// A manager with two watchers, without history.
+fn with_watchers(alloc: Global) -> Result<Manager<Global>, Fail> {
+    let peers = [
+        Peer {
+            ae: title(LOCKING)?,
+            lock: true,
+        },
+        Peer {
+            ae: title(FOLLOWING)?,
+            lock: false,
+        },
+    ];
+    Ok(Manager::new(alloc, &peers, KEEP, 0, 10_000)?)
 }
 
 /// The manager that a desk leaves on which all passes have called.
@@ -228,7 +136,7 @@ fn manager_after<R: Threads + Wait + Sync>(
     tally: &Tally,
 ) -> Result<Manager<Global>, Fail> {
     let ae = title("PERFORM1")?;
-    let manager = Manager::new(alloc, &[], 60, 0, 10_000)?;
+    let manager = with_watchers(alloc)?;
     let Ok((desk, mut passes)) = Desk::open(alloc, manager, PASSES) else {
         return Err("not opened".into());
     };
@@ -239,22 +147,116 @@ fn manager_after<R: Threads + Wait + Sync>(
     }
 }
 
+/// How many passes have as many entries in a history as requests of theirs were accepted. The passes at the places from 0
+/// on have the numbers from 1 on.
+fn passes_with_all_entries(callers: &[u32], tally: &Tally) -> u32 {
+    let mut passes: u32 = 0;
+    for (caller, accepted) in (1..=PASSES).zip(tally.accepted.iter()) {
+        if u64::from(count_of(callers, caller)) == accepted.load(Ordering::SeqCst) {
+            passes = passes.wrapping_add(1);
+        }
+    }
+    passes
+}
+
+/// The callers of the requests on a step, in order.
+fn callers_on(
+    alloc: Global,
+    history: &[Entry<Global>],
+    step: StepUid,
+) -> Result<Vec<u32, Global>, Fail> {
+    let mut callers = Vec::new(alloc);
+    for entry in history {
+        if entry.request.step() == Some(step) {
+            callers.push(entry.caller)?;
+        }
+    }
+    Ok(callers)
+}
+
+/// Whether a step was created by any pass, and then claimed, set and, unless it stays in progress, finished by one.
+fn is_of_one(callers: &[u32], number: u32) -> bool {
+    match callers {
+        [_, claim, set] => claim == set && number % 10 == 0,
+        [_, claim, set, finish] => claim == set && claim == finish,
+        _ => false,
+    }
+}
+
+/// How many steps were claimed, set and finished by one pass each.
+fn steps_of_one(alloc: Global, history: &[Entry<Global>]) -> Result<u32, Fail> {
+    let mut steps: u32 = 0;
+    for number in 0..STEPS {
+        let step = step_of(alloc, number).ok_or("a step")?;
+        let callers = callers_on(alloc, history, step)?;
+        if is_of_one(callers.as_slice(), number) {
+            steps = steps.wrapping_add(1);
+        }
+    }
+    Ok(steps)
+}
+
+/// What a crowd leaves: how many calls were answered what they should not be, how many passes have all their entries in
+/// the history, and how many steps were claimed, set and finished by one pass each.
+#[derive(Clone, Copy)]
+struct Left {
+    odd: u64,
+    passes: u32,
+    steps: u32,
+}
+
+/// What a crowd leaves in a manager.
+fn left_in(alloc: Global, manager: &Manager<Global>, tally: &Tally) -> Result<Left, Fail> {
+    let callers = callers_of(alloc, manager)?;
+    Ok(Left {
+        odd: tally.odd.load(Ordering::SeqCst),
+        passes: passes_with_all_entries(callers.as_slice(), tally),
+        steps: steps_of_one(alloc, manager.history())?,
+    })
+}
+
+/// How many steps a manager holds, to how many the one watcher and the other is subscribed, and how many it finds in
+/// progress and COMPLETED; None for each of these of which its history says something else.
+#[derive(Clone, Copy, Debug, PartialEq, Eq)]
+struct Known {
+    held: Option<usize>,
+    locking: Option<usize>,
+    following: Option<usize>,
+    in_progress: Option<usize>,
+    completed: Option<usize>,
+}
+
+/// What a manager knows by its history.
+fn known_to(rt: &impl AllocGlobal, manager: &Manager<Global>) -> Result<Known, Fail> {
+    Ok(Known {
+        held: held_by_both(rt.alloc(), manager)?,
+        locking: watched_by_both(rt.alloc(), manager, LOCKING)?,
+        following: watched_by_both(rt.alloc(), manager, FOLLOWING)?,
+        in_progress: found_by_both(rt, manager, "IN PROGRESS ")?,
+        completed: found_by_both(rt, manager, "COMPLETED ")?,
+    })
+}
+
 #[test]
 fn eight_passes_of_a_thousand_calls_each_leave_one_legal_history(
     rt: HostRuntime,
 ) -> Result<(), Fail> {
-    let tally = Tally {
-        accepted: AtomicU64::new(0),
-        odd: AtomicU64::new(0),
-    };
+    let tally = Tally::new();
     let manager = manager_after(&rt, rt.alloc(), &tally)?;
-    assert_eq!(rt; tally.odd.load(Ordering::SeqCst), 0);
+    let left = left_in(rt.alloc(), &manager, &tally)?;
+    assert_eq!(rt; left.odd, 0);
+    assert_eq!(rt; left.passes, PASSES);
+    assert_eq!(rt; left.steps, STEPS);
+    let known = known_to(&rt, &manager)?;
     assert_eq!(rt;
-        tally.accepted.load(Ordering::SeqCst),
-        manager.history().len() as u64
+        known,
+        Known {
+            held: Some(12),
+            locking: Some(2),
+            following: Some(12),
+            in_progress: Some(10),
+            completed: Some(2),
+        }
     );
-    assert_eq!(rt; manager.history().len(), 400);
-    assert_eq!(rt; held_by_one(rt.alloc(), &manager)?, STEPS);
-    assert!(rt; holds_what_its_history_says(rt.alloc(), &manager)?);
     Ok(())
 }

@@ -9,4 +9,8 @@ mod counts;
 #[cfg(test)]
 mod crowd;
 #[cfg(test)]
+mod mix;
+#[cfg(test)]
+mod plain;
+#[cfg(test)]
 mod seats;
