@@ -6,3 +6,4 @@ mod Turns
 mod Meets
 mod Opens
 mod Closes
+mod Owns

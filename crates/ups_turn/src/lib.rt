@@ -8,6 +8,7 @@
 mod at;
 mod desk;
 mod fault;
+pub mod laws;
 mod pass;
 mod rule;
 mod turn;
