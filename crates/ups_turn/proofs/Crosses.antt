@@ -118,13 +118,16 @@ module _ (A : RattleType) (g : Allocator.Ghosts A.Denot) where
   Pass-send : IsSend (Manager.the_row A g) → IsSend (Pass.the_row A g)
   Pass-send m = let o : IsSend (Option.the_row (Manager.the_row A g)) = search sendable depth 20 in search (sendable, seat.the_send) depth 20
 
--- at the heap, each in one step, for any way to clone an allocator
+-- at the heap, each in one step, the desk for any way to clone an allocator
+pub manager_send : IsSend (Manager.the_row Heap.the_row ghosts)
+manager_send = Manager-send Heap.the_row ghosts send frees
+
 module _ (c : Clone.Ghosts Heap.the_row.Denot) where
   pub desk_sync : IsSync (Desk.the_row Heap.the_row ghosts c)
-  desk_sync = Desk-sync Heap.the_row ghosts c (Manager-send Heap.the_row ghosts send frees) sync send frees
+  desk_sync = Desk-sync Heap.the_row ghosts c manager_send sync send frees
 
 pub pass_send : IsSend (Pass.the_row Heap.the_row ghosts)
-pass_send = Pass-send Heap.the_row ghosts (Manager-send Heap.the_row ghosts send frees)
+pass_send = Pass-send Heap.the_row ghosts manager_send
 
 pub heap_send : IsSend Heap.the_row
 heap_send = send
