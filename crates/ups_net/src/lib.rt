@@ -1,0 +1,22 @@
+//! The server: workers that share a listener and a desk, each with a pass of its own, over TCP (PS3.8 section 9.1).
+//!
+//! Of what a socket carries nothing is promised, nor of when: a contract here says what becomes of the passes, whatever
+//! was read.
+#![tactic(auto)]
+
+mod clock;
+mod seated;
+mod serving;
+mod socket;
+mod sweeping;
+mod terms;
+mod wire;
+mod workers;
+
+pub use clock::{HostClock, moment_of};
+pub use serving::serve_one;
+pub use socket::{next_connection, tune};
+pub use sweeping::sweep;
+pub use terms::Terms;
+pub use wire::{Wire, WireReader, WireWriter};
+pub use workers::{run, work};

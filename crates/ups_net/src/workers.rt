@@ -1,0 +1,193 @@
+//! The workers of a server, and the threads in which they run.
+
+ghost use Rattle.std.specs.Prelude.{◌≡◌, ◌≤◌, ◌+◌, All, length, vec_capacity};
+ghost use Rattle.atomic_table.specs.Seated.{TableId};
+ghost use denote.Param.Send.{IsSync};
+ghost use Rattle.ups_net.specs.Serving.{IsWorker, ServesAssociations};
+
+use crate::serving::{serve_one, tell};
+use crate::socket::next_connection;
+use crate::sweeping::sweep;
+use crate::terms::Terms;
+use log::Log;
+use std::alloc::Global;
+use std::net::TcpListener;
+use std::snapshot::Snapshot;
+use std::sync::Wait;
+use std::sync::atomic::{AtomicU64, Ordering};
+use std::thread::{self, Promise, PromisedHandle, Threads};
+use std::time::Clock;
+use ups_turn::{Desk, Pass};
+
+/// The workers wait.
+const HELD: u64 = 0;
+
+/// All workers are there, and begin.
+const BEGUN: u64 = 1;
+
+/// One could not be started, and none begins.
+const CALLED_OFF: u64 = 2;
+
+/// Serves so many associations, one after another, each on the next connection of the listener.
+pub fn work<R: Wait + Clock + Log>(
+    rt: &R,
+    listener: &TcpListener,
+    desk: &Desk<Global>,
+    pass: Pass<Global>,
+    terms: &Terms,
+) -> Pass<Global>
+    requires here { pass.table ≡ desk.now.table }
+    ensures serves { ServesAssociations terms.now.config terms.now.turns terms.now.associations pass result }
+    ensures stays { result.table ≡ pass.table }
+{
+    let mut pass = pass;
+    for _ in 0..terms.associations {
+        let stream = next_connection(rt, listener, terms.timeout);
+        let (after, ended) = serve_one(rt, &stream, desk, pass, terms);
+        pass = after;
+        tell(rt, &ended);
+    }
+    pass
+}
+
+/// Waits until the workers begin, or are called off; whether they begin.
+fn begins<R: Wait>(rt: &R, start: &AtomicU64) -> bool {
+    for _ in rt.forever() {
+        match start.load(Ordering::SeqCst) {
+            HELD => start.park(rt, 0),
+            BEGUN => return true,
+            _ => return false,
+        }
+    }
+    unreachable!()
+}
+
+/// What a worker's thread does: it works once the workers begin, and hands its pass back.
+fn worker<R: Wait + Clock + Log>(
+    rt: &R,
+    start: &AtomicU64,
+    listener: &TcpListener,
+    desk: &Desk<Global>,
+    pass: Pass<Global>,
+    terms: &Terms,
+) -> Pass<Global>
+    requires here { pass.table ≡ desk.now.table }
+    ensures works { IsWorker terms.now.config terms.now.turns terms.now.associations pass result }
+    ensures stays { result.table ≡ pass.table }
+{
+    if begins(rt, start) {
+        return work(rt, listener, desk, pass, terms);
+    }
+    pass
+}
+
+/// The promise of a worker's thread: the pass that it hands back is at the desk of the one that it was given.
+#[derive(Drop)]
+struct AtSameDesk {
+    pass: Snapshot<Pass<Global>>,
+}
+
+impl Promise<Pass<Global>> for AtSameDesk {
+    ghost use Rattle.std.specs.Prelude.{◌≡◌};
+
+    ghost kept_by = { λ p r. r.table ≡ p.pass.value.table };
+}
+
+/// Has each of these threads hand its pass back.
+fn join_all<R: Threads>(
+    rt: &R,
+    handles: Vec<PromisedHandle<Pass<Global>, AtSameDesk>>,
+    passes: &mut Vec<Pass<Global>>,
+)
+    requires room { length passes.old.items + length handles.items ≤ vec_capacity passes.old }
+    ensures all { length passes.new.items ≡ length passes.old.items + length handles.items }
+    ensures capacity { vec_capacity passes.new ≡ vec_capacity passes.old }
+    ensures stay { (table : TableId) → All (λ p. p.table ≡ table) passes.old.items → All (λ h. h.promise.pass.value.table ≡ table) handles.items → All (λ p. p.table ≡ table) passes.new.items }
+{
+    for handle in handles {
+        passes.push_reserved(handle.join(rt));
+    }
+}
+
+/// Has the waiting threads begin, or go home.
+fn release(start: &AtomicU64, word: u64) {
+    start.store(word, Ordering::SeqCst);
+    start.wake_all();
+}
+
+/// Runs a server: each pass but the last is a worker's, in a thread of its own, and the last sweeps, in this one. It
+/// returns once each worker has served as many associations as `terms` says, and the sweeper has made `rounds` rounds,
+/// a second apart: true, and the passes. Where a thread can't be started, or memory runs out before, none begins its
+/// work: false, and the passes.
+pub fn run<R: Threads + Wait + Clock + Log + Sync>(
+    rt: &R,
+    listener: &TcpListener,
+    desk: &Desk<Global>,
+    passes: Vec<Pass<Global>>,
+    terms: &Terms,
+    rounds: u64,
+) -> (bool, Vec<Pass<Global>>)
+    requires some { 2 ≤ length passes.items }
+    requires here { All (λ p. p.table ≡ desk.now.table) passes.items }
+    ensures all { length result.1.items ≡ length passes.items }
+    ensures stay { All (λ p. p.table ≡ desk.now.table) result.1.items }
+{
+    let Ok(mut back) = Vec::with_capacity(terms.alloc, passes.len()) else {
+        return (false, passes);
+    };
+    let Ok(mut handles) = Vec::with_capacity(terms.alloc, passes.len()) else {
+        return (false, passes);
+    };
+    let start = AtomicU64::new(HELD);
+    let start = &start;
+    let mut passes = passes;
+    let Some(mut sweeper) = passes.pop() else {
+        unreachable!()
+    };
+    thread::scope(
+        thread::scope_env(),
+        rt,
+        |scope| -> (bool, Vec<Pass<Global>>)
+            requires sync { IsSync R.row }
+            requires here { All (λ p. p.table ≡ desk.now.table) passes.items }
+            requires sweeper { sweeper.table ≡ desk.now.table }
+            requires room { length passes.items + 1 ≤ vec_capacity back }
+            requires empty { length back.items ≡ 0 }
+            requires handles { (length passes.items ≤ vec_capacity handles) × (length handles.items ≡ 0) }
+            ensures all { length result.1.items ≡ length passes.items + 1 }
+            ensures stay { All (λ p. p.table ≡ desk.entry.now.table) result.1.items }
+        {
+            let mut all = true;
+            for pass in passes {
+                if !all {
+                    back.push_reserved(pass);
+                    continue;
+                }
+                let promise = AtSameDesk {
+                    pass: Snapshot::of(&pass),
+                };
+                match scope.spawn_with(
+                    promise,
+                    move || -> Pass<Global>
+                        requires { pass.table ≡ desk.now.table }
+                        ensures { result.table ≡ pass.table }
+                    { worker(rt, start, listener, desk, pass, terms) },
+                ) {
+                    Ok(handle) => handles.push_reserved(handle),
+                    Err(refused) => {
+                        all = false;
+                        release(start, CALLED_OFF);
+                        back.push_reserved((refused.value)());
+                    }
+                }
+            }
+            if all {
+                release(start, BEGUN);
+                sweep(rt, desk, &mut sweeper, terms.config.ae, rounds);
+            }
+            join_all(rt, handles, &mut back);
+            back.push_reserved(sweeper);
+            (all, back)
+        },
+    )
+}
