@@ -1,0 +1,5 @@
+//! Tests of the server, over sockets.
+#![tactic(auto)]
+
+#[cfg(test)]
+mod running;
