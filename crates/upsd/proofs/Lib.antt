@@ -2,3 +2,4 @@ mod Digits
 mod Naming
 mod Settling
 mod Parts
+mod Seating

@@ -9,7 +9,7 @@ use Rattle.ups_manager.specs.Refusal.{is_bad_offset, is_named, is_twice}
 use Rattle.ups_pdu.specs.Title.{SpellsAe}
 use Rattle.upsd.specs.declared.arguments.ArgumentFault.{ArgumentFault}
 use Rattle.upsd.specs.declared.arguments.ArgumentFault.TheVariants as faults
-use Rattle.upsd.specs.Limits.{keep_seconds, local_offset}
+use Rattle.upsd.specs.Limits.{keep_seconds, local_offset, default_workers, timeout_seconds, workers_limit}
 
 -- a number of seconds below 2^32, in decimal digits, before which a + may stand
 pub record SaysSeconds (word : List ℕ) (seconds : ℕ) : Type 0 where
@@ -32,6 +32,34 @@ SaysKeep (Some word) keep = SaysSeconds word keep
 abbrev pub SaysOffset : Option (List ℕ) → ℤ → Type 0
 SaysOffset None offset = offset ≡ local_offset
 SaysOffset (Some word) offset = SaysMinutes word offset
+
+-- the number of a port to listen on, from 0 to 65535, in decimal digits, before which a + may stand
+pub record SaysPort (word : List ℕ) (port : ℕ) : Type 0 where
+  pub numeral : IsNumeral 10 (without_leading_plus word)
+  pub value : port ≡ digits_value 10 (without_leading_plus word)
+  pub fits : port < 2 ^ 16
+
+-- how many associations are served at the same time, in decimal digits, before which a + may stand
+pub record SaysWorkers (word : List ℕ) (count : ℕ) : Type 0 where
+  pub numeral : IsNumeral 10 (without_leading_plus word)
+  pub value : count ≡ digits_value 10 (without_leading_plus word)
+  pub least : 1 ≤ count
+  pub most : count ≤ workers_limit
+
+-- the same, by the word that says so or by none
+abbrev pub SaysWorkersOrNot : Option (List ℕ) → ℕ → Type 0
+SaysWorkersOrNot None count = count ≡ default_workers
+SaysWorkersOrNot (Some word) count = SaysWorkers word count
+
+-- for how many seconds a read or a write waits at most, by the word that says so or by none
+abbrev pub SaysTimeout : Option (List ℕ) → ℕ → Type 0
+SaysTimeout None timeout = timeout ≡ timeout_seconds
+SaysTimeout (Some word) timeout = SaysSeconds word timeout
+
+-- the address to listen on, by the word that says so or by none
+abbrev pub SaysBind : Option (List ℕ) → List ℕ → Type 0
+SaysBind None address = address ≡ codes "127.0.0.1"
+SaysBind (Some word) address = address ≡ word
 
 -- the number of a port, from 1 to 65535, in decimal digits
 pub record IsPort (text : List ℕ) : Type 0 where

@@ -8,9 +8,9 @@ ghost use Rattle.ups_life.specs.declared.entry.Peer.{Peer};
 ghost use Rattle.ups_life.specs.Limits.{peer_limit};
 ghost use Rattle.ups_pdu.specs.Title.{SpellsAe};
 ghost use Rattle.upsd.specs.declared.arguments.ArgumentFault.TheVariants.{Memory};
-ghost use Rattle.upsd.specs.Arguments.{FailToName, IsAddress, IsPort, NamePeers, NamesPeer, SaysKeep, SaysLock, SaysMinutes, SaysOffset, SaysSeconds};
+ghost use Rattle.upsd.specs.Arguments.{FailToName, IsAddress, IsPort, NamePeers, NamesPeer, SaysBind, SaysKeep, SaysLock, SaysMinutes, SaysOffset, SaysPort, SaysSeconds, SaysTimeout, SaysWorkers, SaysWorkersOrNot};
 
-use crate::limits::{KEEP, OFFSET};
+use crate::limits::{KEEP, LOOPBACK, MAX_WORKERS, OFFSET, TIMEOUT, WORKERS};
 use clap::{Arg, ArgAction, Command};
 use std::alloc::{AllocError, AllocFailed, Allocator, Global};
 use thiserror::Error;
@@ -38,6 +38,15 @@ pub(crate) enum ArgumentFault<'a> {
     /// The word behind `--offset` is no offset from UTC.
     #[error("--offset takes a number of minutes, from -720 to 840")]
     Offset,
+    /// The word behind `--port` is no number of a port.
+    #[error("--port takes the number of a port, from 0 to 65535; 0 stands for any that is free")]
+    Port,
+    /// The word behind `--associations` is no number of associations.
+    #[error("--associations takes a number from 1 to 1022")]
+    Associations,
+    /// The word behind `--timeout` is no number of seconds.
+    #[error("--timeout takes a number of seconds, from 0 to 4294967295; 0 stands for no limit")]
+    Timeout,
     /// Memory ran out.
     #[error("out of memory")]
     Memory,
@@ -88,6 +97,14 @@ fn pipe_command<'a>(alloc: Global) -> Result<Command<'a>, AllocError> {
 
 /// The command line of `upsd script`.
 fn script_command<'a>(alloc: Global) -> Result<Command<'a>, AllocError> {
+    let command = Command::new(alloc, "script").about(
+        "answers a script from standard input, a line for each of its lines",
+    );
+    with_times(alloc, command)?.arg(peer_words(alloc))
+}
+
+/// The options of the history: how long a finished step is kept, and the local time.
+fn with_times<'a>(alloc: Global, command: Command<'a>) -> Result<Command<'a>, AllocError> {
     let keep = Arg::new(alloc, "keep")
         .long("keep")
         .value_name("N")
@@ -99,23 +116,65 @@ fn script_command<'a>(alloc: Global) -> Result<Command<'a>, AllocError> {
         .help("the offset of the local time from UTC, above 0 east of it [default: 0]")
         .allow_negative_numbers(true)
         .action(ArgAction::Set);
-    Command::new(alloc, "script")
-        .about("answers a script from standard input, a line for each of its lines")
-        .arg(keep)?
-        .arg(offset)?
-        .arg(peer_words(alloc))
+    command.arg(keep)?.arg(offset)
+}
+
+/// The options of a server: where it listens, and how it serves.
+fn with_network<'a>(alloc: Global, command: Command<'a>) -> Result<Command<'a>, AllocError> {
+    let port = Arg::new(alloc, "port")
+        .long("port")
+        .value_name("P")
+        .help("the port to listen on; 0 takes any that is free, and prints it")
+        .required(true)
+        .action(ArgAction::Set);
+    let bind = Arg::new(alloc, "bind")
+        .long("bind")
+        .value_name("ADDRESS")
+        .help("the address to listen on [default: 127.0.0.1]")
+        .action(ArgAction::Set);
+    let associations = Arg::new(alloc, "associations")
+        .long("associations")
+        .value_name("N")
+        .help("how many associations are served at the same time [default: 4]")
+        .action(ArgAction::Set);
+    let timeout = Arg::new(alloc, "timeout")
+        .long("timeout")
+        .value_name("SECONDS")
+        .help("how long a peer may take to send or to receive, 0 for any time [default: 60]")
+        .action(ArgAction::Set);
+    command
+        .arg(port)?
+        .arg(bind)?
+        .arg(associations)?
+        .arg(timeout)
+}
+
+/// The command line of `upsd serve`.
+fn serve_command<'a>(alloc: Global) -> Result<Command<'a>, AllocError> {
+    let ae = Arg::new(alloc, "ae")
+        .long("ae")
+        .value_name("AE")
+        .help("the title of this application entity")
+        .required(true)
+        .action(ArgAction::Set);
+    let command = Command::new(alloc, "serve")
+        .about("answers associations over TCP")
+        .arg(ae)?;
+    with_times(alloc, with_network(alloc, command)?)?.arg(peer_words(alloc))
 }
 
 /// The command line of `upsd`.
 pub(crate) fn command<'a>(alloc: Global) -> Result<Command<'a>, AllocError> {
     let pipe = pipe_command(alloc)?;
     let script = script_command(alloc)?;
+    let serve = serve_command(alloc)?;
     Command::new(alloc, "upsd")
         .version("0.1.0")
         .about("a DICOM Unified Procedure Step manager")
         .subcommand_required(true)
         .subcommand(pipe)?
-        .subcommand(script)
+        .subcommand(script)?
+        .subcommand(serve)
 }
 
 /// Whether a text has decimal digits alone.
@@ -232,6 +291,70 @@ pub(crate) fn offset_asked(word: Option<&str>) -> Result<i16, ArgumentFault<'_>>
     match word {
         Some(word) => offset_of(word),
         None => Ok(OFFSET),
+    }
+}
+
+/// The number of the port that a word says; 0 stands for any that is free.
+///
+/// Errors: Port where it says none from 0 to 65535.
+pub(crate) fn port_of(word: &str) -> Result<u16, ArgumentFault<'_>>
+    ensures said { MatchResult result (SaysPort word.now) (λ _. (port : ℕ) → SaysPort word.now port → ⊥) }
+    ensures fault { IfErr result (λ fault. fault ≡ ArgumentFault.Port) }
+{
+    match word.parse::<u16>() {
+        Ok(port) => Ok(port),
+        Err(_) => Err(ArgumentFault::Port),
+    }
+}
+
+/// How many associations are served at the same time, by a word.
+///
+/// Errors: Associations where it says no number from 1 to 1,022.
+pub(crate) fn workers_of(word: &str) -> Result<u32, ArgumentFault<'_>>
+    ensures said { MatchResult result (SaysWorkers word.now) (λ _. (count : ℕ) → SaysWorkers word.now count → ⊥) }
+    ensures fault { IfErr result (λ fault. fault ≡ ArgumentFault.Associations) }
+{
+    match word.parse::<u32>() {
+        Ok(count) if 1 <= count && count <= MAX_WORKERS => Ok(count),
+        _ => Err(ArgumentFault::Associations),
+    }
+}
+
+/// How many associations are served at the same time, by the word behind `--associations`, or 4 where there is none.
+///
+/// Errors: those of `workers_of`.
+pub(crate) fn workers_asked(word: Option<&str>) -> Result<u32, ArgumentFault<'_>>
+    ensures { IfOk result (SaysWorkersOrNot (option_map (λ w. w.now) word.entry)) }
+{
+    match word {
+        Some(word) => workers_of(word),
+        None => Ok(WORKERS),
+    }
+}
+
+/// For how many seconds a read or a write waits at most, by the word behind `--timeout`, or 60 where there is none; 0
+/// stands for any time.
+///
+/// Errors: Timeout where the word says no number of seconds.
+pub(crate) fn timeout_asked(word: Option<&str>) -> Result<u32, ArgumentFault<'_>>
+    ensures { IfOk result (SaysTimeout (option_map (λ w. w.now) word.entry)) }
+{
+    let Some(word) = word else {
+        return Ok(TIMEOUT);
+    };
+    match keep_of(word) {
+        Ok(seconds) => Ok(seconds),
+        Err(_) => Err(ArgumentFault::Timeout),
+    }
+}
+
+/// The address to listen on: the word behind `--bind`, or 127.0.0.1 where there is none.
+pub(crate) fn bind_asked<'a>(word: Option<&'a str>) -> &'a str
+    ensures { SaysBind (option_map (λ w. w.now) word.entry) result.now }
+{
+    match word {
+        Some(word) => word,
+        None => LOOPBACK,
     }
 }
 

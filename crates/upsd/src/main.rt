@@ -16,22 +16,30 @@ mod hexing;
 mod limits;
 mod piping;
 mod scripting;
+mod serving;
 #[cfg(test)]
 mod tests;
 
 use crate::arguments::{ArgumentFault, ae_of, command, peers_of};
 use crate::limits::TURNS;
 use crate::scripting::{answer_script, script_arguments};
+use crate::serving::{answer_network, serve_arguments};
 use clap::ArgMatches;
 pub use ending::{Status, parse_status, script_status, session_status};
 pub use hexing::DigitFault;
 pub use limits::limits_are_as_defined;
+use log::Log;
 pub use piping::{Piped, pipe, pipe_told};
 pub use scripting::script;
 use std::alloc::{AllocError, Global};
 use std::io::{self, BufReader, ErrorKind};
+use std::net::{Net, TcpListener, TcpStream};
 use std::process::ExitCode;
+use std::sync::Wait;
+use std::thread::Threads;
+use std::time::Clock;
 use ups_life::Peer;
+pub use ups_net::{Terms, work};
 use ups_pdu::Ae;
 pub use ups_session::{End, SessionFault, WatchedReader, WatchedWriter};
 
@@ -113,20 +121,13 @@ fn refuse<R: Eprint>(rt: &R, fault: ArgumentFault<'_>) -> Result<Status, AllocEr
     Ok(Status::Usage)
 }
 
-/// Does what the words of a command line ask, and gives how the program ends.
+/// Does what a command line asks of `pipe` or `script`, and gives how the program ends.
 ///
 /// Errors: lack of memory before anything is done.
 fn perform<R: Input + Print + Eprint + AllocGlobal>(
     rt: &R,
-    words: &[String],
+    matches: &ArgMatches<'_>,
 ) -> Result<Status, AllocError> {
-    let matches = match command(rt.alloc())?.try_get_matches_from(words) {
-        Ok(matches) => matches,
-        Err(error) => {
-            let _ = error.print(rt);
-            return Ok(parse_status(error.kind()));
-        }
-    };
     match matches.subcommand() {
         Some(("script", matches)) => match script_arguments(rt.alloc(), matches) {
             Ok(asked) => answer_script(rt, &asked),
@@ -140,15 +141,78 @@ fn perform<R: Input + Print + Eprint + AllocGlobal>(
     }
 }
 
-/// Does what the words of a command line ask, and gives how the program ends.
-fn run<R: Input + Print + Eprint + AllocGlobal>(rt: &R, words: &[String]) -> Status {
-    match perform(rt, words) {
+/// Does what a command line asks of `serve`, and gives how the program ends.
+///
+/// Errors: lack of memory.
+fn perform_network<R>(rt: &R, matches: &ArgMatches<'_>) -> Result<Status, AllocError>
+where
+    R: Threads
+        + Wait
+        + Clock
+        + Log
+        + Sync
+        + AllocGlobal
+        + Print
+        + Eprint
+        + Net<Listener = TcpListener, Stream = TcpStream>,
+{
+    match serve_arguments(rt.alloc(), matches) {
+        Ok(asked) => answer_network(rt, &asked),
+        Err(fault) => refuse(rt, fault),
+    }
+}
+
+/// What the words of a command line ask; or how the program ends, where they ask for no more than the usage or the
+/// version, or are none that is taken.
+///
+/// Errors: lack of memory.
+fn matches_of<'a, R: Print + Eprint + AllocGlobal>(
+    rt: &R,
+    words: &'a [String],
+) -> Result<Result<ArgMatches<'a>, Status>, AllocError> {
+    match command(rt.alloc())?.try_get_matches_from(words) {
+        Ok(matches) => Ok(Ok(matches)),
+        Err(error) => {
+            let _ = error.print(rt);
+            Ok(Err(parse_status(error.kind())))
+        }
+    }
+}
+
+/// How the program ends, where it may have ended for lack of memory; that is told.
+fn end_of<R: Eprint>(rt: &R, performed: Result<Status, AllocError>) -> Status {
+    match performed {
         Ok(status) => status,
         Err(_) => {
             let _ = eprintln!(rt; "upsd: out of memory");
             Status::Memory
         }
     }
+}
+
+/// Does what the words of a command line ask, and gives how the program ends.
+fn run<R>(rt: &R, words: &[String]) -> Status
+where
+    R: Threads
+        + Wait
+        + Clock
+        + Log
+        + Sync
+        + AllocGlobal
+        + Input
+        + Print
+        + Eprint
+        + Net<Listener = TcpListener, Stream = TcpStream>,
+{
+    let performed = match matches_of(rt, words) {
+        Ok(Ok(matches)) => match matches.subcommand() {
+            Some(("serve", matches)) => perform_network(rt, matches),
+            _ => perform(rt, &matches),
+        },
+        Ok(Err(status)) => Ok(status),
+        Err(fault) => Err(fault),
+    };
+    end_of(rt, performed)
 }
 
 /// The words of the command line.

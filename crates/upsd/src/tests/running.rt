@@ -161,8 +161,18 @@ fn status_of(console: &Console<'_>, line: &str, words: &[String]) -> Status {
     match line {
         "no text" => unread(console, ErrorKind::InvalidData),
         "no memory" => unread(console, ErrorKind::OutOfMemory),
-        _ => run(console, words),
+        _ => ran(console, words),
     }
+}
+
+/// Runs the program with words that ask for no server.
+fn ran(console: &Console<'_>, words: &[String]) -> Status {
+    let performed = match matches_of(console, words) {
+        Ok(Ok(matches)) => perform(console, &matches),
+        Ok(Err(status)) => Ok(status),
+        Err(fault) => Err(fault),
+    };
+    end_of(console, performed)
 }
 
 /// The name of the program, and the words of a line.

@@ -1,0 +1,162 @@
+//! Associations over TCP.
+
+ghost use Rattle.std.specs.Prelude.{◌≡◌, ◌≤◌, [], codes, length, None, IfOk, unwrap_or};
+ghost use Rattle.clap.specs.Matches.{first_value, found_of};
+ghost use Rattle.ups_manager.specs.Refusal.{refusal};
+ghost use Rattle.ups_life.specs.Limits.{history_limit, peer_limit};
+ghost use Rattle.ups_pdu.specs.Title.{SpellsAe};
+ghost use Rattle.upsd.specs.Arguments.{NamePeers, SaysBind, SaysKeep, SaysOffset, SaysPort, SaysTimeout, SaysWorkersOrNot, words_of};
+ghost use Rattle.upsd.specs.Limits.{workers_limit};
+
+use crate::arguments::{
+    ArgumentFault, ae_of, bind_asked, keep_asked, offset_asked, peers_of, port_of, timeout_asked,
+    workers_asked,
+};
+use crate::ending::Status;
+use crate::limits::TURNS;
+use clap::ArgMatches;
+use log::{Log, info};
+use std::alloc::{AllocError, Global};
+use std::net::{Net, TcpListener, TcpStream};
+use std::sync::Wait;
+use std::thread::Threads;
+use std::time::Clock;
+use std::{io, str};
+use ups_assoc::Config;
+use ups_life::{MAX_HISTORY, Peer};
+use ups_manager::Manager;
+use ups_net::{Terms, run};
+use ups_pdu::Ae;
+use ups_turn::Desk;
+
+/// What a command line asks of `serve`.
+#[derive(Drop)]
+pub(crate) struct ServeArguments<'a> {
+    ae: Ae,
+    bind: &'a str,
+    port: u16,
+    peers: Vec<Peer>,
+    keep: u32,
+    offset: i16,
+    workers: u32,
+    timeout: u32,
+}
+
+/// Reads what a command line asks of `serve`.
+///
+/// Errors: those of its words.
+#[tactic(auto, using(crate::proofs::Naming::unrefused_at))]
+pub(crate) fn serve_arguments<'a>(
+    alloc: Global,
+    matches: &ArgMatches<'a>,
+) -> Result<ServeArguments<'a>, ArgumentFault<'a>>
+    ensures title { IfOk result (λ asked. SpellsAe (unwrap_or (first_value (found_of matches.now) (codes "ae")) []) asked.ae) }
+    ensures bind { IfOk result (λ asked. SaysBind (first_value (found_of matches.now) (codes "bind")) asked.bind.now) }
+    ensures port { IfOk result (λ asked. SaysPort (unwrap_or (first_value (found_of matches.now) (codes "port")) []) asked.port) }
+    ensures peers { IfOk result (λ asked. NamePeers (words_of (found_of matches.now) (codes "peer")) asked.peers.items) }
+    ensures keep { IfOk result (λ asked. SaysKeep (first_value (found_of matches.now) (codes "keep")) asked.keep) }
+    ensures offset { IfOk result (λ asked. SaysOffset (first_value (found_of matches.now) (codes "offset")) asked.offset) }
+    ensures workers { IfOk result (λ asked. SaysWorkersOrNot (first_value (found_of matches.now) (codes "associations")) asked.workers) }
+    ensures timeout { IfOk result (λ asked. SaysTimeout (first_value (found_of matches.now) (codes "timeout")) asked.timeout) }
+    ensures some { IfOk result (λ asked. 1 ≤ asked.workers) }
+    ensures most { IfOk result (λ asked. asked.workers ≤ workers_limit) }
+    ensures few { IfOk result (λ asked. length asked.peers.items ≤ peer_limit) }
+    ensures allowed { IfOk result (λ asked. refusal asked.peers.items asked.offset history_limit ≡ None) }
+{
+    Ok(ServeArguments {
+        ae: ae_of(matches.get_str("ae").unwrap_or(""))?,
+        bind: bind_asked(matches.get_str("bind")),
+        port: port_of(matches.get_str("port").unwrap_or(""))?,
+        peers: peers_of(alloc, matches.get_strs("peer").unwrap_or(&[]))?,
+        keep: keep_asked(matches.get_str("keep"))?,
+        offset: offset_asked(matches.get_str("offset"))?,
+        workers: workers_asked(matches.get_str("associations"))?,
+        timeout: timeout_asked(matches.get_str("timeout"))?,
+    })
+}
+
+/// Listens where the command line says. With port 0 the port that was taken is printed, so that a client can be told.
+///
+/// Errors: those of the network, and of the output.
+fn listen<R>(rt: &R, asked: &ServeArguments<'_>) -> io::Result<TcpListener>
+where
+    R: Net<Listener = TcpListener, Stream = TcpStream> + Print + Log,
+{
+    let listener = TcpListener::bind(rt, (asked.bind, asked.port))?;
+    let address = listener.local_addr()?;
+    if asked.port == 0 {
+        println!(rt; "{}", address.port())?;
+    }
+    let title = str::from_utf8(asked.ae.as_bytes()).unwrap_or("");
+    info!(rt; target: "upsd", "{title} listens on {address} with {} workers", asked.workers);
+    Ok(listener)
+}
+
+/// Runs a server on a listener, for as long as the program lives, and gives how the program ends: for lack of memory where
+/// a thread can't be started.
+///
+/// Errors: lack of memory before it begins.
+fn serve_on<R: Threads + Wait + Clock + Log + Sync + AllocGlobal>(
+    rt: &R,
+    listener: &TcpListener,
+    asked: &ServeArguments<'_>,
+) -> Result<Status, AllocError>
+    requires some { 1 ≤ asked.now.workers }
+    requires most { asked.now.workers ≤ workers_limit }
+    requires few { length asked.now.peers.items ≤ peer_limit }
+    requires allowed { refusal asked.now.peers.items asked.now.offset history_limit ≡ None }
+{
+    let alloc = rt.alloc();
+    let Ok(manager) = Manager::new(alloc, &asked.peers, asked.keep, asked.offset, MAX_HISTORY)
+    else {
+        return Err(AllocError);
+    };
+    let Ok((desk, passes)) = Desk::open(alloc, manager, asked.workers + 1) else {
+        return Err(AllocError);
+    };
+    let terms = Terms {
+        alloc,
+        config: Config {
+            ae: asked.ae,
+            offset: asked.offset,
+        },
+        turns: TURNS,
+        timeout: asked.timeout,
+        associations: u64::MAX,
+    };
+    match run(rt, listener, &desk, passes, &terms, u64::MAX) {
+        (true, _) => Ok(Status::Done),
+        (false, _) => Err(AllocError),
+    }
+}
+
+/// Answers associations over TCP, as the command line asks, tells its fault, and gives how the program ends.
+///
+/// Errors: lack of memory.
+pub(crate) fn answer_network<R>(rt: &R, asked: &ServeArguments<'_>) -> Result<Status, AllocError>
+where
+    R: Threads
+        + Wait
+        + Clock
+        + Log
+        + Sync
+        + AllocGlobal
+        + Print
+        + Eprint
+        + Net<Listener = TcpListener, Stream = TcpStream>,
+    requires some { 1 ≤ asked.now.workers }
+    requires most { asked.now.workers ≤ workers_limit }
+    requires few { length asked.now.peers.items ≤ peer_limit }
+    requires allowed { refusal asked.now.peers.items asked.now.offset history_limit ≡ None }
+{
+    match listen(rt, asked) {
+        Ok(listener) => serve_on(rt, &listener, asked),
+        Err(fault) => {
+            let _ = eprintln!(rt;
+                "upsd: it can't listen on {}, port {}: {fault}",
+                asked.bind, asked.port
+            );
+            Ok(Status::Stopped)
+        }
+    }
+}
