@@ -161,18 +161,18 @@ fn status_of(console: &Console<'_>, line: &str, words: &[String]) -> Status {
     match line {
         "no text" => unread(console, ErrorKind::InvalidData),
         "no memory" => unread(console, ErrorKind::OutOfMemory),
-        _ => ran(console, words),
+        _ => performed(console, words),
     }
 }
 
 /// Runs the program with words that ask for no server.
-fn ran(console: &Console<'_>, words: &[String]) -> Status {
-    let performed = match matches_of(console, words) {
+fn performed(console: &Console<'_>, words: &[String]) -> Status {
+    let end = match matches_of(console, words) {
         Ok(Ok(matches)) => perform(console, &matches),
         Ok(Err(status)) => Ok(status),
         Err(fault) => Err(fault),
     };
-    end_of(console, performed)
+    end_of(console, end)
 }
 
 /// The name of the program, and the words of a line.
