@@ -1,4 +1,4 @@
-use Rattle.std.proofs.Common.{[], ℕ, List, Option, None}
+use Rattle.std.proofs.Common.{[], None}
 use Rattle.std.specs.Io.KnownBytes.{Consumes}
 use Rattle.std.proofs.KnownBytes.{Consumes-nil}
 use Rattle.ups_session.specs.declared.watched_io.LastRead.TheVariants.{Gave}
