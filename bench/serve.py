@@ -1,0 +1,242 @@
+#!/usr/bin/env python3
+"""Measures `upsd serve`: requests a second and the server's processor time for each, at 1, 4 and 12 associations.
+
+It starts the server on a free port of this machine, with as many workers as there are associations, and ends by itself.
+Each association is a process of its own that sends one request and waits for its answer. These processes take more
+time than the server does, so the requests a second are those of the clients; the processor time is the server's alone,
+as /proc tells it. Before that, eight associations claim the same hundred steps at the same moment, and each step has to
+go to one of them.
+
+Usage: bench/serve.py [PROGRAM]        (crates/upsd/out/upsd, which `rt run` builds)
+"""
+
+import multiprocessing
+import os
+import re
+import socket
+import struct
+import subprocess
+import sys
+import time
+
+sys.path.insert(0, __file__.rsplit("/", 1)[0])
+from pipe import (EXPLICIT, PULL, PUSH, RELEASE, VERIFICATION, act, associate, create, data, echo, even, find, get, items,
+                  set_attributes, step)
+
+CONTEXTS = [(PUSH, EXPLICIT), (PULL, EXPLICIT), (VERIFICATION, EXPLICIT)]
+PUSH_ON, PULL_ON, ECHO_ON = 1, 3, 5
+TICK = os.sysconf("SC_CLK_TCK")
+CLAIMED = 0x0000
+TAKEN = 0xC302
+FOLLOWS = 0xFF00
+
+
+class Peer:
+    """An association with the server."""
+
+    def __init__(self, port):
+        self.socket = socket.create_connection(("127.0.0.1", port), 60)
+        self.socket.setsockopt(socket.IPPROTO_TCP, socket.TCP_NODELAY, 1)
+        self.left = b""
+        self.socket.sendall(associate(CONTEXTS))
+        assert self.pdu()[0] == 2, "not accepted"
+
+    def take(self, count):
+        while len(self.left) < count:
+            more = self.socket.recv(65536)
+            if not more:
+                raise EOFError("the server hung up")
+            self.left += more
+        taken, self.left = self.left[:count], self.left[count:]
+        return taken
+
+    def pdu(self):
+        head = self.take(6)
+        return head[0], self.take(struct.unpack(">I", head[2:])[0])
+
+    def fragments(self, of_command):
+        """The bytes of a command set or of a data set."""
+        found = b""
+        while True:
+            kind, body = self.pdu()
+            assert kind == 4, kind
+            while body:
+                length = struct.unpack(">I", body[:4])[0]
+                control, body, found = body[5], body[4 + length:], found + body[6:4 + length]
+                assert bool(control & 1) == of_command
+                if control & 2:
+                    return found
+
+    def answer(self):
+        """The status of a response, whose data set is read too."""
+        elements, command = {}, self.fragments(True)
+        while command:
+            number, length = struct.unpack("<xxHI", command[:8])
+            elements[number], command = command[8:8 + length], command[8 + length:]
+        if struct.unpack("<H", elements[0x0800])[0] != 0x0101:
+            self.fragments(False)
+        return struct.unpack("<H", elements[0x0900])[0]
+
+    def ask(self, message):
+        self.socket.sendall(message)
+        status = self.answer()
+        while status == FOLLOWS:
+            status = self.answer()
+        return status
+
+    def release(self):
+        self.socket.sendall(RELEASE)
+        assert self.pdu()[0] == 6
+        self.socket.close()
+
+
+def told(group, number, vr, value):
+    """An element of a data set, padded."""
+    return data(True, group, number, vr, even(value, b"\0" if vr == b"UI" else b" "))
+
+
+def a_step(patient):
+    return step(True, {(0x0010, 0x0020): (b"LO", even(patient, b" "))})
+
+
+def claim(number, instance, transaction):
+    change = told(0x0008, 0x1195, b"UI", transaction) + told(0x0074, 0x1000, b"CS", b"IN PROGRESS")
+    return act(PULL_ON, number, instance, 1, change)
+
+
+def finish(number, instance, transaction):
+    change = told(0x0008, 0x1195, b"UI", transaction) + told(0x0074, 0x1000, b"CS", b"CANCELED")
+    return act(PULL_ON, number, instance, 1, change)
+
+
+def progress(number, instance, transaction):
+    when = told(0x0040, 0x4052, b"DT", b"20240229120300")
+    sequence = data(True, 0x0074, 0x1002, b"SQ", items([when]))
+    return set_attributes(PULL_ON, number, instance, told(0x0008, 0x1195, b"UI", transaction) + sequence)
+
+
+def one_echo(peer, me, i):
+    message = bytearray(echo(1))
+    message[10] = ECHO_ON
+    return peer.ask(bytes(message))
+
+
+def one_get(peer, me, i):
+    return peer.ask(get(PUSH_ON, 1, b"1.2.0.%d" % (i % 10)))
+
+
+def one_find(peer, me, i):
+    keys = told(0x0008, 0x0018, b"UI", b"") + told(0x0010, 0x0020, b"LO", b"P%d" % (i % 10))
+    return peer.ask(find(PULL_ON, 1, keys))
+
+
+def one_life(peer, me, i):
+    instance, transaction = b"1.3.%d.%d" % (me, i), b"2.%d" % me
+    return (peer.ask(create(PUSH_ON, 1, instance, a_step(b"L"))) or peer.ask(claim(1, instance, transaction))
+            or peer.ask(progress(1, instance, transaction)) or peer.ask(finish(1, instance, transaction)))
+
+
+def worker(port, me, count, one, again, barrier, results):
+    """Asks so often, and tells how often the answer was 0000."""
+    peer = None if again else Peer(port)
+    barrier.wait()
+    good = 0
+    for i in range(count):
+        if again:
+            peer = Peer(port)
+        good += one(peer, me, i) == 0
+        if again:
+            peer.release()
+    results.put(good)
+    if not again:
+        peer.release()
+
+
+def claimer(port, me, barrier, results):
+    peer = Peer(port)
+    barrier.wait()
+    results.put([peer.ask(claim(1, b"1.2.0.%d" % i, b"2.%d" % (me + 1))) for i in range(100)])
+    peer.release()
+
+
+def processor(pid):
+    with open(f"/proc/{pid}/stat") as it:
+        fields = it.read().rsplit(")", 1)[1].split()
+    return (int(fields[11]) + int(fields[12])) / TICK
+
+
+class Server:
+    def __init__(self, program, workers):
+        self.process = subprocess.Popen([program, "serve", "--ae", "UPSD", "--port", "0", "--associations", str(workers)],
+                                        stdout=subprocess.PIPE, stderr=subprocess.DEVNULL)
+        self.port = int(re.match(rb"\d+", self.process.stdout.readline())[0])
+
+    def fill(self, steps):
+        peer = Peer(self.port)
+        for i in range(steps):
+            assert peer.ask(create(PUSH_ON, 1, b"1.2.0.%d" % i, a_step(b"P%d" % i))) == 0
+        peer.release()
+
+    def __enter__(self):
+        return self
+
+    def __exit__(self, *_):
+        self.process.terminate()
+        self.process.wait()
+
+
+def race(program):
+    """Eight associations claim the same hundred steps."""
+    with Server(program, 8) as server:
+        server.fill(100)
+        barrier, results = multiprocessing.Barrier(8), multiprocessing.Queue()
+        peers = [multiprocessing.Process(target=claimer, args=(server.port, i, barrier, results)) for i in range(8)]
+        for it in peers:
+            it.start()
+        told = [results.get(timeout=60) for _ in peers]
+        for it in peers:
+            it.join()
+    for statuses in zip(*told):
+        assert sorted(statuses) == [CLAIMED] + 7 * [TAKEN], statuses
+    print("8 associations claimed 100 steps at the same moment: each went to one of them")
+
+
+def measure(program, name, steps, count, one, each=1, again=False):
+    cells = []
+    for associations in (1, 4, 12):
+        with Server(program, associations) as server:
+            server.fill(steps)
+            barrier, results = multiprocessing.Barrier(associations + 1), multiprocessing.Queue()
+            peers = [multiprocessing.Process(target=worker, args=(server.port, i, count, one, again, barrier, results)) for i in range(associations)]
+            for it in peers:
+                it.start()
+            barrier.wait()
+            before, began = processor(server.process.pid), time.monotonic()
+            good = sum(results.get(timeout=120) for _ in peers)
+            seconds, used = time.monotonic() - began, processor(server.process.pid) - before
+            for it in peers:
+                it.join()
+            assert good == associations * count, (name, good)
+            requests = associations * count * each
+            cells.append(f"{requests / seconds:,.0f}, {used / requests * 1e6:.0f} us")
+    print(f"| {name} | " + " | ".join(cells) + " |", flush=True)
+
+
+def main():
+    if len(sys.argv) > 2 or sys.argv[1:] and sys.argv[1].startswith("-"):
+        print(__doc__)
+        return
+    program = sys.argv[1] if sys.argv[1:] else "crates/upsd/out/upsd"
+    race(program)
+    print("| requests a second, and processor time of the server for each | 1 association | 4 | 12 |")
+    print("|---|---|---|---|")
+    measure(program, "C-ECHO", 0, 2000, one_echo)
+    measure(program, "open, C-ECHO, release", 0, 300, one_echo, again=True)
+    measure(program, "N-GET, 10 steps", 10, 2000, one_get)
+    measure(program, "C-FIND by patient ID, 10 steps", 10, 1000, one_find)
+    measure(program, "C-FIND by patient ID, 1,000 steps", 1000, 1000, one_find)
+    measure(program, "life cycle: create, claim, set, cancel", 0, 100, one_life, each=4)
+
+
+if __name__ == "__main__":
+    main()
