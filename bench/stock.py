@@ -1,26 +1,50 @@
 #!/usr/bin/env python3
-"""Tries `upsd serve` with DCMTK's clients, as Debian has them, with the settings that they have by default.
+"""Tries `upsd serve` with stock software in its default settings: DCMTK's clients, and pydicom on plain sockets.
 
-It installs them where they are missing (`apt-get install -y dcmtk`, which needs root), starts a server on a free port of
-this machine, and ends by itself. It says in one line what agreed, and ends with 1 where something did not.
+It installs them where they are missing (`apt-get install -y dcmtk python3-pydicom`, which needs root; where the Python
+that runs this has no pydicom, it goes on in /usr/bin/python3), starts servers on free ports of this machine, and ends by
+itself. It prints a line for each trial that doesn't agree, and in the end how many agree. It ends with 1 where one doesn't.
 
     echoscu      C-ECHO once; five times in one association; with all 38 transfer syntaxes that it knows proposed; then
                  an abort in place of the release; a called title that is not the server's, which is rejected
     findscu      proposes the SOP class of the modality worklist, and has no option for UPS: its presentation context is
                  refused, and the server goes on
+    pydicom      writes and reads the command sets and data sets of the life of five steps, once in Implicit and once in
+                 Explicit VR Little Endian: each is created, and then claimed, set, completed, canceled by request or by
+                 its performer, queried, and watched by a subscription to it or to all
+    the watcher  is a peer of the server that listens here. It takes the server's associations, answers each
+                 N-EVENT-REPORT with 0000, and compares the reports with PS3.4 section CC.2.4: the step, the type, the
+                 data set and the order
 """
 
 import argparse
+import importlib.util
 import os
 import re
 import shutil
+import signal
+import socket
+import struct
 import subprocess
 import sys
 import threading
 import time
 
+sys.path.insert(0, os.path.dirname(os.path.abspath(__file__)))
+import pipe
+from pipe import EXPLICIT, IMPLICIT, item, pdu
+from serve import Peer
+
 HERE = os.path.dirname(os.path.dirname(os.path.abspath(__file__)))
-LIMIT = 60
+PYTHON = "/usr/bin/python3"
+LIMIT = 20  # seconds for one answer
+ALL = 300  # seconds for all trials
+
+PUSH, PULL = pipe.PUSH.decode(), pipe.PULL.decode()
+WATCH = "1.2.840.10008.5.1.4.34.6.2"
+EVENT = b"1.2.840.10008.5.1.4.34.6.4"
+GLOBAL = "1.2.840.10008.5.1.4.34.5"
+CONTEXTS = {PUSH: 1, PULL: 3, WATCH: 5}
 
 # what is tried: a name, the words, the exit status, what is read among what is told, and the line of the server's log
 TRIALS = [
@@ -35,33 +59,56 @@ TRIALS = [
 
 
 def install():
-    """Has DCMTK's clients there."""
-    if shutil.which("echoscu") and shutil.which("findscu"):
-        return
-    subprocess.run(["apt-get", "update"], check=True, stdout=subprocess.DEVNULL)
-    subprocess.run(["apt-get", "install", "-y", "dcmtk"], check=True, stdout=subprocess.DEVNULL)
+    """Has DCMTK's clients and pydicom there."""
+    own = importlib.util.find_spec("pydicom")
+    missing = [] if shutil.which("echoscu") and shutil.which("findscu") else ["dcmtk"]
+    if not own and subprocess.run([PYTHON, "-c", "import pydicom"], stderr=subprocess.DEVNULL).returncode:
+        missing.append("python3-pydicom")
+    if missing:
+        subprocess.run(["apt-get", "update"], check=True, stdout=subprocess.DEVNULL)
+        subprocess.run(["apt-get", "install", "-y", *missing], check=True, stdout=subprocess.DEVNULL)
+    if not own:
+        os.execv(PYTHON, [PYTHON, *sys.argv])
+
+
+class Tally:
+    """How many trials there were, and how many agree: a line for each that doesn't."""
+
+    def __init__(self):
+        self.tried = self.agreed = 0
+
+    def tell(self, name, fault):
+        self.tried += 1
+        self.agreed += not fault
+        if fault:
+            print(f"{name}: {fault}", flush=True)
+
+    def end(self, more):
+        """The last line, and the exit status."""
+        print(f"{self.agreed} of {self.tried} trials agree: {more}", flush=True)
+        sys.exit(self.agreed != self.tried)
 
 
 class Server:
     """`upsd serve` on a free port: it prints the port, and a line of its log for each association."""
 
-    def __init__(self, program):
-        words = program + ["serve", "--ae", "UPSD", "--port", "0", "--associations", "2", "--timeout", "10"]
+    def __init__(self, program, *options):
+        words = program + ["serve", "--ae", "UPSD", "--port", "0", *options]
         self.process = subprocess.Popen(words, stdout=subprocess.PIPE, stderr=subprocess.PIPE, text=True)
         self.log = []
-        self.reader = threading.Thread(target=self.read_log, daemon=True)
-        self.reader.start()
+        threading.Thread(target=self.read_log, daemon=True).start()
+        try:
+            line = self.process.stdout.readline()
+            if not re.fullmatch(r"\d+\s*", line):
+                sys.exit(f"the server printed {line!r} for a port: {' '.join(self.log)}")
+            self.port = int(line)
+        except BaseException:
+            self.stop()
+            raise
 
     def read_log(self):
         for line in self.process.stderr:
             self.log.append(line.rstrip())
-
-    def port(self):
-        line = self.process.stdout.readline()
-        if not re.fullmatch(r"\d+\s*", line):
-            self.stop()
-            sys.exit(f"stock.py: the server printed {line!r} for a port: {' '.join(self.log)}")
-        return line.strip()
 
     def stop(self):
         self.process.terminate()
@@ -71,50 +118,362 @@ class Server:
             self.process.kill()
             self.process.wait()
 
+    def __enter__(self):
+        return self
 
-def trial(server, port, words, status, told, logged):
-    """Why a trial doesn't agree, or None."""
+    def __exit__(self, *_):
+        self.stop()
+
+
+def holds(what, seconds):
+    """Whether it comes to hold in so many seconds."""
+    deadline = time.monotonic() + seconds
+    while not what():
+        if time.monotonic() > deadline:
+            return False
+        time.sleep(0.05)
+    return True
+
+
+def by_dcmtk(server, words, status, told, logged):
+    """Why a trial of DCMTK's clients doesn't agree, or None."""
     before = len(server.log)
     aec = [] if "-aec" in words else ["-aec", "UPSD"]
-    client = [words[0]] + aec + words[1:] + ["127.0.0.1", port]
-    ran = subprocess.run(client, capture_output=True, text=True, timeout=LIMIT)
+    client = [words[0]] + aec + words[1:] + ["127.0.0.1", str(server.port)]
+    try:
+        ran = subprocess.run(client, capture_output=True, text=True, timeout=LIMIT)
+    except subprocess.TimeoutExpired:
+        return f"{' '.join(client)} does not end"
     said = ran.stdout + ran.stderr
     if (ran.returncode == 0) != (status == 0):
         return f"{' '.join(client)} ended with {ran.returncode}: {said.strip()}"
     if told not in said:
         return f"{' '.join(client)} did not tell {told!r}: {said.strip()}"
-    deadline = time.monotonic() + 5
-    while logged and not any(logged in line for line in server.log[before:]):
-        if time.monotonic() > deadline:
-            return f"the server did not log {logged!r}: {server.log[before:]}"
-        time.sleep(0.05)
+    if logged and not holds(lambda: any(logged in line for line in server.log[before:]), 5):
+        return f"the server did not log {logged!r}: {server.log[before:]}"
     return None
+
+
+# pydicom: sets are given by keyword, a sequence as a list of items
+
+def made(attributes):
+    from pydicom.dataset import Dataset
+    found = Dataset()
+    for keyword, value in attributes.items():
+        setattr(found, keyword, [made(each) for each in value] if keyword.endswith("Sequence") else value)
+    return found
+
+
+def spelled(given, syntax):
+    from pydicom.filebase import DicomBytesIO
+    from pydicom.filewriter import write_dataset
+    out = DicomBytesIO()
+    out.is_little_endian, out.is_implicit_VR = True, syntax == IMPLICIT
+    write_dataset(out, given)
+    return out.getvalue()
+
+
+def read(found, syntax):
+    from pydicom.filebase import DicomBytesIO
+    from pydicom.filereader import read_dataset
+    return read_dataset(DicomBytesIO(found), syntax == IMPLICIT, True)
+
+
+class Wire(Peer):
+    """An association of which pydicom writes and reads each command set and data set, on either side of it."""
+
+    def __init__(self, connection, syntax):
+        self.socket, self.syntax, self.left, self.number = connection, syntax, b"", 0
+
+    def ahead(self):
+        """The type of the next PDU, which stays to be read."""
+        self.left = self.take(6) + self.left
+        return self.left[0]
+
+    def send(self, context, elements, given=None):
+        command = made({**elements, "CommandDataSetType": 0x0101 if given is None else 1})
+        command.CommandGroupLength = len(spelled(command, IMPLICIT))
+        data_set = None if given is None else spelled(made(given), self.syntax)
+        self.socket.sendall(pipe.message(context, spelled(command, IMPLICIT), data_set))
+
+    def message(self):
+        """A command set, and a data set where one follows."""
+        command = read(self.fragments(True), IMPLICIT)
+        return command, None if command.CommandDataSetType == 0x0101 else read(self.fragments(False), self.syntax)
+
+    def ask(self, context, elements, given=None):
+        """The responses to a request."""
+        self.number += 1
+        self.send(CONTEXTS[context], {**elements, "MessageID": self.number}, given)
+        responses = [self.message()]
+        while responses[-1][0].Status in (0xFF00, 0xFF01):
+            responses.append(self.message())
+        return responses
+
+
+def open_association(port, contexts, syntax, seconds=LIMIT):
+    wire = Wire(socket.create_connection(("127.0.0.1", port), seconds), syntax)
+    wire.socket.sendall(pipe.associate([(abstract, syntax) for abstract in contexts]))
+    kind, _ = wire.pdu()
+    assert kind == 2, f"the association is answered with a PDU of type {kind}"
+    return wire
+
+
+# the requests: the SOP class of the context, the command set, the data set
+
+def create(uid, **changes):
+    return PUSH, {"AffectedSOPClassUID": PUSH, "CommandField": 0x0140, "AffectedSOPInstanceUID": uid}, {**STEP, **changes}
+
+
+def find(context, **keys):
+    return context, {"AffectedSOPClassUID": context, "CommandField": 0x0020, "Priority": 0}, keys
+
+
+def get(context, uid, *tags):
+    listed = {"AttributeIdentifierList": list(tags)} if tags else {}
+    return context, {"RequestedSOPClassUID": PUSH, "CommandField": 0x0110, "RequestedSOPInstanceUID": uid, **listed}, None
+
+
+def change(uid, **attributes):
+    return PULL, {"RequestedSOPClassUID": PUSH, "CommandField": 0x0120, "RequestedSOPInstanceUID": uid}, attributes
+
+
+def act(context, action, uid, **attributes):
+    return context, {"RequestedSOPClassUID": PUSH, "CommandField": 0x0130, "RequestedSOPInstanceUID": uid, "ActionTypeID": action}, attributes
+
+
+def move(uid, state, transaction="1.2.9.1"):
+    return act(PULL, 1, uid, ProcedureStepState=state, TransactionUID=transaction)
+
+
+def cancel(context, uid, **attributes):
+    return act(context, 2, uid, **attributes)
+
+
+def subscribe(uid, watcher="WATCHER", lock="FALSE"):
+    return act(WATCH, 3, uid, ReceivingAE=watcher, DeletionLock=lock)
+
+
+def unsubscribe(uid):
+    return act(WATCH, 4, uid, ReceivingAE="WATCHER")
+
+
+def suspend():
+    return act(WATCH, 5, GLOBAL, ReceivingAE="WATCHER")
+
+
+def state(uid, now, readiness="READY", **more):
+    """The event that tells the state of a step."""
+    return 1, uid, {"ProcedureStepState": now, "InputReadinessState": readiness, **more}
+
+
+A, B, C, D, E = (f"1.2.3.{i}" for i in range(1, 6))
+OWN = {"TransactionUID": "1.2.9.1"}
+CODE = [{"CodeValue": "C1", "CodingSchemeDesignator": "99A", "CodeMeaning": "A code"}]
+STEP = {"PatientName": "DOE^JANE", "PatientID": "P1", "ScheduledProcedureStepStartDateTime": "20240229120000",
+        "ScheduledWorkitemCodeSequence": CODE, "InputReadinessState": "READY", "ProcedureStepState": "SCHEDULED",
+        "ScheduledProcedureStepPriority": "MEDIUM", "ProcedureStepLabel": "CT READ", "WorklistLabel": "READS"}
+PROGRESS = {"ProcedureStepProgressInformationSequence": [{"ProcedureStepProgress": "50"}]}
+GIVEN_UP = {"ProcedureStepProgressInformationSequence": [{"ProcedureStepCancellationDateTime": "20240229120300"}]}
+STATION = {"ScheduledStationNameCodeSequence": CODE}
+HUMAN = {"HumanPerformerCodeSequence": CODE, "HumanPerformerOrganization": "RADIOLOGY"}
+PERFORMED = {"UnifiedProcedureStepPerformedProcedureSequence": [
+    {"PerformedProcedureStepStartDateTime": "20240229120100", "PerformedProcedureStepEndDateTime": "20240229120200"}]}
+WHY = {"ReasonForCancellation": "ILL", "ProcedureStepDiscontinuationReasonCodeSequence": CODE}
+WHOM = {"ContactURI": "tel:1", "ContactDisplayName": "DOE"}
+STATE, LABEL = 0x00741000, 0x00741204
+
+# what is tried: a name, the request, the status, the data sets of the answer, and the events of the watcher
+LIFE = [
+    ("subscribe to all", subscribe(GLOBAL), 0, [], []),
+    ("subscribe a stranger", subscribe(GLOBAL, "STRANGER"), 0xC308, [], []),
+    ("create", create(A, InputReadinessState="INCOMPLETE"), 0, [], [state(A, "SCHEDULED", "INCOMPLETE")]),
+    ("create again", create(A), 0x0111, [], []),
+    ("set before the claim", change(A, InputReadinessState="READY"), 0, [], [state(A, "SCHEDULED")]),
+    ("get", get(PUSH, A), 0, [{"SOPClassUID": PUSH, "SOPInstanceUID": A, **STEP}], []),
+    ("get two attributes", get(PULL, A, STATE, LABEL), 0, [{"ProcedureStepState": "SCHEDULED", "ProcedureStepLabel": "CT READ"}], []),
+    ("find", find(PULL, SOPInstanceUID="", ProcedureStepState="SCHEDULED", ProcedureStepLabel="CT*"), 0,
+     [{"SOPInstanceUID": A, "ProcedureStepState": "SCHEDULED", "ProcedureStepLabel": "CT READ"}], []),
+    ("find nothing", find(WATCH, ProcedureStepLabel="MR*"), 0, [], []),
+    ("claim", move(A, "IN PROGRESS"), 0, [], [state(A, "IN PROGRESS")]),
+    ("claim what is claimed", move(A, "IN PROGRESS", "1.2.9.2"), 0xC302, [], []),
+    ("set without the claim", change(A, **PROGRESS), 0xC301, [], []),
+    ("set the progress", change(A, **OWN, **PROGRESS), 0, [], [(3, A, PROGRESS)]),
+    ("assign", change(A, **OWN, **STATION, ScheduledHumanPerformersSequence=[HUMAN]), 0, [], [(5, A, {**STATION, **HUMAN})]),
+    ("complete too early", move(A, "COMPLETED"), 0xC304, [], []),
+    ("set what was performed", change(A, **OWN, **PERFORMED), 0, [], []),
+    ("complete", move(A, "COMPLETED"), 0, [], [state(A, "COMPLETED")]),
+    ("complete again", move(A, "COMPLETED"), 0xB306, [], []),
+    ("request to cancel what is completed", cancel(WATCH, A), 0xC311, [], []),
+    ("get what is completed", get(WATCH, A, STATE, 0x00741216), 0, [{"ProcedureStepState": "COMPLETED", **PERFORMED}], []),
+    ("create another", create(B), 0, [], [state(B, "SCHEDULED")]),
+    ("request to cancel what is scheduled", cancel(PUSH, B, **WHY), 0, [],
+     [state(B, "IN PROGRESS"), state(B, "CANCELED", **WHY)]),
+    ("get what is canceled", get(PUSH, B, STATE), 0, [{"ProcedureStepState": "CANCELED"}], []),
+    ("create a third", create(C), 0, [], [state(C, "SCHEDULED")]),
+    ("claim the third", move(C, "IN PROGRESS"), 0, [], [state(C, "IN PROGRESS")]),
+    ("request to cancel what is claimed", cancel(WATCH, C, **WHY, **WHOM), 0, [],
+     [(2, C, {"RequestingAE": "BENCH", **WHY, **WHOM})]),
+    ("get what is claimed", get(PUSH, C, STATE), 0, [{"ProcedureStepState": "IN PROGRESS"}], []),
+    ("set the cancellation", change(C, **OWN, **GIVEN_UP), 0, [], [(3, C, GIVEN_UP)]),
+    ("cancel", move(C, "CANCELED"), 0, [], [state(C, "CANCELED")]),
+    ("unsubscribe from all", unsubscribe(GLOBAL), 0, [], []),
+    ("create unwatched", create(D), 0, [], []),
+    ("subscribe to one with a lock that is not given", subscribe(D, lock="TRUE"), 0xB301, [], [state(D, "SCHEDULED")]),
+    ("claim the fourth", move(D, "IN PROGRESS"), 0, [], [state(D, "IN PROGRESS")]),
+    ("unsubscribe from one", unsubscribe(D), 0, [], []),
+    ("set unwatched", change(D, **OWN, **PROGRESS), 0, [], []),
+    ("subscribe to all again", subscribe(GLOBAL), 0, [],
+     [state(A, "COMPLETED"), state(B, "CANCELED"), state(C, "CANCELED"), state(D, "IN PROGRESS")]),
+    ("suspend", suspend(), 0, [], []),
+    ("create when suspended", create(E), 0, [], []),
+    ("set what is still watched", change(D, **OWN, InputReadinessState="UNAVAILABLE", **PROGRESS, **STATION), 0, [],
+     [state(D, "IN PROGRESS", "UNAVAILABLE"), (3, D, PROGRESS), (5, D, STATION)]),
+]
+
+
+def plain(found):
+    """A set in a form that can be compared and printed."""
+    return (found if hasattr(found, "to_json_dict") else made(found)).to_json_dict()
+
+
+def wrong(responses, asked, number, status, answers):
+    """What is wrong with the responses to a request, or None."""
+    last, _ = responses[-1]
+    if last.Status != status:
+        return f"the status is {last.Status:04X} and not {status:04X}"
+    for command, _ in responses:
+        told = [command.CommandField, command.MessageIDBeingRespondedTo, command.get("AffectedSOPClassUID"),
+                command.get("AffectedSOPInstanceUID"), command.get("ActionTypeID")]
+        wanted = [asked["CommandField"] | 0x8000, number, asked.get("AffectedSOPClassUID") or asked["RequestedSOPClassUID"],
+                  asked.get("AffectedSOPInstanceUID") or asked.get("RequestedSOPInstanceUID"), asked.get("ActionTypeID")]
+        if told != wanted:
+            return f"the response is {told} and not {wanted}"
+    found = [plain(data_set) for _, data_set in responses if data_set is not None]
+    wanted = [plain(each) for each in answers]
+    return None if found == wanted else f"the answer is {found} and not {wanted}"
+
+
+class Watcher:
+    """A peer that listens. It takes one association after the other, and keeps the reports and what is wrong with them."""
+
+    def __init__(self, syntax):
+        self.syntax, self.reports, self.faults, self.released = syntax, [], [], 0
+        self.listener = socket.create_server(("127.0.0.1", 0))
+        self.peer = f"WATCHER=127.0.0.1:{self.listener.getsockname()[1]}"
+        threading.Thread(target=self.listen, daemon=True).start()
+
+    def listen(self):
+        while True:
+            wire = Wire(self.listener.accept()[0], self.syntax)
+            wire.socket.settimeout(LIMIT)
+            try:
+                self.accept(wire)
+                while wire.ahead() != 5:
+                    self.take(wire)
+                wire.pdu()
+                wire.socket.sendall(pdu(6, bytes(4)))
+                self.released += 1
+            except Exception as fault:
+                self.faults.append(f"an association was not released: {fault!r}")
+            wire.socket.close()
+
+    def expect(self, what, told, wanted):
+        if told != wanted:
+            self.faults.append(f"{what} is {told} and not {wanted}")
+
+    def accept(self, wire):
+        """Answers an association request, in the watcher's transfer syntax where it is offered."""
+        kind, body = wire.pdu()
+        self.expect("the type of the first PDU", kind, 1)
+        self.expect("the called and the calling title", (body[4:20].strip(), body[20:36].strip()), (b"WATCHER", b"UPSD"))
+        parts = list(items(body[68:]))
+        contexts = [(content[0], list(items(content[4:]))) for kind, content in parts if kind == 0x20]
+        self.expect("the contexts", [(number, dict(inner)[0x30]) for number, inner in contexts], [(1, EVENT)])
+        offered = [content for kind, content in contexts[0][1] if kind == 0x40]
+        self.expect("the offer of the default transfer syntax", IMPLICIT in offered, True)
+        roles = [content for kind, content in items(dict(parts)[0x50]) if kind == 0x54]
+        role = struct.pack(">H", len(EVENT)) + EVENT + bytes([0, 1])
+        self.expect("the role selection", roles, [role])
+        wire.syntax = self.syntax if self.syntax in offered else offered[0]
+        user = item(0x51, struct.pack(">I", 16384)) + item(0x52, b"1.2.3") + item(0x54, role)
+        context = item(0x21, bytes([contexts[0][0], 0, 0, 0]) + item(0x40, wire.syntax))
+        wire.socket.sendall(pdu(2, body[:68] + item(0x10, b"1.2.840.10008.3.1.1.1") + context + item(0x50, user)))
+
+    def take(self, wire):
+        """Takes a report, and answers it with 0000."""
+        command, data_set = wire.message()
+        wire.number += 1
+        self.expect("the Command Field", command.CommandField, 0x0100)
+        self.expect("the SOP class of a report", command.AffectedSOPClassUID, PUSH)
+        self.expect("the Message ID of a report", command.MessageID, wire.number)
+        self.reports.append((command.EventTypeID, command.AffectedSOPInstanceUID, plain(data_set or {})))
+        wire.send(1, {"AffectedSOPClassUID": PUSH, "CommandField": 0x8100, "MessageIDBeingRespondedTo": command.MessageID,
+                      "Status": 0, "AffectedSOPInstanceUID": command.AffectedSOPInstanceUID, "EventTypeID": command.EventTypeID})
+
+
+def items(body):
+    """The items of an association request, or of one of its items."""
+    while body:
+        length = struct.unpack(">H", body[2:4])[0]
+        yield body[0], body[4:4 + length]
+        body = body[4 + length:]
+
+
+def live(server, syntax, tally, name):
+    """The life of the steps."""
+    wire = None
+    for what, (context, elements, given), status, answers, _ in LIFE:
+        try:
+            wire = wire or open_association(server.port, [it.encode() for it in CONTEXTS], syntax)
+            fault = wrong(wire.ask(context, elements, given), elements, wire.number, status, answers)
+        except Exception as it:
+            fault, wire = repr(it), None
+        tally.tell(f"{name}, {what}", fault)
+    try:
+        fault = wire.release()
+    except Exception as it:
+        fault = repr(it)
+    tally.tell(f"{name}, release", fault)
+
+
+def watch(watcher, tally, name):
+    """The reports of that life."""
+    wanted = [(what, event) for what, *_, events in LIFE for event in events]
+    holds(lambda: len(watcher.reports) >= len(wanted), LIMIT)
+    time.sleep(2)  # for those that should not come, and for the release
+    for at, (what, (number, uid, attributes)) in enumerate(wanted):
+        found = watcher.reports[at] if at < len(watcher.reports) else None
+        event = number, uid, plain(attributes)
+        tally.tell(f"{name}, report {at + 1} ({what})", None if found == event else f"it is {found} and not {event}")
+    tally.tell(f"{name}, further reports", watcher.reports[len(wanted):])
+    tally.tell(f"{name}, associations of the watcher", "; ".join(watcher.faults) or not watcher.released and "none was released")
 
 
 def main():
     parser = argparse.ArgumentParser(description=__doc__, formatter_class=argparse.RawDescriptionHelpFormatter)
+    parser.add_argument("--no-reports", action="store_true", help="leave the trials of the watcher out: the server sends no reports")
     parser.add_argument("program", nargs="*", default=[os.path.join(HERE, "crates/upsd/out/upsd")],
                         help="the program, and words before those of `serve` (default: crates/upsd/out/upsd, which `rt run` builds)")
     asked = parser.parse_args()
     install()
-    server = Server(asked.program)
-    try:
-        port = server.port()
-        faults = []
-        for name, words, status, told, logged in TRIALS:
-            fault = trial(server, port, words, status, told, logged)
-            if fault:
-                faults.append(f"{name}: {fault}")
-        if server.process.poll() is not None:
-            faults.append(f"the server ended with {server.process.returncode}")
-    finally:
-        server.stop()
-    agreed = len(TRIALS) - len(faults)
+    signal.signal(signal.SIGALRM, lambda *_: sys.exit(f"stock.py: not done in {ALL} seconds"))
+    signal.alarm(ALL)
+    tally = Tally()
+    with Server(asked.program, "--associations", "2", "--timeout", "10") as server:
+        for name, *trial in TRIALS:
+            tally.tell(name, by_dcmtk(server, *trial))
+        ended = server.process.poll()
+        tally.tell("the server goes on", None if ended is None else f"it ended with {ended}")
+    for syntax, name in ((IMPLICIT, "Implicit"), (EXPLICIT, "Explicit")):
+        watcher = Watcher(syntax)
+        with Server(asked.program, "--associations", "2", "--timeout", "10", "--keep", "3600", watcher.peer) as server:
+            live(server, syntax, tally, name)
+            if not asked.no_reports:
+                watch(watcher, tally, name)
+    import pydicom
     version = subprocess.run(["echoscu", "--version"], capture_output=True, text=True).stdout.split("\n")[0]
-    print(f"{agreed} of {len(TRIALS)} trials agree: {version.strip('$ ')}")
-    for fault in faults:
-        print(fault)
-    sys.exit(1 if faults else 0)
+    tally.end(f"{version.strip('$ ')}, pydicom {pydicom.__version__}")
 
 
 if __name__ == "__main__":
