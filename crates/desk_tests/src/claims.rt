@@ -40,7 +40,7 @@ fn claim_all<R: Wait>(
     for number in 0..STEPS {
         match claim_one(rt, alloc, desk, &mut pass, ae, Claim { number, claimant }) {
             0x0000 => claims.accepted = claims.accepted.wrapping_add(1),
-            0xc302 => claims.refused = claims.refused.wrapping_add(1),
+            0xC302 => claims.refused = claims.refused.wrapping_add(1),
             _ => {}
         }
     }

@@ -192,10 +192,10 @@ pub(crate) fn is_expected(verb: Verb, answer: Answer) -> bool {
     match answer {
         Answer::Status(0x0000) => verb != Verb::Find && verb != Verb::Sweep,
         Answer::Status(0x0111) => verb == Verb::Create,
-        Answer::Status(0xc302) => verb == Verb::Claim,
-        Answer::Status(0xc300) => verb == Verb::Claim || verb == Verb::Set,
-        Answer::Status(0xc301) => verb == Verb::Set || verb == Verb::Finish,
-        Answer::Status(0xc307) => matches!(
+        Answer::Status(0xC302) => verb == Verb::Claim,
+        Answer::Status(0xC300) => verb == Verb::Claim || verb == Verb::Set,
+        Answer::Status(0xC301) => verb == Verb::Set || verb == Verb::Finish,
+        Answer::Status(0xC307) => matches!(
             verb,
             Verb::Claim | Verb::Set | Verb::Get | Verb::Finish
         ),

@@ -110,7 +110,7 @@ fn outcome_of_two<R: Wait>(rt: &R, alloc: Global) -> Result<Outcome, Fail> {
 #[test]
 fn a_step_that_one_pass_has_claimed_is_refused_to_the_other(rt: HostRuntime) -> Result<(), Fail> {
     let outcome = outcome_of_two(&rt, rt.alloc())?;
-    assert_eq!(rt; outcome.statuses, (0x0000, 0x0000, 0xc302));
+    assert_eq!(rt; outcome.statuses, (0x0000, 0x0000, 0xC302));
     assert_eq!(rt; outcome.met, 2);
     assert_eq!(rt; outcome.fault, CloseFault::Missing);
     assert_eq!(rt; outcome.callers.as_slice(), [1, 2].as_slice());

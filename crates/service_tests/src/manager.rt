@@ -211,7 +211,7 @@ fn status_of<A: Allocator + Copy>(reply: &Reply<A>) -> u16 {
         Reply::Status(status) => status.code(),
         Reply::Set(status, _) => status.code(),
         Reply::Sets(_) | Reply::Swept(_) | Reply::Reports(_) => 0x0000,
-        Reply::AckAhead | Reply::AckStale => 0xffff,
+        Reply::AckAhead | Reply::AckStale => 0xFFFF,
     }
 }
 

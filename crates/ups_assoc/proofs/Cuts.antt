@@ -8,8 +8,8 @@ use Rattle.ups_assoc.specs.declared.message.RawMessage.{RawMessage}
 use Rattle.ups_assoc.specs.declared.assembling.Begun.{Begun}
 use Rattle.ups_assoc.specs.declared.assembling.Begun.TheVariants.{Nothing, Command, Body, Failed}
 use Rattle.ups_assoc.specs.Limits.{longest_message}
-use Rattle.ups_assoc.specs.Messages.{is_accepted, bytes_of, IsPart, IsRun, IsBody, IsMessage, AreMessages, IsOpen, IsBegun, AreFragments}
-use Rattle.ups_assoc.specs.Feeding.{whole, command_end, body_end, with_command, with_data, taken, fed, onward, feeds}
+use Rattle.ups_assoc.specs.Messages.{is_accepted, bytes_of, IsPart, IsRun, IsDataSetOfMessage, IsMessage, AreMessages, IsUnfinished, IsBegun, AreFragments}
+use Rattle.ups_assoc.specs.Feeding.{whole, command_end, body_end, with_command, with_data, fed_fragment, fed, onward, feeds}
 use Rattle.ups_assoc.proofs.Steps.{sized_within, taken_on}
 
 fed_command : (A : Type 0) (ids : List ℕ) (context : ℕ) (bytes : List ℕ) (last : Bool) (p : Pdv A) → is_accepted ids context ≡ true → IsPart context true last p → length (bytes ++ p.bytes) ≤ longest_message
@@ -37,8 +37,8 @@ fed_first : (A : Type 0) (ids : List ℕ) (context : ℕ) (last : Bool) (p : Pdv
 fed_first A ids context last p a i =
     let same : (p.context == context) ≡ true = let e = i.on_context in search rules in
     let on : is_accepted ids p.context ≡ true = ap (is_accepted ids) i.on_context ∙ a in
-    let first : taken Nothing p ≡ with_command p.context [] p = rw i.of_command refl in
-    let second : taken (Command context []) p ≡ with_command context [] p = rw (same, i.of_command) refl in
+    let first : fed_fragment Nothing p ≡ with_command p.context [] p = rw i.of_command refl in
+    let second : fed_fragment (Command context []) p ≡ with_command context [] p = rw (same, i.of_command) refl in
     taken_on A ids Nothing p refl on ∙ first ∙ ap (λ (n : ℕ). with_command n [] p) i.on_context ∙ sym (taken_on A ids (Command context []) p refl on ∙ second)
 
 one_bytes : (A : Type 0) (bytes : List ℕ) (p : Pdv A) → bytes ++ bytes_of (p ∷ []) ≡ bytes ++ p.bytes
@@ -76,7 +76,7 @@ first_on A ids context [] rest a r = absurd r
 first_on A ids context (p ∷ []) rest a r = ap (onward (feeds ids rest)) (fed_first A ids context true p a r)
 first_on A ids context (p ∷ q ∷ ps) rest a r = ap (onward (feeds ids (q ∷ ps ++ rest))) (fed_first A ids context false p a r.0)
 
-body_on : (A : Type 0) (ids : List ℕ) (context : ℕ) (c : List ℕ) (ps rest : List (Pdv A)) (b : Option (List ℕ)) → is_accepted ids context ≡ true → IsBody context c ps b → length c + length (bytes_of ps) ≤ longest_message
+body_on : (A : Type 0) (ids : List ℕ) (context : ℕ) (c : List ℕ) (ps rest : List (Pdv A)) (b : Option (List ℕ)) → is_accepted ids context ≡ true → IsDataSetOfMessage context c ps b → length c + length (bytes_of ps) ≤ longest_message
     → onward (feeds ids (ps ++ rest)) (command_end context c true) ≡ onward (feeds ids rest) (whole (record { context = context; command = c; body = b }))
 body_on A ids context c ps rest None a (h, e) le = rw (h, e) refl
 body_on A ids context c ps rest (Some b) a (h, r, e) le = rw h (bodies_on A ids context c [] ps rest a r le ∙ ap (λ (w : List ℕ). onward (feeds ids rest) (body_end {A = A} context c w true)) e)
@@ -103,7 +103,7 @@ message_on A ids ps rest m i =
     ∙ command_on A ids m.context m.command i.commands (i.datas ++ rest) i.accepted i.command_run i.command_is (omega (arith, i.within, both))
     ∙ body_on A ids m.context m.command i.datas rest m.body i.accepted i.body_is (omega (arith, i.within, both))
 
-open_commands : (A : Type 0) (ids : List ℕ) (context : ℕ) (bytes : List ℕ) (ps : List (Pdv A)) → is_accepted ids context ≡ true → IsOpen context true ps → length (bytes ++ bytes_of ps) ≤ longest_message
+open_commands : (A : Type 0) (ids : List ℕ) (context : ℕ) (bytes : List ℕ) (ps : List (Pdv A)) → is_accepted ids context ≡ true → IsUnfinished context true ps → length (bytes ++ bytes_of ps) ≤ longest_message
     → feeds ids ps (Command context bytes) ≡ Some ([], Command context (bytes ++ bytes_of ps))
 open_commands A ids context bytes [] a o le = ap (λ (w : List ℕ). Some ([], Command context w)) (sym (append-nil bytes))
 open_commands A ids context bytes (p ∷ ps) a (i, o) le =
@@ -114,7 +114,7 @@ open_commands A ids context bytes (p ∷ ps) a (i, o) le =
     ∙ open_commands A ids context next ps a o (subst (λ (w : List ℕ). length w ≤ longest_message) (sym same) le)
     ∙ ap (λ (w : List ℕ). Some ([], Command context w)) same
 
-open_bodies : (A : Type 0) (ids : List ℕ) (context : ℕ) (c bytes : List ℕ) (ps : List (Pdv A)) → is_accepted ids context ≡ true → IsOpen context false ps → length c + length (bytes ++ bytes_of ps) ≤ longest_message
+open_bodies : (A : Type 0) (ids : List ℕ) (context : ℕ) (c bytes : List ℕ) (ps : List (Pdv A)) → is_accepted ids context ≡ true → IsUnfinished context false ps → length c + length (bytes ++ bytes_of ps) ≤ longest_message
     → feeds ids ps (Body context c bytes) ≡ Some ([], Body context c (bytes ++ bytes_of ps))
 open_bodies A ids context c bytes [] a o le = ap (λ (w : List ℕ). Some ([], Body context c w)) (sym (append-nil bytes))
 open_bodies A ids context c bytes (p ∷ ps) a (i, o) le =
@@ -125,7 +125,7 @@ open_bodies A ids context c bytes (p ∷ ps) a (i, o) le =
     ∙ open_bodies A ids context c next ps a o (subst (λ (w : List ℕ). length c + length w ≤ longest_message) (sym same) le)
     ∙ ap (λ (w : List ℕ). Some ([], Body context c w)) same
 
-open_first : (A : Type 0) (ids : List ℕ) (context : ℕ) (ps : List (Pdv A)) → ps ≢ [] → is_accepted ids context ≡ true → IsOpen context true ps → feeds ids ps Nothing ≡ feeds ids ps (Command context [])
+open_first : (A : Type 0) (ids : List ℕ) (context : ℕ) (ps : List (Pdv A)) → ps ≢ [] → is_accepted ids context ≡ true → IsUnfinished context true ps → feeds ids ps Nothing ≡ feeds ids ps (Command context [])
 open_first A ids context [] s a o = absurd (s refl)
 open_first A ids context (p ∷ ps) s a o = ap (onward (feeds ids ps)) (fed_first A ids context false p a o.0)
 

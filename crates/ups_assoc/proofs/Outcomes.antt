@@ -21,14 +21,14 @@ use Rattle.ups_dataset.specs.declared.syntax.TransferSyntax.TheVariants.{Implici
 use Rattle.ups_assoc.specs.declared.sop_class.SopClass.{SopClass}
 use Rattle.ups_assoc.specs.declared.negotiating.Acceptance.{Acceptance}
 use Rattle.ups_assoc.specs.declared.negotiating.Outcome.TheVariants.{Accept}
-use Rattle.ups_assoc.specs.Titles.{title, is_title}
+use Rattle.ups_assoc.specs.Titles.{title, is_this_title}
 use Rattle.ups_assoc.specs.Classes.{class_of}
 use Rattle.ups_assoc.specs.Contexts.{first_syntax, answer_of, answer_to, answered}
-use Rattle.ups_assoc.specs.Negotiation.{has_version_1, is_dicom, is_too_small, this_server, answer, acceptance, outcome, IsWritable}
+use Rattle.ups_assoc.specs.Negotiation.{has_version_1, is_dicom, is_too_small, this_server, accepting_answer, acceptance, outcome, IsWritable}
 use Rattle.ups_assoc.proofs.Different.{at_most}
 
 pub accepts : {A : Type 0} (ae : List ℕ) (request : AssociateRq A) (calling : List ℕ) → has_version_1 request.protocol_version ≡ true → is_dicom request.application_context ≡ true
-    → is_title ae request.called ≡ true → title request.calling ≡ Some calling → is_too_small request.user_information.maximum_length ≡ false → outcome ae request ≡ Accept (acceptance request calling)
+    → is_this_title ae request.called ≡ true → title request.calling ≡ Some calling → is_too_small request.user_information.maximum_length ≡ false → outcome ae request ≡ Accept (acceptance request calling)
 accepts ae request calling v a t c m = rw (v, a, t, c, m) refl
 
 uid_application : IsUid (text_of ApplicationContext)
@@ -143,7 +143,7 @@ items_length A cs =
       user_item_length A,
     )
 
-pub answer_writable : {A : Type 0} (bytes : List ℕ) (request : AssociateRq A) → SpellsPdu bytes (RequestPdu request) → AllByRecursion (λ c. c.id < 256) (map answered request.contexts) → Fits {A = A} (AnswerPdu (answer request))
+pub answer_writable : {A : Type 0} (bytes : List ℕ) (request : AssociateRq A) → SpellsPdu bytes (RequestPdu request) → AllByRecursion (λ c. c.id < 256) (map answered request.contexts) → Fits {A = A} (AnswerPdu (accepting_answer request))
 answer_writable {A} bytes request s small =
     let items = s.spelled.1.items in
     let head = s.spelled.1.head in

@@ -14,7 +14,7 @@ use Rattle.ups_assoc.specs.declared.message.RawMessage.{RawMessage}
 use Rattle.ups_assoc.specs.declared.assembling.Begun.TheVariants.{Nothing}
 use Rattle.ups_assoc.specs.Announcing.{data_follows}
 use Rattle.ups_assoc.specs.Limits.{longest_message}
-use Rattle.ups_assoc.specs.Messages.{is_accepted, bytes_of, IsPart, IsRun, IsBody, IsMessage}
+use Rattle.ups_assoc.specs.Messages.{is_accepted, bytes_of, IsPart, IsRun, IsDataSetOfMessage, IsMessage}
 use Rattle.ups_assoc.specs.Feeding.{feeds}
 use Rattle.ups_assoc.specs.Cutting.{room, fragment, fragments, run, body_run, pieces, pdvs_in}
 use Rattle.ups_assoc.specs.Negotiation.{counted}
@@ -85,7 +85,7 @@ unfolding run
 is_run A size context command bytes some = fragments_run A (length bytes) size context command bytes some (omega arith)
 
 body_runs : (A : Type 0) (size context : ℕ) (command : List ℕ) (body : Option (List ℕ)) → 0 < size → is_some body ≡ data_follows command
-    → IsBody context command (flat_map pdvs_in (body_run {A = A} size context body)) body × (bytes_of (flat_map pdvs_in (body_run {A = A} size context body)) ≡ unwrap_or body [])
+    → IsDataSetOfMessage context command (flat_map pdvs_in (body_run {A = A} size context body)) body × (bytes_of (flat_map pdvs_in (body_run {A = A} size context body)) ≡ unwrap_or body [])
 body_runs A size context command None some e = ((sym e, refl), refl)
 body_runs A size context command (Some body) some e = let r = is_run A size context false body some in ((sym e, r.0, r.1), r.1)
 

@@ -13,8 +13,8 @@ use Rattle.ups_assoc.specs.declared.assembling.Begun.{Begun}
 use Rattle.ups_assoc.specs.declared.assembling.Begun.TheVariants.{Nothing, Command, Body, Failed}
 use Rattle.ups_assoc.specs.Announcing.{data_follows}
 use Rattle.ups_assoc.specs.Limits.{longest_message}
-use Rattle.ups_assoc.specs.Messages.{is_accepted, bytes_of, IsPart, IsRun, IsMessage, AreMessages, IsOpen, IsBegunBody, IsBegun, AreFragments}
-use Rattle.ups_assoc.specs.Feeding.{Fed, more, whole, fault, command_end, body_end, with_command, with_data, taken, fed, onward, feeds}
+use Rattle.ups_assoc.specs.Messages.{is_accepted, bytes_of, IsPart, IsRun, IsMessage, AreMessages, IsUnfinished, IsBegunBody, IsBegun, AreFragments}
+use Rattle.ups_assoc.specs.Feeding.{Fed, more, whole, fault, command_end, body_end, with_command, with_data, fed_fragment, fed, onward, feeds}
 
 -- what a fragment makes of a message, by shape
 abbrev After : {A : Type 0} → List ℕ → List (Pdv A) → Fed A → Type 0
@@ -30,11 +30,11 @@ within : (A : Type 0) (ids : List ℕ) (ps : List (Pdv A)) (n : ℕ) (f : Fed A)
 within A ids ps n f true e h = h (leb-true n longest_message e)
 within A ids ps n f false e h = tt
 
-open_push : (A : Type 0) (context : ℕ) (command : Bool) (ps : List (Pdv A)) (p : Pdv A) → IsOpen context command ps → IsPart context command false p → IsOpen context command (ps ++ p ∷ [])
+open_push : (A : Type 0) (context : ℕ) (command : Bool) (ps : List (Pdv A)) (p : Pdv A) → IsUnfinished context command ps → IsPart context command false p → IsUnfinished context command (ps ++ p ∷ [])
 open_push A context command [] p o i = (i, tt)
 open_push A context command (q ∷ ps) p o i = (o.0, open_push A context command ps p o.1 i)
 
-run_push : (A : Type 0) (context : ℕ) (command : Bool) (ps : List (Pdv A)) (p : Pdv A) → IsOpen context command ps → IsPart context command true p → IsRun context command (ps ++ p ∷ [])
+run_push : (A : Type 0) (context : ℕ) (command : Bool) (ps : List (Pdv A)) (p : Pdv A) → IsUnfinished context command ps → IsPart context command true p → IsRun context command (ps ++ p ∷ [])
 run_push A context command [] p o i = i
 run_push A context command (q ∷ []) p o i = (o.0, i)
 run_push A context command (q ∷ r ∷ ps) p o i = (o.0, run_push A context command (r ∷ ps) p o.1 i)
@@ -47,7 +47,7 @@ bytes_push : (A : Type 0) (ps : List (Pdv A)) (p : Pdv A) (bytes : List ℕ) →
 bytes_push A ps p bytes e = flat_map-append (λ (q : Pdv A). q.bytes) ps (p ∷ []) ∙ ap (λ (w : List ℕ). bytes_of ps ++ w) (append-nil p.bytes) ∙ ap (λ (w : List ℕ). w ++ p.bytes) e
 
 -- fragments of a command and one more
-command_shape : (A : Type 0) (ids : List ℕ) (context : ℕ) (done : List (Pdv A)) (bytes : List ℕ) (p : Pdv A) (last d : Bool) → is_accepted ids context ≡ true → IsOpen context true done → IsPart context true last p → bytes_of (done ++ p ∷ []) ≡ bytes → length bytes ≤ longest_message → data_follows bytes ≡ d
+command_shape : (A : Type 0) (ids : List ℕ) (context : ℕ) (done : List (Pdv A)) (bytes : List ℕ) (p : Pdv A) (last d : Bool) → is_accepted ids context ≡ true → IsUnfinished context true done → IsPart context true last p → bytes_of (done ++ p ∷ []) ≡ bytes → length bytes ≤ longest_message → data_follows bytes ≡ d
     → After ids (done ++ p ∷ []) (cond last (cond d (more (Body context bytes [])) (whole (record { context = context; command = bytes; body = None }))) (more (Command context bytes)))
 command_shape A ids context done bytes p false d a o i e le f = record { some = some_push A done p; accepted = a; command_open = open_push A context true done p o i; bytes_are = e; within = le }
 command_shape A ids context done bytes p true true a o i e le f = record {
@@ -74,7 +74,7 @@ command_shape A ids context done bytes p true false a o i e le f = record {
 }
 
 -- a fragment of a command
-command_taken : (A : Type 0) (ids : List ℕ) (context : ℕ) (done : List (Pdv A)) (bytes : List ℕ) (p : Pdv A) → is_accepted ids context ≡ true → IsOpen context true done → bytes_of done ≡ bytes → p.context ≡ context → p.command ≡ true
+command_taken : (A : Type 0) (ids : List ℕ) (context : ℕ) (done : List (Pdv A)) (bytes : List ℕ) (p : Pdv A) → is_accepted ids context ≡ true → IsUnfinished context true done → bytes_of done ≡ bytes → p.context ≡ context → p.command ≡ true
     → After ids (done ++ p ∷ []) (with_command context bytes p)
 unfolding with_command
 command_taken A ids context done bytes p a o e on k =
@@ -124,11 +124,11 @@ body_taken A ids context c bytes done p i on k =
     within A ids (done ++ p ∷ []) (length c + length (bytes ++ p.bytes)) (body_end context c (bytes ++ p.bytes) p.last) (nat_le (length c + length (bytes ++ p.bytes)) longest_message) refl
     (λ le. body_shape A ids context c bytes done p p.last i (record { on_context = on; of_command = k; is_last = refl }) le)
 
-taken_shape : (A : Type 0) (ids : List ℕ) (b : Begun A) (done : List (Pdv A)) (p : Pdv A) → IsBegun ids b done → is_accepted ids p.context ≡ true → After ids (done ++ p ∷ []) (taken b p)
+taken_shape : (A : Type 0) (ids : List ℕ) (b : Begun A) (done : List (Pdv A)) (p : Pdv A) → IsBegun ids b done → is_accepted ids p.context ≡ true → After ids (done ++ p ∷ []) (fed_fragment b p)
 taken_shape A ids Nothing done p e a =
     let none : bytes_of done ≡ [] = ap bytes_of e in
     past A ids (done ++ p ∷ []) (not p.command) faults.DataWithoutCommand (with_command p.context [] p)
-    (λ k. command_taken A ids p.context done [] p a (subst (λ (w : List (Pdv A)). IsOpen p.context true w) (sym e) tt) none refl (not-false p.command k))
+    (λ k. command_taken A ids p.context done [] p a (subst (λ (w : List (Pdv A)). IsUnfinished p.context true w) (sym e) tt) none refl (not-false p.command k))
 taken_shape A ids (Command context bytes) done p i a =
     past A ids (done ++ p ∷ []) (not (p.context == context)) faults.MixedContext (cond (not p.command) (fault faults.DataWithoutCommand) (with_command context bytes p))
     (λ on. past A ids (done ++ p ∷ []) (not p.command) faults.DataWithoutCommand (with_command context bytes p)
@@ -140,11 +140,11 @@ taken_shape A ids Failed done p i a = tt
 
 fed_shape : (A : Type 0) (ids : List ℕ) (b : Begun A) (done : List (Pdv A)) (p : Pdv A) → IsBegun ids b done → After ids (done ++ p ∷ []) (fed ids b p)
 unfolding fed
-fed_shape A ids Nothing done p i = past A ids (done ++ p ∷ []) (not (is_accepted ids p.context)) faults.UnknownContext (taken Nothing p) (λ a. taken_shape A ids Nothing done p i (not-false (is_accepted ids p.context) a))
+fed_shape A ids Nothing done p i = past A ids (done ++ p ∷ []) (not (is_accepted ids p.context)) faults.UnknownContext (fed_fragment Nothing p) (λ a. taken_shape A ids Nothing done p i (not-false (is_accepted ids p.context) a))
 fed_shape A ids (Command context bytes) done p i =
-    past A ids (done ++ p ∷ []) (not (is_accepted ids p.context)) faults.UnknownContext (taken (Command context bytes) p) (λ a. taken_shape A ids (Command context bytes) done p i (not-false (is_accepted ids p.context) a))
+    past A ids (done ++ p ∷ []) (not (is_accepted ids p.context)) faults.UnknownContext (fed_fragment (Command context bytes) p) (λ a. taken_shape A ids (Command context bytes) done p i (not-false (is_accepted ids p.context) a))
 fed_shape A ids (Body context c bytes) done p i =
-    past A ids (done ++ p ∷ []) (not (is_accepted ids p.context)) faults.UnknownContext (taken (Body context c bytes) p) (λ a. taken_shape A ids (Body context c bytes) done p i (not-false (is_accepted ids p.context) a))
+    past A ids (done ++ p ∷ []) (not (is_accepted ids p.context)) faults.UnknownContext (fed_fragment (Body context c bytes) p) (λ a. taken_shape A ids (Body context c bytes) done p i (not-false (is_accepted ids p.context) a))
 fed_shape A ids Failed done p i = absurd i
 
 -- the rest of the fragments, after one that made a message whole

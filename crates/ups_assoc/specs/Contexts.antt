@@ -18,8 +18,8 @@ abbrev pub syntax_uid : TransferSyntax → List ℕ
 syntax_uid Implicit = text_of ImplicitVrLittleEndian
 syntax_uid Explicit = text_of ExplicitVrLittleEndian
 
-abbrev pub syntax_of : List ℕ → Option TransferSyntax
-syntax_of uid = if is_same uid (syntax_uid Implicit) then Some Implicit else if is_same uid (syntax_uid Explicit) then Some Explicit else None
+abbrev pub known_syntax : List ℕ → Option TransferSyntax
+known_syntax uid = if is_same uid (syntax_uid Implicit) then Some Implicit else if is_same uid (syntax_uid Explicit) then Some Explicit else None
 
 -- the first of them that is proposed
 abbrev pub or_first : Option TransferSyntax → Option TransferSyntax → Option TransferSyntax
@@ -28,7 +28,7 @@ or_first None later = later
 
 abbrev pub first_syntax : List (List ℕ) → Option TransferSyntax
 first_syntax [] = None
-first_syntax (uid ∷ uids) = or_first (syntax_of uid) (first_syntax uids)
+first_syntax (uid ∷ uids) = or_first (known_syntax uid) (first_syntax uids)
 
 -- An abstract syntax that is none of the SOP classes is refused with 3, a context without a transfer syntax that is
 -- taken with 4. Else it is accepted with the first one proposed.

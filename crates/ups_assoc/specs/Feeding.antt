@@ -20,8 +20,8 @@ pub data Fed (A : Type 0) : Type 0 where
   fault : AssocFault → Fed A
 
 -- as far as the message isn't too long
-abbrev pub sized : {A : Type 0} → ℕ → Fed A → Fed A
-sized len fed = if nat_le len longest_message then fed else fault faults.TooLong
+abbrev pub if_short : {A : Type 0} → ℕ → Fed A → Fed A
+if_short len fed = if nat_le len longest_message then fed else fault faults.TooLong
 
 -- at the last fragment of a command the data set is due, where one is announced; else the message is whole
 abbrev pub command_end : {A : Type 0} → ℕ → List ℕ → Bool → Fed A
@@ -36,22 +36,22 @@ body_end context command bytes last =
     else more (Body context command bytes)
 
 unfoldable pub with_command : {A : Type 0} → ℕ → List ℕ → Pdv A → Fed A
-with_command context bytes pdv = sized (length (bytes ++ pdv.bytes)) (command_end context (bytes ++ pdv.bytes) pdv.last)
+with_command context bytes pdv = if_short (length (bytes ++ pdv.bytes)) (command_end context (bytes ++ pdv.bytes) pdv.last)
 
 unfoldable pub with_data : {A : Type 0} → ℕ → List ℕ → List ℕ → Pdv A → Fed A
-with_data context command bytes pdv = sized (length command + length (bytes ++ pdv.bytes)) (body_end context command (bytes ++ pdv.bytes) pdv.last)
+with_data context command bytes pdv = if_short (length command + length (bytes ++ pdv.bytes)) (body_end context command (bytes ++ pdv.bytes) pdv.last)
 
 -- what a fragment on an accepted context makes of it
-abbrev pub taken : {A : Type 0} → Begun A → Pdv A → Fed A
-taken Nothing pdv = if not pdv.command then fault faults.DataWithoutCommand else with_command pdv.context [] pdv
-taken (Command context bytes) pdv =
+abbrev pub fed_fragment : {A : Type 0} → Begun A → Pdv A → Fed A
+fed_fragment Nothing pdv = if not pdv.command then fault faults.DataWithoutCommand else with_command pdv.context [] pdv
+fed_fragment (Command context bytes) pdv =
     if not (pdv.context == context) then fault faults.MixedContext
     else if not pdv.command then fault faults.DataWithoutCommand
     else with_command context bytes pdv
-taken (Body context command bytes) pdv =
+fed_fragment (Body context command bytes) pdv =
     if not (pdv.context == context) || pdv.command then fault faults.MixedContext
     else with_data context command bytes pdv
-taken Failed pdv = fault faults.Failed
+fed_fragment Failed pdv = fault faults.Failed
 
 abbrev pub has_failed : {A : Type 0} → Begun A → Bool
 has_failed Nothing = false
@@ -59,31 +59,32 @@ has_failed (Command context bytes) = false
 has_failed (Body context command bytes) = false
 has_failed Failed = true
 
--- What a fragment makes of what has come of a message, where these are the ids of the accepted contexts.
+-- What a fragment makes of what has come of a message, where these are the ids of the accepted contexts: an id that is
+-- not among them is of an unknown presentation context.
 unfoldable pub fed : {A : Type 0} → List ℕ → Begun A → Pdv A → Fed A
 fed ids begun pdv =
     if has_failed begun then fault faults.Failed
     else if not (is_accepted ids pdv.context) then fault faults.UnknownContext
-    else taken begun pdv
+    else fed_fragment begun pdv
 
 -- the message as it is then
-abbrev pub Ends : {A : Type 0} → Fed A → Taken A → Type 0
-Ends (more b) (More begun) = begun ≡ b
-Ends (more b) (Whole m) = ⊥
-Ends (whole w) (More begun) = ⊥
-Ends (whole w) (Whole m) = m ≡ w
-Ends (fault f) t = ⊥
+abbrev pub ReturnsFed : {A : Type 0} → Fed A → Taken A → Type 0
+ReturnsFed (more b) (More begun) = begun ≡ b
+ReturnsFed (more b) (Whole m) = ⊥
+ReturnsFed (whole w) (More begun) = ⊥
+ReturnsFed (whole w) (Whole m) = m ≡ w
+ReturnsFed (fault f) t = ⊥
 
 -- the same; or the fault, or lack of memory where there is none
 abbrev pub Takes : {A : Type 0} → Fed A → Result (Taken A) AssocFault → Type 0
-Takes fed (Ok t) = Ends fed t
+Takes fed (Ok t) = ReturnsFed fed t
 Takes (more b) (Err e) = e ≡ faults.Memory
 Takes (whole w) (Err e) = e ≡ faults.Memory
 Takes (fault f) (Err e) = e ≡ f
 
 -- too long, or lack of memory where it isn't
-abbrev pub IsRefused : AssocFault → ℕ → Type 0
-IsRefused e len = ((e ≡ faults.TooLong) × (longest_message < len)) ⊎ ((e ≡ faults.Memory) × (len ≤ longest_message))
+abbrev pub IsRefusedFragment : AssocFault → ℕ → Type 0
+IsRefusedFragment e len = ((e ≡ faults.TooLong) × (longest_message < len)) ⊎ ((e ≡ faults.Memory) × (len ≤ longest_message))
 
 -- What an assembler answers, and what has come of the next message then. After a fault it has failed, and it has
 -- failed where memory ran out.

@@ -29,9 +29,9 @@ IsRun context command (p ∷ []) = IsPart context command true p
 IsRun context command (p ∷ q ∷ ps) = IsPart context command false p × IsRun context command (q ∷ ps)
 
 -- the fragments of the data set of a command: none where it announces none
-abbrev pub IsBody : {A : Type 0} → ℕ → List ℕ → List (Pdv A) → Option (List ℕ) → Type 0
-IsBody context command pdvs None = (data_follows command ≡ false) × (pdvs ≡ [])
-IsBody context command pdvs (Some body) = (data_follows command ≡ true) × IsRun context false pdvs × (bytes_of pdvs ≡ body)
+abbrev pub IsDataSetOfMessage : {A : Type 0} → ℕ → List ℕ → List (Pdv A) → Option (List ℕ) → Type 0
+IsDataSetOfMessage context command pdvs None = (data_follows command ≡ false) × (pdvs ≡ [])
+IsDataSetOfMessage context command pdvs (Some body) = (data_follows command ≡ true) × IsRun context false pdvs × (bytes_of pdvs ≡ body)
 
 -- These fragments are this message: those of its command, then those of its data set, on one accepted context, and
 -- no longer than the limit.
@@ -42,7 +42,7 @@ pub record IsMessage {A : Type 0} (ids : List ℕ) (pdvs : List (Pdv A)) (messag
   pub accepted : is_accepted ids message.context ≡ true
   pub command_run : IsRun message.context true commands
   pub command_is : bytes_of commands ≡ message.command
-  pub body_is : IsBody message.context message.command datas message.body
+  pub body_is : IsDataSetOfMessage message.context message.command datas message.body
   pub within : length (bytes_of pdvs) ≤ longest_message
 
 -- the fragments are these messages, one after the other
@@ -51,15 +51,15 @@ AreMessages ids pdvs [] = pdvs ≡ []
 AreMessages {A} ids pdvs (m ∷ ms) = (front : List (Pdv A)) × (rest : List (Pdv A)) × (pdvs ≡ front ++ rest) × IsMessage ids front m × AreMessages ids rest ms
 
 -- the first fragments of a command, or of a data set: none of them is the last
-abbrev pub IsOpen : {A : Type 0} → ℕ → Bool → List (Pdv A) → Type 0
-IsOpen context command [] = Unit {0}
-IsOpen context command (p ∷ ps) = IsPart context command false p × IsOpen context command ps
+abbrev pub IsUnfinished : {A : Type 0} → ℕ → Bool → List (Pdv A) → Type 0
+IsUnfinished context command [] = Unit {0}
+IsUnfinished context command (p ∷ ps) = IsPart context command false p × IsUnfinished context command ps
 
 -- the first fragments of a command
 pub record IsBegunCommand {A : Type 0} (ids : List ℕ) (context : ℕ) (bytes : List ℕ) (pdvs : List (Pdv A)) : Type 0 where
   pub some : pdvs ≢ []
   pub accepted : is_accepted ids context ≡ true
-  pub command_open : IsOpen context true pdvs
+  pub command_open : IsUnfinished context true pdvs
   pub bytes_are : bytes_of pdvs ≡ bytes
   pub within : length bytes ≤ longest_message
 
@@ -72,7 +72,7 @@ pub record IsBegunBody {A : Type 0} (ids : List ℕ) (context : ℕ) (command by
   pub command_run : IsRun context true commands
   pub command_is : bytes_of commands ≡ command
   pub announces : data_follows command ≡ true
-  pub data_open : IsOpen context false datas
+  pub data_open : IsUnfinished context false datas
   pub bytes_are : bytes_of datas ≡ bytes
   pub within : length (bytes_of pdvs) ≤ longest_message
 

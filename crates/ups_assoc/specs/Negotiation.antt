@@ -17,7 +17,7 @@ use Rattle.ups_assoc.specs.declared.negotiating.Outcome.TheVariants.{Accept, Rej
 use Rattle.ups_assoc.specs.declared.negotiating.Rejection.{Rejection}
 use Rattle.ups_assoc.specs.declared.negotiating.Rejection.TheVariants.{ProtocolVersionNotSupported, ApplicationContextNotSupported, CalledAeNotRecognized, CallingAeNotRecognized, NoReason}
 use Rattle.ups_assoc.specs.Same.{is_same}
-use Rattle.ups_assoc.specs.Titles.{title, is_title}
+use Rattle.ups_assoc.specs.Titles.{title, is_this_title}
 use Rattle.ups_assoc.specs.Contexts.{answered, accepted}
 
 -- the result, the source and the reason of a rejection (PS3.8 table 9-21)
@@ -46,8 +46,8 @@ abbrev pub this_server : {A : Type 0} → UserInformation A
 this_server = record { maximum_length = max_data_length; implementation_class = Some (text_of Implementation); asynchronous_window = None; roles = []; implementation_version = Some (codes "UPSD_1") }
 
 -- the answer that accepts: the titles as they stood, and an answer to each context in order
-abbrev pub answer : {A : Type 0} → AssociateRq A → AssociateAc A
-answer request = record {
+abbrev pub accepting_answer : {A : Type 0} → AssociateRq A → AssociateAc A
+accepting_answer request = record {
   protocol_version = 1;
   called = request.called;
   calling = request.calling;
@@ -60,7 +60,7 @@ abbrev pub accepted_contexts : {A : Type 0} → AssociateRq A → List AcceptedC
 accepted_contexts request = flat_map (λ c. option_to_list (accepted c)) request.contexts
 
 unfoldable pub acceptance : {A : Type 0} → AssociateRq A → List ℕ → Acceptance A
-acceptance request calling = record { ac = answer request; ae = calling; contexts = accepted_contexts request; max = counted request.user_information.maximum_length }
+acceptance request calling = record { ac = accepting_answer request; ae = calling; contexts = accepted_contexts request; max = counted request.user_information.maximum_length }
 
 -- whether version 1 is among the versions of the protocol: bit 0 (PS3.8 table 9-11)
 abbrev pub has_version_1 : ℕ → Bool
@@ -84,7 +84,7 @@ abbrev pub outcome : {A : Type 0} → List ℕ → AssociateRq A → Outcome A
 outcome ae request =
     if not (has_version_1 request.protocol_version) then Reject ProtocolVersionNotSupported
     else if not (is_dicom request.application_context) then Reject ApplicationContextNotSupported
-    else if not (is_title ae request.called) then Reject CalledAeNotRecognized
+    else if not (is_this_title ae request.called) then Reject CalledAeNotRecognized
     else outcome_for request (title request.calling)
 
 -- an answer that can be written, where the request is accepted

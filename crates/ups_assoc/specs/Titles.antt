@@ -22,5 +22,5 @@ is_this ae None = false
 is_this ae (Some found) = is_same found ae
 
 -- whether bytes are this title
-abbrev pub is_title : List ℕ → List ℕ → Bool
-is_title ae bytes = is_this ae (title bytes)
+abbrev pub is_this_title : List ℕ → List ℕ → Bool
+is_this_title ae bytes = is_this ae (title bytes)

@@ -8,7 +8,7 @@ ghost use Rattle.ups_assoc.specs.declared.assembling.Begun.{Begun};
 ghost use Rattle.ups_assoc.specs.declared.assembling.Begun.TheVariants.{Nothing};
 ghost use Rattle.ups_assoc.specs.Limits.{longest_message};
 ghost use Rattle.ups_assoc.specs.Messages.{is_accepted, AreFragments};
-ghost use Rattle.ups_assoc.specs.Feeding.{IsRefused, has_failed, command_end, body_end, with_command, with_data, taken, fed, feeds, Ends, Takes, Feeds};
+ghost use Rattle.ups_assoc.specs.Feeding.{IsRefusedFragment, has_failed, command_end, body_end, with_command, with_data, fed_fragment, fed, feeds, ReturnsFed, Takes, Feeds};
 
 use crate::fault::AssocFault;
 use crate::limits::LONGEST_MESSAGE;
@@ -75,7 +75,7 @@ fn appended<A: Allocator + Copy>(
     more: &[u8],
 ) -> Result<Bytes<A>, AssocFault>
     ensures appended { IfOk result (λ b. (b ≡ bytes ++ more.now) × (elsewhere + length (bytes ++ more.now) ≤ longest_message)) }
-    ensures fault { IfErr result (λ e. IsRefused e (elsewhere + length (bytes ++ more.now))) }
+    ensures fault { IfErr result (λ e. IsRefusedFragment e (elsewhere + length (bytes ++ more.now))) }
 {
     if !is_within(elsewhere, bytes.len(), more.len()) {
         return Err(AssocFault::TooLong);
@@ -87,7 +87,7 @@ fn appended<A: Allocator + Copy>(
 
 /// What the bytes of a command make of a message, at the last fragment of the command or before.
 fn command_end<A: Allocator + Copy>(alloc: A, context: u8, bytes: Bytes<A>, last: bool) -> Taken<A>
-    ensures { Ends (command_end context bytes last) result }
+    ensures { ReturnsFed (command_end context bytes last) result }
 {
     if !last {
         return Taken::More(Begun::Command { context, bytes });
@@ -113,7 +113,7 @@ fn body_end<A: Allocator + Copy>(
     bytes: Bytes<A>,
     last: bool,
 ) -> Taken<A>
-    ensures { Ends (body_end context command bytes last) result }
+    ensures { ReturnsFed (body_end context command bytes last) result }
 {
     if !last {
         return Taken::More(Begun::Body {
@@ -168,7 +168,7 @@ fn take_fragment<A: Allocator + Copy>(
     begun: Begun<A>,
     pdv: &Pdv<A>,
 ) -> Result<Taken<A>, AssocFault>
-    ensures { Takes (taken begun pdv.now) result }
+    ensures { Takes (fed_fragment begun pdv.now) result }
 {
     match begun {
         Begun::Nothing => {

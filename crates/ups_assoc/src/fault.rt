@@ -9,7 +9,7 @@ use thiserror::Error;
 /// Why a fragment is not taken: the first of the tests that fails, in this order (PS3.8 annex E).
 #[derive(Clone, Copy, Debug, PartialEq, Eq, Error)]
 pub enum AssocFault {
-    /// The presentation context of the fragment is not an accepted one.
+    /// An unknown presentation context: the one of the fragment was not accepted.
     #[error("the PDV is on a presentation context that was not accepted")]
     UnknownContext,
     /// The fragment is on another presentation context than the message that was begun, or it is of a command

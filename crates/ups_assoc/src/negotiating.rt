@@ -6,8 +6,8 @@ ghost use Rattle.ups_pdu.specs.declared.pdu.Pdu.TheVariants.{AssociateRq as Requ
 ghost use Rattle.ups_pdu.specs.Spelling.{SpellsPdu};
 ghost use Rattle.ups_assoc.specs.declared.fault.AssocFault.TheVariants.{Memory};
 ghost use Rattle.ups_assoc.specs.declared.negotiating.Outcome.TheVariants.{Accept};
-ghost use Rattle.ups_assoc.specs.Titles.{title, is_title};
-ghost use Rattle.ups_assoc.specs.Contexts.{syntax_of, first_syntax, syntax_uid, answer_of, answer_to, answered, context_of, accepted};
+ghost use Rattle.ups_assoc.specs.Titles.{title, is_this_title};
+ghost use Rattle.ups_assoc.specs.Contexts.{known_syntax, first_syntax, syntax_uid, answer_of, answer_to, answered, context_of, accepted};
 ghost use Rattle.ups_assoc.specs.Negotiation.{number_result, number_source, number_reason, has_version_1, is_dicom, counted, is_too_small, this_server, acceptance, outcome, IsWritable};
 
 use crate::fault::AssocFault;
@@ -162,7 +162,7 @@ fn title_of(bytes: &[u8]) -> Option<Ae>
 
 /// Whether the bytes of an association request are the title of this application entity.
 fn is_title(ae: Ae, bytes: &[u8]) -> bool
-    ensures { result ≡ is_title ae bytes.now }
+    ensures { result ≡ is_this_title ae bytes.now }
 {
     match title_of(bytes) {
         Some(called) => called == ae,
@@ -172,7 +172,7 @@ fn is_title(ae: Ae, bytes: &[u8]) -> bool
 
 /// The transfer syntax of a UID, where it is one of those that are read and written.
 fn syntax_of(uid: &Uid) -> Option<TransferSyntax>
-    ensures { result ≡ syntax_of uid.now }
+    ensures { result ≡ known_syntax uid.now }
 {
     if uid.as_bytes() == RegisteredUid::ImplicitVrLittleEndian.text() {
         Some(TransferSyntax::Implicit)

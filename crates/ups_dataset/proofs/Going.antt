@@ -3,7 +3,7 @@ use Rattle.std.proofs.Common.{◌≤◌, ◌+◌, ℕ, List, length, arith}
 use Rattle.ups_dataset.specs.declared.tag.Tag.{Tag}
 use Rattle.ups_dataset.specs.declared.vr.Vr.{Vr}
 use Rattle.ups_dataset.specs.Tag.{number, item_delimitation, sequence_delimitation}
-use Rattle.ups_dataset.specs.Head.{IsKnown, IsItem, Ends, Spans}
+use Rattle.ups_dataset.specs.Head.{IsKnown, IsSequenceItem, Ends, Spans}
 use Rattle.ups_dataset.specs.declared.syntax.TransferSyntax.{TransferSyntax}
 use Rattle.ups_dataset.specs.declared.head.Reach.{Reach}
 use Rattle.ups_dataset.specs.declared.fault.SetFault.{SetFault}
@@ -33,7 +33,7 @@ go_element syntax level reach text from rest tag vr len after kept d next more k
 }
 
 pub go_item : (syntax : TransferSyntax) (level : ℕ) (reach : Reach) (text rest : List ℕ) (len : ℕ) (after : List ℕ) (within : Reach) (inner left next : List ℕ) (es : Elements)
-    → ((end : List ℕ) → Ends sequence_delimitation reach rest end → ⊥) → IsItem level rest len after → Spans len after within inner left next → SpellsElements syntax (level + 1) within 0 inner es left
+    → ((end : List ℕ) → Ends sequence_delimitation reach rest end → ⊥) → IsSequenceItem level rest len after → Spans len after within inner left next → SpellsElements syntax (level + 1) within 0 inner es left
     → ItemsGo syntax level reach text rest → ItemsGo syntax level reach text next
 go_item syntax level reach text rest len after within inner left next es more is spans spelled go = record {
   spelled = λ js end s. go.spelled (item es js) end (next, len, after, is.head, item_deep level rest len after is, within, inner, left, spans, spelled, s);

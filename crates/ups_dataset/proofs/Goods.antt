@@ -15,7 +15,7 @@ use Rattle.ups_dataset.specs.declared.fault.SetFault.TheVariants.{Short, TagOrde
 use Rattle.std.specs.Int.{w16, w32, to_le_bytes}
 use Rattle.ups_dataset.specs.Tag.{number, item_delimitation, sequence_delimitation}
 use Rattle.ups_dataset.specs.Vr.{letters}
-use Rattle.ups_dataset.specs.Head.{IsMark, IsHead, IsKnown, IsItem, IsLength, IsLeft, Ends, Spans, is_sequence, length_fault}
+use Rattle.ups_dataset.specs.Head.{IsMark, IsHead, IsKnown, IsSequenceItem, IsLength, IsLeft, Ends, Spans, is_sequence, length_fault}
 use Rattle.ups_dataset.specs.Data.{Data, bytes, items, Items, no_items, item, Elements, no_elements, element}
 use Rattle.ups_dataset.specs.Spelling.{SpellsElements, SpellsData, SpellsItems, inside}
 
@@ -111,7 +111,7 @@ pub items_left : (syntax : TransferSyntax) (level : ℕ) (reach : Reach) (text :
 items_left syntax level reach text no_items rest e = ends_left sequence_delimitation reach text rest e
 items_left syntax level reach text (item es more) rest (next, len, after, is, low, within, inner, left, spans, spelled, later) = items_left syntax level reach next more rest later
 
-pub item_deep : (level : ℕ) (text : List ℕ) (len : ℕ) (after : List ℕ) → IsItem level text len after → level < max_depth
+pub item_deep : (level : ℕ) (text : List ℕ) (len : ℕ) (after : List ℕ) → IsSequenceItem level text len after → level < max_depth
 item_deep level text len after k =
     elim (either (len == undefined_length) (if nat_lt level max_depth then None else Some Depth) (if (len % 2) == 0 then (if nat_lt (length after) len then Some Short else (if nat_lt level max_depth then None else Some Depth)) else Some OddLength) k.good) [
       | inl (_, e) ↦ let s = goes (nat_lt level max_depth) Depth None e in grind (arith, s.0)

@@ -6,7 +6,7 @@ use Rattle.ups_dataset.specs.declared.syntax.TransferSyntax.{TransferSyntax}
 use Rattle.ups_dataset.specs.declared.head.Reach.{Reach}
 use Rattle.ups_dataset.specs.declared.fault.SetFault.{SetFault}
 use Rattle.ups_dataset.specs.Tag.{number, is_group_length, item_delimitation, sequence_delimitation}
-use Rattle.ups_dataset.specs.Head.{IsKnown, IsItem, Ends, Spans}
+use Rattle.ups_dataset.specs.Head.{IsKnown, IsSequenceItem, Ends, Spans}
 use Rattle.ups_dataset.specs.Data.{Data, Items, no_items, item, Elements, no_elements, element, El, elements_of, items_of}
 use Rattle.ups_dataset.specs.Spelling.{SpellsElements, SpellsItems, kept, kept_data, kept_items}
 use Rattle.ups_dataset.specs.Failing.{ElementsFail, ItemsFail, behind, behind_item}
@@ -73,7 +73,7 @@ grow_by syntax level reach text from rest xs tag vr len after value kept_vr next
     grow syntax level reach text from rest xs (keeps tag kept_vr value xs) tag vr len after value kept_vr next more known b (λ es. kept_by xs tag kept_vr b.all value es (is_group_length tag) b.is) go
 
 pub grow_item : (syntax : TransferSyntax) (level : ℕ) (reach : Reach) (text rest : List ℕ) (xs : List (List El)) (len : ℕ) (after : List ℕ) (within : Reach) (inner left next : List ℕ) (set : List El)
-    → ((end : List ℕ) → Ends sequence_delimitation reach rest end → ⊥) → IsItem level rest len after → Spans len after within inner left next → BuildsElements syntax (level + 1) within 0 inner set left
+    → ((end : List ℕ) → Ends sequence_delimitation reach rest end → ⊥) → IsSequenceItem level rest len after → Spans len after within inner left next → BuildsElements syntax (level + 1) within 0 inner set left
     → ItemsGrow syntax level reach text rest xs → ItemsGrow syntax level reach text next (xs ++ set ∷ [])
 grow_item syntax level reach text rest xs len after within inner left next set more is spans b go = record {
   spelled = λ js end s.

@@ -5,7 +5,7 @@ use Rattle.ups_dataset.specs.declared.set.Element.{Element}
 use Rattle.ups_dataset.specs.View.{element_view}
 use Rattle.ups_dataset.specs.Tag.{IsTag, number, is_tag}
 use Rattle.ups_dataset.specs.Data.{El, elements_of, put, laid_over}
-use Rattle.ups_dataset.specs.Next.{IsNext}
+use Rattle.ups_dataset.specs.Next.{IsNextElement}
 use Rattle.ups_dataset.specs.Valid.{AreElements, IsDataSet}
 use Rattle.ups_dataset.proofs.Places.{lower, put_set, same_number, other_tag}
 
@@ -30,10 +30,10 @@ laid_set low (x ∷ xs) ys (rises, tag, is, sets, later) set = laid_set (number 
 tail_set : (x : El) (xs : List El) → IsDataSet (x ∷ xs) → IsDataSet xs
 tail_set x xs (_, _, _, _, later) = lower (number x.tag + 1) 0 (elements_of xs) (omega arith) later
 
-pub next_below : (y : El) (ys : List El) → IsDataSet (y ∷ ys) → IsNext [] (y ∷ ys) y [] ys
+pub next_below : (y : El) (ys : List El) → IsDataSet (y ∷ ys) → IsNextElement [] (y ∷ ys) y [] ys
 next_below y ys set = record { laid = refl; above_set = tt; below_set = tail_set y ys set; fewer = omega arith }
 
-pub next_above : (x : El) (xs : List El) → IsDataSet (x ∷ xs) → IsNext (x ∷ xs) [] x xs []
+pub next_above : (x : El) (xs : List El) → IsDataSet (x ∷ xs) → IsNextElement (x ∷ xs) [] x xs []
 next_above x xs (rises, tag, is, sets, later) = record {
   laid = laid_above x xs [] (number x.tag + 1) (omega arith) later;
   above_set = tail_set x xs (rises, tag, is, sets, later);
@@ -41,7 +41,7 @@ next_above x xs (rises, tag, is, sets, later) = record {
   fewer = omega arith;
 }
 
-pub next_lower : (x y : El) (xs ys : List El) → number y.tag < number x.tag → IsDataSet (x ∷ xs) → IsDataSet (y ∷ ys) → IsNext (x ∷ xs) (y ∷ ys) y (x ∷ xs) ys
+pub next_lower : (x y : El) (xs ys : List El) → number y.tag < number x.tag → IsDataSet (x ∷ xs) → IsDataSet (y ∷ ys) → IsNextElement (x ∷ xs) (y ∷ ys) y (x ∷ xs) ys
 next_lower x y xs ys below (rises, tag, is, sets, later) set = record {
   laid = laid_above y (x ∷ xs) ys (number y.tag + 1) (omega arith) (omega (arith, below), tag, is, sets, later);
   above_set = (rises, tag, is, sets, later);
@@ -49,7 +49,7 @@ next_lower x y xs ys below (rises, tag, is, sets, later) set = record {
   fewer = omega arith;
 }
 
-pub next_same : (x y : El) (xs ys : List El) → is_tag y.tag x.tag ≡ true → IsDataSet (x ∷ xs) → IsDataSet (y ∷ ys) → IsNext (x ∷ xs) (y ∷ ys) x xs ys
+pub next_same : (x y : El) (xs ys : List El) → is_tag y.tag x.tag ≡ true → IsDataSet (x ∷ xs) → IsDataSet (y ∷ ys) → IsNextElement (x ∷ xs) (y ∷ ys) x xs ys
 next_same x y xs ys same (rises, tag, is, sets, later) set = record {
   laid = rw same (laid_above x xs ys (number x.tag + 1) (omega arith) later);
   above_set = tail_set x xs (rises, tag, is, sets, later);
@@ -67,7 +67,7 @@ higher x y ix iy other le =
     let below : number x.tag < number y.tag = omega (arith, le, differ) in
     grind (arith, below)
 
-pub next_higher : (x y : El) (xs ys : List El) → is_tag y.tag x.tag ≡ false → number x.tag ≤ number y.tag → IsDataSet (x ∷ xs) → IsDataSet (y ∷ ys) → IsNext (x ∷ xs) (y ∷ ys) x xs (y ∷ ys)
+pub next_higher : (x y : El) (xs ys : List El) → is_tag y.tag x.tag ≡ false → number x.tag ≤ number y.tag → IsDataSet (x ∷ xs) → IsDataSet (y ∷ ys) → IsNextElement (x ∷ xs) (y ∷ ys) x xs (y ∷ ys)
 next_higher x y xs ys other le (rises, tag, is, sets, later) (rises', tag', is', sets', later') =
     let above : nat_lt (number x.tag) (number y.tag) ≡ true = higher x y tag tag' other le in
     record {
@@ -78,7 +78,7 @@ next_higher x y xs ys other le (rises, tag, is, sets, later) (rises', tag', is',
     }
 
 -- one element more of two sets that are laid over each other
-pub laid_next : (whole done : List El) (x : El) (above below above_left below_left : List El) → whole ≡ done ++ laid_over above below → IsNext above below x above_left below_left → whole ≡ (done ++ x ∷ []) ++ laid_over above_left below_left
+pub laid_next : (whole done : List El) (x : El) (above below above_left below_left : List El) → whole ≡ done ++ laid_over above below → IsNextElement above below x above_left below_left → whole ≡ (done ++ x ∷ []) ++ laid_over above_left below_left
 laid_next whole done x above below above_left below_left e n = e ∙ ap (λ l. done ++ l) n.laid ∙ sym (append_assoc done (x ∷ []) (laid_over above_left below_left))
 
 pub laid_end : (whole done : List El) (above below : List El) → whole ≡ done ++ laid_over above below → laid_over above below ≡ [] → done ≡ whole
@@ -95,17 +95,17 @@ pub no_first : {A : Type 0} (es : List (Element A)) → length es < 1 → map el
 no_first [] none = refl
 no_first (x ∷ xs) none = absurd (omega (arith, none))
 
-pub only_below : (above below left : List El) (y : El) → above ≡ [] → below ≡ y ∷ left → IsDataSet below → IsNext above below y above left
+pub only_below : (above below left : List El) (y : El) → above ≡ [] → below ≡ y ∷ left → IsDataSet below → IsNextElement above below y above left
 only_below above below left y a b set = rw (a, b) (next_below y left (subst (λ (l : List El). IsDataSet l) b set))
 
-pub only_above : (above below left : List El) (x : El) → above ≡ x ∷ left → below ≡ [] → IsDataSet above → IsNext above below x left below
+pub only_above : (above below left : List El) (x : El) → above ≡ x ∷ left → below ≡ [] → IsDataSet above → IsNextElement above below x left below
 only_above above below left x a b set = rw (a, b) (next_above x left (subst (λ (l : List El). IsDataSet l) a set))
 
-pub lower_first : (above below above_left below_left : List El) (x y : El) → above ≡ x ∷ above_left → below ≡ y ∷ below_left → number y.tag < number x.tag → IsDataSet above → IsDataSet below → IsNext above below y above below_left
+pub lower_first : (above below above_left below_left : List El) (x y : El) → above ≡ x ∷ above_left → below ≡ y ∷ below_left → number y.tag < number x.tag → IsDataSet above → IsDataSet below → IsNextElement above below y above below_left
 lower_first above below above_left below_left x y a b less s t = rw (a, b) (next_lower x y above_left below_left less (subst (λ (l : List El). IsDataSet l) a s) (subst (λ (l : List El). IsDataSet l) b t))
 
-pub same_first : (above below above_left below_left : List El) (x y : El) → above ≡ x ∷ above_left → below ≡ y ∷ below_left → is_tag y.tag x.tag ≡ true → IsDataSet above → IsDataSet below → IsNext above below x above_left below_left
+pub same_first : (above below above_left below_left : List El) (x y : El) → above ≡ x ∷ above_left → below ≡ y ∷ below_left → is_tag y.tag x.tag ≡ true → IsDataSet above → IsDataSet below → IsNextElement above below x above_left below_left
 same_first above below above_left below_left x y a b same s t = rw (a, b) (next_same x y above_left below_left same (subst (λ (l : List El). IsDataSet l) a s) (subst (λ (l : List El). IsDataSet l) b t))
 
-pub higher_first : (above below above_left below_left : List El) (x y : El) → above ≡ x ∷ above_left → below ≡ y ∷ below_left → is_tag y.tag x.tag ≡ false → number x.tag ≤ number y.tag → IsDataSet above → IsDataSet below → IsNext above below x above_left below
+pub higher_first : (above below above_left below_left : List El) (x y : El) → above ≡ x ∷ above_left → below ≡ y ∷ below_left → is_tag y.tag x.tag ≡ false → number x.tag ≤ number y.tag → IsDataSet above → IsDataSet below → IsNextElement above below x above_left below
 higher_first above below above_left below_left x y a b other le s t = rw (a, b) (next_higher x y above_left below_left other le (subst (λ (l : List El). IsDataSet l) a s) (subst (λ (l : List El). IsDataSet l) b t))

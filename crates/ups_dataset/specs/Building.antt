@@ -35,6 +35,6 @@ abbrev pub OrMemory : (SetFault → Type 0) → SetFault → Type 0
 OrMemory Fault Memory = Unit {0}
 OrMemory Fault fault = Fault fault
 
-abbrev pub Gives : {X : Type 0} → Result X SetFault → (X → Type 0) → (SetFault → Type 0) → Type 0
-Gives (Ok x) Good Fault = Good x
-Gives (Err e) Good Fault = OrMemory Fault e
+abbrev pub BuildsOrFails : {X : Type 0} → Result X SetFault → (X → Type 0) → (SetFault → Type 0) → Type 0
+BuildsOrFails (Ok x) Good Fault = Good x
+BuildsOrFails (Err e) Good Fault = OrMemory Fault e

@@ -7,7 +7,7 @@ use Rattle.ups_dataset.specs.declared.head.Reach.{Reach}
 use Rattle.ups_dataset.specs.declared.fault.SetFault.{SetFault}
 use Rattle.ups_dataset.specs.Tag.{number, item_delimitation, sequence_delimitation}
 use Rattle.ups_dataset.specs.Data.{Data, Elements}
-use Rattle.ups_dataset.specs.Head.{IsKnown, HeadFails, IsItem, ItemHeadFails, Ends, Opens, Spans, is_sequence}
+use Rattle.ups_dataset.specs.Head.{IsKnown, HeadFails, IsSequenceItem, ItemHeadFails, Ends, Opens, Spans, is_sequence}
 use Rattle.ups_dataset.specs.Spelling.{inside, SpellsData, SpellsElements}
 
 -- At the front there is no end. Then either what begins there fails, or the inside of it does, or it is good and what comes behind it fails.
@@ -29,7 +29,7 @@ mutual
     at_item : (syntax : TransferSyntax) (level : ℕ) (reach : Reach) (text : List ℕ) (fault : SetFault)
         → ((rest : List ℕ) → Ends sequence_delimitation reach text rest → ⊥) → ItemHeadFails level text fault → ItemsFail syntax level reach text fault
     in_item : (syntax : TransferSyntax) (level : ℕ) (reach : Reach) (text : List ℕ) (fault : SetFault) (len : ℕ) (after : List ℕ) (within : Reach) (inner : List ℕ)
-        → ((rest : List ℕ) → Ends sequence_delimitation reach text rest → ⊥) → IsItem level text len after → Opens len after within inner → ElementsFail syntax (level + 1) within 0 inner fault → ItemsFail syntax level reach text fault
+        → ((rest : List ℕ) → Ends sequence_delimitation reach text rest → ⊥) → IsSequenceItem level text len after → Opens len after within inner → ElementsFail syntax (level + 1) within 0 inner fault → ItemsFail syntax level reach text fault
     behind_item : (syntax : TransferSyntax) (level : ℕ) (reach : Reach) (text : List ℕ) (fault : SetFault) (len : ℕ) (after : List ℕ) (within : Reach) (inner left next : List ℕ) (es : Elements)
-        → ((rest : List ℕ) → Ends sequence_delimitation reach text rest → ⊥) → IsItem level text len after → Spans len after within inner left next → SpellsElements syntax (level + 1) within 0 inner es left → ItemsFail syntax level reach next fault
+        → ((rest : List ℕ) → Ends sequence_delimitation reach text rest → ⊥) → IsSequenceItem level text len after → Spans len after within inner left next → SpellsElements syntax (level + 1) within 0 inner es left → ItemsFail syntax level reach next fault
         → ItemsFail syntax level reach text fault

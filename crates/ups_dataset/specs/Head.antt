@@ -99,7 +99,7 @@ ItemHeadFails level text fault =
     ⊎ ((len : ℕ) × (rest : List ℕ) × IsMark text item_tag len rest × (item_fault level len (length rest) ≡ Some fault)))
 
 -- an item begins here
-pub record IsItem (level : ℕ) (text : List ℕ) (len : ℕ) (rest : List ℕ) : Type 0 where
+pub record IsSequenceItem (level : ℕ) (text : List ℕ) (len : ℕ) (rest : List ℕ) : Type 0 where
   pub head : IsMark text item_tag len rest
   pub good : item_fault level len (length rest) ≡ None
 
@@ -133,7 +133,7 @@ abbrev pub IsLength : ℕ → ℕ → Type 0
 IsLength len room = (len ≡ undefined_length) ⊎ ((len < undefined_length) × ((len % 2) ≡ 0) × (len ≤ room))
 
 -- the inside of a length, and what follows where it is not left inside
-pub record IsBody (len : ℕ) (after : List ℕ) (reach : Reach) (inner behind : List ℕ) : Type 0 where
+pub record IsDelimited (len : ℕ) (after : List ℕ) (reach : Reach) (inner behind : List ℕ) : Type 0 where
   pub opens : Opens len after reach inner
   pub spans : (left : List ℕ) → IsLeft reach left → Spans len after reach inner left (rest_behind reach left behind)
   pub short : length inner ≤ length after

@@ -5,5 +5,5 @@ use Rattle.ups_dataset.specs.Data.{El}
 use Rattle.ups_dataset.specs.Valid.{IsDataSet}
 
 -- They are a data set. The allocator is named here so that a proof about sets on any heap can tell which one it is.
-pub record Holds {A : Type 0} (heap : Ghosts A) (set : List El) : Type 0 where
+pub record HoldsSet {A : Type 0} (heap : Ghosts A) (set : List El) : Type 0 where
   pub is : IsDataSet set

@@ -4,7 +4,7 @@ ghost use Rattle.std.specs.Prelude.{◌≡◌, ◌<◌, ◌≤◌, ◌++◌, ◌
 ghost use Rattle.ups_dataset.specs.declared.fault.SetFault.TheVariants.{Memory};
 ghost use Rattle.ups_dataset.specs.Head.{IsLength, is_sequence};
 ghost use Rattle.ups_dataset.specs.View.{element_view, value_view};
-ghost use Rattle.ups_dataset.specs.Building.{keeps, BuildsValue, BuildsElements, BuildsItems, Gives};
+ghost use Rattle.ups_dataset.specs.Building.{keeps, BuildsValue, BuildsElements, BuildsItems, BuildsOrFails};
 ghost use Rattle.ups_dataset.specs.Failing.{ElementsFail, ValueFails, ItemsFail};
 ghost use Rattle.ups_dataset.specs.Limits.{max_depth, undefined_length};
 
@@ -33,7 +33,7 @@ fn value_of<A: Allocator + Copy>(
     requires nested { level ≤ max_depth }
     requires fits { IsLength len (length after.now) }
     requires bytes { is_sequence vr len ≡ false → len < undefined_length }
-    ensures { Gives result (λ x. BuildsValue syntax level vr len after.now (value_view x.0) x.1 x.2.now) (ValueFails syntax level vr len after.now) }
+    ensures { BuildsOrFails result (λ x. BuildsValue syntax level vr len after.now (value_view x.0) x.1 x.2.now) (ValueFails syntax level vr len after.now) }
 {
     if !is_sequence(vr, len) {
         let (body, rest) = after.split_at(len as usize);
@@ -97,7 +97,7 @@ pub(crate) fn set_of<A: Allocator + Copy>(
     text: &[u8],
 ) -> Result<(DataSet<A>, &[u8]), SetFault>
     requires { level ≤ max_depth }
-    ensures { Gives result (λ x. BuildsElements syntax level reach 0 text.now x.0 x.1.now) (ElementsFail syntax level reach 0 text.now) }
+    ensures { BuildsOrFails result (λ x. BuildsElements syntax level reach 0 text.now x.0 x.1.now) (ElementsFail syntax level reach 0 text.now) }
 {
     let mut elements = Vec::new(alloc);
     let mut from = 0;
@@ -125,7 +125,7 @@ fn items_of<A: Allocator + Copy>(
     text: &[u8],
 ) -> Result<(Vec<DataSet<A>, A>, &[u8]), SetFault>
     requires { level ≤ max_depth }
-    ensures { Gives result (λ x. BuildsItems syntax level reach text.now x.0.items x.1.now) (ItemsFail syntax level reach text.now) }
+    ensures { BuildsOrFails result (λ x. BuildsItems syntax level reach text.now x.0.items x.1.now) (ItemsFail syntax level reach text.now) }
 {
     let mut sets = Vec::new(alloc);
     let mut rest = text;

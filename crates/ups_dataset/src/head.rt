@@ -5,7 +5,7 @@ ghost use Rattle.std.specs.Int.{w16, to_le_bytes};
 ghost use Rattle.ups_dataset.specs.declared.tag.Tag.{Tag};
 ghost use Rattle.ups_dataset.specs.declared.head.Head.TheVariants.{Known, Strange};
 ghost use Rattle.ups_dataset.specs.declared.syntax.TransferSyntax.TheVariants.{Explicit};
-ghost use Rattle.ups_dataset.specs.Head.{implicit_vr, is_sequence, head_fault, item_fault, length_fault, IsMark, IsShortHead, IsLongHead, IsStrange, IsHead, HeadFails, IsKnown, ItemHeadFails, IsItem, Ends, Opens};
+ghost use Rattle.ups_dataset.specs.Head.{implicit_vr, is_sequence, head_fault, item_fault, length_fault, IsMark, IsShortHead, IsLongHead, IsStrange, IsHead, HeadFails, IsKnown, ItemHeadFails, IsSequenceItem, Ends, Opens};
 
 use crate::dictionary::vr_of;
 use crate::fault::SetFault;
@@ -195,7 +195,7 @@ pub(crate) fn known_at(
 
 /// The length and what follows, of the item at the front.
 pub(crate) fn item_at(level: u8, text: &[u8]) -> Result<(u32, &[u8]), SetFault>
-    ensures { MatchResult result (λ x. IsItem level text.now x.0 x.1.now) (ItemHeadFails level text.now) }
+    ensures { MatchResult result (λ x. IsSequenceItem level text.now x.0 x.1.now) (ItemHeadFails level text.now) }
 {
     let Some((tag, len, rest)) = mark_at(text) else {
         return Err(SetFault::Short);

@@ -2,7 +2,7 @@
 
 ghost use Rattle.std.specs.Prelude.{◌≡◌, [], map, MatchOption, IfOk};
 ghost use Rattle.ups_dataset.specs.Data.{laid_over};
-ghost use Rattle.ups_dataset.specs.Next.{IsNext};
+ghost use Rattle.ups_dataset.specs.Next.{IsNextElement};
 ghost use Rattle.ups_dataset.specs.Valid.{IsDataSet};
 ghost use Rattle.ups_dataset.specs.View.{element_view};
 
@@ -19,7 +19,7 @@ fn next<'a, A: Allocator + Copy>(
     requires above_rises { IsDataSet (map element_view above.now) }
     requires below_rises { IsDataSet (map element_view below.now) }
     ensures { MatchOption result (laid_over (map element_view above.now) (map element_view below.now) ≡ [])
-        (λ x. IsNext (map element_view above.now) (map element_view below.now) (element_view x.0.now) (map element_view x.1.now) (map element_view x.2.now)) }
+        (λ x. IsNextElement (map element_view above.now) (map element_view below.now) (element_view x.0.now) (map element_view x.1.now) (map element_view x.2.now)) }
 {
     let [upper, above_left @ ..] = above else {
         let [lower, below_left @ ..] = below else {

@@ -2,7 +2,7 @@
 
 ghost use Rattle.std.specs.Prelude.{◌≡◌, ◌<◌, ◌≤◌, false, length, MatchResult};
 ghost use Rattle.ups_dataset.specs.Data.{Data, Items, Elements};
-ghost use Rattle.ups_dataset.specs.Head.{IsLength, IsBody, is_sequence, rest_behind};
+ghost use Rattle.ups_dataset.specs.Head.{IsLength, IsDelimited, is_sequence, rest_behind};
 ghost use Rattle.ups_dataset.specs.Spelling.{inside, SpellsElements, SpellsData, SpellsItems};
 ghost use Rattle.ups_dataset.specs.Failing.{ElementsFail, ValueFails, ItemsFail};
 ghost use Rattle.ups_dataset.specs.Limits.{max_depth, undefined_length};
@@ -27,7 +27,7 @@ pub(crate) fn inside(syntax: TransferSyntax, vr: Vr) -> TransferSyntax
 /// How far the inside of a length goes, its bytes, and what follows them.
 pub(crate) fn opened(len: u32, after: &[u8]) -> (Reach, &[u8], &[u8])
     requires { IsLength len (length after.now) }
-    ensures { IsBody len after.now result.0 result.1.now result.2.now }
+    ensures { IsDelimited len after.now result.0 result.1.now result.2.now }
 {
     if len == UNDEFINED_LENGTH {
         return (Reach::Ended, after, after);

@@ -58,9 +58,9 @@ impl<A: Allocator + Copy> Model for DataSet<A> {
 
     ghost view = { λ s. map element_view s.elements.items };
 
-    ghost use Rattle.ups_dataset.specs.Held.{Holds};
+    ghost use Rattle.ups_dataset.specs.Held.{HoldsSet};
 
-    ghost invariant = { λ s. Holds ⟦<A as Allocator>⟧ (map element_view s.elements.items) };
+    ghost invariant = { λ s. HoldsSet ⟦<A as Allocator>⟧ (map element_view s.elements.items) };
 
     ghost size = { weight };
 

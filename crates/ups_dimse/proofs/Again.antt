@@ -21,13 +21,13 @@ use Rattle.ups_dimse.specs.declared.command.OperationResult.{OperationResult}
 use Rattle.ups_dimse.specs.declared.command.OperationResult.TheVariants as results
 use Rattle.ups_dimse.specs.declared.message.Message.{Message}
 use Rattle.ups_dimse.specs.declared.message.Message.TheVariants.{EventReportRequest, EventReportResponse, GetRequest, GetResponse, SetRequest, SetResponse, ActionRequest, ActionResponse, CreateRequest, CreateResponse, EchoRequest, EchoResponse, FindRequest, FindResponse, CancelRequest}
-use Rattle.ups_dimse.specs.Elements.{CommandElement, IsElement, SpellsElements, value_in}
+use Rattle.ups_dimse.specs.Elements.{CommandElement, IsCommandElement, SpellsElements, value_in}
 use Rattle.ups_dimse.specs.Limits.{max_attributes}
 use Rattle.ups_dimse.specs.Messages.{field_of}
 use Rattle.ups_dimse.specs.Values.{MayHaveUs, HasUid, HasDataSet, IsTagAt}
 use Rattle.ups_dimse.specs.Commands.{request_of, response_of, class_element, HasOperation, HasResult, IsRequest, IsResponse, IsCancel, IsCommand, SpellsCommand}
 use Rattle.ups_dimse.specs.Held.{AreHeldTags, IsHeldOperation, IsHeldResult, IsHeldRequest, IsHeldResponse, IsHeldCancel, IsHeld}
-use Rattle.ups_dimse.specs.Written.{written_element, us_element, optional_us_element, priority_of, padded, uid_element, tags_element, data_set_element, operation_elements, result_elements, request_elements, response_elements, cancel_elements, command_elements, grouped, written, tags_of, Fits}
+use Rattle.ups_dimse.specs.Written.{written_command_element, us_element, optional_us_element, priority_of, padded_uid, uid_element, tags_element, data_set_element, operation_elements, result_elements, request_elements, response_elements, cancel_elements, command_elements, grouped, written_command, tags_of, FitsCommand}
 use Rattle.ups_dimse.proofs.UidText.{padded_even, padded_short, padded_spells}
 use Rattle.ups_dimse.proofs.Sizes.{length-tags}
 
@@ -41,12 +41,12 @@ abbrev pub AreGood : ℕ → List CommandElement → Type 0
 AreGood from [] = Unit {0}
 AreGood from (e ∷ es) = IsGood e × (from ≤ e.number) × AreGood (e.number + 1) es
 
-element_again : (e : CommandElement) (rest : List ℕ) → IsGood e → IsElement (written_element e ++ rest) e rest
+element_again : (e : CommandElement) (rest : List ℕ) → IsGood e → IsCommandElement (written_command_element e ++ rest) e rest
 element_again e rest g = record { in_group = g.in_group; defined = g.defined; even = g.even; parts = simp append_assoc }
 
-elements_again : (from : ℕ) (es : List CommandElement) → AreGood from es → SpellsElements from (flat_map written_element es) es []
+elements_again : (from : ℕ) (es : List CommandElement) → AreGood from es → SpellsElements from (flat_map written_command_element es) es []
 elements_again from [] g = refl
-elements_again from (e ∷ es) g = (flat_map written_element es, element_again e (flat_map written_element es) g.0, g.1, elements_again (e.number + 1) es g.2)
+elements_again from (e ∷ es) g = (flat_map written_command_element es, element_again e (flat_map written_command_element es) g.0, g.1, elements_again (e.number + 1) es g.2)
 
 lower : (low from : ℕ) (es : List CommandElement) → low ≤ from → AreGood from es → AreGood low es
 lower low from [] l g = tt
@@ -102,7 +102,7 @@ class_low (operations.Action i a) = (omega arith, omega arith)
 class_low operations.Echo = (omega arith, omega arith)
 class_low (operations.Find p) = (omega arith, omega arith)
 
-good_command : {A : Type 0} (c : Command A) → Fits c → IsHeld c → AreGood 1 (command_elements c)
+good_command : {A : Type 0} (c : Command A) → FitsCommand c → IsHeld c → AreGood 1 (command_elements c)
 good_command (Request r) fits h =
     let low = class_low r.operation in
     let own = operation_elements r.operation in
@@ -137,9 +137,9 @@ good_grouped : (es : List CommandElement) → AreGood 1 es → AreGood 0 (groupe
 good_grouped es g = (record { in_group = omega arith; defined = omega arith; even = refl }, omega arith, g)
 
 -- a UID and tags, by the value that is written
-uid_by : (es : List CommandElement) (n : ℕ) (o : Option (List ℕ)) → IfSome o IsUid → value_in n es ≡ option_map padded o → HasUid es n o
+uid_by : (es : List CommandElement) (n : ℕ) (o : Option (List ℕ)) → IfSome o IsUid → value_in n es ≡ option_map padded_uid o → HasUid es n o
 uid_by es n None h e = λ v is u s. none-some v (sym e ∙ is)
-uid_by es n (Some u) h e = (padded u, e, padded_spells u h)
+uid_by es n (Some u) h e = (padded_uid u, e, padded_spells u h)
 
 tags_again : (ts : List Tag) → AreHeldTags ts → Each IsTagAt (flat_map tag_bytes ts) ts
 tags_again [] h = refl
@@ -150,19 +150,19 @@ tags_again (t ∷ ts) h =
 -- a UID that is absent or stands before does not hide an element of another number
 past : (n k : ℕ) (o : Option (List ℕ)) (es : List CommandElement) → eqb k n ≡ false → value_in n (uid_element k o ++ es) ≡ value_in n es
 past n k None es e = refl
-past n k (Some u) es e = ap (λ (b : Bool). cond b (Some (padded u)) (value_in n es)) e
+past n k (Some u) es e = ap (λ (b : Bool). cond b (Some (padded_uid u)) (value_in n es)) e
 
-here : (n : ℕ) (o : Option (List ℕ)) (es : List CommandElement) → eqb n n ≡ true → value_in n es ≡ None → value_in n (uid_element n o ++ es) ≡ option_map padded o
+here : (n : ℕ) (o : Option (List ℕ)) (es : List CommandElement) → eqb n n ≡ true → value_in n es ≡ None → value_in n (uid_element n o ++ es) ≡ option_map padded_uid o
 here n None es e none = none
-here n (Some u) es e none = ap (λ (b : Bool). cond b (Some (padded u)) (value_in n es)) e
+here n (Some u) es e none = ap (λ (b : Bool). cond b (Some (padded_uid u)) (value_in n es)) e
 
-only_here : (n : ℕ) (o : Option (List ℕ)) → eqb n n ≡ true → value_in n (uid_element n o) ≡ option_map padded o
+only_here : (n : ℕ) (o : Option (List ℕ)) → eqb n n ≡ true → value_in n (uid_element n o) ≡ option_map padded_uid o
 only_here n None e = refl
-only_here n (Some u) e = ap (λ (b : Bool). cond b (Some (padded u)) None) e
+only_here n (Some u) e = ap (λ (b : Bool). cond b (Some (padded_uid u)) None) e
 
 not_uid : (n k : ℕ) (o : Option (List ℕ)) → eqb k n ≡ false → value_in n (uid_element k o) ≡ None
 not_uid n k None e = refl
-not_uid n k (Some u) e = ap (λ (b : Bool). cond b (Some (padded u)) None) e
+not_uid n k (Some u) e = ap (λ (b : Bool). cond b (Some (padded_uid u)) None) e
 
 not_tags : (n k : ℕ) (ts : List Tag) → eqb k n ≡ false → value_in n (tags_element k ts) ≡ None
 not_tags n k [] e = refl
@@ -324,7 +324,7 @@ us_value (Some v) there o = refl
 
 -- the class of a request stands first, and nowhere else
 class_by_operation : {A : Type 0} (sop_class : Option (List ℕ)) (id : ℕ) (there : Bool) (o : Operation A)
-    → value_in (class_element o) (grouped (uid_element (class_element o) sop_class ++ (us_element 0x0100 (field_of (request_of o)) ∷ us_element 0x0110 id ∷ (optional_us_element 0x0700 (priority_of o) ++ (data_set_element there ∷ operation_elements o))))) ≡ option_map padded sop_class
+    → value_in (class_element o) (grouped (uid_element (class_element o) sop_class ++ (us_element 0x0100 (field_of (request_of o)) ∷ us_element 0x0110 id ∷ (optional_us_element 0x0700 (priority_of o) ++ (data_set_element there ∷ operation_elements o))))) ≡ option_map padded_uid sop_class
 class_by_operation sop_class id there (operations.EventReport i v) =
     here 0x0002 sop_class (us_element 0x0100 0x0100 ∷ us_element 0x0110 id ∷ data_set_element there ∷ (uid_element 0x1000 i ++ us_element 0x1002 v ∷ [])) refl (own_none {A = ℕ} 0x0002 (operations.EventReport i v) (omega arith))
 class_by_operation sop_class id there (operations.Create i) =
@@ -340,7 +340,7 @@ class_by_operation sop_class id there operations.Echo =
 class_by_operation sop_class id there (operations.Find p) =
     here 0x0002 sop_class (us_element 0x0100 0x0020 ∷ us_element 0x0110 id ∷ (optional_us_element 0x0700 p ++ (data_set_element there ∷ []))) refl (past_us 0x0002 0x0700 p (data_set_element there ∷ []) refl)
 
-class_in_request : {A : Type 0} (r : RequestCommand A) → value_in (class_element r.operation) (grouped (request_elements r)) ≡ option_map padded r.sop_class
+class_in_request : {A : Type 0} (r : RequestCommand A) → value_in (class_element r.operation) (grouped (request_elements r)) ≡ option_map padded_uid r.sop_class
 class_in_request r = class_by_operation r.sop_class r.message_id r.has_data_set r.operation
 
 request_again : {A : Type 0} (r : RequestCommand A) → IsHeldRequest r → IsRequest (grouped (request_elements r)) r
@@ -375,7 +375,7 @@ command_again (Response r) h = response_again r h
 command_again (Cancel c) h = cancel_again c h
 
 -- what is written is read as the same command
-pub again : {A : Type 0} (bytes : List ℕ) (c : Command A) → Fits c → IsHeld c → bytes ≡ written c → SpellsCommand bytes c
+pub again : {A : Type 0} (bytes : List ℕ) (c : Command A) → FitsCommand c → IsHeld c → bytes ≡ written_command c → SpellsCommand bytes c
 again bytes c fits h e = record {
   elements = grouped (command_elements c);
   spelled = subst (λ (b : List ℕ). SpellsElements 0 b (grouped (command_elements c)) []) (sym e) (elements_again 0 (grouped (command_elements c)) (good_grouped (command_elements c) (good_command c fits h)));

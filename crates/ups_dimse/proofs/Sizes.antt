@@ -17,7 +17,7 @@ use Rattle.ups_dimse.specs.declared.command.OperationResult.TheVariants as resul
 use Rattle.ups_dimse.specs.Elements.{CommandElement, command_tag}
 use Rattle.ups_dimse.specs.Commands.{class_element}
 use Rattle.ups_dimse.specs.Held.{IsHeldTag, IsHeldOperation, IsHeldResult, IsHeld}
-use Rattle.ups_dimse.specs.Written.{written_element, us_element, optional_us_element, priority_of, uid_element, tags_element, operation_elements, result_elements, command_elements, tags_of, Fits}
+use Rattle.ups_dimse.specs.Written.{written_command_element, us_element, optional_us_element, priority_of, uid_element, tags_element, operation_elements, result_elements, command_elements, tags_of, FitsCommand}
 use Rattle.ups_dimse.proofs.UidText.{padded_short}
 
 pub length-tags : (ts : List Tag) → length (flat_map tag_bytes ts) ≡ 4 * length ts
@@ -26,13 +26,13 @@ length-tags (t ∷ ts) = omega (arith, length-tags ts)
 
 -- the elements of a request and of a response, one after the other
 pub request_joined : (old a1 a2 a3 a4 a5 out : List ℕ) (c ps os : List CommandElement) (f i d : CommandElement)
-    → a1 ≡ old ++ flat_map written_element c → a2 ≡ a1 ++ written_element f → a3 ≡ a2 ++ written_element i → a4 ≡ a3 ++ flat_map written_element ps → a5 ≡ a4 ++ written_element d → out ≡ a5 ++ flat_map written_element os
-    → out ≡ old ++ flat_map written_element (c ++ (f ∷ i ∷ (ps ++ (d ∷ os))))
+    → a1 ≡ old ++ flat_map written_command_element c → a2 ≡ a1 ++ written_command_element f → a3 ≡ a2 ++ written_command_element i → a4 ≡ a3 ++ flat_map written_command_element ps → a5 ≡ a4 ++ written_command_element d → out ≡ a5 ++ flat_map written_command_element os
+    → out ≡ old ++ flat_map written_command_element (c ++ (f ∷ i ∷ (ps ++ (d ∷ os))))
 request_joined old a1 a2 a3 a4 a5 out c ps os f i d e1 e2 e3 e4 e5 e6 = rw (e6, e5, e4, e3, e2, e1) (simp (flat_map-append, append_assoc))
 
 pub response_joined : (old a1 a2 a3 a4 a5 out : List ℕ) (c os : List CommandElement) (f i d s : CommandElement)
-    → a1 ≡ old ++ flat_map written_element c → a2 ≡ a1 ++ written_element f → a3 ≡ a2 ++ written_element i → a4 ≡ a3 ++ written_element d → a5 ≡ a4 ++ written_element s → out ≡ a5 ++ flat_map written_element os
-    → out ≡ old ++ flat_map written_element (c ++ (f ∷ i ∷ d ∷ s ∷ os))
+    → a1 ≡ old ++ flat_map written_command_element c → a2 ≡ a1 ++ written_command_element f → a3 ≡ a2 ++ written_command_element i → a4 ≡ a3 ++ written_command_element d → a5 ≡ a4 ++ written_command_element s → out ≡ a5 ++ flat_map written_command_element os
+    → out ≡ old ++ flat_map written_command_element (c ++ (f ∷ i ∷ d ∷ s ∷ os))
 response_joined old a1 a2 a3 a4 a5 out c os f i d s e1 e2 e3 e4 e5 e6 = rw (e6, e5, e4, e3, e2, e1) (simp (flat_map-append, append_assoc))
 
 -- one tag more
@@ -49,41 +49,41 @@ held_more ts i e l below this k d m = by_place (eqb_tells k i)
     by_place (inr other) = below k d (omega (arith, m, other.1))
 
 pub tags_written : (n : ℕ) (ts : List Tag) (old head out : List ℕ) (i : ℕ) → (ts ≡ [] → ⊥) → length ts ≤ i → head ≡ old ++ (tag_bytes (command_tag n) ++ to_le_bytes w32 (4 * length ts)) → out ≡ head ++ flat_map tag_bytes (take i ts)
-    → out ≡ old ++ flat_map written_element (tags_element n ts)
+    → out ≡ old ++ flat_map written_command_element (tags_element n ts)
 tags_written n [] old head out i some l e f = absurd (some refl)
 tags_written n (t ∷ ts) old head out i some l e f =
     let whole : out ≡ head ++ flat_map tag_bytes (t ∷ ts) = f ∙ ap (λ (x : List Tag). head ++ flat_map tag_bytes x) (take_all i (t ∷ ts) l) in
     let front : head ≡ old ++ (tag_bytes (command_tag n) ++ to_le_bytes w32 (length (flat_map tag_bytes (t ∷ ts)))) = e ∙ ap (λ (m : ℕ). old ++ (tag_bytes (command_tag n) ++ to_le_bytes w32 m)) (sym (length-tags (t ∷ ts))) in
     rw (whole, front) (simp (append_assoc, append-nil))
 
-uid_size : (n : ℕ) (o : Option (List ℕ)) → IfSome o IsUid → length (flat_map written_element (uid_element n o)) ≤ 73
+uid_size : (n : ℕ) (o : Option (List ℕ)) → IfSome o IsUid → length (flat_map written_command_element (uid_element n o)) ≤ 73
 uid_size n None h = omega arith
-uid_size n (Some u) h = omega (arith, padded_short u h, length-append (written_element (record { number = n; value = Rattle.ups_dimse.specs.Written.padded u })) [])
+uid_size n (Some u) h = omega (arith, padded_short u h, length-append (written_command_element (record { number = n; value = Rattle.ups_dimse.specs.Written.padded_uid u })) [])
 
-tags_size : (n : ℕ) (ts : List Tag) → length (flat_map written_element (tags_element n ts)) ≤ 8 + 4 * length ts
+tags_size : (n : ℕ) (ts : List Tag) → length (flat_map written_command_element (tags_element n ts)) ≤ 8 + 4 * length ts
 tags_size n [] = omega arith
-tags_size n (t ∷ ts) = omega (arith, length-tags (t ∷ ts), length-append (written_element (record { number = n; value = flat_map tag_bytes (t ∷ ts) })) [])
+tags_size n (t ∷ ts) = omega (arith, length-tags (t ∷ ts), length-append (written_command_element (record { number = n; value = flat_map tag_bytes (t ∷ ts) })) [])
 
-optional_us_size : (n : ℕ) (o : Option ℕ) → length (flat_map written_element (optional_us_element n o)) ≤ 10
+optional_us_size : (n : ℕ) (o : Option ℕ) → length (flat_map written_command_element (optional_us_element n o)) ≤ 10
 optional_us_size n None = omega arith
 optional_us_size n (Some v) = omega arith
 
-uid_us_size : (n m : ℕ) (o : Option (List ℕ)) (v : ℕ) → IfSome o IsUid → length (flat_map written_element (uid_element n o ++ us_element m v ∷ [])) ≤ 83
-uid_us_size n m o v h = rw (flat_map-append written_element (uid_element n o) (us_element m v ∷ [])) (omega (arith, uid_size n o h, length-append (flat_map written_element (uid_element n o)) (flat_map written_element (us_element m v ∷ []))))
+uid_us_size : (n m : ℕ) (o : Option (List ℕ)) (v : ℕ) → IfSome o IsUid → length (flat_map written_command_element (uid_element n o ++ us_element m v ∷ [])) ≤ 83
+uid_us_size n m o v h = rw (flat_map-append written_command_element (uid_element n o) (us_element m v ∷ [])) (omega (arith, uid_size n o h, length-append (flat_map written_command_element (uid_element n o)) (flat_map written_command_element (us_element m v ∷ []))))
 
-operation_size : {A : Type 0} (o : Operation A) → IsHeldOperation o → length (flat_map written_element (operation_elements o)) ≤ 83 + 4 * length (tags_of o)
+operation_size : {A : Type 0} (o : Operation A) → IsHeldOperation o → length (flat_map written_command_element (operation_elements o)) ≤ 83 + 4 * length (tags_of o)
 operation_size (operations.EventReport i v) h = uid_us_size 0x1000 0x1002 i v h.0
 operation_size (operations.Create i) h = omega (arith, uid_size 0x1000 i h)
-operation_size (operations.Get i ts) h = rw (flat_map-append written_element (uid_element 0x1001 i) (tags_element 0x1005 ts)) (omega (arith, uid_size 0x1001 i h.0, tags_size 0x1005 ts, length-append (flat_map written_element (uid_element 0x1001 i)) (flat_map written_element (tags_element 0x1005 ts))))
+operation_size (operations.Get i ts) h = rw (flat_map-append written_command_element (uid_element 0x1001 i) (tags_element 0x1005 ts)) (omega (arith, uid_size 0x1001 i h.0, tags_size 0x1005 ts, length-append (flat_map written_command_element (uid_element 0x1001 i)) (flat_map written_command_element (tags_element 0x1005 ts))))
 operation_size (operations.Set i) h = omega (arith, uid_size 0x1001 i h)
 operation_size (operations.Action i a) h = uid_us_size 0x1001 0x1008 i a h.0
 operation_size operations.Echo h = omega arith
 operation_size (operations.Find p) h = omega arith
 
-result_size : (o : OperationResult) → IsHeldResult o → length (flat_map written_element (result_elements o)) ≤ 83
+result_size : (o : OperationResult) → IsHeldResult o → length (flat_map written_command_element (result_elements o)) ≤ 83
 result_size (results.EventReport i v) h =
-    rw (flat_map-append written_element (uid_element 0x1000 i) (optional_us_element 0x1002 v))
-    (omega (arith, uid_size 0x1000 i h.0, optional_us_size 0x1002 v, length-append (flat_map written_element (uid_element 0x1000 i)) (flat_map written_element (optional_us_element 0x1002 v))))
+    rw (flat_map-append written_command_element (uid_element 0x1000 i) (optional_us_element 0x1002 v))
+    (omega (arith, uid_size 0x1000 i h.0, optional_us_size 0x1002 v, length-append (flat_map written_command_element (uid_element 0x1000 i)) (flat_map written_command_element (optional_us_element 0x1002 v))))
 result_size (results.Create i) h = omega (arith, uid_size 0x1000 i h)
 result_size (results.Get i) h = omega (arith, uid_size 0x1000 i h)
 result_size (results.Set i) h = omega (arith, uid_size 0x1000 i h)
@@ -91,12 +91,12 @@ result_size (results.Action i a) h = uid_us_size 0x1000 0x1008 i a h.0
 result_size results.Echo h = omega arith
 result_size results.Find h = omega arith
 
-pub command_short : {A : Type 0} (c : Command A) → Fits c → IsHeld c → length (flat_map written_element (command_elements c)) < 2 ^ 32
+pub command_short : {A : Type 0} (c : Command A) → FitsCommand c → IsHeld c → length (flat_map written_command_element (command_elements c)) < 2 ^ 32
 command_short (Request r) fits h =
-    rw (flat_map-append written_element (uid_element (class_element r.operation) r.sop_class) _)
-    (rw (flat_map-append written_element (optional_us_element 0x0700 (priority_of r.operation)) _)
+    rw (flat_map-append written_command_element (uid_element (class_element r.operation) r.sop_class) _)
+    (rw (flat_map-append written_command_element (optional_us_element 0x0700 (priority_of r.operation)) _)
     (omega (arith, fits, uid_size (class_element r.operation) r.sop_class h.sop_class, optional_us_size 0x0700 (priority_of r.operation), operation_size r.operation h.operation, length-append {A = ℕ})))
 command_short (Response r) fits h =
-    rw (flat_map-append written_element (uid_element 0x0002 r.sop_class) _)
+    rw (flat_map-append written_command_element (uid_element 0x0002 r.sop_class) _)
     (omega (arith, uid_size 0x0002 r.sop_class h.sop_class, result_size r.result h.operation, length-append {A = ℕ}))
 command_short (Cancel c) fits h = omega arith

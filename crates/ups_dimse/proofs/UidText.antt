@@ -6,7 +6,7 @@ use Rattle.std.proofs.lemmas.List.{length-append}
 use Rattle.ups_pdu.specs.Identifier.{IsUid, SpellsUid, is_digit, is_dot, is_component}
 use Rattle.ups_pdu.specs.Padding.{is_nil, is_padding, without_padding}
 use Rattle.ups_pdu.proofs.Trailing.{padding_goes}
-use Rattle.ups_dimse.specs.Written.{padded}
+use Rattle.ups_dimse.specs.Written.{padded_uid}
 
 both : (a b : Bool) → (a && b) ≡ true → (a ≡ true) × (b ≡ true)
 both true true e = (refl, refl)
@@ -60,11 +60,11 @@ padded_by uid false e n =
     let odd : length uid % 2 ≡ 1 = grind (arith, nat_tests) in
     (padding_goes (uid ++ 0 ∷ []) uid 0 refl refl ∙ n, omega (arith, odd, length-append uid (0 ∷ [])), omega (arith, length-append uid (0 ∷ [])))
 
-pub padded_even : (uid : List ℕ) → IsUid uid → length (padded uid) % 2 ≡ 0
+pub padded_even : (uid : List ℕ) → IsUid uid → length (padded_uid uid) % 2 ≡ 0
 padded_even uid h = (padded_by uid (eqb (length uid % 2) 0) refl (without_padding-uid uid h)).1
 
-pub padded_short : (uid : List ℕ) → IsUid uid → length (padded uid) ≤ 65
+pub padded_short : (uid : List ℕ) → IsUid uid → length (padded_uid uid) ≤ 65
 padded_short uid h = omega (arith, h.short, (padded_by uid (eqb (length uid % 2) 0) refl (without_padding-uid uid h)).2)
 
-pub padded_spells : (uid : List ℕ) → IsUid uid → SpellsUid (padded uid) uid
+pub padded_spells : (uid : List ℕ) → IsUid uid → SpellsUid (padded_uid uid) uid
 padded_spells uid h = record { is_uid = h; parts = sym (padded_by uid (eqb (length uid % 2) 0) refl (without_padding-uid uid h)).0 }

@@ -13,7 +13,7 @@ use Rattle.ups_dimse.specs.Elements.{CommandElement, command_tag}
 use Rattle.ups_dimse.specs.Messages.{field_of, needs}
 use Rattle.ups_dimse.specs.Commands.{request_of, response_of, result_of}
 use Rattle.ups_dimse.specs.Faults.{FirstFails}
-use Rattle.ups_dimse.specs.Written.{us_element, command_elements, written}
+use Rattle.ups_dimse.specs.Written.{us_element, command_elements, written_command}
 
 abbrev element : ℕ → List ℕ → CommandElement
 element number value = record { number = number; value = value }
@@ -60,7 +60,7 @@ action_request : command_elements (request_for 4 (operations.Action (Some step) 
 action_request = refl
 
 -- and so has its response (PS3.7 section 10.3.4.2)
-action_response : command_elements (answer_with 4 0xc302 (results.Action (Some step) 0x0103))
+action_response : command_elements (answer_with 4 0xC302 (results.Action (Some step) 0x0103))
     ≡ element 0x0002 (codes "1.2" ++ 0x00 ∷ []) ∷ element 0x0100 (0x30 ∷ 0x81 ∷ []) ∷ element 0x0120 (0x04 ∷ 0x00 ∷ []) ∷ element 0x0800 (0x01 ∷ 0x01 ∷ []) ∷ element 0x0900 (0x02 ∷ 0xc3 ∷ []) ∷ element 0x1000 padded_step ∷ element 0x1008 (0x03 ∷ 0x01 ∷ []) ∷ []
 action_response = refl
 
@@ -80,7 +80,7 @@ event_report_response_bare : command_elements (answer_with 1 0x0000 (results.Eve
 event_report_response_bare = refl
 
 -- an N-ACTION without a class and an instance, in bytes
-bare_action : written {A = Unit {0}} (Request (record { sop_class = None; message_id = 4; has_data_set = false; operation = operations.Action None 5 }))
+bare_action : written_command {A = Unit {0}} (Request (record { sop_class = None; message_id = 4; has_data_set = false; operation = operations.Action None 5 }))
     ≡ (0x00 ∷ 0x00 ∷ 0x00 ∷ 0x00 ∷ 0x04 ∷ 0x00 ∷ 0x00 ∷ 0x00 ∷ 0x28 ∷ 0x00 ∷ 0x00 ∷ 0x00 ∷ [])
     ++ ((0x00 ∷ 0x00 ∷ 0x00 ∷ 0x01 ∷ 0x02 ∷ 0x00 ∷ 0x00 ∷ 0x00 ∷ 0x30 ∷ 0x01 ∷ [])
     ++ ((0x00 ∷ 0x00 ∷ 0x10 ∷ 0x01 ∷ 0x02 ∷ 0x00 ∷ 0x00 ∷ 0x00 ∷ 0x04 ∷ 0x00 ∷ [])
@@ -124,7 +124,7 @@ find_response : command_elements (answer_with 5 0x0000 results.Find)
 find_response = refl
 
 -- a C-CANCEL, in bytes (PS3.7 section 9.3.2.3)
-cancel : written {A = Unit {0}} (Cancel (record { responded_to = 5; has_data_set = false }))
+cancel : written_command {A = Unit {0}} (Cancel (record { responded_to = 5; has_data_set = false }))
     ≡ (0x00 ∷ 0x00 ∷ 0x00 ∷ 0x00 ∷ 0x04 ∷ 0x00 ∷ 0x00 ∷ 0x00 ∷ 0x1e ∷ 0x00 ∷ 0x00 ∷ 0x00 ∷ [])
     ++ ((0x00 ∷ 0x00 ∷ 0x00 ∷ 0x01 ∷ 0x02 ∷ 0x00 ∷ 0x00 ∷ 0x00 ∷ 0xff ∷ 0x0f ∷ [])
     ++ ((0x00 ∷ 0x00 ∷ 0x20 ∷ 0x01 ∷ 0x02 ∷ 0x00 ∷ 0x00 ∷ 0x00 ∷ 0x05 ∷ 0x00 ∷ [])

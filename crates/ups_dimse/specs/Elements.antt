@@ -16,7 +16,7 @@ command_tag number = record { group = 0; element = number }
 
 -- The bytes begin with an element in Implicit VR Little Endian (PS3.5 section 7.1.3): its tag, the length of its
 -- value, which is even and defined, and its value. The rest follows.
-pub record IsElement (bytes : List ℕ) (element : CommandElement) (rest : List ℕ) : Type 0 where
+pub record IsCommandElement (bytes : List ℕ) (element : CommandElement) (rest : List ℕ) : Type 0 where
   pub in_group : element.number < 2 ^ 16
   pub defined : length element.value < undefined_length
   pub even : length element.value % 2 ≡ 0
@@ -25,7 +25,7 @@ pub record IsElement (bytes : List ℕ) (element : CommandElement) (rest : List 
 -- The bytes begin with these elements, whose numbers rise and are at least from (PS3.5 section 7.1). The rest follows.
 abbrev pub SpellsElements : ℕ → List ℕ → List CommandElement → List ℕ → Type 0
 SpellsElements from bytes [] rest = bytes ≡ rest
-SpellsElements from bytes (e ∷ es) rest = (next : List ℕ) × IsElement bytes e next × (from ≤ e.number) × SpellsElements (e.number + 1) next es rest
+SpellsElements from bytes (e ∷ es) rest = (next : List ℕ) × IsCommandElement bytes e next × (from ≤ e.number) × SpellsElements (e.number + 1) next es rest
 
 -- the bytes are elements, and nothing else
 abbrev pub AreElements : ℕ → List ℕ → Type 0

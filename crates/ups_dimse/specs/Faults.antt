@@ -11,10 +11,10 @@ use Rattle.ups_dimse.specs.Values.{HasUs, UsFails, MayHaveUs, PresentUsFails, Ha
 use Rattle.ups_dimse.specs.Commands.{SpellsCommand}
 
 -- an element is as the message needs it
-abbrev pub Holds : List CommandElement → Need → Type 0
-Holds elements (has_us number) = (value : ℕ) × HasUs elements number value
-Holds elements (may_have_us number) = (value : Option ℕ) × MayHaveUs elements number value
-Holds elements (may_have_at number) = (tags : List Tag) × HasTags elements number tags
+abbrev pub MeetsNeed : List CommandElement → Need → Type 0
+MeetsNeed elements (has_us number) = (value : ℕ) × HasUs elements number value
+MeetsNeed elements (may_have_us number) = (value : Option ℕ) × MayHaveUs elements number value
+MeetsNeed elements (may_have_at number) = (tags : List Tag) × HasTags elements number tags
 
 -- an element is not as the message needs it, with this fault
 abbrev pub Fails : List CommandElement → Need → DimseFault → Type 0
@@ -25,23 +25,23 @@ Fails elements (may_have_at number) fault = TagsFail elements number fault
 -- one of the elements fails, and those before it hold
 abbrev pub FirstFails : List CommandElement → List Need → DimseFault → Type 0
 FirstFails elements [] fault = ⊥
-FirstFails elements (need ∷ more) fault = Fails elements need fault ⊎ (Holds elements need × FirstFails elements more fault)
+FirstFails elements (need ∷ more) fault = Fails elements need fault ⊎ (MeetsNeed elements need × FirstFails elements more fault)
 
 -- The elements are those of no command: Command Field (0000,0100) fails; or it is that of no message; or an element
 -- of its message fails.
-abbrev pub ElementsFail : List CommandElement → DimseFault → Type 0
-ElementsFail elements fault = UsFails elements 0x0100 fault
+abbrev pub CommandElementsFail : List CommandElement → DimseFault → Type 0
+CommandElementsFail elements fault = UsFails elements 0x0100 fault
     ⊎ (((field : ℕ) × HasUs elements 0x0100 field × ((message : Message) → field_of message ≡ field → ⊥) × (fault ≡ UnknownField))
     ⊎ ((message : Message) × HasUs elements 0x0100 (field_of message) × FirstFails elements (needs message) fault))
 
 -- Why no command was read: memory ran out, and the bytes do spell a command; or the bytes are no elements, which is
 -- BadValue of (0000,0000); or their elements are those of no command.
-abbrev pub IsFault : (A : Type 0) → List ℕ → DimseFault → Type 0
-IsFault A bytes fault = ((fault ≡ Memory) × (command : Command A) × SpellsCommand bytes command)
+abbrev pub IsCommandFault : (A : Type 0) → List ℕ → DimseFault → Type 0
+IsCommandFault A bytes fault = ((fault ≡ Memory) × (command : Command A) × SpellsCommand bytes command)
     ⊎ (((AreElements 0 bytes → ⊥) × (fault ≡ BadValue (command_tag 0x0000)))
-    ⊎ ((elements : List CommandElement) × SpellsElements 0 bytes elements [] × ElementsFail elements fault))
+    ⊎ ((elements : List CommandElement) × SpellsElements 0 bytes elements [] × CommandElementsFail elements fault))
 
 -- What a reader of a part answers: the part; or lack of memory, where the part is there; or a fault.
-abbrev pub Gives : {X : Type 0} → (X → Type 0) → (DimseFault → Type 0) → Result X DimseFault → Type 0
-Gives Spelled Fault (Ok x) = Spelled x
-Gives {X} Spelled Fault (Err fault) = ((fault ≡ Memory) × (x : X) × Spelled x) ⊎ Fault fault
+abbrev pub ReadsOrFails : {X : Type 0} → (X → Type 0) → (DimseFault → Type 0) → Result X DimseFault → Type 0
+ReadsOrFails Spelled Fault (Ok x) = Spelled x
+ReadsOrFails {X} Spelled Fault (Err fault) = ((fault ≡ Memory) × (x : X) × Spelled x) ⊎ Fault fault

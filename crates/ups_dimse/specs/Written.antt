@@ -20,8 +20,8 @@ use Rattle.ups_dimse.specs.Messages.{field_of}
 use Rattle.ups_dimse.specs.Commands.{request_of, response_of, class_element}
 
 -- an element's tag, the length of its value, and its value (PS3.5 section 7.1.3)
-abbrev pub written_element : CommandElement → List ℕ
-written_element e = tag_bytes (command_tag e.number) ++ (to_le_bytes w32 (length e.value) ++ e.value)
+abbrev pub written_command_element : CommandElement → List ℕ
+written_command_element e = tag_bytes (command_tag e.number) ++ (to_le_bytes w32 (length e.value) ++ e.value)
 
 -- a number in two bytes (PS3.5 section 6.2)
 abbrev pub us_element : ℕ → ℕ → CommandElement
@@ -33,13 +33,13 @@ optional_us_element number None = []
 optional_us_element number (Some value) = us_element number value ∷ []
 
 -- a UID of odd length has one NUL behind it (PS3.5 section 9.1)
-abbrev pub padded : List ℕ → List ℕ
-padded uid = if length uid % 2 == 0 then uid else uid ++ 0 ∷ []
+abbrev pub padded_uid : List ℕ → List ℕ
+padded_uid uid = if length uid % 2 == 0 then uid else uid ++ 0 ∷ []
 
 -- a UID that is absent has no element
 abbrev pub uid_element : ℕ → Option (List ℕ) → List CommandElement
 uid_element number None = []
-uid_element number (Some uid) = record { number = number; value = padded uid } ∷ []
+uid_element number (Some uid) = record { number = number; value = padded_uid uid } ∷ []
 
 -- a list without tags has no element
 abbrev pub tags_element : ℕ → List Tag → List CommandElement
@@ -102,11 +102,11 @@ command_elements (Cancel cancel) = cancel_elements cancel
 
 -- elements, with the length of them all before them (PS3.7 section 6.3.1)
 abbrev pub grouped : List CommandElement → List CommandElement
-grouped elements = record { number = 0x0000; value = to_le_bytes w32 (length (flat_map written_element elements)) } ∷ elements
+grouped elements = record { number = 0x0000; value = to_le_bytes w32 (length (flat_map written_command_element elements)) } ∷ elements
 
 -- the bytes of a command set
-abbrev pub written : {A : Type 0} → Command A → List ℕ
-written command = flat_map written_element (grouped (command_elements command))
+abbrev pub written_command : {A : Type 0} → Command A → List ℕ
+written_command command = flat_map written_command_element (grouped (command_elements command))
 
 -- the attributes that a request lists
 abbrev pub tags_of : {A : Type 0} → Operation A → List Tag
@@ -119,7 +119,7 @@ tags_of operations.Echo = []
 tags_of (operations.Find priority) = []
 
 -- The length of the elements fits the four bytes of Command Group Length.
-abbrev pub Fits : {A : Type 0} → Command A → Type 0
-Fits (Request request) = length (tags_of request.operation) ≤ max_attributes
-Fits (Response response) = Unit {0}
-Fits (Cancel cancel) = Unit {0}
+abbrev pub FitsCommand : {A : Type 0} → Command A → Type 0
+FitsCommand (Request request) = length (tags_of request.operation) ≤ max_attributes
+FitsCommand (Response response) = Unit {0}
+FitsCommand (Cancel cancel) = Unit {0}

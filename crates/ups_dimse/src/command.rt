@@ -138,12 +138,12 @@ pub struct CancelCommand {
 
 impl<A: Allocator + Copy> Command<A> {
     ghost use Rattle.std.specs.Prelude.{◌↔◌, IsTrue};
-    ghost use Rattle.ups_dimse.specs.Written.{Fits};
+    ghost use Rattle.ups_dimse.specs.Written.{FitsCommand};
 
     /// Whether the length of its elements fits Command Group Length (0000,0000), which every command does but a request
     /// for about 2^30 attributes.
     pub fn fits(&self) -> bool
-        ensures { IsTrue result ↔ Fits self.now }
+        ensures { IsTrue result ↔ FitsCommand self.now }
     {
         match self {
             Command::Request(request) => request.operation.attributes() <= MAX_ATTRIBUTES,

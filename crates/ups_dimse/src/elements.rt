@@ -4,8 +4,8 @@
 ghost use Rattle.std.specs.Prelude.{◌≡◌, ◌↔◌, ◌%◌, ℕ, List, [], None, Some, length, IsTrue, IfOk, MatchOption, MatchResult};
 ghost use Rattle.ups_pdu.specs.Each.{Each};
 ghost use Rattle.ups_dataset.specs.declared.tag.Tag.{Tag};
-ghost use Rattle.ups_dimse.specs.Elements.{CommandElement, IsElement, SpellsElements, AreElements, value_in};
-ghost use Rattle.ups_dimse.specs.Faults.{Gives};
+ghost use Rattle.ups_dimse.specs.Elements.{CommandElement, IsCommandElement, SpellsElements, AreElements, value_in};
+ghost use Rattle.ups_dimse.specs.Faults.{ReadsOrFails};
 ghost use Rattle.ups_dimse.specs.Values.{HasUs, UsFails, MayHaveUs, PresentUsFails, HasUid, HasDataSet, IsTagAt, HasTags, TagsFail};
 
 use crate::fault::DimseFault;
@@ -18,8 +18,8 @@ use ups_pdu::{Uid, le_u16_at, le_u32_at};
 /// The number and the value of the element at the front, and the rest.
 fn element_at(bytes: &[u8]) -> Option<(u16, &[u8], &[u8])>
     ensures { MatchOption result
-        ((element : CommandElement) → (rest : List ℕ) → IsElement bytes.now element rest → ⊥)
-        (λ x. IsElement bytes.now (record { number = x.0; value = x.1.now }) x.2.now) }
+        ((element : CommandElement) → (rest : List ℕ) → IsCommandElement bytes.now element rest → ⊥)
+        (λ x. IsCommandElement bytes.now (record { number = x.0; value = x.1.now }) x.2.now) }
 {
     let (tag, after) = Tag::at(bytes)?;
     let (len, rest) = le_u32_at(after)?;
@@ -121,7 +121,7 @@ pub(crate) fn tags_of<A: Allocator + Copy>(
     bytes: &[u8],
     number: u16,
 ) -> Result<Tags<A>, DimseFault>
-    ensures { (elements : List CommandElement) → SpellsElements 0 bytes.now elements [] → Gives (HasTags elements number) (TagsFail elements number) result }
+    ensures { (elements : List CommandElement) → SpellsElements 0 bytes.now elements [] → ReadsOrFails (HasTags elements number) (TagsFail elements number) result }
 {
     let Some(value) = value_of(bytes, number) else {
         return Ok(Tags::new(alloc));

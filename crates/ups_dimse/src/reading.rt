@@ -8,7 +8,7 @@ ghost use Rattle.ups_dimse.specs.Elements.{CommandElement, SpellsElements};
 ghost use Rattle.ups_dimse.specs.Messages.{field_of, needs};
 ghost use Rattle.ups_dimse.specs.Values.{HasUs};
 ghost use Rattle.ups_dimse.specs.Commands.{HasOperation, HasResult, IsRequest, IsResponse, IsCancel, IsCommand, SpellsCommand, request_of, response_of};
-ghost use Rattle.ups_dimse.specs.Faults.{FirstFails, Gives, IsFault};
+ghost use Rattle.ups_dimse.specs.Faults.{FirstFails, ReadsOrFails, IsCommandFault};
 ghost use Rattle.ups_dimse.specs.declared.message.Message.TheVariants.{EventReportRequest, EventReportResponse, GetRequest, ActionRequest, ActionResponse, FindRequest, CancelRequest};
 
 use crate::command::{
@@ -43,7 +43,7 @@ fn event_report_request<A: Allocator + Copy>(bytes: &[u8]) -> Result<RequestComm
 /// N-GET-RQ (PS3.7 section 10.3.2.1).
 fn get_request<A: Allocator + Copy>(alloc: A, bytes: &[u8]) -> Result<RequestCommand<A>, DimseFault>
     ensures { (elements : List CommandElement) → SpellsElements 0 bytes.now elements [] → HasUs elements 0x0100 (field_of GetRequest)
-        → Gives (IsRequest elements) (FirstFails elements (needs GetRequest)) result }
+        → ReadsOrFails (IsRequest elements) (FirstFails elements (needs GetRequest)) result }
 {
     Ok(RequestCommand {
         sop_class: uid_of(bytes, REQUESTED_CLASS),
@@ -169,7 +169,7 @@ fn command_of<A: Allocator + Copy>(
     message: Message,
 ) -> Result<Command<A>, DimseFault>
     ensures { (elements : List CommandElement) → SpellsElements 0 bytes.now elements [] → HasUs elements 0x0100 (field_of message)
-        → Gives (IsCommand elements) (FirstFails elements (needs message)) result }
+        → ReadsOrFails (IsCommand elements) (FirstFails elements (needs message)) result }
 {
     match message {
         Message::EventReportRequest => Ok(Command::Request(event_report_request(bytes)?)),
@@ -226,7 +226,7 @@ pub fn read_command<A: Allocator + Copy>(alloc: A, bytes: &[u8]) -> Result<Comma
     // What is spelled is read, unless memory runs out.
     ensures only { (command : Command A) → SpellsCommand bytes.now command → MatchResult result (λ c. c ≡ command) (λ e. e ≡ Memory) }
     // A fault is the first one.
-    ensures fault { IfErr result (IsFault A bytes.now) }
+    ensures fault { IfErr result (IsCommandFault A bytes.now) }
 {
     if !are_elements(bytes) {
         return Err(DimseFault::BadValue(command_tag(GROUP_LENGTH)));
@@ -246,5 +246,5 @@ pub fn command_is_unique<A: Allocator + Copy>()
 /// Bytes have one first fault at most, and none where they spell a command, but that memory may run out. It does
 /// nothing: its contract is that law.
 pub fn fault_is_unique<A: Allocator + Copy>()
-    ensures { (bytes : List ℕ) → (f : DimseFault) → (g : DimseFault) → IsFault A bytes f → IsFault A bytes g → f ≡ g }
+    ensures { (bytes : List ℕ) → (f : DimseFault) → (g : DimseFault) → IsCommandFault A bytes f → IsCommandFault A bytes g → f ≡ g }
 {}

@@ -7,7 +7,7 @@ ghost use Rattle.ups_pdu.specs.Identifier.{IsUid};
 ghost use Rattle.ups_dataset.specs.Tag.{tag_bytes};
 ghost use Rattle.ups_dimse.specs.Elements.{command_tag};
 ghost use Rattle.ups_dimse.specs.Commands.{SpellsCommand};
-ghost use Rattle.ups_dimse.specs.Written.{written, written_element, us_element, optional_us_element, uid_element, tags_element, data_set_element, operation_elements, result_elements, request_elements, response_elements, cancel_elements, command_elements, tags_of, Fits};
+ghost use Rattle.ups_dimse.specs.Written.{written_command, written_command_element, us_element, optional_us_element, uid_element, tags_element, data_set_element, operation_elements, result_elements, request_elements, response_elements, cancel_elements, command_elements, tags_of, FitsCommand};
 ghost use Rattle.ups_dimse.specs.Held.{IsHeldTag, AreHeldTags, IsHeldOperation, IsHeldResult, IsHeldRequest, IsHeldResponse, IsHeldCancel, IsHeld};
 
 use crate::command::{
@@ -42,7 +42,7 @@ fn put_us<A: Allocator + Copy>(
     number: u16,
     value: u16,
 ) -> Result<(), AllocError>
-    ensures wrote { OnOk result (out.new.items ≡ out.old.items ++ written_element (us_element number value)) }
+    ensures wrote { OnOk result (out.new.items ≡ out.old.items ++ written_command_element (us_element number value)) }
     ensures held { value < 2 ^ 16 }
 {
     put_header(out, number, 2)?;
@@ -56,7 +56,7 @@ fn put_optional_us<A: Allocator + Copy>(
     number: u16,
     value: Option<u16>,
 ) -> Result<(), AllocError>
-    ensures wrote { OnOk result (out.new.items ≡ out.old.items ++ flat_map written_element (optional_us_element number value)) }
+    ensures wrote { OnOk result (out.new.items ≡ out.old.items ++ flat_map written_command_element (optional_us_element number value)) }
     ensures held { IfSome value (λ v. v < 2 ^ 16) }
 {
     match value {
@@ -70,7 +70,7 @@ fn put_data_set<A: Allocator + Copy>(
     out: &mut Vec<u8, A>,
     has_data_set: bool,
 ) -> Result<(), AllocError>
-    ensures { OnOk result (out.new.items ≡ out.old.items ++ written_element (data_set_element has_data_set)) }
+    ensures { OnOk result (out.new.items ≡ out.old.items ++ written_command_element (data_set_element has_data_set)) }
 {
     let value = if has_data_set { 0x0001 } else { 0x0101 };
     put_us(out, DATA_SET_TYPE, value)
@@ -82,7 +82,7 @@ fn put_uid<A: Allocator + Copy>(
     number: u16,
     uid: Option<Uid>,
 ) -> Result<(), AllocError>
-    ensures wrote { OnOk result (out.new.items ≡ out.old.items ++ flat_map written_element (uid_element number uid)) }
+    ensures wrote { OnOk result (out.new.items ≡ out.old.items ++ flat_map written_command_element (uid_element number uid)) }
     ensures held { OnOk result (IfSome uid IsUid) }
 {
     let Some(uid) = uid else {
@@ -113,7 +113,7 @@ fn put_tags<A: Allocator + Copy>(
     tags: &[Tag],
 ) -> Result<(), AllocError>
     requires { 4 * length tags.now < 2 ^ 32 }
-    ensures wrote { OnOk result (out.new.items ≡ out.old.items ++ flat_map written_element (tags_element number tags.now)) }
+    ensures wrote { OnOk result (out.new.items ≡ out.old.items ++ flat_map written_command_element (tags_element number tags.now)) }
     ensures held { OnOk result (AreHeldTags tags.now) }
 {
     if tags.is_empty() {
@@ -132,7 +132,7 @@ fn put_operation<A: Allocator + Copy>(
     operation: &Operation<A>,
 ) -> Result<(), AllocError>
     requires { 4 * length (tags_of operation.now) < 2 ^ 32 }
-    ensures wrote { OnOk result (out.new.items ≡ out.old.items ++ flat_map written_element (operation_elements operation.now)) }
+    ensures wrote { OnOk result (out.new.items ≡ out.old.items ++ flat_map written_command_element (operation_elements operation.now)) }
     ensures held { OnOk result (IsHeldOperation operation.now) }
 {
     match operation {
@@ -164,7 +164,7 @@ fn put_request<A: Allocator + Copy>(
     request: &RequestCommand<A>,
 ) -> Result<(), AllocError>
     requires { 4 * length (tags_of request.now.operation) < 2 ^ 32 }
-    ensures wrote { OnOk result (out.new.items ≡ out.old.items ++ flat_map written_element (request_elements request.now)) }
+    ensures wrote { OnOk result (out.new.items ≡ out.old.items ++ flat_map written_command_element (request_elements request.now)) }
     ensures held { OnOk result (IsHeldRequest request.now) }
 {
     let operation = &request.operation;
@@ -182,7 +182,7 @@ fn put_result<A: Allocator + Copy>(
     out: &mut Vec<u8, A>,
     outcome: &OperationResult,
 ) -> Result<(), AllocError>
-    ensures wrote { OnOk result (out.new.items ≡ out.old.items ++ flat_map written_element (result_elements outcome.now)) }
+    ensures wrote { OnOk result (out.new.items ≡ out.old.items ++ flat_map written_command_element (result_elements outcome.now)) }
     ensures held { OnOk result (IsHeldResult outcome.now) }
 {
     match outcome {
@@ -207,7 +207,7 @@ fn put_response<A: Allocator + Copy>(
     out: &mut Vec<u8, A>,
     response: &ResponseCommand,
 ) -> Result<(), AllocError>
-    ensures wrote { OnOk result (out.new.items ≡ out.old.items ++ flat_map written_element (response_elements response.now)) }
+    ensures wrote { OnOk result (out.new.items ≡ out.old.items ++ flat_map written_command_element (response_elements response.now)) }
     ensures held { OnOk result (IsHeldResponse response.now) }
 {
     put_uid(out, AFFECTED_CLASS, response.sop_class)?;
@@ -224,7 +224,7 @@ fn put_cancel<A: Allocator + Copy>(
     out: &mut Vec<u8, A>,
     cancel: &CancelCommand,
 ) -> Result<(), AllocError>
-    ensures wrote { OnOk result (out.new.items ≡ out.old.items ++ flat_map written_element (cancel_elements cancel.now)) }
+    ensures wrote { OnOk result (out.new.items ≡ out.old.items ++ flat_map written_command_element (cancel_elements cancel.now)) }
     ensures held { OnOk result (IsHeldCancel cancel.now) }
 {
     put_us(out, COMMAND_FIELD, Message::CancelRequest.field())?;
@@ -238,8 +238,8 @@ fn elements_of<A: Allocator + Copy>(
     alloc: A,
     command: &Command<A>,
 ) -> Result<Vec<u8, A>, AllocError>
-    requires { Fits command.now }
-    ensures wrote { IfOk result (λ v. v.items ≡ flat_map written_element (command_elements command.now)) }
+    requires { FitsCommand command.now }
+    ensures wrote { IfOk result (λ v. v.items ≡ flat_map written_command_element (command_elements command.now)) }
     ensures held { OnOk result (IsHeld command.now) }
 {
     let mut out = Vec::new(alloc);
@@ -261,9 +261,9 @@ pub fn write_command<A: Allocator + Copy>(
     alloc: A,
     command: &Command<A>,
 ) -> Result<Vec<u8, A>, AllocError>
-    requires { Fits command.now }
+    requires { FitsCommand command.now }
     // The one spelling is written.
-    ensures written { IfOk result (λ v. v.items ≡ written command.now) }
+    ensures written { IfOk result (λ v. v.items ≡ written_command command.now) }
     // What is written is read again as the same command.
     ensures again { IfOk result (λ v. SpellsCommand v.items command.now) }
 {

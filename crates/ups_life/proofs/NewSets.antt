@@ -15,7 +15,7 @@ use Rattle.ups_dataset.specs.Valid.{IsDataSet, IsElement}
 use Rattle.ups_dataset.proofs.Places.{filtered, put_set}
 use Rattle.ups_life.specs.Values.{uid_value}
 use Rattle.ups_life.specs.Instances.{IsStepUid}
-use Rattle.ups_life.specs.Steps.{class_element, instance_element, without_transaction, new_row}
+use Rattle.ups_life.specs.Steps.{sop_class_element, instance_element, without_transaction, new_row}
 
 ui_is_no_sequence : Ui ≡ Sq → ⊥
 ui_is_no_sequence e = absurd cc
@@ -41,6 +41,6 @@ uid_element tag text short no_mark no_group_length = record {
 
 pub new_set : (step : List ℕ) (set : List El) → IsStepUid step → IsDataSet set → IsDataSet (new_row step set)
 new_set step set is h =
-    put_set class_element 0 (put (instance_element step) (without_transaction set)) (omega arith) (record { group = lit< tt; element = lit< tt }) (uid_element SOP_CLASS_UID (text_of UpsPush) (lit≤ tt) refl refl) tt
+    put_set sop_class_element 0 (put (instance_element step) (without_transaction set)) (omega arith) (record { group = lit< tt; element = lit< tt }) (uid_element SOP_CLASS_UID (text_of UpsPush) (lit≤ tt) refl refl) tt
     (put_set (instance_element step) 0 (without_transaction set) (omega arith) (record { group = lit< tt; element = lit< tt }) (uid_element SOP_INSTANCE_UID step is.is_uid.short refl refl) tt
     (filtered (λ e. not (is_tag e.tag TRANSACTION_UID)) 0 set h))

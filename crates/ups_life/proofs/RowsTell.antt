@@ -28,7 +28,7 @@ use Rattle.ups_life.specs.Values.{READINESS_STATES, says, is_text, is_blank, all
 use Rattle.ups_life.specs.CheckedAttributes.{checked_attributes}
 use Rattle.ups_life.specs.Instances.{IsStepUid}
 use Rattle.ups_life.specs.Verdict.{create_status, update_status, gives_fixed, set_attributes_status}
-use Rattle.ups_life.specs.Steps.{is_on, used, state, state_then, class_element, instance_element, without_transaction, new_row, state_element, progress_element, given, row, row_of}
+use Rattle.ups_life.specs.Steps.{is_on, used, state, state_then, sop_class_element, instance_element, without_transaction, new_row, state_element, progress_element, given, row, row_of}
 use Rattle.ups_life.specs.Watching.{is_due, held, held_after, is_held}
 use Rattle.ups_life.specs.History.{legal}
 use Rattle.ups_life.specs.Telling.{says_one_of, TellsStep, IsWellFormed, AreWellFormed}
@@ -106,10 +106,10 @@ either_way false text = nul_is_padding text
 says_itself : (step u : List ℕ) → IsStepUid step → bytes_eq step u ≡ true → says u (Some (instance_element step)) ≡ true
 says_itself step u is same = ap (λ (l : List ℕ). bytes_eq l u) (either_way ((length step % 2) == 0) step ∙ sym (spells_itself step is.is_uid).parts) ∙ same
 
-new_at : (t : Tag) (step : List ℕ) (set : List El) → element_at t (new_row step set) ≡ (if is_tag SOP_CLASS_UID t then Some class_element else (if is_tag SOP_INSTANCE_UID t then Some (instance_element step) else element_at t (without_transaction set)))
+new_at : (t : Tag) (step : List ℕ) (set : List El) → element_at t (new_row step set) ≡ (if is_tag SOP_CLASS_UID t then Some sop_class_element else (if is_tag SOP_INSTANCE_UID t then Some (instance_element step) else element_at t (without_transaction set)))
 new_at t step set =
-    element_at-put t class_element (put (instance_element step) (without_transaction set))
-    ∙ ap (λ o. if is_tag SOP_CLASS_UID t then Some class_element else o) (element_at-put t (instance_element step) (without_transaction set))
+    element_at-put t sop_class_element (put (instance_element step) (without_transaction set))
+    ∙ ap (λ o. if is_tag SOP_CLASS_UID t then Some sop_class_element else o) (element_at-put t (instance_element step) (without_transaction set))
 
 -- what is accepted of a new step
 created : (used scheduled blank : Bool) (checks : Status) → (if used then DuplicateSopInstance else (if scheduled then (if blank then checks else InvalidAttributeValue) else NotScheduled)) ≡ Success → (scheduled ≡ true) × (checks ≡ Success)

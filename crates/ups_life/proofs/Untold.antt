@@ -12,7 +12,7 @@ use Rattle.ups_life.specs.declared.request.Request.TheVariants.{Create, Change, 
 use Rattle.ups_life.specs.declared.state.StepState.{StepState}
 use Rattle.ups_life.specs.declared.state.StepState.TheVariants.{Scheduled, InProgress, Completed, Canceled}
 use Rattle.ups_life.specs.Settings.{Settings}
-use Rattle.ups_life.specs.Steps.{is_on, state, class_element, instance_element, without_transaction, state_element, progress_element, cancel_gives, given, gives, row}
+use Rattle.ups_life.specs.Steps.{is_on, state, sop_class_element, instance_element, without_transaction, state_element, progress_element, cancel_gives, given, gives, row}
 
 -- the set has no Transaction UID
 abbrev Lacks : List El → Type 0
@@ -48,7 +48,7 @@ cancel_lacks Canceled offset moment reasons = refl
 
 given_lacks : {A : Type 0} (offset : ℤ) (moment : ℕ) (before : StepState) (request : Request A) → Lacks (given offset moment before request)
 given_lacks offset moment before (Create step attributes) =
-    put_lacks class_element (put (instance_element step) (without_transaction attributes)) refl
+    put_lacks sop_class_element (put (instance_element step) (without_transaction attributes)) refl
     (put_lacks (instance_element step) (without_transaction attributes) refl (without_lacks attributes))
 given_lacks offset moment before (Change step to transaction) = refl
 given_lacks offset moment before (AskCancel step reasons) = cancel_lacks before offset moment reasons

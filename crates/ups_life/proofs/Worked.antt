@@ -25,7 +25,7 @@ use Rattle.ups_life.specs.Asking.{asked}
 use Rattle.ups_match.specs.Moments.{moment, day_number, days_of_month, field, is_date, is_time, date_number, second_of_day, microsecond_of, offset_of, signed_offset, stamp, begun, date_stamp, time_stamp, offset_stamp, year_on, month_on}
 use Rattle.ups_life.specs.Steps.{cancellation, row, holder, state, final_at}
 use Rattle.ups_life.specs.Watching.{held}
-use Rattle.ups_life.specs.History.{reply, entered, got}
+use Rattle.ups_life.specs.History.{reply, entered_by, got}
 
 abbrev site : Settings
 site = record { peers = []; keep = 60; offset = pos 0; limit = 1000000 }
@@ -75,11 +75,11 @@ entry request = record { caller = 0; ae = codes "SCHED1"; moment = 120; request 
 -- the history after some requests, newest first, and the replies to the requests
 abbrev after_all : Settings → List (Entry (Unit {0})) → List Asked → List (Entry (Unit {0}))
 after_all s es [] = es
-after_all s es (r ∷ rs) = after_all s (entered (entry r) (reply s es (entry r)) ++ es) rs
+after_all s es (r ∷ rs) = after_all s (entered_by (entry r) (reply s es (entry r)) ++ es) rs
 
 abbrev replies : Settings → List (Entry (Unit {0})) → List Asked → List (Reply (Unit {0}))
 replies s es [] = []
-replies s es (r ∷ rs) = reply s es (entry r) ∷ replies s (entered (entry r) (reply s es (entry r)) ++ es) rs
+replies s es (r ∷ rs) = reply s es (entry r) ∷ replies s (entered_by (entry r) (reply s es (entry r)) ++ es) rs
 
 -- replies that are statuses
 abbrev answered : List Status → List (Reply (Unit {0}))

@@ -25,7 +25,7 @@ use Rattle.ups_life.specs.declared.watching.Watched.{Watched}
 use Rattle.ups_life.specs.Settings.{Settings}
 use Rattle.ups_life.specs.Steps.{cancellation}
 use Rattle.ups_life.specs.Watching.{watched, held}
-use Rattle.ups_life.specs.History.{reply, entered}
+use Rattle.ups_life.specs.History.{reply, entered_by}
 
 -- two watchers, of which the first may lock
 abbrev pub w1 : List ℕ
@@ -94,11 +94,11 @@ sweep moment = at moment Sweep
 -- the history after some calls, newest first, and their replies
 abbrev pub after_all : Settings → List Call → List Call → List Call
 after_all s es [] = es
-after_all s es (c ∷ cs) = after_all s (entered c (reply s es c) ++ es) cs
+after_all s es (c ∷ cs) = after_all s (entered_by c (reply s es c) ++ es) cs
 
 abbrev pub replies : Settings → List Call → List Call → List (Reply (Unit {0}))
 replies s es [] = []
-replies s es (c ∷ cs) = reply s es c ∷ replies s (entered c (reply s es c) ++ es) cs
+replies s es (c ∷ cs) = reply s es c ∷ replies s (entered_by c (reply s es c) ++ es) cs
 
 abbrev pub done : Reply (Unit {0})
 done = Answered Success

@@ -59,15 +59,15 @@ changed_to step (Some state) transaction = Ok (Do (Change step state transaction
 abbrev pub changed : {A : Type 0} → Option (List ℕ) → List El → Result (Ask A) Status
 changed instance attributes = if is_subscription instance then Err ActionNotAppropriate else changed_to (step_in instance) (named_state (element_at PROCEDURE_STEP_STATE attributes)) (transaction_of (element_at TRANSACTION_UID attributes))
 
-abbrev pub canceled : {A : Type 0} → Option (List ℕ) → List El → Result (Ask A) Status
-canceled instance attributes = if is_subscription instance then Err ActionNotAppropriate else Ok (Do (AskCancel (step_in instance) attributes))
+abbrev pub asked_cancel : {A : Type 0} → Option (List ℕ) → List El → Result (Ask A) Status
+asked_cancel instance attributes = if is_subscription instance then Err ActionNotAppropriate else Ok (Do (AskCancel (step_in instance) attributes))
 
 -- the action types (PS3.4 table CC.2-1): 1 Change UPS State, 2 Request UPS Cancel, 3 Subscribe to Receive UPS Event
 -- Reports, 4 Unsubscribe from Receiving UPS Event Reports, 5 Suspend Global Subscription; there are no others
 abbrev pub acted : {A : Type 0} → ℤ → Option (List ℕ) → ℕ → List El → Result (Ask A) Status
 acted offset instance action attributes =
     if action == 1 then changed instance attributes else (
-    if action == 2 then canceled instance attributes else (
+    if action == 2 then asked_cancel instance attributes else (
     if action == 3 then subscribed offset instance attributes else (
     if action == 4 then unsubscribed instance attributes else (
     if action == 5 then suspended instance attributes else Err NoSuchActionType))))

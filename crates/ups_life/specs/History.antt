@@ -106,8 +106,8 @@ legal s [] = true
 legal s (e ∷ es) = accepts (reply s es e) && legal s es
 
 -- what a call enters: its request, where it was accepted
-abbrev pub entered : {A : Type 0} → Entry A → Reply A → List (Entry A)
-entered e reply = if accepts reply then e ∷ [] else []
+abbrev pub entered_by : {A : Type 0} → Entry A → Reply A → List (Entry A)
+entered_by e reply = if accepts reply then e ∷ [] else []
 
 -- all of these tags have a value in the row
 abbrev pub has_all : List El → List Tag → Bool

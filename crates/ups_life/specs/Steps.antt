@@ -122,8 +122,8 @@ final_at [] u = None
 final_at (e ∷ es) u = if is_on u e.request then option_or (finished (state es u) e.moment e.request) (final_at es u) else final_at es u
 
 -- what tells which step it is, each of the Push class (PS3.4 CC.2.5)
-abbrev pub class_element : El
-class_element = record { tag = SOP_CLASS_UID; vr = Ui; value = bytes (uid_value (text_of UpsPush)) }
+abbrev pub sop_class_element : El
+sop_class_element = record { tag = SOP_CLASS_UID; vr = Ui; value = bytes (uid_value (text_of UpsPush)) }
 
 abbrev pub instance_element : List ℕ → El
 instance_element step = record { tag = SOP_INSTANCE_UID; vr = Ui; value = bytes (uid_value step) }
@@ -134,7 +134,7 @@ without_transaction set = filter (λ e. not (is_tag e.tag TRANSACTION_UID)) set
 
 -- the attributes of a new step: those that were sent, and which step it is
 abbrev pub new_row : List ℕ → List El → List El
-new_row step attributes = put class_element (put (instance_element step) (without_transaction attributes))
+new_row step attributes = put sop_class_element (put (instance_element step) (without_transaction attributes))
 
 abbrev pub state_element : StepState → El
 state_element state = record { tag = PROCEDURE_STEP_STATE; vr = Cs; value = bytes (text_value (state_text state)) }

@@ -6,7 +6,7 @@ ghost use Rattle.ups_dataset.specs.View.{value_view};
 ghost use Rattle.ups_dimse.specs.declared.command.Operation.{Operation};
 ghost use Rattle.ups_match.specs.Matching.{fault_of};
 ghost use Rattle.ups_life.specs.declared.request.Ask.{Ask};
-ghost use Rattle.ups_life.specs.Asking.{transaction_value, transaction_of, named_state, changed, canceled, acted, finds, asked};
+ghost use Rattle.ups_life.specs.Asking.{transaction_value, transaction_of, named_state, changed, asked_cancel, acted, finds, asked};
 ghost use Rattle.ups_life.specs.declared.status.Status.TheVariants.{ResourceLimitation};
 
 use crate::actions::{CHANGE_STATE, REQUEST_CANCEL, SUBSCRIBE, SUSPEND, UNSUBSCRIBE};
@@ -87,7 +87,7 @@ fn canceled<A: Allocator + Copy>(
     instance: &Option<Uid>,
     reasons: DataSet<A>,
 ) -> Result<Ask<A>, Status>
-    ensures { result ≡ canceled instance.now reasons }
+    ensures { result ≡ asked_cancel instance.now reasons }
 {
     if is_subscription(instance) {
         return Err(Status::ActionNotAppropriate);

@@ -1,6 +1,6 @@
 //! What may be asked of the service, and what it answers.
 
-use crate::events::Events;
+use crate::event_reports::EventReports;
 use crate::sets::Sets;
 use crate::state::StepState;
 use crate::status::Status;
@@ -202,6 +202,6 @@ pub enum Reply<A: Allocator + Copy> {
     AckAhead,
     /// The application entity has acknowledged this number, or a greater one, before.
     AckStale,
-    /// Events that are not acknowledged, oldest first.
-    Reports(Events<A>),
+    /// Events that are not acknowledged, with what is told of each, oldest first.
+    Reports(EventReports<A>),
 }

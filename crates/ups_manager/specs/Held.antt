@@ -35,9 +35,9 @@ step_at u [] = None
 step_at u (h ∷ hs) = if bytes_eq h.step u then Some h else step_at u hs
 
 -- how many steps stand before it; all of them where there is none
-abbrev pub place_in : {A : Type 0} → List ℕ → List (HeldStep A) → ℕ
-place_in u [] = 0
-place_in u (h ∷ hs) = if bytes_eq h.step u then 0 else suc (place_in u hs)
+abbrev pub step_place : {A : Type 0} → List ℕ → List (HeldStep A) → ℕ
+step_place u [] = 0
+step_place u (h ∷ hs) = if bytes_eq h.step u then 0 else suc (step_place u hs)
 
 -- a step in the place of the one with its UID, or else behind the others
 abbrev pub put_step : {A : Type 0} → HeldStep A → List (HeldStep A) → List (HeldStep A)

@@ -1,6 +1,6 @@
 -- The law of a service: what it answers by a history, what it enters there, and what others may enter between.
 -- Histories stand here as they are shown, oldest first.
-use Rattle.std.specs.Prelude.{◌≡◌, ◌≢◌, ◌≤◌, ◌+◌, ◌⊎◌, ℕ, Bool, true, List, [], ◌∷◌, ◌++◌, length, take, All}
+use Rattle.std.specs.Prelude.{◌≡◌, ◌≢◌, ◌≤◌, ◌+◌, ◌⊎◌, ℕ, Bool, true, List, [], ◌∷◌, ◌++◌, length, All}
 use Rattle.ups_dataset.specs.declared.syntax.TransferSyntax.TheVariants.{Explicit}
 use Rattle.ups_dataset.specs.Data.{El}
 use Rattle.ups_dataset.specs.Written.{written}
@@ -15,9 +15,9 @@ use Rattle.ups_life.specs.declared.status.Status.TheVariants.{ResourceLimitation
 use Rattle.ups_life.specs.Limits.{row_limit}
 use Rattle.ups_life.specs.Settings.{Settings}
 use Rattle.ups_life.specs.Steps.{past}
-use Rattle.ups_life.specs.History.{legal, is_done, reply, got, entered as entered_by}
-use Rattle.ups_life.specs.Events.{pending}
+use Rattle.ups_life.specs.History.{legal, is_done, reply, got, entered_by}
 use Rattle.ups_life.specs.Worklist.{worklist}
+use Rattle.ups_manager.specs.Reporting.{reports_to}
 
 -- each entry was accepted after those before it
 abbrev pub is_legal : {A : Type 0} → Settings → List (Entry A) → Type 0
@@ -32,7 +32,7 @@ abbrev pub reply_to : {A : Type 0} → Settings → List (Entry A) → ℕ → L
 reply_to settings history caller ae moment (Do request) = reply settings (past history) (entry caller ae moment request)
 reply_to settings history caller ae moment (Get step listed) = got settings (past history) step listed
 reply_to settings history caller ae moment (Find keys) = Found (worklist settings (past history) keys)
-reply_to settings history caller ae moment (Pending max) = Reports (take max (pending settings (past history) ae))
+reply_to settings history caller ae moment (Pending max) = Reports (reports_to settings history max ae)
 
 -- the status that tells that memory ran out (PS3.7 annex C, PS3.4 section C.4.1.1.4)
 abbrev pub lacking : {A : Type 0} → Ask A → Status
@@ -48,7 +48,7 @@ is_granted (Found sets) = true
 is_granted (Swept count) = true
 is_granted AckAhead = true
 is_granted AckStale = true
-is_granted (Reports events) = true
+is_granted (Reports reports) = true
 
 -- the reply that is due; or memory ran out, where a request would have been accepted, or a set shown or found: what is
 -- refused anyway has its own number
@@ -109,4 +109,4 @@ SmallReply (Found sets) = Unit {0}
 SmallReply (Swept count) = Unit {0}
 SmallReply AckAhead = Unit {0}
 SmallReply AckStale = Unit {0}
-SmallReply (Reports events) = Unit {0}
+SmallReply (Reports reports) = Unit {0}

@@ -1,6 +1,6 @@
 //! What the service holds: the history of accepted requests, and the steps.
 
-ghost use Rattle.std.specs.Prelude.{[], ◌≡◌, ◌≤◌, ◌<◌, ◌^◌, ◌+◌, ◌++◌, List, None, Some, length, take, All, IfOk, IfErr, OnOk};
+ghost use Rattle.std.specs.Prelude.{[], ◌≡◌, ◌≤◌, ◌<◌, ◌^◌, ◌+◌, ◌++◌, List, None, Some, length, All, IfOk, IfErr, OnOk};
 ghost use Rattle.std.specs.List.{AllByRecursion};
 ghost use Rattle.std.specs.Option.{unwrap_or};
 ghost use Rattle.ups_dataset.specs.Data.{El};
@@ -13,7 +13,7 @@ ghost use Rattle.ups_life.specs.Settings.{IsMoment, IsOffset};
 ghost use Rattle.ups_life.specs.Steps.{past};
 ghost use Rattle.ups_life.specs.declared.watching.Watched.{Watched};
 ghost use Rattle.ups_life.specs.Watching.{held, watched};
-ghost use Rattle.ups_life.specs.Events.{events, pending, view, present};
+ghost use Rattle.ups_life.specs.Events.{events, view, present};
 ghost use Rattle.ups_life.specs.History.{got};
 ghost use Rattle.ups_life.specs.Worklist.{rows, worklist};
 ghost use Rattle.ups_manager.specs.declared.fault.ManagerFault.TheVariants.{Memory};
@@ -21,10 +21,12 @@ ghost use Rattle.ups_manager.specs.Finding.{IsFind};
 ghost use Rattle.ups_manager.specs.Held.{holder_of};
 ghost use Rattle.ups_manager.specs.Law.{OrLacking, Answers, SmallReply, entered, is_legal};
 ghost use Rattle.ups_manager.specs.Refusal.{refusal};
+ghost use Rattle.ups_manager.specs.Reporting.{reports_to};
 
 use crate::call::Call;
 use crate::deciding::decide;
 use crate::fault::ManagerFault;
+use crate::reporting::reports_of;
 use crate::rows::{HeldStep, find, uids_of};
 use crate::starting::refusal;
 use crate::submitting::make_room;
@@ -212,10 +214,11 @@ impl<A: Allocator + Copy> Manager<A> {
         }
     }
 
-    /// Of the events that a watcher has not acknowledged, the first `max`, oldest first (PS3.4 CC.2.4); none for an
-    /// application entity that is no peer. 0213 where memory runs out. It is slow: it walks the history.
+    /// Of the events that a watcher has not acknowledged, the first `max`, oldest first, each with its Event Information
+    /// (PS3.4 CC.2.4); none for an application entity that is no peer. 0213 where memory runs out. It is slow: it walks
+    /// the history.
     pub fn pending(&self, ae: Ae, max: u64) -> Reply<A>
-        ensures answer { OrLacking ResourceLimitation (Reports (take max (pending self.now.settings (past self.now.history) ae))) result }
+        ensures answer { OrLacking ResourceLimitation (Reports (reports_to self.now.settings self.now.history max ae)) result }
         ensures small { SmallReply result }
         ensures legal { is_legal self.now.settings self.now.history }
     {
@@ -225,8 +228,12 @@ impl<A: Allocator + Copy> Manager<A> {
             history,
             ..
         } = self;
-        match plain_pending(*alloc, configuration, history.as_slice(), ae, max) {
-            Ok(events) => Reply::Reports(events),
+        let entries = history.as_slice();
+        let Ok(events) = plain_pending(*alloc, configuration, entries, ae, max) else {
+            return Reply::Status(Status::ResourceLimitation);
+        };
+        match reports_of(*alloc, entries, events.as_slice()) {
+            Ok(reports) => Reply::Reports(reports),
             Err(_) => Reply::Status(Status::ResourceLimitation),
         }
     }

@@ -2,7 +2,7 @@
 
 ghost use Rattle.std.specs.Prelude.{◌≡◌, ◌<◌, map, IfOk, vec_len, vec_capacity};
 ghost use Rattle.std.specs.Option.{option_copied, option_map};
-ghost use Rattle.ups_manager.specs.Held.{step_at, place_in, put_step};
+ghost use Rattle.ups_manager.specs.Held.{step_at, step_place, put_step};
 
 use std::alloc::{AllocError, Allocator};
 use ups_life::{Holder, Row, StepUid};
@@ -18,7 +18,7 @@ pub(crate) struct HeldStep<A: Allocator + Copy> {
 
 /// How many steps stand before this one; all of them where it is not held.
 fn place_of<A: Allocator + Copy>(steps: &[HeldStep<A>], step: StepUid) -> usize
-    ensures { result ≡ place_in step steps.now }
+    ensures { result ≡ step_place step steps.now }
 {
     for (place, held) in steps.iter().enumerate() {
         if held.step == step {

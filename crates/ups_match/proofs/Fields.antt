@@ -6,7 +6,7 @@ use Rattle.std.proofs.lemmas.Bool.Decides.{nat_tests}
 use Rattle.std.specs.List.{AllPass, prefix_len, take_while}
 use Rattle.std.proofs.lemmas.List.Folds.{length-prefix_len}
 use Rattle.std.proofs.lemmas.List.Sums.{prefix_len_passes}
-use Rattle.ups_match.specs.Moments.{number, field, microsecond_of}
+use Rattle.ups_match.specs.Moments.{decimal_value, field, microsecond_of}
 
 -- the two elements at a place
 take_two : (xs : List ℕ) (place d e : ℕ) → place + 2 ≤ length xs → take 2 (drop place xs) ≡ get_or xs place d ∷ get_or xs (suc place) e ∷ []
@@ -19,7 +19,7 @@ pub field_absent : (digits : List ℕ) (place absent : ℕ) → length digits < 
 unfolding field
 field_absent digits place absent h = grind (arith, nat_tests)
 
-pub field_there : (digits : List ℕ) (place absent d e : ℕ) → place + 2 ≤ length digits → field digits place absent ≡ number (get_or digits place d ∷ get_or digits (place + 1) e ∷ [])
+pub field_there : (digits : List ℕ) (place absent d e : ℕ) → place + 2 ≤ length digits → field digits place absent ≡ decimal_value (get_or digits place d ∷ get_or digits (place + 1) e ∷ [])
 unfolding field
 field_there digits place absent d e h =
     let next : place + 1 ≡ suc place = omega arith in
@@ -28,7 +28,7 @@ field_there digits place absent d e h =
     rw (fits, two, next)
 
 -- a year is a century and a year of it
-pub year_pairs : (digits : List ℕ) → 4 ≤ length digits → number (take 4 digits) ≡ 100 * number (get_or digits 0 48 ∷ get_or digits 1 48 ∷ []) + number (get_or digits 2 48 ∷ get_or digits 3 48 ∷ [])
+pub year_pairs : (digits : List ℕ) → 4 ≤ length digits → decimal_value (take 4 digits) ≡ 100 * decimal_value (get_or digits 0 48 ∷ get_or digits 1 48 ∷ []) + decimal_value (get_or digits 2 48 ∷ get_or digits 3 48 ∷ [])
 year_pairs [] h = omega arith
 year_pairs (a ∷ []) h = omega arith
 year_pairs (a ∷ b ∷ []) h = omega arith
@@ -51,7 +51,7 @@ six (a ∷ b ∷ c ∷ d ∷ []) absent = refl
 six (a ∷ b ∷ c ∷ d ∷ e ∷ []) absent = refl
 six (a ∷ b ∷ c ∷ d ∷ e ∷ f ∷ rest) absent = refl
 
-pub microsecond_pairs : (digits : List ℕ) (upper : Bool) (absent : ℕ) → absent ≡ cond upper 57 48 → microsecond_of (Some digits) upper ≡ (number (get_or digits 0 absent ∷ get_or digits 1 absent ∷ []) * 100 + number (get_or digits 2 absent ∷ get_or digits 3 absent ∷ [])) * 100 + number (get_or digits 4 absent ∷ get_or digits 5 absent ∷ [])
+pub microsecond_pairs : (digits : List ℕ) (upper : Bool) (absent : ℕ) → absent ≡ cond upper 57 48 → microsecond_of (Some digits) upper ≡ (decimal_value (get_or digits 0 absent ∷ get_or digits 1 absent ∷ []) * 100 + decimal_value (get_or digits 2 absent ∷ get_or digits 3 absent ∷ [])) * 100 + decimal_value (get_or digits 4 absent ∷ get_or digits 5 absent ∷ [])
 unfolding microsecond_of
 microsecond_pairs digits upper absent e = rw (← e, six digits absent) (omega arith)
 

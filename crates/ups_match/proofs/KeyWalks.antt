@@ -9,7 +9,7 @@ use Rattle.ups_dataset.specs.Data.{El, Elements, element, item, element_at, elem
 use Rattle.ups_dataset.specs.View.{element_view, value_view}
 use Rattle.ups_match.specs.declared.fault.KeyFault.{KeyFault}
 use Rattle.ups_match.specs.declared.fault.KeyFault.TheVariants.{TwoItems}
-use Rattle.ups_match.specs.Matching.{value_at, universal_items, all_universal, items_fault, keys_fault, key_fault, first_fault, is_universal_key, value_matches, all_match, any_item}
+use Rattle.ups_match.specs.Matching.{value_at, universal_items, all_universal, items_fault, keys_fault, key_fault, first_key_fault, is_universal_key, value_matches, all_match, any_item}
 use Rattle.ups_match.specs.Values.{is_no_key}
 
 -- the elements from one on
@@ -61,7 +61,7 @@ one_universal (x ∷ y ∷ ss) s h is = absurd (omega arith)
 -- the fault of a key is that of the keys from it on
 pub fault_here : {A : Type 0} (offset : ℤ) (es : List (Element A)) (i : ℕ) (e : Element A) (fault : KeyFault) → i < length es → e ≡ get_or es i e → Some fault ≡ (if is_no_key e.tag then None else key_fault offset e.tag (value_view e.value)) → Some fault ≡ keys_fault offset (elements_of (map element_view (drop i es)))
 fault_here offset es i e fault low is h =
-    ap (λ (o : Option KeyFault). first_fault o (keys_fault offset (elements_of (map element_view (drop (i + 1) es))))) h ∙ sym (ap (keys_fault offset) (from_here es i e low is))
+    ap (λ (o : Option KeyFault). first_key_fault o (keys_fault offset (elements_of (map element_view (drop (i + 1) es))))) h ∙ sym (ap (keys_fault offset) (from_here es i e low is))
 
 -- where a key doesn't match, the keys from it on don't
 pub no_match_here : {A : Type 0} (offset : ℤ) (row : Elements) (es : List (Element A)) (i : ℕ) (e : Element A) → i < length es → e ≡ get_or es i e → (is_universal_key e.tag (value_view e.value) || value_matches offset e.tag (value_view e.value) (value_at e.tag row)) ≡ false → false ≡ all_match offset (elements_of (map element_view (drop i es))) row

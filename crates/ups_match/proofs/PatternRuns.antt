@@ -7,14 +7,14 @@ use Rattle.std.proofs.lemmas.Bool.Decides.{nat_tests, same_from_decides}
 use Rattle.ups_match.proofs.Fields.{passes-front}
 use Rattle.std.specs.Bool.{MatchBool}
 use Rattle.std.specs.List.{AllPass, prefix_len, list_any}
-use Rattle.ups_match.specs.Likeness.{is_star, is_question_mark, StandsFor, IsLike, begins_like, ends_of, is_like}
+use Rattle.ups_match.specs.Likeness.{is_star, is_question_mark, MatchesPart, IsLike, begins_like, ends_of, is_like}
 use Rattle.ups_match.specs.Runs.{is_no_star, run_of, behind_run, behind_front, or_else, behind_first}
 
 pub same_number : (n : ℕ) → (n == n) ≡ true
 same_number n = grind (arith, nat_tests)
 
 -- a byte other than * stands for one byte
-pub one_byte : (p : ℕ) (part : List ℕ) → is_star p ≡ false → StandsFor p part → (b : ℕ) × (part ≡ b ∷ []) × ((is_question_mark p || p == b) ≡ true)
+pub one_byte : (p : ℕ) (part : List ℕ) → is_star p ≡ false → MatchesPart p part → (b : ℕ) × (part ≡ b ∷ []) × ((is_question_mark p || p == b) ≡ true)
 one_byte p part other stands = go (is_question_mark p) (rw other at stands)
   where
     single : (xs : List ℕ) → length xs ≡ 1 → (b : ℕ) × (xs ≡ b ∷ [])
@@ -26,7 +26,7 @@ one_byte p part other stands = go (is_question_mark p) (rw other at stands)
     go true h = let x = single part h in (x.0, x.1, refl)
     go false h = (p, h, same_number p)
 
-pub one_byte_back : (p b : ℕ) → is_star p ≡ false → (is_question_mark p || p == b) ≡ true → StandsFor p (b ∷ [])
+pub one_byte_back : (p b : ℕ) → is_star p ≡ false → (is_question_mark p || p == b) ≡ true → MatchesPart p (b ∷ [])
 one_byte_back p b other fits = rw other (go (is_question_mark p) fits)
   where
     go : (q : Bool) → (q || p == b) ≡ true → MatchBool q (length (b ∷ []) ≡ 1) (b ∷ [] ≡ p ∷ [])

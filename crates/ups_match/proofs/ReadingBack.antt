@@ -6,7 +6,7 @@ use Rattle.std.specs.Char.{is_ascii_digit}
 use Rattle.std.proofs.lemmas.Bool.Decides.{nat_tests}
 use Rattle.jiff_core.proofs.SignedLemmas.{signed_arith}
 use Rattle.jiff_core.proofs.CalendarLemmas.{days_in_month_bounds}
-use Rattle.ups_match.specs.Moments.{moment, IsOffset, stamp, last_moment, leading_digits, behind_digits, number, field, year_of, is_date, is_time, date_number, second_of_day, split_fraction, microsecond_of, offset_of, signed_offset, are_four_digits, two_digits, four_digits, date_stamp, time_stamp, offset_stamp, sign_of, day_number, year_on, month_on}
+use Rattle.ups_match.specs.Moments.{moment, IsOffset, stamp, last_moment, leading_digits, behind_digits, decimal_value, field, year_of, is_date, is_time, date_number, second_of_day, split_fraction, microsecond_of, offset_of, signed_offset, are_four_digits, two_digits, four_digits, date_stamp, time_stamp, offset_stamp, sign_of, day_number, year_on, month_on}
 use Rattle.ups_match.proofs.Begun.{IsReal}
 use Rattle.ups_match.proofs.Existing.{has_date}
 use Rattle.ups_match.proofs.Days.{AreOf, is_day}
@@ -97,8 +97,8 @@ zone_back : (configured : ℤ) (sign hours minutes : ℕ) → hours ≤ 99 → m
 unfolding offset_of
 zone_back configured sign hours minutes h m =
     let four : are_four_digits (two_digits hours ++ two_digits minutes) ≡ true = all_list (two_digits hours ++ two_digits minutes) (all_append (two_digits hours) (two_digits minutes) (two_all hours h) (two_all minutes m)) in
-    let front_half : number (take 2 (two_digits hours ++ two_digits minutes)) ≡ hours = omega arith in
-    let back_half : number (drop 2 (two_digits hours ++ two_digits minutes)) ≡ minutes = omega arith in
+    let front_half : decimal_value (take 2 (two_digits hours ++ two_digits minutes)) ≡ hours = omega arith in
+    let back_half : decimal_value (drop 2 (two_digits hours ++ two_digits minutes)) ≡ minutes = omega arith in
     rw (four, front_half, back_half)
 
 plus : (k : ℕ) → k ≤ 840 → signed_offset true 43 (k / 60) (k % 60) ≡ Some (pos k)

@@ -12,13 +12,13 @@ abbrev pub is_question_mark : ℕ → Bool
 is_question_mark byte = byte == 63
 
 -- A * of a pattern stands for any bytes, also for none, a ? for any one byte, and any other byte for itself.
-abbrev pub StandsFor : ℕ → List ℕ → Type 0
-StandsFor p part = MatchBool (is_star p) (Unit {0}) (MatchBool (is_question_mark p) (length part ≡ 1) (part ≡ p ∷ []))
+abbrev pub MatchesPart : ℕ → List ℕ → Type 0
+MatchesPart p part = MatchBool (is_star p) (Unit {0}) (MatchBool (is_question_mark p) (length part ≡ 1) (part ≡ p ∷ []))
 
 -- A text is like a pattern where it is made of one part for each byte of the pattern, in order.
 abbrev pub IsLike : List ℕ → List ℕ → Type 0
 IsLike [] text = text ≡ []
-IsLike (p ∷ ps) text = (part : List ℕ) × (rest : List ℕ) × (text ≡ part ++ rest) × StandsFor p part × IsLike ps rest
+IsLike (p ∷ ps) text = (part : List ℕ) × (rest : List ℕ) × (text ≡ part ++ rest) × MatchesPart p part × IsLike ps rest
 
 -- The same, computed.
 

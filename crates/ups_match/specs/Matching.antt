@@ -91,9 +91,9 @@ matches offset keys row = all_match offset (elements_of keys) (elements_of row)
 
 -- Keys are readable, or have a fault: the first by rising tag.
 
-abbrev pub first_fault : Option KeyFault → Option KeyFault → Option KeyFault
-first_fault None later = later
-first_fault (Some fault) later = Some fault
+abbrev pub first_key_fault : Option KeyFault → Option KeyFault → Option KeyFault
+first_key_fault None later = later
+first_key_fault (Some fault) later = Some fault
 
 abbrev pub text_fault : Rule → ℤ → List ℕ → Option KeyFault
 text_fault Range offset key = if is_universal_text key || is_some (span_of offset (without_padding key)) then None else Some BadRange
@@ -102,7 +102,7 @@ text_fault rule offset key = None
 abbrev mutual
   pub keys_fault : ℤ → Elements → Option KeyFault
   keys_fault offset no_elements = None
-  keys_fault offset (element tag vr value more) = first_fault (if is_no_key tag then None else key_fault offset tag value) (keys_fault offset more)
+  keys_fault offset (element tag vr value more) = first_key_fault (if is_no_key tag then None else key_fault offset tag value) (keys_fault offset more)
 
   pub key_fault : ℤ → Tag → Data → Option KeyFault
   key_fault offset tag (bytes b) = text_fault (key_rule tag) offset b

@@ -27,8 +27,8 @@ unfoldable pub day_number : ℕ → ℕ → ℕ → ℕ
 day_number year month day = 365 * (year - 1) + leap_years (year - 1) + sum (take (month - 1) (months year)) + (day - 1)
 
 -- the seconds from the beginning of the year 1 to that of the year 1970
-abbrev pub epoch : ℕ
-epoch = day_number 1970 1 1 * 86400
+abbrev pub epoch_seconds : ℕ
+epoch_seconds = day_number 1970 1 1 * 86400
 
 -- The text of a DT: YYYYMMDDHHMMSS.FFFFFF&ZZXX, cut from the right.
 
@@ -40,16 +40,16 @@ abbrev pub behind_digits : List ℕ → List ℕ
 behind_digits text = drop (prefix_len is_ascii_digit text) text
 
 -- the number that digits spell
-abbrev pub number : List ℕ → ℕ
-number digits = fold (λ n digit. 10 * n + (digit - 48)) 0 digits
+abbrev pub decimal_value : List ℕ → ℕ
+decimal_value digits = fold (λ n digit. 10 * n + (digit - 48)) 0 digits
 
 -- the two digits at a place, or what stands for them where the text is cut before it
 unfoldable pub field : List ℕ → ℕ → ℕ → ℕ
-field digits place absent = if nat_le (place + 2) (length digits) then number (take 2 (drop place digits)) else absent
+field digits place absent = if nat_le (place + 2) (length digits) then decimal_value (take 2 (drop place digits)) else absent
 
 -- the components, of the digits before any fraction or offset; an absent one is the greatest or the least
 abbrev pub year_of : List ℕ → ℕ
-year_of digits = number (take 4 digits)
+year_of digits = decimal_value (take 4 digits)
 
 abbrev pub month_of : List ℕ → Bool → ℕ
 month_of digits upper = field digits 4 (if upper then 12 else 1)
@@ -101,7 +101,7 @@ is_fraction whole (Some digits) = whole && nat_le 1 (length digits) && nat_le (l
 
 -- the millionths of a second: the absent ones of the six digits are all 9 or all 0
 unfoldable pub microsecond_of : Option (List ℕ) → Bool → ℕ
-microsecond_of fraction upper = number (take 6 (unwrap_or fraction [] ++ replicate 6 (if upper then 57 else 48)))
+microsecond_of fraction upper = decimal_value (take 6 (unwrap_or fraction [] ++ replicate 6 (if upper then 57 else 48)))
 
 -- the minutes east of UTC of a sign, hours and minutes: from -1200 to +1400; behind a text that is cut, a minus is
 -- not the sign of an offset
@@ -119,7 +119,7 @@ are_four_digits text = (length text == 4) && list_all is_ascii_digit text
 unfoldable pub offset_of : Bool → ℤ → List ℕ → Option ℤ
 offset_of whole configured [] = Some configured
 offset_of whole configured (sign ∷ digits) =
-    if are_four_digits digits then signed_offset whole sign (number (take 2 digits)) (number (drop 2 digits)) else None
+    if are_four_digits digits then signed_offset whole sign (decimal_value (take 2 digits)) (decimal_value (drop 2 digits)) else None
 
 -- the first moment that a DT names, or the last (upper), in microseconds since 1970 began in UTC; `configured` is the
 -- offset, in minutes east of UTC, of a text that says none
@@ -130,7 +130,7 @@ moment text configured upper =
     let whole = length digits == 14 in
     let second = date_number digits upper * 86400 + second_of_day digits upper in
     if is_cut digits && is_date digits upper && is_time digits upper && is_fraction whole rest.0
-    then option_map (λ offset. pos 1_000_000 *ℤ (pos second -ℤ pos epoch -ℤ pos 60 *ℤ offset) +ℤ pos (microsecond_of rest.0 upper)) (offset_of whole configured rest.1)
+    then option_map (λ offset. pos 1_000_000 *ℤ (pos second -ℤ pos epoch_seconds -ℤ pos 60 *ℤ offset) +ℤ pos (microsecond_of rest.0 upper)) (offset_of whole configured rest.1)
     else None
 
 -- A moment as text, in the local time of an offset.
@@ -186,5 +186,5 @@ offset_stamp offset = sign_of offset ∷ two_digits (unsigned_abs offset / 60) +
 -- a moment, in seconds since 1970 began in UTC, as the DT that names it in the local time of an offset: YYYYMMDDHHMMSS&ZZXX
 unfoldable pub stamp : ℕ → ℤ → List ℕ
 stamp moment offset =
-    let local = unsigned_abs (pos (moment + epoch) +ℤ pos 60 *ℤ offset) in
+    let local = unsigned_abs (pos (moment + epoch_seconds) +ℤ pos 60 *ℤ offset) in
     date_stamp (local / 86400) ++ time_stamp (local % 86400) ++ offset_stamp offset

@@ -5,10 +5,10 @@ use Rattle.ups_match.specs.declared.prepared.PreparedKey.{PreparedKey}
 use Rattle.ups_match.specs.declared.prepared.PreparedValue.{PreparedValue}
 use Rattle.ups_match.specs.declared.prepared.PreparedValue.TheVariants as variants
 
-abbrev pub value_view : {A : Type 0} → PreparedValue A → Data
-value_view (variants.Uids list) = bytes list
-value_view (variants.Text text) = bytes text.items
-value_view (variants.Item keys) = items (item (elements_of keys) no_items)
+abbrev pub prepared_view : {A : Type 0} → PreparedValue A → Data
+prepared_view (variants.Uids list) = bytes list
+prepared_view (variants.Text text) = bytes text.items
+prepared_view (variants.Item keys) = items (item (elements_of keys) no_items)
 
 abbrev pub key_view : {A : Type 0} → PreparedKey A → El
-key_view key = record { tag = key.tag; vr = Un; value = value_view key.value }
+key_view key = record { tag = key.tag; vr = Un; value = prepared_view key.value }

@@ -1,4 +1,4 @@
--- Ranges of moments (PS3.4 section C.2.2.2.5).
+-- A range of dates and times: two moments with - between them, of which one may be left out (PS3.4 section C.2.2.2.5).
 use Rattle.std.specs.Prelude.{ℕ, ℤ, int_le, pos, Bool, true, false, ◌&&◌, not, ◌+◌, ◌==◌, nat_le, List, [], ◌∷◌, length, take, drop, Option, None, Some, is_some, if◌then◌else◌}
 use Rattle.std.specs.List.{prefix_len}
 use Rattle.std.specs.Option.{option_map}
@@ -42,9 +42,9 @@ with_bounds (Some least) None = None
 with_bounds (Some least) (Some greatest) = Some (record { least = least; greatest = greatest })
 
 -- the moments between two ends, which aren't both open
-abbrev pub between : ℤ → List ℕ → List ℕ → Option Span
-between offset [] [] = None
-between offset first last = with_bounds (bound offset false first) (bound offset true last)
+abbrev pub span_between : ℤ → List ℕ → List ℕ → Option Span
+span_between offset [] [] = None
+span_between offset first last = with_bounds (bound offset false first) (bound offset true last)
 
 -- a single DT stands for its first moment
 abbrev pub alone : ℤ → List ℕ → Option Span
@@ -52,7 +52,7 @@ alone offset text = option_map (λ m. record { least = Some m; greatest = Some m
 
 abbrev pub spanned : ℤ → List ℕ → List ℕ → Option Span
 spanned offset first [] = alone offset first
-spanned offset first (hyphen ∷ last) = between offset first last
+spanned offset first (hyphen ∷ last) = span_between offset first last
 
 -- The moments that a key takes in: of a-b those from the first moment of a to the last of b, of a- and -b those on one
 -- side, and of a DT alone its first; nothing where the key is unreadable.
@@ -67,11 +67,11 @@ abbrev pub is_up_to : Option ℤ → ℤ → Bool
 is_up_to None m = true
 is_up_to (Some greatest) m = int_le m greatest
 
-abbrev pub takes_in : Span → ℤ → Bool
-takes_in span m = is_from span.least m && is_up_to span.greatest m
+abbrev pub contains_moment : Span → ℤ → Bool
+contains_moment span m = is_from span.least m && is_up_to span.greatest m
 
 -- a stored text is a DT whose first moment a readable key takes in
 abbrev pub spans : Option Span → Option ℤ → Bool
 spans None moment = false
 spans (Some span) None = false
-spans (Some span) (Some m) = takes_in span m
+spans (Some span) (Some m) = contains_moment span m

@@ -2,7 +2,7 @@ ghost use Rattle.std.specs.Prelude.{◌≡◌, ◌+◌, ◌-◌, ◌≤◌, leng
 ghost use Rattle.std.specs.Bool.{OnTrue};
 ghost use Rattle.std.specs.List.{AllPass, list_all, prefix_len};
 ghost use Rattle.std.specs.Char.{is_ascii_digit};
-ghost use Rattle.ups_match.specs.Moments.{leading_digits, behind_digits, number, field};
+ghost use Rattle.ups_match.specs.Moments.{leading_digits, behind_digits, decimal_value, field};
 
 /// How many digits stand at the front of a text.
 fn leading_count(text: &[u8]) -> usize
@@ -44,7 +44,7 @@ pub(crate) fn pair_at(digits: &[u8], place: usize, absent: u8) -> u8
     requires digits { AllPass is_ascii_digit digits.now }
     requires absent { IsTrue (is_ascii_digit absent) }
     requires place { place ≤ 12 }
-    ensures value { result ≡ number (slice_index_or digits.now place absent ∷ slice_index_or digits.now (place + 1) absent ∷ []) }
+    ensures value { result ≡ decimal_value (slice_index_or digits.now place absent ∷ slice_index_or digits.now (place + 1) absent ∷ []) }
     ensures bound { result ≤ 99 }
 {
     10 * digit_at(digits, place, absent) + digit_at(digits, place + 1, absent)

@@ -4,7 +4,7 @@ ghost use Rattle.std.specs.Prelude.{◌≡◌};
 ghost use Rattle.ups_dataset.specs.Data.{elements_of, items_of};
 ghost use Rattle.ups_match.specs.Matching.{any_item, value_at};
 ghost use Rattle.ups_match.specs.Met.{all_met, value_met};
-ghost use Rattle.ups_match.specs.Prepared.{value_view};
+ghost use Rattle.ups_match.specs.Prepared.{prepared_view};
 
 use crate::faults::key_rule;
 use crate::prepared::{Prepared, PreparedKey, PreparedValue};
@@ -15,7 +15,7 @@ use ups_dataset::{DataSet, Value};
 /// Whether a data set meets a key.
 #[cycle(meeting)]
 fn is_met<A: Allocator + Copy>(key: &PreparedKey<A>, row: &DataSet<A>, offset: i16) -> bool
-    ensures { result ≡ value_met offset key.now.tag (value_view key.now.value) (value_at key.now.tag (elements_of row.now)) }
+    ensures { result ≡ value_met offset key.now.tag (prepared_view key.now.value) (value_at key.now.tag (elements_of row.now)) }
 {
     let Some(stored) = row.get(key.tag) else {
         return false;

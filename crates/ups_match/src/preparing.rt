@@ -6,7 +6,7 @@ ghost use Rattle.ups_dataset.specs.Data.{Data};
 ghost use Rattle.ups_dataset.specs.View as data_set;
 ghost use Rattle.ups_match.specs.Matching.{is_universal_key, value_matches};
 ghost use Rattle.ups_match.specs.Met.{key_met, Prepares, SaysText};
-ghost use Rattle.ups_match.specs.Prepared.{value_view};
+ghost use Rattle.ups_match.specs.Prepared.{prepared_view};
 
 use crate::faults::key_rule;
 use crate::patterns::shortened;
@@ -51,7 +51,7 @@ fn prepare_key<A: Allocator + Copy>(
     alloc: A,
     key: &Element<A>,
 ) -> Result<Option<PreparedValue<A>>, AllocError>
-    ensures { IfOk result (λ value. (offset : ℤ) → (stored : Option Data) → key_met offset key.now.tag (option_map value_view value) stored ≡ (is_universal_key key.now.tag (data_set.value_view key.now.value) || value_matches offset key.now.tag (data_set.value_view key.now.value) stored)) }
+    ensures { IfOk result (λ value. (offset : ℤ) → (stored : Option Data) → key_met offset key.now.tag (option_map prepared_view value) stored ≡ (is_universal_key key.now.tag (data_set.value_view key.now.value) || value_matches offset key.now.tag (data_set.value_view key.now.value) stored)) }
 {
     if is_universal_key(key) {
         return Ok(None);
@@ -73,7 +73,7 @@ fn prepare_text<A: Allocator + Copy>(
     rule: Rule,
     key: &[u8],
 ) -> Result<PreparedValue<A>, AllocError>
-    ensures { IfOk result (λ value. SaysText rule key.now (value_view value)) }
+    ensures { IfOk result (λ value. SaysText rule key.now (prepared_view value)) }
 {
     match rule {
         Rule::UidList if key.len() > SHORT_LIST => {

@@ -1,10 +1,10 @@
-//! Ranges of moments (PS3.4 section C.2.2.2.5).
+//! What a range of dates and times takes in (PS3.4 section C.2.2.2.5).
 
 ghost use Rattle.std.specs.Prelude.{◌≡◌, ◌≤◌, length};
 ghost use Rattle.std.specs.Bool.{OnTrue};
 ghost use Rattle.ups_pdu.specs.Padding.{is_nil};
 ghost use Rattle.ups_match.specs.Moments.{split_fraction};
-ghost use Rattle.ups_match.specs.Ranges.{hyphen_at, has_seconds, ends_or_hyphen, is_offset_first, first_len, bound, alone, between, span_of, takes_in, is_from, is_up_to};
+ghost use Rattle.ups_match.specs.Ranges.{hyphen_at, has_seconds, ends_or_hyphen, is_offset_first, first_len, bound, alone, span_between, span_of, contains_moment, is_from, is_up_to};
 
 use crate::digits::split_digits;
 use crate::moments::{offset_of, read_dt};
@@ -22,7 +22,7 @@ pub(crate) struct Span {
 impl Span {
     /// Whether a moment is one of them.
     pub(crate) fn takes_in(self, moment: i64) -> bool
-        ensures { result ≡ takes_in self moment }
+        ensures { result ≡ contains_moment self moment }
     {
         is_from(self.least, moment) && is_up_to(self.greatest, moment)
     }
@@ -73,7 +73,7 @@ fn alone(text: &[u8], offset: i16) -> Option<Span>
 
 /// The moments from the first of a DT to the last of another, where they aren't both empty.
 fn between(first: &[u8], last: &[u8], offset: i16) -> Option<Span>
-    ensures { result ≡ between offset first.now last.now }
+    ensures { result ≡ span_between offset first.now last.now }
 {
     if first.is_empty() && last.is_empty() {
         return None;

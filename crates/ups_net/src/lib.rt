@@ -10,6 +10,7 @@ mod serving;
 mod socket;
 mod sweeping;
 mod terms;
+mod watcher;
 mod wire;
 mod workers;
 
@@ -18,5 +19,6 @@ pub use serving::serve_one;
 pub use socket::{next_connection, tune};
 pub use sweeping::sweep;
 pub use terms::Terms;
+pub use watcher::Watcher;
 pub use wire::{Wire, WireReader, WireWriter};
 pub use workers::{run, work};

@@ -27,10 +27,10 @@ use Rattle.ups_pdu.specs.Item.{Item, IsItem, is_one_of, contents, EachSpells}
 use Rattle.ups_pdu.specs.Context.{SpellsProposedContext, IsAnswer, SpellsAnsweredContext, first_byte, are_context_ids}
 use Rattle.ups_pdu.specs.UserItems.{SpellsUserInformation, SpellsMaximumLength, SpellsWindow, SpellsRole}
 use Rattle.ups_pdu.specs.Association.{IsAssociateHead, AreAssociateItems, SpellsAssociateRq, SpellsAssociateAc}
-use Rattle.ups_pdu.specs.Header.{code, limit}
+use Rattle.ups_pdu.specs.Header.{type_code, limit}
 use Rattle.ups_pdu.specs.Fragment.{SpellsPdv}
 use Rattle.ups_pdu.specs.Spelling.{IsBody, SpellsPdu}
-use Rattle.ups_pdu.specs.Written.{kind_of, control_of, pdv_content, written_pdv, written_item, proposed_content, result_of, syntax_of, answered_content, window_content, role_content, user_content, associate_head, associate_items, written_body, written}
+use Rattle.ups_pdu.specs.Written.{pdu_kind, control_of, pdv_content, written_pdv, written_item, proposed_content, context_result, syntax_of, answered_content, window_content, role_content, user_content, associate_head, associate_items, written_body, written_pdu}
 use Rattle.ups_pdu.specs.Fits.{Fits, FitsProposed, FitsAnswer, FitsWindow, FitsUser, FitsAssociate}
 use Rattle.ups_pdu.proofs.UidText.{spells_itself}
 
@@ -101,7 +101,7 @@ proposed_again c fits =
       };
     }
 
-answer_spelled : (a : ContextAnswer) → FitsAnswer a → IsAnswer (result_of a) (syntax_of a ∷ []) a
+answer_spelled : (a : ContextAnswer) → FitsAnswer a → IsAnswer (context_result a) (syntax_of a ∷ []) a
 answer_spelled (Accepted uid) fits = (refl, (spells_itself uid fits, tt))
 answer_spelled (Refused result) fits = (refl, fits, Some (text_of ImplicitVrLittleEndian), refl)
 
@@ -112,7 +112,7 @@ short_syntax (Refused result) fits = omega arith
 answered_again : (c : AnsweredContext) → FitsAnswer c.answer → SpellsAnsweredContext (answered_content c) c
 unfolding answered_content
 answered_again c fits = record {
-  outcome = result_of c.answer;
+  outcome = context_result c.answer;
   text = written_item 0x40 (syntax_of c.answer);
   head = record { second = 0; fourth = 0; parts = refl };
   answer = record {
@@ -287,7 +287,7 @@ pdvs_again (p ∷ ps) h = (
   pdvs_again ps (omega (arith, h, length_more p ps)),
 )
 
-pub within : {A : Type 0} (pdu : Pdu A) → Fits pdu → length (written_body pdu) ≤ limit (kind_of pdu)
+pub within : {A : Type 0} (pdu : Pdu A) → Fits pdu → length (written_body pdu) ≤ limit (pdu_kind pdu)
 within (AssociateRq rq) h = h.1
 within (AssociateAc ac) h = h.1
 within (AssociateRj a b c) h = omega arith
@@ -306,9 +306,9 @@ limit_below kinds.ReleaseRp = omega arith
 limit_below kinds.Abort = omega arith
 
 pub written_fits : {A : Type 0} (pdu : Pdu A) → Fits pdu → length (written_body pdu) < 2 ^ 32
-written_fits pdu h = omega (arith, within pdu h, limit_below (kind_of pdu))
+written_fits pdu h = omega (arith, within pdu h, limit_below (pdu_kind pdu))
 
-body_again : {A : Type 0} (pdu : Pdu A) → Fits pdu → IsBody (kind_of pdu) (written_body pdu) pdu
+body_again : {A : Type 0} (pdu : Pdu A) → Fits pdu → IsBody (pdu_kind pdu) (written_body pdu) pdu
 body_again (AssociateRq rq) h = (refl, rq_again rq h)
 body_again (AssociateAc ac) h = (refl, ac_again ac h)
 body_again (AssociateRj a b c) h = (refl, 0, refl)
@@ -318,15 +318,15 @@ body_again ReleaseRp h = (refl, refl)
 body_again (Abort a b) h = (refl, 0, 0, refl)
 
 -- what is written is spelled
-pub written_again : {A : Type 0} (pdu : Pdu A) → Fits pdu → SpellsPdu (written pdu) pdu
+pub written_again : {A : Type 0} (pdu : Pdu A) → Fits pdu → SpellsPdu (written_pdu pdu) pdu
 written_again pdu h = record {
-  kind = kind_of pdu;
+  kind = pdu_kind pdu;
   body = written_body pdu;
   whole = record {
     header = record {
       reserved = 0;
       fits = written_fits pdu h;
-      parts = ap (λ (t : List ℕ). code (kind_of pdu) ∷ 0 ∷ to_be_bytes w32 (length (written_body pdu)) ++ t) (sym (append-nil (written_body pdu)));
+      parts = ap (λ (t : List ℕ). type_code (pdu_kind pdu) ∷ 0 ∷ to_be_bytes w32 (length (written_body pdu)) ++ t) (sym (append-nil (written_body pdu)));
     };
     within = within pdu h;
   };

@@ -5,20 +5,20 @@ use Rattle.std.proofs.lemmas.List.{append-nil, nil_from_length, length-append}
 use Rattle.ups_pdu.specs.declared.fault.PduFault.TheVariants.{Short}
 use Rattle.ups_pdu.specs.declared.kind.PduKind.{PduKind}
 use Rattle.ups_pdu.specs.declared.pdu.Pdu.{Pdu}
-use Rattle.ups_pdu.specs.Header.{code, limit, IsHeader, IsWhole}
+use Rattle.ups_pdu.specs.Header.{type_code, limit, IsHeader, IsWhole}
 use Rattle.ups_pdu.specs.Spelling.{SpellsPdu, IsFault}
 use Rattle.ups_pdu.proofs.Whole.{one_header, one_whole, front_from_spelled}
 
 -- the six bytes that `body_len` was given, and the bytes that it asked for
-pub whole_from_header : (header body rest : List ℕ) (kind : PduKind) → length header ≡ 6 → IsHeader header (code kind) (length body) rest → length body ≤ limit kind → IsWhole (header ++ body) kind body []
+pub whole_from_header : (header body rest : List ℕ) (kind : PduKind) → length header ≡ 6 → IsHeader header (type_code kind) (length body) rest → length body ≤ limit kind → IsWhole (header ++ body) kind body []
 whole_from_header header body rest kind six h le =
     let none : rest ≡ [] = nil_from_length rest (omega (arith, ap length h.parts)) in
-    let front : header ≡ code kind ∷ h.reserved ∷ to_be_bytes w32 (length body) ++ [] = h.parts ∙ ap (λ (r : List ℕ). code kind ∷ h.reserved ∷ to_be_bytes w32 (length body) ++ r) none in
+    let front : header ≡ type_code kind ∷ h.reserved ∷ to_be_bytes w32 (length body) ++ [] = h.parts ∙ ap (λ (r : List ℕ). type_code kind ∷ h.reserved ∷ to_be_bytes w32 (length body) ++ r) none in
     record {
       header = record {
         reserved = h.reserved;
         fits = h.fits;
-        parts = ap (λ (l : List ℕ). l ++ body) front ∙ ap (λ (l : List ℕ). code kind ∷ h.reserved ∷ to_be_bytes w32 (length body) ++ l) (sym (append-nil body));
+        parts = ap (λ (l : List ℕ). l ++ body) front ∙ ap (λ (l : List ℕ). type_code kind ∷ h.reserved ∷ to_be_bytes w32 (length body) ++ l) (sym (append-nil body));
       };
       within = le;
     }
@@ -27,7 +27,7 @@ whole_from_header header body rest kind six h le =
 pub never_short : (A : Type 0) (bytes : List ℕ) (kind : PduKind) (body rest : List ℕ) → IsWhole bytes kind body rest → IsFault A bytes Short → ⊥
 never_short A bytes kind body rest w (inl short) = omega (arith, ap length w.header.parts)
 never_short A bytes kind body rest w (inr (k, len, after, h, within, short)) =
-    let same = one_header bytes (code k) (code kind) len (length body) after (body ++ rest) h w.header in
+    let same = one_header bytes (type_code k) (type_code kind) len (length body) after (body ++ rest) h w.header in
     omega (arith, same.1, ap length same.2, length-append body rest)
 
 -- and a PDU at their front takes them all

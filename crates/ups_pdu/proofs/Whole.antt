@@ -9,7 +9,7 @@ use Rattle.ups_pdu.specs.declared.pdu.Pdu.TheVariants.{AssociateRq, AssociateAc,
 use Rattle.ups_pdu.specs.declared.kind.PduKind.{PduKind}
 use Rattle.ups_pdu.specs.declared.kind.PduKind.TheVariants as kinds
 use Rattle.ups_pdu.specs.Fragment.{SpellsPdv}
-use Rattle.ups_pdu.specs.Header.{code, limit, IsHeader, IsWhole}
+use Rattle.ups_pdu.specs.Header.{type_code, limit, IsHeader, IsWhole}
 use Rattle.ups_pdu.specs.Lengths.{LengthsFill}
 use Rattle.ups_pdu.specs.Spelling.{IsBody, IsFront, SpellsPdu, IsFault}
 use Rattle.ups_pdu.proofs.Parts.{same_parts, same_be_4}
@@ -28,7 +28,7 @@ kind_at n =
     (cond (eqb n 5) kinds.ReleaseRq
     (cond (eqb n 6) kinds.ReleaseRp kinds.Abort)))))
 
-kind_at-code : (k : PduKind) → kind_at (code k) ≡ k
+kind_at-code : (k : PduKind) → kind_at (type_code k) ≡ k
 unfolding kind_at
 kind_at-code kinds.AssociateRq = refl
 kind_at-code kinds.AssociateAc = refl
@@ -38,7 +38,7 @@ kind_at-code kinds.ReleaseRq = refl
 kind_at-code kinds.ReleaseRp = refl
 kind_at-code kinds.Abort = refl
 
-one_kind : (k j : PduKind) → code k ≡ code j → k ≡ j
+one_kind : (k j : PduKind) → type_code k ≡ type_code j → k ≡ j
 one_kind k j e = sym (kind_at-code k) ∙ ap kind_at e ∙ kind_at-code j
 
 pub one_header : (bytes : List ℕ) (a b m n : ℕ) (x y : List ℕ) → IsHeader bytes a m x → IsHeader bytes b n y → (a ≡ b) × (m ≡ n) × (x ≡ y)
@@ -51,7 +51,7 @@ one_header bytes a b m n x y p q =
 
 pub one_whole : (bytes : List ℕ) (k j : PduKind) (b d x y : List ℕ) → IsWhole bytes k b x → IsWhole bytes j d y → (k ≡ j) × (b ≡ d) × (x ≡ y)
 one_whole bytes k j b d x y p q =
-    let h = one_header bytes (code k) (code j) (length b) (length d) (b ++ x) (d ++ y) p.header q.header in
+    let h = one_header bytes (type_code k) (type_code j) (length b) (length d) (b ++ x) (d ++ y) p.header q.header in
     let parts = same_parts b d x y h.1 h.2 in
     (one_kind k j h.0, parts.0, parts.1)
 
@@ -93,13 +93,13 @@ fills_from_body k body (Abort a b) (e, q, r, f) = rw (e, f) refl
 no_fault : {A : Type 0} (bytes : List ℕ) (p : Pdu A) (n : ℕ) (fault : PduFault) → IsFront bytes p n → IsFault A bytes fault → fault ≡ Memory
 no_fault bytes p n Short f (inl short) = absurd (omega (arith, ap length f.whole.header.parts))
 no_fault bytes p n Short f (inr (k, len, rest, h, within, short)) =
-    let same = one_header bytes (code k) (code f.kind) len (length f.body) rest (f.body ++ f.rest) h f.whole.header in
+    let same = one_header bytes (type_code k) (type_code f.kind) len (length f.body) rest (f.body ++ f.rest) h f.whole.header in
     absurd (omega (arith, same.1, ap length same.2, length-append f.body f.rest))
 no_fault bytes p n UnknownType f (byte, len, rest, h, unknown) =
-    let same = one_header bytes byte (code f.kind) len (length f.body) rest (f.body ++ f.rest) h f.whole.header in
+    let same = one_header bytes byte (type_code f.kind) len (length f.body) rest (f.body ++ f.rest) h f.whole.header in
     absurd (unknown f.kind (sym same.0))
 no_fault bytes p n TooLong f (k, len, rest, h, long) =
-    let same = one_header bytes (code k) (code f.kind) len (length f.body) rest (f.body ++ f.rest) h f.whole.header in
+    let same = one_header bytes (type_code k) (type_code f.kind) len (length f.body) rest (f.body ++ f.rest) h f.whole.header in
     let kind : k ≡ f.kind = one_kind k f.kind same.0 in
     absurd (omega (arith, same.1, ap limit kind, f.whole.within))
 no_fault bytes p n BadLength f (k, body, rest, whole, unfilled) =
@@ -131,7 +131,7 @@ front_from_spelled bytes p n le s = record {
 
 pub spelled_from_front : {A : Type 0} (bytes : List ℕ) (p : Pdu A) (n : ℕ) → IsFront bytes p n → (n ≤ length bytes) × SpellsPdu (take n bytes) p
 spelled_from_front bytes p n f =
-    let text : List ℕ = code f.kind ∷ f.whole.header.reserved ∷ to_be_bytes w32 (length f.body) ++ f.body in
+    let text : List ℕ = type_code f.kind ∷ f.whole.header.reserved ∷ to_be_bytes w32 (length f.body) ++ f.body in
     let cut : bytes ≡ text ++ f.rest = f.whole.header.parts ∙ simp append_assoc in
     let len : length text ≡ n = omega (arith, f.taken) in
     let front : take n bytes ≡ text = ap (take n) cut ∙ take_at text f.rest n len in (
@@ -143,7 +143,7 @@ spelled_from_front bytes p n f =
           header = record {
             reserved = f.whole.header.reserved;
             fits = f.whole.header.fits;
-            parts = front ∙ ap (λ (w : List ℕ). code f.kind ∷ f.whole.header.reserved ∷ to_be_bytes w32 (length f.body) ++ w) (sym (append-nil f.body));
+            parts = front ∙ ap (λ (w : List ℕ). type_code f.kind ∷ f.whole.header.reserved ∷ to_be_bytes w32 (length f.body) ++ w) (sym (append-nil f.body));
           };
           within = f.whole.within;
         };

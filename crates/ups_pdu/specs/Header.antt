@@ -8,14 +8,14 @@ use Rattle.ups_pdu.specs.declared.kind.PduKind.TheVariants.{AssociateRq, Associa
 use Rattle.ups_pdu.specs.Limits.{max_data_length, max_body_length}
 
 -- the type byte (PS3.8 tables 9-11 to 9-26)
-abbrev pub code : PduKind → ℕ
-code AssociateRq = 1
-code AssociateAc = 2
-code AssociateRj = 3
-code Data = 4
-code ReleaseRq = 5
-code ReleaseRp = 6
-code Abort = 7
+abbrev pub type_code : PduKind → ℕ
+type_code AssociateRq = 1
+type_code AssociateAc = 2
+type_code AssociateRj = 3
+type_code Data = 4
+type_code ReleaseRq = 5
+type_code ReleaseRp = 6
+type_code Abort = 7
 
 -- how long a body may be
 abbrev pub limit : PduKind → ℕ
@@ -35,14 +35,14 @@ pub record IsHeader (bytes : List ℕ) (byte len : ℕ) (rest : List ℕ) : Type
 
 -- a header of a known type, a body within its limit, and what follows
 pub record IsWhole (bytes : List ℕ) (kind : PduKind) (body rest : List ℕ) : Type 0 where
-  pub header : IsHeader bytes (code kind) (length body) (body ++ rest)
+  pub header : IsHeader bytes (type_code kind) (length body) (body ++ rest)
   pub within : length body ≤ limit kind
 
 -- Why the bytes begin with no whole PDU: each test is made where the tests before it pass.
 abbrev pub HeaderFails : List ℕ → PduFault → Type 0
-HeaderFails bytes Short = (length bytes < 6) ⊎ ((kind : PduKind) × (len : ℕ) × (rest : List ℕ) × IsHeader bytes (code kind) len rest × (len ≤ limit kind) × (length rest < len))
-HeaderFails bytes UnknownType = (byte : ℕ) × (len : ℕ) × (rest : List ℕ) × IsHeader bytes byte len rest × ((kind : PduKind) → code kind ≡ byte → ⊥)
-HeaderFails bytes TooLong = (kind : PduKind) × (len : ℕ) × (rest : List ℕ) × IsHeader bytes (code kind) len rest × (limit kind < len)
+HeaderFails bytes Short = (length bytes < 6) ⊎ ((kind : PduKind) × (len : ℕ) × (rest : List ℕ) × IsHeader bytes (type_code kind) len rest × (len ≤ limit kind) × (length rest < len))
+HeaderFails bytes UnknownType = (byte : ℕ) × (len : ℕ) × (rest : List ℕ) × IsHeader bytes byte len rest × ((kind : PduKind) → type_code kind ≡ byte → ⊥)
+HeaderFails bytes TooLong = (kind : PduKind) × (len : ℕ) × (rest : List ℕ) × IsHeader bytes (type_code kind) len rest × (limit kind < len)
 HeaderFails bytes BadLength = ⊥
 HeaderFails bytes BadItem = ⊥
 HeaderFails bytes Memory = ⊥

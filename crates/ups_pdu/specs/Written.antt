@@ -17,16 +17,16 @@ use Rattle.ups_pdu.specs.declared.kind.PduKind.{PduKind}
 use Rattle.ups_pdu.specs.declared.kind.PduKind.TheVariants as kinds
 use Rattle.ups_pdu.specs.declared.registered.RegisteredUid.TheVariants.{ImplicitVrLittleEndian}
 use Rattle.ups_pdu.specs.Registered.{text_of}
-use Rattle.ups_pdu.specs.Header.{code}
+use Rattle.ups_pdu.specs.Header.{type_code}
 
-abbrev pub kind_of : {A : Type 0} → Pdu A → PduKind
-kind_of (AssociateRq rq) = kinds.AssociateRq
-kind_of (AssociateAc ac) = kinds.AssociateAc
-kind_of (AssociateRj result source reason) = kinds.AssociateRj
-kind_of (Data pdvs) = kinds.Data
-kind_of ReleaseRq = kinds.ReleaseRq
-kind_of ReleaseRp = kinds.ReleaseRp
-kind_of (Abort source reason) = kinds.Abort
+abbrev pub pdu_kind : {A : Type 0} → Pdu A → PduKind
+pdu_kind (AssociateRq rq) = kinds.AssociateRq
+pdu_kind (AssociateAc ac) = kinds.AssociateAc
+pdu_kind (AssociateRj result source reason) = kinds.AssociateRj
+pdu_kind (Data pdvs) = kinds.Data
+pdu_kind ReleaseRq = kinds.ReleaseRq
+pdu_kind ReleaseRp = kinds.ReleaseRp
+pdu_kind (Abort source reason) = kinds.Abort
 
 -- bit 0 for a command, bit 1 for the last fragment (PS3.8 annex E.2)
 abbrev pub control_of : {A : Type 0} → Pdv A → ℕ
@@ -46,9 +46,9 @@ written_item kind content = kind ∷ 0 ∷ to_be_bytes w16 (length content) ++ c
 unfoldable pub proposed_content : {A : Type 0} → ProposedContext A → List ℕ
 proposed_content c = c.id ∷ 0 ∷ 0 ∷ 0 ∷ written_item 0x30 c.abstract_syntax ++ flat_map (written_item 0x40) c.transfer_syntaxes
 
-abbrev pub result_of : ContextAnswer → ℕ
-result_of (Accepted uid) = 0
-result_of (Refused result) = result
+abbrev pub context_result : ContextAnswer → ℕ
+context_result (Accepted uid) = 0
+context_result (Refused result) = result
 
 -- a refused context has a transfer syntax too, which nobody looks at (PS3.8 section 9.3.3.2)
 abbrev pub syntax_of : ContextAnswer → List ℕ
@@ -56,7 +56,7 @@ syntax_of (Accepted uid) = uid
 syntax_of (Refused result) = text_of ImplicitVrLittleEndian
 
 unfoldable pub answered_content : AnsweredContext → List ℕ
-answered_content c = c.id ∷ 0 ∷ result_of c.answer ∷ 0 ∷ written_item 0x40 (syntax_of c.answer)
+answered_content c = c.id ∷ 0 ∷ context_result c.answer ∷ 0 ∷ written_item 0x40 (syntax_of c.answer)
 
 unfoldable pub window_content : AsynchronousWindow → List ℕ
 window_content w = to_be_bytes w16 w.invoked ++ to_be_bytes w16 w.performed
@@ -94,5 +94,5 @@ written_body ReleaseRq = 0 ∷ 0 ∷ 0 ∷ 0 ∷ []
 written_body ReleaseRp = 0 ∷ 0 ∷ 0 ∷ 0 ∷ []
 written_body (Abort source reason) = 0 ∷ 0 ∷ source ∷ reason ∷ []
 
-abbrev pub written : {A : Type 0} → Pdu A → List ℕ
-written pdu = code (kind_of pdu) ∷ 0 ∷ to_be_bytes w32 (length (written_body pdu)) ++ written_body pdu
+abbrev pub written_pdu : {A : Type 0} → Pdu A → List ℕ
+written_pdu pdu = type_code (pdu_kind pdu) ∷ 0 ∷ to_be_bytes w32 (length (written_body pdu)) ++ written_body pdu

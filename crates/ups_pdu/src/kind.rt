@@ -3,7 +3,7 @@
 ghost use Rattle.std.specs.Prelude.{◌≡◌, ◌≢◌, ◌<◌, ◌≤◌, ℕ, List, length, MatchOption, MatchResult};
 ghost use Rattle.ups_pdu.specs.declared.fault.PduFault.TheVariants.{Short, Memory};
 ghost use Rattle.ups_pdu.specs.declared.kind.PduKind.{PduKind};
-ghost use Rattle.ups_pdu.specs.Header.{code, limit, IsHeader, IsWhole, HeaderFails};
+ghost use Rattle.ups_pdu.specs.Header.{type_code, limit, IsHeader, IsWhole, HeaderFails};
 
 use crate::fault::PduFault;
 use crate::limits::{MAX_BODY_LENGTH, MAX_DATA_LENGTH};
@@ -24,7 +24,7 @@ pub enum PduKind {
 impl PduKind {
     /// The type that a type byte stands for.
     fn of(byte: u8) -> Option<PduKind>
-        ensures { MatchOption result ((kind : PduKind) → code kind ≡ byte → ⊥) (λ kind. code kind ≡ byte) }
+        ensures { MatchOption result ((kind : PduKind) → type_code kind ≡ byte → ⊥) (λ kind. type_code kind ≡ byte) }
     {
         match byte {
             1 => Some(PduKind::AssociateRq),
@@ -40,7 +40,7 @@ impl PduKind {
 
     /// The type byte.
     pub fn code(self) -> u8
-        ensures { result ≡ code self }
+        ensures { result ≡ type_code self }
     {
         match self {
             PduKind::AssociateRq => 1,
@@ -100,7 +100,7 @@ pub(crate) fn split_pdu(bytes: &[u8]) -> Result<(PduKind, &[u8], &[u8]), PduFaul
 /// the header alone, so that nobody waits for such a body.
 pub fn body_len(header: &[u8]) -> Result<usize, PduFault>
     requires { length header.now ≡ 6 }
-    ensures { MatchResult result (λ n. (kind : PduKind) × (rest : List ℕ) × IsHeader header.now (code kind) n rest × (n ≤ limit kind))
+    ensures { MatchResult result (λ n. (kind : PduKind) × (rest : List ℕ) × IsHeader header.now (type_code kind) n rest × (n ≤ limit kind))
         (λ e. (e ≢ Short) × (e ≢ Memory) × HeaderFails header.now e) }
 {
     let Some((code, len, _)) = split_header(header) else {

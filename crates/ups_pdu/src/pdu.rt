@@ -1,7 +1,7 @@
 //! The protocol data units (PS3.8 section 9.3.1).
 
 ghost use Rattle.std.specs.Prelude.{◌≡◌};
-ghost use Rattle.ups_pdu.specs.Written.{kind_of};
+ghost use Rattle.ups_pdu.specs.Written.{pdu_kind};
 
 use crate::associate::{AssociateAc, AssociateRq};
 use crate::kind::PduKind;
@@ -30,7 +30,7 @@ pub enum Pdu<A: Allocator + Copy> {
 impl<A: Allocator + Copy> Pdu<A> {
     /// The type of this PDU.
     pub fn kind(&self) -> PduKind
-        ensures { result ≡ kind_of self.now }
+        ensures { result ≡ pdu_kind self.now }
     {
         match self {
             Pdu::AssociateRq(_) => PduKind::AssociateRq,

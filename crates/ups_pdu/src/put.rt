@@ -3,7 +3,7 @@
 ghost use Rattle.std.specs.Prelude.{◌≡◌, ◌<◌, ◌≤◌, ◌+◌, ◌-◌, ◌^◌, ◌++◌, ◌∷◌, List, ℕ, length, vec_len, OnOk, replicate};
 ghost use Rattle.std.specs.List.{flat_map, AllByRecursion};
 ghost use Rattle.std.specs.Option.{option_to_list};
-ghost use Rattle.ups_pdu.specs.Written.{written_item, proposed_content, result_of, syntax_of, answered_content, window_content, role_content, user_content, associate_head, written_body};
+ghost use Rattle.ups_pdu.specs.Written.{written_item, proposed_content, context_result, syntax_of, answered_content, window_content, role_content, user_content, associate_head, written_body};
 ghost use Rattle.ups_pdu.specs.declared.pdu.Pdu.TheVariants as pdus;
 ghost use Rattle.ups_pdu.specs.Fits.{FitsProposed, FitsUser, Fits};
 
@@ -100,7 +100,7 @@ fn put_all_proposed<A: Allocator + Copy>(
 
 /// The result of an answer.
 fn result_of(answer: ContextAnswer) -> u8
-    ensures { result ≡ result_of answer }
+    ensures { result ≡ context_result answer }
 {
     match answer {
         ContextAnswer::Accepted(_) => 0,

@@ -5,7 +5,7 @@ ghost use Rattle.std.specs.List.{flat_map, AllByRecursion};
 ghost use Rattle.std.specs.Int.{w32, to_be_bytes};
 ghost use Rattle.ups_pdu.specs.declared.pdu.Pdu.{Pdu};
 ghost use Rattle.ups_pdu.specs.Spelling.{SpellsPdu};
-ghost use Rattle.ups_pdu.specs.Written.{control_of, pdv_content, written_pdv, written_body, written};
+ghost use Rattle.ups_pdu.specs.Written.{control_of, pdv_content, written_pdv, written_body, written_pdu};
 ghost use Rattle.ups_pdu.specs.Fits.{Fits, IsWithin};
 
 use crate::pdu::Pdu;
@@ -81,7 +81,7 @@ fn close_pdu<A: Allocator + Copy>(out: &mut Vec<u8, A>)
 /// The bytes of a PDU.
 pub fn write_pdu<A: Allocator + Copy>(alloc: A, pdu: &Pdu<A>) -> Result<Vec<u8, A>, AllocError>
     requires { Fits pdu.now }
-    ensures written { IfOk result (λ v. v.items ≡ written pdu.now) }
+    ensures written { IfOk result (λ v. v.items ≡ written_pdu pdu.now) }
     // They are read again, whatever follows.
     ensures again { IfOk result (λ v. SpellsPdu v.items pdu.now) }
 {

@@ -11,11 +11,11 @@ use Rattle.ups_script.specs.declared.telling.Told.{Told}
 use Rattle.ups_script.specs.Lines.{words_of}
 use Rattle.ups_script.specs.Printing.{line_of}
 use Rattle.ups_script.specs.Questions.{AsksAt}
-use Rattle.ups_script.specs.Running.{Answers, Leaves, Breaks}
-use Rattle.ups_script.specs.Telling.{Tells}
+use Rattle.ups_script.specs.Running.{AnswersLine, Leaves, Breaks}
+use Rattle.ups_script.specs.Telling.{TellsAsked}
 
 pub told_line : {A : Type 0} (settings : Settings) (old new : List (Entry A)) (line : List ℕ) (asked : Asked A) (a b : Option (List ℕ)) (r : Result (Unit {0}) ScriptFault) → AsksAt (words_of line) asked.moment asked.ae
-    → OnOk r ((told : Told A) × Tells settings old asked told new × Appends a b (line_of told)) → OnOk r ((told : Told A) × Answers settings old line told new × Appends a b (line_of told))
+    → OnOk r ((told : Told A) × TellsAsked settings old asked told new × Appends a b (line_of told)) → OnOk r ((told : Told A) × AnswersLine settings old line told new × Appends a b (line_of told))
 told_line settings old new line asked a b (Ok done) at (told, tells, said) = (told, (asked, at, tells), said)
 told_line settings old new line asked a b (Err fault) at h = tt
 

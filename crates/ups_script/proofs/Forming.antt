@@ -4,10 +4,10 @@ use Rattle.ups_dataset.specs.declared.tag.Tag.{Tag}
 use Rattle.ups_dataset.specs.declared.vr.Vr.{Vr}
 use Rattle.ups_dataset.specs.declared.syntax.TransferSyntax.TheVariants.{Explicit}
 use Rattle.ups_dataset.specs.Written.{written_head, written_element}
-use Rattle.ups_script.specs.Forms.{vr_for, padded, element_for}
+use Rattle.ups_script.specs.Forms.{vr_for, padded_value, element_for}
 
 -- bytes of an even length are not padded
-unpadded : (vr : Vr) (text : List ℕ) → length text % 2 ≡ 0 → padded vr text ≡ text
+unpadded : (vr : Vr) (text : List ℕ) → length text % 2 ≡ 0 → padded_value vr text ≡ text
 unpadded vr text even = rw even refl
 
 -- the header and the bytes, where these need no padding

@@ -12,7 +12,7 @@ use Rattle.ups_script.specs.Lines.{MeetsEnd, TakesLine, TakesLines}
 use Rattle.ups_script.specs.Printing.{line_of}
 use Rattle.ups_script.specs.declared.fault.ScriptFault.{ScriptFault}
 use Rattle.ups_script.specs.declared.fault.ScriptFault.TheVariants.{BadLine, TooManyLines, Read, Write, Memory}
-use Rattle.ups_script.specs.Running.{Answers, AnswersAll, IsReading, Breaks, Ends, Runs}
+use Rattle.ups_script.specs.Running.{AnswersLine, AnswersAll, IsReading, Breaks, EndsScript, Runs}
 
 -- so many lines were taken and answered, and the replies were written
 pub record Sofar {A : Type 0} (settings : Settings) (count : ℕ) (input left written after : Option (List ℕ)) (old new : List (Entry A)) : Type 0 where
@@ -51,8 +51,8 @@ takes_snoc a b c [] line k t = (c, kept_line a b c line k t, Keeps-refl c)
 takes_snoc a b c (x ∷ xs) line (then, first, more) t = (then, first, takes_snoc then b c xs line more t)
 
 answers_snoc : {A : Type 0} (settings : Settings) (old mid new : List (Entry A)) (lines : List (List ℕ)) (told : List (Told A)) (line : List ℕ) (x : Told A)
-    → AnswersAll settings old lines told mid → Answers settings mid line x new → AnswersAll settings old (lines ++ line ∷ []) (told ++ x ∷ []) new
-answers_snoc {A} settings old mid new [] [] line x same one = (new, subst (λ (h : List (Entry A)). Answers settings h line x new) same one, refl)
+    → AnswersAll settings old lines told mid → AnswersLine settings mid line x new → AnswersAll settings old (lines ++ line ∷ []) (told ++ x ∷ []) new
+answers_snoc {A} settings old mid new [] [] line x same one = (new, subst (λ (h : List (Entry A)). AnswersLine settings h line x new) same one, refl)
 answers_snoc settings old mid new [] (t ∷ ts) line x all one = absurd all
 answers_snoc settings old mid new (l ∷ ls) [] line x all one = absurd all
 answers_snoc settings old mid new (l ∷ ls) (t ∷ ts) line x (then, first, more) one = (then, first, answers_snoc settings then mid new ls ts line x more one)
@@ -63,7 +63,7 @@ longer (x ∷ xs) line = ap suc (longer xs line) ∙ (let e : suc (length xs + 1
 
 -- one more line is taken and answered
 pub one_more : {A : Type 0} (settings : Settings) (count : ℕ) (input a b c written after then : Option (List ℕ)) (old mid new : List (Entry A)) (line : List ℕ) (x : Told A)
-    → Sofar settings count input a written after old mid → Keeps a b → TakesLine b line c → Answers settings mid line x new → Appends after then (line_of x) → Sofar settings (count + 1) input c written then old new
+    → Sofar settings count input a written after old mid → Keeps a b → TakesLine b line c → AnswersLine settings mid line x new → Appends after then (line_of x) → Sofar settings (count + 1) input c written then old new
 one_more settings count input a b c written after then old mid new line x so k t one said = record {
   lines = so.lines ++ line ∷ [];
   told = so.told ++ x ∷ [];
@@ -106,7 +106,7 @@ too_many settings count limit input a b written after old new so all k = record 
 }
 
 unread : {A : Type 0} (settings : Settings) (limit count : ℕ) (a b after : Option (List ℕ)) (new : List (Entry A)) (part : List ℕ) (fault : ScriptFault)
-    → IsReading fault → Consumes a b part → Ends settings limit count a b after after new new (Err fault)
+    → IsReading fault → Consumes a b part → EndsScript settings limit count a b after after new new (Err fault)
 unread settings limit count a b after new part Read is p = ((part, p), Keeps-refl after, refl)
 unread settings limit count a b after new part Memory is p = inl ((part, p), refl, Keeps-refl after, refl)
 unread settings limit count a b after new part TooManyLines is p = absurd is
@@ -130,7 +130,7 @@ failed settings count limit input a b c written after old new part fault so low 
 }
 
 broken_by : {A : Type 0} (settings : Settings) (limit count : ℕ) (a c after then : Option (List ℕ)) (mid new : List (Entry A)) (line : List ℕ) (fault : ScriptFault)
-    → TakesLine a line c → Breaks settings mid line (count + 1) after then fault new → Ends settings limit count a c after then mid new (Err fault)
+    → TakesLine a line c → Breaks settings mid line (count + 1) after then fault new → EndsScript settings limit count a c after then mid new (Err fault)
 broken_by settings limit count a c after then mid new line (BadLine bad) t b = inr (line, t, b)
 broken_by settings limit count a c after then mid new line Memory t b = inr (line, t, b)
 broken_by settings limit count a c after then mid new line Write t b = inr (line, t, b)

@@ -7,7 +7,7 @@ use Rattle.std.specs.Io.BufRead.{DropsConsumable}
 use Rattle.std.proofs.KnownBytes.{Consumes-trans}
 use Rattle.std.proofs.BufReadLemmas.{Consumes_shown}
 use Rattle.std.proofs.lemmas.List.Elements.{All-append}
-use Rattle.ups_script.specs.Lines.{MeetsEnd, TakesLine, Goes, Lengthens, IsPart}
+use Rattle.ups_script.specs.Lines.{MeetsEnd, TakesLine, Goes, Lengthens, IsLinePart}
 
 -- a reader that shows nothing is at its end
 pub ends_here : (a b : Option (List ℕ)) (shown : List ℕ) → IfSome a (λ xs. length shown ≡ 0 → xs ≡ []) → Keeps a b → length shown ≡ 0 → OnSome a (IsAtEnd b)
@@ -16,7 +16,7 @@ ends_here (Some xs) None shown end kept none = absurd kept
 ends_here (Some xs) (Some ys) shown end kept none = kept ∙ end none
 
 goes : (a c : Option (List ℕ)) (shown from : List ℕ) (count taken : ℕ) (whole : Bool) → count ≤ length shown → Consumes a c (take taken shown) → (length shown ≡ 0 → OnSome a (IsAtEnd c))
-    → IsPart shown (length from) count taken whole → Goes a c (take count shown) (from ++ take count shown) whole
+    → IsLinePart shown (length from) count taken whole → Goes a c (take count shown) (from ++ take count shown) whole
 goes a c shown from count taken true within moved end (inl fed) = inl (subst (Consumes a c) fed moved)
 goes a c shown from count taken true within moved end (inr (same, inl none)) = inr (subst (λ n. Consumes a c (take n shown)) same moved, inl (end none))
 goes a c shown from count taken true within moved end (inr (same, inr long)) =
@@ -26,7 +26,7 @@ goes a c shown from count taken false within moved end same = subst (λ n. Consu
 -- what is put behind a line is what is taken
 pub lengthens : (a b c : Option (List ℕ)) (buffered : Option ℕ) (shown from line : List ℕ) (count taken : ℕ) (whole : Bool) → count ≤ length shown → taken ≤ length shown
     → IfSome a (λ xs. StartsWith xs shown) → IfSome a (λ xs. length shown ≡ 0 → xs ≡ []) → Keeps a b → IfSome a (λ _. IfSome buffered (λ k. length shown ≤ k)) → DropsConsumable b c buffered taken
-    → All (λ x. x ≢ 10) (take count shown) → IsPart shown (length from) count taken whole → line ≡ from ++ take count shown → Lengthens a c from line whole
+    → All (λ x. x ≢ 10) (take count shown) → IsLinePart shown (length from) count taken whole → line ≡ from ++ take count shown → Lengthens a c from line whole
 lengthens a b c buffered shown from line count taken whole low within front end kept fits drops none part grown =
     let moved = Consumes_shown a b c buffered shown taken within front end kept fits drops in record {
       more = take count shown;

@@ -2,7 +2,7 @@
 use Rattle.std.proofs.Common.{◌≡◌, ℕ, List, [], ◌∷◌, codes, refl, inl, inr, lit<}
 use Rattle.ups_dataset.specs.declared.vr.Vr.TheVariants.{Lo, Sq, Ui, Un, Ur}
 use Rattle.ups_script.specs.Escapes.{StandsFor}
-use Rattle.ups_script.specs.Forms.{vr_of_bytes, vr_of_length, padded}
+use Rattle.ups_script.specs.Forms.{vr_of_bytes, vr_of_length, padded_value}
 use Rattle.ups_script.specs.Printing.{printed}
 
 -- an escape in either case, a byte that needs none, and NUL
@@ -40,14 +40,14 @@ no_items = refl
 bytes_in_place_of_items : vr_of_bytes Sq 2 ≡ Un
 bytes_in_place_of_items = refl
 
-uid : padded Ui (codes "1.2") ≡ 49 ∷ 46 ∷ 50 ∷ 0 ∷ []
+uid : padded_value Ui (codes "1.2") ≡ 49 ∷ 46 ∷ 50 ∷ 0 ∷ []
 uid = refl
 
-unknown : padded Un (7 ∷ []) ≡ 7 ∷ 0 ∷ []
+unknown : padded_value Un (7 ∷ []) ≡ 7 ∷ 0 ∷ []
 unknown = refl
 
-name : padded Lo (codes "A") ≡ 65 ∷ 32 ∷ []
+name : padded_value Lo (codes "A") ≡ 65 ∷ 32 ∷ []
 name = refl
 
-even : padded Lo (codes "AB") ≡ codes "AB"
+even : padded_value Lo (codes "AB") ≡ codes "AB"
 even = refl

@@ -29,9 +29,9 @@ pad_of Un = 0
 pad_of vr = 32
 
 -- bytes with padding to an even length
-abbrev pub padded : Vr → List ℕ → List ℕ
-padded vr text = if (length text % 2) == 0 then text else text ++ pad_of vr ∷ []
+abbrev pub padded_value : Vr → List ℕ → List ℕ
+padded_value vr text = if (length text % 2) == 0 then text else text ++ pad_of vr ∷ []
 
 -- the element
 abbrev pub element_for : Tag → List ℕ → El
-element_for tag text = record { tag = tag; vr = vr_for tag (length text); value = bytes (padded (vr_for tag (length text)) text) }
+element_for tag text = record { tag = tag; vr = vr_for tag (length text); value = bytes (padded_value (vr_for tag (length text)) text) }

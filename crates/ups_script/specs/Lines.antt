@@ -29,9 +29,9 @@ pub record Lengthens (before after : Option (List ℕ)) (from line : List ℕ) (
 
 -- so many of the bytes that a reader shows are of a line that has some already, and so many are taken: the line is whole
 -- where its line feed is there, or nothing is, or it is too long
-abbrev pub IsPart : List ℕ → ℕ → ℕ → ℕ → Bool → Type 0
-IsPart shown before count taken true = (take taken shown ≡ take count shown ++ 10 ∷ []) ⊎ ((taken ≡ count) × ((length shown ≡ 0) ⊎ (max_line < before + count)))
-IsPart shown before count taken false = taken ≡ count
+abbrev pub IsLinePart : List ℕ → ℕ → ℕ → ℕ → Bool → Type 0
+IsLinePart shown before count taken true = (take taken shown ≡ take count shown ++ 10 ∷ []) ⊎ ((taken ≡ count) × ((length shown ≡ 0) ⊎ (max_line < before + count)))
+IsLinePart shown before count taken false = taken ≡ count
 
 -- lines are taken, one after the other
 abbrev pub TakesLines : Option (List ℕ) → List (List ℕ) → Option (List ℕ) → Type 0

@@ -8,6 +8,7 @@ use Rattle.ups_dataset.specs.declared.tag.Tag.{Tag}
 use Rattle.ups_dataset.specs.Data.{Data, bytes, items, Items, no_items, item, Elements, no_elements, element, El, elements_of}
 use Rattle.ups_events.specs.Payloads.{type_id}
 use Rattle.ups_life.specs.declared.event.Event.{Event}
+use Rattle.ups_life.specs.declared.event_reports.EventReport.{EventReport}
 use Rattle.ups_life.specs.declared.request.Reply.{Reply}
 use Rattle.ups_life.specs.declared.request.Reply.TheVariants.{Status as Answered, Set as Shown, Sets as Found, Swept, AckAhead, AckStale, Reports}
 use Rattle.ups_life.specs.declared.status.Status.TheVariants.{Success}
@@ -107,6 +108,9 @@ abbrev pub event_word : Event → List ℕ
 event_word x =
     (((decimal x.number ++ (58 ∷ decimal (type_id x.kind))) ++ (58 ∷ printed x.step)) ++ (58 ∷ printed (state_text x.state))) ++ (58 ∷ printed (readiness_word x.readiness))
 
+abbrev pub report_word : {A : Type 0} → EventReport A → List ℕ
+report_word r = event_word r.event
+
 -- what stands behind the status
 abbrev pub reply_words : {A : Type 0} → Reply A → List (List ℕ)
 reply_words (Answered status) = []
@@ -115,7 +119,7 @@ reply_words (Found sets) = map bracketed sets
 reply_words (Swept count) = decimal count ∷ []
 reply_words AckAhead = []
 reply_words AckStale = []
-reply_words (Reports events) = map event_word events
+reply_words (Reports reports) = map report_word reports
 
 -- what a reply begins with: its status as four hex digits (PS3.7 annex C), or why an acknowledgement is none
 abbrev pub reply_head : {A : Type 0} → Reply A → List ℕ
@@ -125,7 +129,7 @@ reply_head (Found sets) = hex_word (code Success)
 reply_head (Swept count) = hex_word (code Success)
 reply_head AckAhead = codes "AckAhead"
 reply_head AckStale = codes "AckStale"
-reply_head (Reports events) = hex_word (code Success)
+reply_head (Reports reports) = hex_word (code Success)
 
 -- a reply: what it begins with, its words, and the end of the line
 abbrev pub reply_line : List ℕ → List (List ℕ) → List ℕ

@@ -12,7 +12,7 @@ use Rattle.ups_script.specs.Limits.{max_lines}
 use Rattle.ups_script.specs.Lines.{TakesLine, TakesLines, words_of}
 use Rattle.ups_script.specs.Printing.{bad_text, line_of}
 use Rattle.ups_script.specs.Questions.{AsksAt}
-use Rattle.ups_script.specs.Telling.{Tells}
+use Rattle.ups_script.specs.Telling.{TellsAsked}
 
 -- the number of one of the lines that are read
 abbrev pub IsNumber : ℕ → Type 0
@@ -33,20 +33,20 @@ IsReading Memory = Unit {0}
 IsReading fault = ⊥
 
 -- a line asks something, at its moment and by its application entity, and its question is told something by a history
-abbrev pub Answers : {A : Type 0} → Settings → List (Entry A) → List ℕ → Told A → List (Entry A) → Type 0
-Answers {A} settings history line told after = (asked : Asked A) × AsksAt (words_of line) asked.moment asked.ae × Tells settings history asked told after
+abbrev pub AnswersLine : {A : Type 0} → Settings → List (Entry A) → List ℕ → Told A → List (Entry A) → Type 0
+AnswersLine {A} settings history line told after = (asked : Asked A) × AsksAt (words_of line) asked.moment asked.ae × TellsAsked settings history asked told after
 
 -- the same of lines, one after the other
 abbrev pub AnswersAll : {A : Type 0} → Settings → List (Entry A) → List (List ℕ) → List (Told A) → List (Entry A) → Type 0
 AnswersAll settings history [] [] after = after ≡ history
-AnswersAll {A} settings history (line ∷ lines) (told ∷ more) after = (then : List (Entry A)) × Answers settings history line told then × AnswersAll settings then lines more after
+AnswersAll {A} settings history (line ∷ lines) (told ∷ more) after = (then : List (Entry A)) × AnswersLine settings history line told then × AnswersAll settings then lines more after
 AnswersAll settings history lines told after = ⊥
 
 -- what a question left that was not answered: where memory ran out nothing was done, and where a write failed it was told
 -- something
 abbrev pub Leaves : {A : Type 0} → Settings → List (Entry A) → Asked A → Option (List ℕ) → Option (List ℕ) → ScriptFault → List (Entry A) → Type 0
 Leaves settings history asked written after Memory new = Keeps written after × (new ≡ history)
-Leaves {A} settings history asked written after Write new = (told : Told A) × Tells settings history asked told new
+Leaves {A} settings history asked written after Write new = (told : Told A) × TellsAsked settings history asked told new
 Leaves settings history asked written after fault new = ⊥
 
 -- how the line of a number ends a script, by what was written before it and by the history: it is none, and that is
@@ -54,15 +54,15 @@ Leaves settings history asked written after fault new = ⊥
 abbrev pub Breaks : {A : Type 0} → Settings → List (Entry A) → List ℕ → ℕ → Option (List ℕ) → Option (List ℕ) → ScriptFault → List (Entry A) → Type 0
 Breaks settings history line number written after (BadLine bad) new = (bad.number ≡ number) × Appends written after (bad_text number) × (new ≡ history)
 Breaks settings history line number written after Memory new = Keeps written after × (new ≡ history)
-Breaks {A} settings history line number written after Write new = (new ≡ history) ⊎ ((told : Told A) × Answers settings history line told new)
+Breaks {A} settings history line number written after Write new = (new ≡ history) ⊎ ((told : Told A) × AnswersLine settings history line told new)
 Breaks settings history line number written after fault new = ⊥
 
 -- how a script ends behind lines that were answered
-abbrev pub Ends : {A : Type 0} → Settings → ℕ → ℕ → Option (List ℕ) → Option (List ℕ) → Option (List ℕ) → Option (List ℕ) → List (Entry A) → List (Entry A) → Result Unit ScriptFault → Type 0
-Ends settings limit count rest left written after history new (Ok done) = Keeps rest left × OnSome rest (IsAtEnd left) × Keeps written after × (new ≡ history)
-Ends settings limit count rest left written after history new (Err TooManyLines) = (count ≡ limit) × Keeps rest left × Keeps written after × (new ≡ history)
-Ends settings limit count rest left written after history new (Err Read) = ((part : List ℕ) × Consumes rest left part) × Keeps written after × (new ≡ history)
-Ends settings limit count rest left written after history new (Err fault) =
+abbrev pub EndsScript : {A : Type 0} → Settings → ℕ → ℕ → Option (List ℕ) → Option (List ℕ) → Option (List ℕ) → Option (List ℕ) → List (Entry A) → List (Entry A) → Result Unit ScriptFault → Type 0
+EndsScript settings limit count rest left written after history new (Ok done) = Keeps rest left × OnSome rest (IsAtEnd left) × Keeps written after × (new ≡ history)
+EndsScript settings limit count rest left written after history new (Err TooManyLines) = (count ≡ limit) × Keeps rest left × Keeps written after × (new ≡ history)
+EndsScript settings limit count rest left written after history new (Err Read) = ((part : List ℕ) × Consumes rest left part) × Keeps written after × (new ≡ history)
+EndsScript settings limit count rest left written after history new (Err fault) =
     (((part : List ℕ) × Consumes rest left part) × (fault ≡ Memory) × Keeps written after × (new ≡ history))
     ⊎ ((line : List ℕ) × TakesLine rest line left × Breaks settings history line (count + 1) written after fault new)
 
@@ -77,4 +77,4 @@ pub record Runs {A : Type 0} (settings : Settings) (limit : ℕ) (input left wri
   pub answered : AnswersAll settings old lines told history
   pub replied : Appends written replies (flat_map line_of told)
   pub few : length lines ≤ limit
-  pub ends : Ends settings limit (length lines) rest left replies after history new result
+  pub ends : EndsScript settings limit (length lines) rest left replies after history new result

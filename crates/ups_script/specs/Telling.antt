@@ -29,8 +29,8 @@ Meets settings history ae moment (Ok ask) reply after = Serves settings nobody 0
 Meets settings history ae moment (Err status) reply after = (reply ≡ Answered status) × (after ≡ history)
 
 -- the reply to a message, by the bytes of its data set
-abbrev pub Replies : {A : Type 0} → Settings → List (Entry A) → List ℕ → ℕ → Operation A → List ℕ → Reply A → List (Entry A) → Type 0
-Replies {A} settings history ae moment operation bytes reply after =
+abbrev pub RepliesToMessage : {A : Type 0} → Settings → List (Entry A) → List ℕ → ℕ → Operation A → List ℕ → Reply A → List (Entry A) → Type 0
+RepliesToMessage {A} settings history ae moment operation bytes reply after =
     (meaning : Result (Ask A) Status) × Asks settings.offset operation bytes meaning × Meets settings history ae moment meaning reply after
 
 -- the title of who holds the step that an instance is
@@ -43,7 +43,7 @@ title_of settings history instance = title_at settings history (step_in instance
 
 -- what each question is told by a history, and the history after it
 abbrev pub TellsOf : {A : Type 0} → Settings → List (Entry A) → List ℕ → ℕ → Question A → Told A → List (Entry A) → Type 0
-TellsOf settings history ae moment (questions.Message operation data_set) (told.Replied reply) after = Replies settings history ae moment operation data_set.items reply after
+TellsOf settings history ae moment (questions.Message operation data_set) (told.Replied reply) after = RepliesToMessage settings history ae moment operation data_set.items reply after
 TellsOf settings history ae moment questions.Sweep (told.Replied reply) after = Serves settings nobody 0 history ae moment (Do Sweep) reply after
 TellsOf settings history ae moment (questions.Pending max) (told.Replied reply) after = Serves settings nobody 0 history ae moment (Pending max) reply after
 TellsOf settings history ae moment (questions.Acknowledge upto) (told.Replied reply) after = Serves settings nobody 0 history ae moment (Do (Ack upto)) reply after
@@ -53,5 +53,5 @@ TellsOf settings history ae moment (questions.Holder instance) (told.Holder titl
 TellsOf settings history ae moment question answer after = ⊥
 
 -- the same of a question with when it is asked and by whom
-abbrev pub Tells : {A : Type 0} → Settings → List (Entry A) → Asked A → Told A → List (Entry A) → Type 0
-Tells settings history asked answer after = TellsOf settings history asked.ae asked.moment asked.question answer after
+abbrev pub TellsAsked : {A : Type 0} → Settings → List (Entry A) → Asked A → Told A → List (Entry A) → Type 0
+TellsAsked settings history asked answer after = TellsOf settings history asked.ae asked.moment asked.question answer after

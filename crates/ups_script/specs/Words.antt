@@ -5,9 +5,9 @@ use Rattle.ups_script.specs.Escapes.{SpellsByte}
 use Rattle.ups_script.specs.Lines.{words_of}
 
 -- more than the words that are left: each but the last takes its space with it
-abbrev pub bytes_left : Option (List ℕ) → ℕ
-bytes_left None = 0
-bytes_left (Some text) = 1 + length text
+abbrev pub word_bytes_left : Option (List ℕ) → ℕ
+word_bytes_left None = 0
+word_bytes_left (Some text) = 1 + length text
 
 -- the words that are left
 abbrev pub words_left : Option (List ℕ) → List (List ℕ)

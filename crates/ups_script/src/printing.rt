@@ -9,7 +9,7 @@ ghost use Rattle.ups_dataset.specs.View.{value_view, element_view};
 ghost use Rattle.ups_events.specs.Payloads.{type_id};
 ghost use Rattle.ups_life.specs.Readiness.{readiness_word};
 ghost use Rattle.ups_life.specs.Statuses.{code};
-ghost use Rattle.ups_script.specs.Printing.{hex_digit, hex_byte, hex_word, hex_tag, is_plain, printed_byte, printed, into_item, word, words_data, words, spaced, follows_after, bracketed, title_word, subscription_text, watched_word, event_word, reply_words, reply_head, reply_line, line_of};
+ghost use Rattle.ups_script.specs.Printing.{hex_digit, hex_byte, hex_word, hex_tag, is_plain, printed_byte, printed, into_item, word, words_data, words, spaced, follows_after, bracketed, title_word, subscription_text, watched_word, event_word, report_word, reply_words, reply_head, reply_line, line_of};
 ghost use Rattle.ups_script.specs.Ways.{way_text};
 
 use crate::reading::is_interrupted;
@@ -18,7 +18,7 @@ use std::alloc::Allocator;
 use std::io::{self, Error, ErrorKind, Write};
 use ups_dataset::{DataSet, Element, Tag, Value};
 use ups_events::type_id;
-use ups_life::{Event, InputReadiness, Reply, Status, StepUid, Subscription, Watched};
+use ups_life::{Event, EventReport, InputReadiness, Reply, Status, StepUid, Subscription, Watched};
 use ups_pdu::{Ae, without_padding};
 
 /// The way from a set to what is printed of it.
@@ -311,12 +311,15 @@ fn put_event<W: Write>(writer: &mut W, event: &Event) -> io::Result<()>
     put_part(writer, readiness_text(event.readiness))
 }
 
-/// Prints events.
-fn put_events<W: Write>(writer: &mut W, events: &[Event]) -> io::Result<()>
-    ensures { OnOk result (Appends (W.contents writer.old) (W.contents writer.new) (spaced true (map event_word events.now))) }
+/// Prints the events of reports.
+fn put_reports<A: Allocator + Copy, W: Write>(
+    writer: &mut W,
+    reports: &[EventReport<A>],
+) -> io::Result<()>
+    ensures { OnOk result (Appends (W.contents writer.old) (W.contents writer.new) (spaced true (map report_word reports.now))) }
 {
-    for event in events {
-        put_event(writer, event)?;
+    for report in reports {
+        put_event(writer, &report.event)?;
     }
     Ok(())
 }
@@ -359,9 +362,9 @@ fn put_reply<A: Allocator + Copy, W: Write>(writer: &mut W, reply: &Reply<A>) ->
         }
         Reply::AckAhead => writer.write_all(b"AckAhead"),
         Reply::AckStale => writer.write_all(b"AckStale"),
-        Reply::Reports(events) => {
+        Reply::Reports(reports) => {
             put_hex(writer, Status::Success.code())?;
-            put_events(writer, events.as_slice())
+            put_reports(writer, reports.as_slice())
         }
     }
 }

@@ -2,7 +2,7 @@
 
 ghost use Rattle.std.specs.Prelude.{◌≡◌, ◌≢◌, ◌≤◌, ◌<◌, ℕ, List, Some, Ok, true, false, All, length, take, IfOk, IfErr, OnErr, OnSome};
 ghost use Rattle.std.specs.Io.KnownBytes.{Keeps, Consumes, IsAtEnd};
-ghost use Rattle.ups_script.specs.Lines.{IsPart, Lengthens, TakesLine};
+ghost use Rattle.ups_script.specs.Lines.{IsLinePart, Lengthens, TakesLine};
 ghost use Rattle.ups_script.specs.Running.{IsReading};
 
 use crate::fault::ScriptFault;
@@ -83,7 +83,7 @@ struct Part {
 fn part_in(shown: &[u8], before: usize) -> Part
     ensures within { (result.count ≤ length shown.now) × (result.taken ≤ length shown.now) }
     ensures none { All (λ b. b ≢ 10) (take result.count shown.now) }
-    ensures ends { IsPart shown.now before result.count result.taken result.is_whole }
+    ensures ends { IsLinePart shown.now before result.count result.taken result.is_whole }
 {
     let count = before_feed(shown, (MAX_LINE + 1).saturating_sub(before));
     if count < shown.len() && shown[count] == b'\n' {

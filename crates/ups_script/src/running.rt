@@ -11,8 +11,8 @@ ghost use Rattle.ups_script.specs.Limits.{max_lines};
 ghost use Rattle.ups_script.specs.Lines.{words_of};
 ghost use Rattle.ups_script.specs.Printing.{bad_text, line_of};
 ghost use Rattle.ups_script.specs.Questions.{AsksAt};
-ghost use Rattle.ups_script.specs.Running.{TellsLine, Answers, Leaves, Breaks, Runs};
-ghost use Rattle.ups_script.specs.Telling.{Tells};
+ghost use Rattle.ups_script.specs.Running.{TellsLine, AnswersLine, Leaves, Breaks, Runs};
+ghost use Rattle.ups_script.specs.Telling.{TellsAsked};
 
 use crate::asking::{Asked, asked_by};
 use crate::fault::{BadLine, LineFault, ScriptFault};
@@ -42,7 +42,7 @@ fn put_answer<A: Allocator + Copy, W: Write>(
     writer: &mut W,
     asked: &Asked<A>,
 ) -> Result<(), ScriptFault>
-    ensures told { OnOk result ((told : Told A) × Tells manager.old.settings manager.old.history asked.now told manager.new.history × Appends (W.contents writer.old) (W.contents writer.new) (line_of told)) }
+    ensures told { OnOk result ((told : Told A) × TellsAsked manager.old.settings manager.old.history asked.now told manager.new.history × Appends (W.contents writer.old) (W.contents writer.new) (line_of told)) }
     ensures fault { IfErr result (λ fault. Leaves manager.old.settings manager.old.history asked.now (W.contents writer.old) (W.contents writer.new) fault manager.new.history) }
     ensures settings { manager.new.settings ≡ manager.old.settings }
 {
@@ -70,7 +70,7 @@ fn answer<A: Allocator + Copy, W: Write>(
     number: u64,
     line: Vec<u8, A>,
 ) -> Result<(), ScriptFault>
-    ensures told { OnOk result ((told : Told A) × Answers manager.old.settings manager.old.history line.items told manager.new.history × Appends (W.contents writer.old) (W.contents writer.new) (line_of told)) }
+    ensures told { OnOk result ((told : Told A) × AnswersLine manager.old.settings manager.old.history line.items told manager.new.history × Appends (W.contents writer.old) (W.contents writer.new) (line_of told)) }
     ensures fault { IfErr result (λ fault. Breaks manager.old.settings manager.old.history line.items number (W.contents writer.old) (W.contents writer.new) fault manager.new.history) }
     ensures settings { manager.new.settings ≡ manager.old.settings }
 {

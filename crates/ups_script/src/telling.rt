@@ -3,7 +3,7 @@
 ghost use Rattle.std.specs.Prelude.{◌≡◌, Ok, IfOk, IfErr, OnErr};
 ghost use Rattle.ups_life.specs.Settings.{IsMoment};
 ghost use Rattle.ups_script.specs.Asking.{unread, without_set, Asks, IsUnasked};
-ghost use Rattle.ups_script.specs.Telling.{Replies, title_of, TellsOf, Tells};
+ghost use Rattle.ups_script.specs.Telling.{RepliesToMessage, title_of, TellsOf, TellsAsked};
 
 use crate::asking::{Asked, Question};
 use std::alloc::{AllocError, Allocator};
@@ -88,7 +88,7 @@ fn reply_to<A: Allocator + Copy>(
     data_set: &[u8],
 ) -> Result<Reply<A>, AllocError>
     requires moment { IsMoment moment }
-    ensures replies { IfOk result (λ reply. Replies manager.old.settings manager.old.history ae moment operation.now data_set.now reply manager.new.history) }
+    ensures replies { IfOk result (λ reply. RepliesToMessage manager.old.settings manager.old.history ae moment operation.now data_set.now reply manager.new.history) }
     ensures nothing { OnErr result (manager.new.history ≡ manager.old.history) }
     ensures settings { manager.new.settings ≡ manager.old.settings }
 {
@@ -116,7 +116,7 @@ pub(crate) fn tell<A: Allocator + Copy>(
     manager: &mut Manager<A>,
     asked: &Asked<A>,
 ) -> Result<Told<A>, AllocError>
-    ensures tells { IfOk result (λ told. Tells manager.old.settings manager.old.history asked.now told manager.new.history) }
+    ensures tells { IfOk result (λ told. TellsAsked manager.old.settings manager.old.history asked.now told manager.new.history) }
     ensures nothing { OnErr result (manager.new.history ≡ manager.old.history) }
     ensures settings { manager.new.settings ≡ manager.old.settings }
 {

@@ -7,7 +7,7 @@ ghost use Rattle.std.specs.Option.{IfSome, option_copied};
 ghost use Rattle.std.specs.Str.Parse.{IsNumeral, digits_value};
 ghost use Rattle.ups_pdu.specs.Padding.{is_space};
 ghost use Rattle.ups_script.specs.Lines.{words_of};
-ghost use Rattle.ups_script.specs.Words.{bytes_left, words_left, SpellsNumber, SpellsTag};
+ghost use Rattle.ups_script.specs.Words.{word_bytes_left, words_left, SpellsNumber, SpellsTag};
 
 use crate::fault::LineReason;
 use crate::text::byte_of;
@@ -36,7 +36,7 @@ impl<'a> Words<'a> {
     /// The next word; None behind the last one.
     fn front(&mut self) -> Option<&'a [u8]>
         ensures word { MatchOption result (words_left (option_copied self.old.rest) ≡ []) (λ word. words_left (option_copied self.old.rest) ≡ word.now ∷ words_left (option_copied self.new.rest)) }
-        ensures falls { OnSome result (bytes_left (option_copied self.new.rest) < bytes_left (option_copied self.old.rest)) }
+        ensures falls { OnSome result (word_bytes_left (option_copied self.new.rest) < word_bytes_left (option_copied self.old.rest)) }
     {
         let text = self.rest?;
         match space_in(text) {
@@ -93,9 +93,9 @@ impl<'a> Iterator for Words<'a> {
 
     ghost use Rattle.std.specs.Iterator.{at_most};
     ghost use Rattle.std.specs.Option.{option_copied};
-    ghost use Rattle.ups_script.specs.Words.{bytes_left};
+    ghost use Rattle.ups_script.specs.Words.{word_bytes_left};
 
-    ghost remaining = { λ w. at_most (bytes_left (option_copied w.rest)) };
+    ghost remaining = { λ w. at_most (word_bytes_left (option_copied w.rest)) };
 
     fn next(&mut self) -> Option<&'a [u8]> {
         self.front()

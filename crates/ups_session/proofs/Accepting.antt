@@ -7,7 +7,7 @@ use Rattle.ups_assoc.specs.declared.negotiating.Acceptance.{Acceptance}
 use Rattle.ups_assoc.specs.declared.negotiating.Outcome.{Outcome}
 use Rattle.ups_assoc.specs.declared.negotiating.Outcome.TheVariants.{Accept, Reject}
 use Rattle.ups_assoc.specs.declared.negotiating.Rejection.{Rejection}
-use Rattle.ups_assoc.specs.Titles.{title, is_title}
+use Rattle.ups_assoc.specs.Titles.{title, is_this_title}
 use Rattle.ups_assoc.specs.Negotiation.{counted, is_too_small, acceptance, outcome, outcome_for, has_version_1, is_dicom, IsWritable}
 use Rattle.ups_session.specs.Effects.{IsAccepting}
 
@@ -51,7 +51,7 @@ roomy : {A : Type 0} (ae : List ℕ) (request : AssociateRq A) (a : Acceptance A
 roomy ae request a e =
     unless (not (has_version_1 request.protocol_version)) _ _ a
     (unless (not (is_dicom request.application_context)) _ _ a
-    (unless (not (is_title ae request.called)) _ _ a (roomy_for request (title request.calling) a)))
+    (unless (not (is_this_title ae request.called)) _ _ a (roomy_for request (title request.calling) a)))
     e
 
 -- what is answered to a request that was read

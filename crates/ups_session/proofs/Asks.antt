@@ -18,7 +18,7 @@ use Rattle.ups_life.specs.declared.watching.Target.{Target}
 use Rattle.ups_life.specs.declared.watching.Target.TheVariants.{Single, Global, Filtered}
 use Rattle.ups_life.specs.Instances.{step_in}
 use Rattle.ups_life.specs.Subscribing.{named_receiver, named_lock, filter_keys, filtered, target_of, subscribed_to, subscribed, place_of, unsubscribed_at, unsubscribed, suspended_for, suspended}
-use Rattle.ups_life.specs.Asking.{asked, created, changed, changed_to, canceled, finds, named_state, transaction_of}
+use Rattle.ups_life.specs.Asking.{asked, created, changed, changed_to, asked_cancel, finds, named_state, transaction_of}
 use Rattle.ups_session.specs.Dispatch.{answered, asking}
 use Rattle.ups_session.specs.Rules.{dispatched, question}
 
@@ -119,7 +119,7 @@ asked_not {A} offset (operations.Action instance action) set e =
     either_not _ (changed instance set) _
     (either_not _ _ (changed_to (step_in instance) (named_state (element_at PROCEDURE_STEP_STATE set)) (transaction_of (element_at TRANSACTION_UID set))) (not_appropriate_not A)
     (changed_to_not A (step_in instance) (named_state (element_at PROCEDURE_STEP_STATE set)) (transaction_of (element_at TRANSACTION_UID set))))
-    (either_not _ (canceled instance set) _ (either_not _ _ _ (not_appropriate_not A) (cancel_not A (step_in instance) set))
+    (either_not _ (asked_cancel instance set) _ (either_not _ _ _ (not_appropriate_not A) (cancel_not A (step_in instance) set))
     (either_not _ (subscribed offset instance set) _ (subscribed_not A offset instance set)
     (either_not _ (unsubscribed instance set) _ (unsubscribed_not A instance set)
     (either_not _ (suspended instance set) _ (suspended_not A instance set) (no_action_not A))))) e

@@ -10,7 +10,7 @@ use Rattle.ups_session.specs.declared.gate.GateCall.{GateCall}
 use Rattle.ups_pdu.specs.declared.pdu.Pdu.{Pdu}
 use Rattle.ups_session.specs.Tells.{Tells}
 use Rattle.ups_session.specs.Visits.{calls_of, moments_of, pdus_of, Sends}
-use Rattle.ups_session.specs.Fold.{Asked, Exchange, silence, joined, Chain}
+use Rattle.ups_session.specs.Fold.{Asked, Exchange, silence, joined_exchanges, Chain}
 use Rattle.ups_manager.specs.Law.{Others}
 use Rattle.ups_session.specs.World.{World, ServesAll, IsDone, Performed}
 use Rattle.ups_session.proofs.Chains.{chain_on, chain_none}
@@ -47,7 +47,7 @@ goes_on {A} {L} {X} Step xs ys from mid after u v w y r g h =
     let first : Chain Step xs from g.exchange mid = subst (λ (l : List X). Chain Step l from g.exchange mid) g.did.1 (subst (λ (l : L). Chain Step g.some from g.exchange l) g.did.0 g.ran) in
     record {
       some = xs ++ h.some;
-      exchange = joined g.exchange h.exchange;
+      exchange = joined_exchanges g.exchange h.exchange;
       end = h.end;
       visits = g.visits ++ h.visits;
       sent = g.sent ++ h.sent;

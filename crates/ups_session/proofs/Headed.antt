@@ -8,7 +8,7 @@ use Rattle.ups_pdu.specs.declared.kind.PduKind.{PduKind}
 use Rattle.ups_pdu.specs.declared.pdu.Pdu.{Pdu}
 use Rattle.ups_pdu.specs.declared.fault.PduFault.{PduFault}
 use Rattle.ups_pdu.specs.declared.fault.PduFault.TheVariants as faults
-use Rattle.ups_pdu.specs.Header.{code, limit, IsHeader, IsWhole}
+use Rattle.ups_pdu.specs.Header.{type_code, limit, IsHeader, IsWhole}
 use Rattle.ups_pdu.specs.Spelling.{SpellsPdu, IsFault}
 use Rattle.ups_pdu.proofs.Whole.{one_header, front_from_spelled, spelled_from_front}
 use Rattle.ups_session.specs.WatchedIo.{Input, HasEnded}
@@ -41,32 +41,32 @@ is_nothing : (rest : List ℕ) → length rest ≡ 0 → rest ≡ []
 is_nothing [] e = refl
 is_nothing (b ∷ bs) e = absurd (omega (arith, e))
 
-pub cut_short : (A : Type 0) (input body : List ℕ) (kind : PduKind) (n : ℕ) (rest : List ℕ) → length input ≡ 6 → IsHeader input (code kind) n rest → n ≤ limit kind → length body < n → IsFault A (input ++ body) faults.Short
+pub cut_short : (A : Type 0) (input body : List ℕ) (kind : PduKind) (n : ℕ) (rest : List ℕ) → length input ≡ 6 → IsHeader input (type_code kind) n rest → n ≤ limit kind → length body < n → IsFault A (input ++ body) faults.Short
 cut_short A input body kind n rest six h within short =
-    inr (kind, n, rest ++ body, header_more input body (code kind) n rest h, within, omega (arith, short, no_more input (code kind) n rest six h, length-append rest body))
+    inr (kind, n, rest ++ body, header_more input body (type_code kind) n rest h, within, omega (arith, short, no_more input (type_code kind) n rest six h, length-append rest body))
 
 -- a header and its whole body
-pub whole_body : (input body : List ℕ) (kind : PduKind) (n : ℕ) (rest : List ℕ) → length input ≡ 6 → IsHeader input (code kind) n rest → n ≤ limit kind → length body ≡ n → IsWhole (input ++ body) kind body []
+pub whole_body : (input body : List ℕ) (kind : PduKind) (n : ℕ) (rest : List ℕ) → length input ≡ 6 → IsHeader input (type_code kind) n rest → n ≤ limit kind → length body ≡ n → IsWhole (input ++ body) kind body []
 whole_body input body kind n rest six h within len =
-    let more : IsHeader (input ++ body) (code kind) n (rest ++ body) = header_more input body (code kind) n rest h in
-    let none : rest ++ body ≡ body ++ [] = ap (λ (l : List ℕ). l ++ body) (is_nothing rest (no_more input (code kind) n rest six h)) ∙ sym (append-nil body) in
+    let more : IsHeader (input ++ body) (type_code kind) n (rest ++ body) = header_more input body (type_code kind) n rest h in
+    let none : rest ++ body ≡ body ++ [] = ap (λ (l : List ℕ). l ++ body) (is_nothing rest (no_more input (type_code kind) n rest six h)) ∙ sym (append-nil body) in
     record {
-      header = subst (λ (m : ℕ). IsHeader (input ++ body) (code kind) m (body ++ [])) (sym len) (subst (λ (l : List ℕ). IsHeader (input ++ body) (code kind) n l) none more);
+      header = subst (λ (m : ℕ). IsHeader (input ++ body) (type_code kind) m (body ++ [])) (sym len) (subst (λ (l : List ℕ). IsHeader (input ++ body) (type_code kind) n l) none more);
       within = subst (λ (m : ℕ). m ≤ limit kind) (sym len) within;
     }
 
-pub whole_pdu : {A : Type 0} (input body bytes : List ℕ) (kind : PduKind) (n : ℕ) (rest : List ℕ) (m : ℕ) (pdu : Pdu A) → length input ≡ 6 → IsHeader input (code kind) n rest → length body ≡ n
+pub whole_pdu : {A : Type 0} (input body bytes : List ℕ) (kind : PduKind) (n : ℕ) (rest : List ℕ) (m : ℕ) (pdu : Pdu A) → length input ≡ 6 → IsHeader input (type_code kind) n rest → length body ≡ n
     → bytes ≡ input ++ body → m ≤ length bytes → SpellsPdu (take m bytes) pdu → SpellsPdu (input ++ body) pdu
 whole_pdu {A} input body bytes kind n rest m pdu six h len is within s =
     let whole = input ++ body in
     let fits : m ≤ length whole = subst (λ (l : List ℕ). m ≤ length l) is within in
     let t : SpellsPdu (take m whole) pdu = subst (λ (l : List ℕ). SpellsPdu (take m l) pdu) is s in
     let front = front_from_spelled whole pdu m fits t in
-    let same = one_header whole (code kind) (code front.kind) n (length front.body) (rest ++ body) (front.body ++ front.rest) (header_more input body (code kind) n rest h) front.whole.header in
+    let same = one_header whole (type_code kind) (type_code front.kind) n (length front.body) (rest ++ body) (front.body ++ front.rest) (header_more input body (type_code kind) n rest h) front.whole.header in
     let all : length whole ≤ m = omega (arith, length-append input body, six, len, same.1, front.taken) in
     subst (λ (l : List ℕ). SpellsPdu l pdu) (take_all m whole all) t
 
-pub bad_body : (A : Type 0) (input body bytes : List ℕ) (kind : PduKind) (n : ℕ) (rest : List ℕ) (fault : PduFault) → length input ≡ 6 → IsHeader input (code kind) n rest → n ≤ limit kind → length body ≡ n
+pub bad_body : (A : Type 0) (input body bytes : List ℕ) (kind : PduKind) (n : ℕ) (rest : List ℕ) (fault : PduFault) → length input ≡ 6 → IsHeader input (type_code kind) n rest → n ≤ limit kind → length body ≡ n
     → bytes ≡ input ++ body → fault ≢ faults.Memory → IsFault A bytes fault → IsBad A (input ++ body) fault
 bad_body A input body bytes kind n rest fault six h within len is other f = inr (record {
   kind = kind;
@@ -93,20 +93,20 @@ abbrev pub failing : (A : Type 0) → SessionFault → Result (PduRead A) Sessio
 failing A e = Err e
 
 -- a body that was not read to its end
-pub takes_cut : (A : Type 0) (now : Input) (input body : List ℕ) (kind : PduKind) (n : ℕ) (rest : List ℕ) (x : PduRead A) (failed : Bool) → length input ≡ 6 → IsHeader input (code kind) n rest → n ≤ limit kind
+pub takes_cut : (A : Type 0) (now : Input) (input body : List ℕ) (kind : PduKind) (n : ℕ) (rest : List ℕ) (x : PduRead A) (failed : Bool) → length input ≡ 6 → IsHeader input (type_code kind) n rest → n ≤ limit kind
     → length body < n → (failed ≡ true → x ≡ reads.Failed) → (failed ≡ false → x ≡ reads.Cut) → (failed ≡ false → HasEnded now) → (failed ≡ true → now.last ≡ Failed) → IsRead now (input ++ body) (got A x)
 takes_cut A now input body kind n rest x true six h within short f c e r = rw (f refl) (cut_short A input body kind n rest six h within short, r refl)
 takes_cut A now input body kind n rest x false six h within short f c e r = rw (c refl) (some_bytes input body six, cut_short A input body kind n rest six h within short, e refl)
 
 -- memory ran out before the body
-pub takes_nothing : (A : Type 0) (now : Input) (input : List ℕ) (kind : PduKind) (n : ℕ) (rest : List ℕ) → length input ≡ 6 → IsHeader input (code kind) n rest → n ≤ limit kind → IsRead now (input ++ []) (failing A Memory)
+pub takes_nothing : (A : Type 0) (now : Input) (input : List ℕ) (kind : PduKind) (n : ℕ) (rest : List ℕ) → length input ≡ 6 → IsHeader input (type_code kind) n rest → n ≤ limit kind → IsRead now (input ++ []) (failing A Memory)
 takes_nothing A now input kind n rest six h within =
-    let none = is_nothing rest (no_more input (code kind) n rest six h) in
-    let alone : IsHeader input (code kind) n [] = subst (λ (l : List ℕ). IsHeader input (code kind) n l) none h in
-    (refl, inl (kind, n, subst (λ (l : List ℕ). IsHeader l (code kind) n []) (sym (append-nil input)) alone, within))
+    let none = is_nothing rest (no_more input (type_code kind) n rest six h) in
+    let alone : IsHeader input (type_code kind) n [] = subst (λ (l : List ℕ). IsHeader input (type_code kind) n l) none h in
+    (refl, inl (kind, n, subst (λ (l : List ℕ). IsHeader l (type_code kind) n []) (sym (append-nil input)) alone, within))
 
 -- a body that spells no PDU, or none that memory is there for
-pub takes_no_pdu : (A : Type 0) (now : Input) (input body bytes : List ℕ) (kind : PduKind) (n : ℕ) (rest : List ℕ) (fault : PduFault) (r : Result (PduRead A) SessionFault) → length input ≡ 6 → IsHeader input (code kind) n rest
+pub takes_no_pdu : (A : Type 0) (now : Input) (input body bytes : List ℕ) (kind : PduKind) (n : ℕ) (rest : List ℕ) (fault : PduFault) (r : Result (PduRead A) SessionFault) → length input ≡ 6 → IsHeader input (type_code kind) n rest
     → n ≤ limit kind → length body ≡ n → bytes ≡ input ++ body → IsFault A bytes fault
     → ((fault ≡ faults.Memory) × (r ≡ failing A Memory)) ⊎ ((fault ≢ faults.Memory) × (r ≡ got A (reads.Bad fault))) → IsRead now (input ++ body) r
 takes_no_pdu A now input body bytes kind n rest fault r six h within len is f (inl (m, e)) =

@@ -7,7 +7,7 @@ use Rattle.ups_dimse.specs.declared.fault.DimseFault.{DimseFault}
 use Rattle.ups_dimse.specs.declared.fault.DimseFault.TheVariants.{BadValue, Memory}
 use Rattle.ups_dimse.specs.Elements.{CommandElement, command_tag}
 use Rattle.ups_dimse.specs.Messages.{Need, has_us, may_have_us, may_have_at, needs}
-use Rattle.ups_dimse.specs.Faults.{FirstFails, IsFault}
+use Rattle.ups_dimse.specs.Faults.{FirstFails, IsCommandFault}
 use Rattle.ups_dimse.specs.Commands.{SpellsCommand}
 use Rattle.ups_assoc.specs.declared.message.RawMessage.{RawMessage}
 use Rattle.ups_session.specs.Association.{ParametersView}
@@ -34,7 +34,7 @@ none_fails elements (has_us number ∷ more) (inr (holds, fails)) = none_fails e
 none_fails elements (may_have_us number ∷ more) (inr (holds, fails)) = none_fails elements more fails
 none_fails elements (may_have_at number ∷ more) (inr (holds, fails)) = none_fails elements more fails
 
-spelled_where_lost : {A : Type 0} (bytes : List ℕ) → IsFault A bytes Memory → (command : Command A) × SpellsCommand bytes command
+spelled_where_lost : {A : Type 0} (bytes : List ℕ) → IsCommandFault A bytes Memory → (command : Command A) × SpellsCommand bytes command
 spelled_where_lost bytes (inl (is, command, spelled)) = (command, spelled)
 spelled_where_lost bytes (inr (inl (none, is))) = absurd cc
 spelled_where_lost bytes (inr (inr (elements, spelled, inl fails))) = absurd fails
@@ -42,7 +42,7 @@ spelled_where_lost bytes (inr (inr (elements, spelled, inr (inl (field, has, non
 spelled_where_lost bytes (inr (inr (elements, spelled, inr (inr (message, has, fails))))) = absurd (none_fails elements (needs message) fails)
 
 -- where memory ran out, the command can be read
-pub command_spelled : {A : Type 0} (message : RawMessage A) (bytes : List ℕ) (fault : DimseFault) → bytes ≡ message.command → IsFault A bytes fault → fault ≡ Memory → (command : Command A) × SpellsCommand message.command command
+pub command_spelled : {A : Type 0} (message : RawMessage A) (bytes : List ℕ) (fault : DimseFault) → bytes ≡ message.command → IsCommandFault A bytes fault → fault ≡ Memory → (command : Command A) × SpellsCommand message.command command
 command_spelled {A} message bytes fault is fails lost =
-    let (command, spelled) = spelled_where_lost bytes (subst (λ (f : DimseFault). IsFault A bytes f) lost fails) in
+    let (command, spelled) = spelled_where_lost bytes (subst (λ (f : DimseFault). IsCommandFault A bytes f) lost fails) in
     (command, subst (λ (l : List ℕ). SpellsCommand l command) is spelled)

@@ -21,9 +21,9 @@ on_err (Ok x) P Q f p = tt
 on_err (Err e) P Q f p = f p
 
 -- the bytes of an answer
-pub written_answer : {A : Type 0} (request : RequestCommand A) (status : ℕ) (there : Bool) (r : ResponseCommand) → r ≡ response_command request status there → commands.written {A = A} (Response r) ≡ response_bytes request status there
+pub written_answer : {A : Type 0} (request : RequestCommand A) (status : ℕ) (there : Bool) (r : ResponseCommand) → r ≡ response_command request status there → commands.written_command {A = A} (Response r) ≡ response_bytes request status there
 unfolding response_bytes
-written_answer {A} request status there r e = ap (λ (x : ResponseCommand). commands.written {A = A} (Response x)) e
+written_answer {A} request status there r e = ap (λ (x : ResponseCommand). commands.written_command {A = A} (Response x)) e
 
 pub bare-response : {A : Type 0} (max : ℕ) (context : AcceptedContext) (request : RequestCommand A) (status : Status) (command : List ℕ)
     → command ≡ response_bytes request (code status) false → pieces {A = A} context.id command None max ≡ bare_response max context request status

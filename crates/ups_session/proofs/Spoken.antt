@@ -38,7 +38,7 @@ pub pdus-append : {A : Type 0} (front rest : List (Visit A)) → pdus_of (front 
 pdus-append front rest = flat_map-append pdu_of front rest
 
 pdu_bytes-append : {A : Type 0} (front rest : List (Pdu A)) → pdu_bytes (front ++ rest) ≡ pdu_bytes front ++ pdu_bytes rest
-pdu_bytes-append front rest = flat_map-append pdus.written front rest
+pdu_bytes-append front rest = flat_map-append pdus.written_pdu front rest
 
 -- behind bytes that were sent
 short_after : (front bytes sent : List ℕ) (fault : SessionFault) (failed : Bool) → FallsShort fault failed bytes sent → FallsShort fault failed (front ++ bytes) (front ++ sent)
@@ -72,12 +72,12 @@ says_nothing o t = record { visits = []; sent = []; timeless = refl; writes = Ap
 pub says_lost : {A Y : Type 0} (said : List (Pdu A)) (o : Output) (t : Told) → SendsPdus said o o t t (stopping {Y = Y} Memory)
 says_lost said o t = record { visits = []; sent = []; timeless = refl; writes = Appends-nil o.written; tells = Tells-nil t; sends = ((said, refl), inr (refl, refl)) }
 
-sends_one : {A Y : Type 0} (pdu : Pdu A) (bytes sent : List ℕ) (failed : Bool) (r : Result Y SessionFault) → bytes ≡ pdus.written pdu → Sent bytes sent failed r → Sends (pdu ∷ []) (pdu ∷ []) sent failed r
-sends_one pdu bytes sent failed (Ok y) is all = (refl, all ∙ is ∙ sym (append-nil (pdus.written pdu)))
-sends_one pdu bytes sent failed (Err e) is (why, really, (rest, some, part)) = (([], refl), inl (why, really, (rest, some, part ∙ is ∙ sym (append-nil (pdus.written pdu)))))
+sends_one : {A Y : Type 0} (pdu : Pdu A) (bytes sent : List ℕ) (failed : Bool) (r : Result Y SessionFault) → bytes ≡ pdus.written_pdu pdu → Sent bytes sent failed r → Sends (pdu ∷ []) (pdu ∷ []) sent failed r
+sends_one pdu bytes sent failed (Ok y) is all = (refl, all ∙ is ∙ sym (append-nil (pdus.written_pdu pdu)))
+sends_one pdu bytes sent failed (Err e) is (why, really, (rest, some, part)) = (([], refl), inl (why, really, (rest, some, part ∙ is ∙ sym (append-nil (pdus.written_pdu pdu)))))
 
 -- one PDU was written between two calls
-pub says_one : {A Y : Type 0} (pdu : Pdu A) (o p : Output) (t u v : Told) (bytes sent : List ℕ) (r : Result Y SessionFault) → bytes ≡ pdus.written pdu → Appends o.written p.written sent → Sent bytes sent p.failed r
+pub says_one : {A Y : Type 0} (pdu : Pdu A) (o p : Output) (t u v : Told) (bytes sent : List ℕ) (r : Result Y SessionFault) → bytes ≡ pdus.written_pdu pdu → Appends o.written p.written sent → Sent bytes sent p.failed r
     → Tells t u (Before ∷ []) → Tells u v (After ∷ []) → SendsPdus (pdu ∷ []) o p t v r
 says_one pdu o p t u v bytes sent r is writes all before after = record {
   visits = wrote pdu ∷ [];

@@ -43,14 +43,14 @@ pub record Exchange (A : Type 0) : Type 0 where
 abbrev pub silence : {A : Type 0} → Exchange A
 silence = record { said = []; asks = []; replies = [] }
 
-abbrev pub joined : {A : Type 0} → Exchange A → Exchange A → Exchange A
-joined first then = record { said = first.said ++ then.said; asks = first.asks ++ then.asks; replies = first.replies ++ then.replies }
+abbrev pub joined_exchanges : {A : Type 0} → Exchange A → Exchange A → Exchange A
+joined_exchanges first then = record { said = first.said ++ then.said; asks = first.asks ++ then.asks; replies = first.replies ++ then.replies }
 
 -- one after the other
 abbrev pub Chain : {A L X : Type 0} → (L → X → Exchange A → L → Type 0) → List X → L → Exchange A → L → Type 0
 Chain Step [] association exchange after = (exchange ≡ silence) × (after ≡ association)
 Chain {A} {L} Step (x ∷ xs) association exchange after =
-    (mid : L) × (first : Exchange A) × (then : Exchange A) × Step association x first mid × Chain Step xs mid then after × (exchange ≡ joined first then)
+    (mid : L) × (first : Exchange A) × (then : Exchange A) × Step association x first mid × Chain Step xs mid then after × (exchange ≡ joined_exchanges first then)
 
 -- what a side of an association does upon one indication: its state after it, the PDUs that it sends, and the request
 -- whose reply it awaits

@@ -2,7 +2,7 @@
 use Rattle.std.specs.Prelude.{◌≡◌, ◌≢◌, ℕ, Bool, true, List, [], ◌++◌, Result, Ok, Err}
 use Rattle.std.specs.List.{flat_map}
 use Rattle.ups_pdu.specs.declared.pdu.Pdu.{Pdu}
-use Rattle.ups_pdu.specs.Written.{written}
+use Rattle.ups_pdu.specs.Written.{written_pdu}
 use Rattle.ups_session.specs.declared.fault.SessionFault.{SessionFault}
 use Rattle.ups_session.specs.declared.fault.SessionFault.TheVariants.{Write}
 
@@ -20,4 +20,4 @@ Sent bytes sent failed (Err e) = (e ≡ Write) × (failed ≡ true) × IsCut sen
 
 -- the bytes of some PDUs
 abbrev pub pdu_bytes : {A : Type 0} → List (Pdu A) → List ℕ
-pdu_bytes said = flat_map written said
+pdu_bytes said = flat_map written_pdu said

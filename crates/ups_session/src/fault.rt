@@ -31,7 +31,7 @@ pub enum SessionFault {
     #[error("a write failed")]
     Write,
     /// As many PDUs were read as were allowed, and the association had not ended.
-    #[error("the association_view did not end within the number of PDUs that are read at most")]
+    #[error("the association did not end within the number of PDUs that are read at most")]
     Turns,
     /// Memory ran out.
     #[error("out of memory")]

@@ -7,7 +7,7 @@ ghost use Rattle.ups_session.specs.declared.watched_io.LastRead.TheVariants as l
 ghost use Rattle.ups_session.specs.Tells.{IsAnnounced};
 ghost use Rattle.ups_session.specs.Wire.{Sent};
 ghost use Rattle.ups_pdu.specs.declared.kind.PduKind.{PduKind};
-ghost use Rattle.ups_pdu.specs.Header.{IsHeader, code, limit};
+ghost use Rattle.ups_pdu.specs.Header.{IsHeader, type_code, limit};
 ghost use Rattle.ups_session.specs.Reading.{IsRead};
 ghost use Rattle.ups_session.specs.declared.pdu_io.PduRead.TheVariants.{Bad, Cut, Failed};
 ghost use Rattle.ups_session.specs.declared.fault.SessionFault.TheVariants.{Memory};
@@ -152,7 +152,7 @@ fn read_body<A: Allocator + Copy, R: Read>(
     len: usize,
 ) -> Result<PduRead<A>, SessionFault>
     requires six { length header.now ≡ 6 }
-    requires header { (kind : PduKind) × (rest : List ℕ) × IsHeader header.now (code kind) len rest × (len ≤ limit kind) }
+    requires header { (kind : PduKind) × (rest : List ℕ) × IsHeader header.now (type_code kind) len rest × (len ≤ limit kind) }
     requires len { len < 2 ^ 32 }
     ensures { (body : List ℕ) × Consumes reader.old.left reader.new.left body × IsRead reader.new (header.now ++ body) result }
 {

@@ -15,7 +15,7 @@ use Rattle.ups_manager.specs.Law.{is_legal}
 use Rattle.ups_turn.specs.declared.view.Part.{Part}
 use Rattle.ups_turn.specs.declared.view.View.{View}
 use Rattle.ups_turn.specs.declared.view.Opening.{Opening}
-use Rattle.ups_turn.specs.Rule.{Kept, Behind, EnteredByPasses, IsPassNumber, settings_of, state, turns, passes, numbered}
+use Rattle.ups_turn.specs.Rule.{Kept, Behind, EnteredByPasses, IsPassNumber, settings_of, manager_state, turns, passes, count_numbered}
 use Rattle.ups_turn.specs.Pass.{Standing, part_of, EndsFor, HaveNumbers}
 use Rattle.ups_turn.proofs.Sums.{total_least, total_two, total_some}
 use Rattle.ups_turn.proofs.Steps.{on_turn}
@@ -42,20 +42,20 @@ module _ {A : Type 0} where
     pub behind : All (Behind log) parts
     pub numbers : All (λ (p : Part A). IsPassNumber o.seats p.number) parts
     pub apart : (k : ℕ) → count_by (λ (p : Part A). p.number == k) parts ≤ 1
-    pub manager_is : get_elem? slots 0 ≡ some (Some (state (settings_of o) log))
+    pub manager_is : get_elem? slots 0 ≡ some (Some (manager_state (settings_of o) log))
 
   pub ends : (o : Opening A) (id : ℕ) (v : View A) (words : List ℕ) (slots : List (Option (State A))) → Final (Seen (Kept o) id v) words slots → v.turn ≡ false → length v.parts ≡ o.seats → Ended o v.parts slots
   ends o id v words slots f off all =
       let k = f.1.0 in
-      let home = ⊎_elim (λ (h : (sum_by turns (f.0).views ≡ 0) × ((f.0).homes ≡ some (Some (state (settings_of o) k.log)) ∷ [])). h.1) (λ (h : (sum_by turns (f.0).views ≡ 1) × ((f.0).homes ≡ maybe.none ∷ [])). absurd (nobody_else k id v f.1.1 off all h.0)) k.slot in
+      let home = ⊎_elim (λ (h : (sum_by turns (f.0).views ≡ 0) × ((f.0).homes ≡ some (Some (manager_state (settings_of o) k.log)) ∷ [])). h.1) (λ (h : (sum_by turns (f.0).views ≡ 1) × ((f.0).homes ≡ maybe.none ∷ [])). absurd (nobody_else k id v f.1.1 off all h.0)) k.slot in
       record {
         log = k.log;
         legal = k.legal;
         since = k.since;
         behind = (k.each id v f.1.1).behind;
         numbers = (k.each id v f.1.1).numbers;
-        apart = λ x. let some = total_least (numbered x) (f.0).views id v f.1.1 in let one = k.apart x in omega arith;
-        manager_is = f.4 0 (Some (state (settings_of o) k.log)) (ap (λ hs. get_elem? hs 0) home);
+        apart = λ x. let some = total_least (count_numbered x) (f.0).views id v f.1.1 in let one = k.apart x in omega arith;
+        manager_is = f.4 0 (Some (manager_state (settings_of o) k.log)) (ap (λ hs. get_elem? hs 0) home);
       }
 
   all_parts : (P : Part A → Type 0) (ps : List (Standing A)) → All P (map part_of ps) → All (λ p. P (part_of p)) ps
@@ -75,13 +75,13 @@ module _ {A : Type 0} where
     pub ended : Ended o v.parts slots
     ended = ends o id v words slots f off (ap length parts ∙ (length-parts ps ∙ all))
 
-    is_there : found ≡ Some (state (settings_of o) ended.log)
+    is_there : found ≡ Some (manager_state (settings_of o) ended.log)
     is_there = some-injective _ _ (sym found_is ∙ ended.manager_is)
 
     pub not_there : found ≡ None → ⊥
     not_there e = let h = is_there in absurd (cc)
 
-    pub closed : (last : State A) → found ≡ Some last → last ≡ state (settings_of o) ended.log
+    pub closed : (last : State A) → found ≡ Some last → last ≡ manager_state (settings_of o) ended.log
     closed last e = let h = is_there in cc
 
     pub closed_settings : (last : State A) → found ≡ Some last → last.settings ≡ settings_of o

@@ -7,6 +7,7 @@ use Rattle.std.specs.declared.clone.Clone as Clone
 use Rattle.std_heap.specs.contracts.Global as Heap
 use Rattle.std_heap.specs.contracts.GlobalAllocator.TheImpl.{ghosts}
 use Rattle.std.proofs.Crossing.{frees, send, sync}
+use Rattle.std.proofs.Crossing as heaped
 use Rattle.std.proofs.CrossingOver as over
 use Rattle.std.specs.declared.cmp.Ord as ord
 use Rattle.std.specs.declared.cmp.PartialEq as eq
@@ -112,7 +113,7 @@ module _ (A : RattleType) (g : Allocator.Ghosts A.Denot) where
 
 module _ (A : RattleType) (g : Allocator.Ghosts A.Denot) (c : Clone.Ghosts A.Denot) where
   Desk-sync : IsSend (Manager.the_row A g) → IsSync A → IsSend A → Frees g g.dealloc_token → IsSync (Desk.the_row A g c)
-  Desk-sync m y s f = let o : IsSend (Option.the_row (Manager.the_row A g)) = search sendable depth 20 in search (sendable, Table-sync) depth 20
+  Desk-sync m y s f = let o : IsSend (Option.the_row (Manager.the_row A g)) = search sendable depth 20 in search (sendable, heaped.crosses, Table-sync) depth 30
 
 module _ (A : RattleType) (g : Allocator.Ghosts A.Denot) where
   Pass-send : IsSend (Manager.the_row A g) → IsSend (Pass.the_row A g)

@@ -15,8 +15,8 @@ use Rattle.ups_manager.proofs.Legality.{legal_within}
 use Rattle.ups_turn.specs.declared.view.Part.{Part}
 use Rattle.ups_turn.specs.declared.view.View.{View}
 use Rattle.ups_turn.specs.declared.view.Opening.{Opening}
-use Rattle.ups_turn.specs.Rule.{Kept, FitsView, Slot, Behind, IsPrefix, IsPassNumber, settings_of, is_mine, one_if, tickets, turns, draws, passes, numbered}
-use Rattle.ups_turn.specs.Plays.{Knows, note_of, joined, nobody, first_part, other_parts, dealt, kept_back, catching_up, settled, CaughtUp, Settles, longer}
+use Rattle.ups_turn.specs.Rule.{Kept, FitsView, Slot, Behind, BeginsHistory, IsPassNumber, settings_of, is_mine, one_if, tickets, turns, draws, passes, count_numbered}
+use Rattle.ups_turn.specs.Plays.{Knows, note_of, joined_views, nobody, first_part, other_parts, dealt, kept_back, catching_up, settled, CaughtUp, SettlesNotes, longer}
 use Rattle.ups_turn.specs.Pass.{resting, part}
 use Rattle.std.proofs.lemmas.Bool.Decides.{nat_tests}
 use Rattle.ups_turn.proofs.Sums.{total_set, total_same, each_set}
@@ -48,7 +48,7 @@ module _ {A : Type 0} where
 
   -- a step on the first word that adds nothing, at which a pass without the turn catches up
   pub settle_allowed : (o : Opening A) (id : ℕ) (me : (Knows A)) (st : Step (Option (State A))) → me.0.turn ≡ false → 0 < length me.0.parts
-      → Allows (Kept o) 1 id me 0 (λ n. (n + 0) % 2 ^ 64) (Settles st me)
+      → Allows (Kept o) 1 id me 0 (λ n. (n + 0) % 2 ^ 64) (SettlesNotes st me)
   settle_allowed o id me st off some_part s k one at small =
       let v : (View A) = me.0 in
       let w = settled v in
@@ -72,14 +72,14 @@ module _ {A : Type 0} where
             numbers = all_map (λ (p : Part A). IsPassNumber o.seats p.number) (λ (p : Part A). IsPassNumber o.seats p.number) (catching_up v.notes) v.parts (λ p h. h) fits.numbers;
             busy = λ _. omega (arith, length_caught v.notes v.parts);
             behind = all_map (Behind k.log) (Behind k.log) (catching_up v.notes) v.parts (λ p b. behind_longest k.log p v.notes b fits.noted) fits.behind;
-            noted = All-nil (λ x. IsPrefix x k.log);
+            noted = All-nil (λ x. BeginsHistory x k.log);
             turn_is = λ on. let o = off in absurd (cc);
             draws_few = let d = fits.draws_few in omega (arith, ap (λ n. n * 2 ^ 40) (length_caught v.notes v.parts));
           });
           ticketed = λ x. total_same (tickets x) s.views id v w at refl ∙ k.ticketed x;
           drawn = total_same draws s.views id v w at refl ∙ k.drawn;
           all_passes = total_same passes s.views id v w at (length_caught v.notes v.parts) ∙ k.all_passes;
-          apart = λ n. let t = total_same (numbered n) s.views id v w at (numbered_caught n v.notes v.parts) in let d = k.apart n in omega arith;
+          apart = λ n. let t = total_same (count_numbered n) s.views id v w at (numbered_caught n v.notes v.parts) in let d = k.apart n in omega arith;
           few = k.few;
           word_sized = k.word_sized;
         },
@@ -113,14 +113,14 @@ module _ {A : Type 0} where
           numbers = All-nil (λ (p : Part A). IsPassNumber o.seats p.number);
           busy = λ on. absurd (cc);
           behind = All-nil (Behind k.log);
-          noted = all_map (λ x. IsPrefix x k.log) (Behind k.log) (λ (p : (Part A)). p.seen) v.parts (λ p b. (b.0, b.1)) fits.behind;
+          noted = all_map (λ x. BeginsHistory x k.log) (Behind k.log) (λ (p : (Part A)). p.seen) v.parts (λ p b. (b.0, b.1)) fits.behind;
           turn_is = λ on. absurd (cc);
           draws_few = omega arith;
         });
         ticketed = λ x. total_cut (tickets x) s.views id v v (note_of v) at (omega arith) ∙ k.ticketed x;
         drawn = total_cut draws s.views id v v (note_of v) at (omega arith) ∙ k.drawn;
         all_passes = total_cut passes s.views id v v (note_of v) at (omega arith) ∙ k.all_passes;
-        apart = λ n. let t = total_cut (numbered n) s.views id v v (note_of v) at (omega arith) in let d = k.apart n in omega arith;
+        apart = λ n. let t = total_cut (count_numbered n) s.views id v v (note_of v) at (omega arith) in let d = k.apart n in omega arith;
         few = k.few;
         word_sized = k.word_sized;
       }
@@ -179,14 +179,14 @@ module _ {A : Type 0} where
               numbers = all_first (λ (p : Part A). IsPassNumber o.seats p.number) v.parts fits.numbers;
               busy = λ on. absurd (cc);
               behind = all_first (Behind k.log) v.parts fits.behind;
-              noted = All-nil (λ x. IsPrefix x k.log);
+              noted = All-nil (λ x. BeginsHistory x k.log);
               turn_is = λ on. absurd (cc);
               draws_few = omega arith;
             });
         ticketed = λ x. total_cut (tickets x) s.views id v l r at (omega arith) ∙ k.ticketed x;
         drawn = total_cut draws s.views id v l r at (omega arith) ∙ k.drawn;
         all_passes = total_cut passes s.views id v l r at (length_dealt v.parts) ∙ k.all_passes;
-        apart = λ n. let t = total_cut (numbered n) s.views id v l r at (numbered_dealt n v.parts) in let d = k.apart n in omega arith;
+        apart = λ n. let t = total_cut (count_numbered n) s.views id v l r at (numbered_dealt n v.parts) in let d = k.apart n in omega arith;
         few = k.few;
         word_sized = k.word_sized;
       }
@@ -200,12 +200,12 @@ module _ {A : Type 0} where
       omega arith
 
   pub join_allowed : (o : Opening A) (id other : ℕ) (v w : (View A)) → w.ticket ≡ None → w.turn ≡ false → v.turn ≡ false → (0 < length w.parts → 0 < length v.parts)
-      → Joins (Kept o) id v other w (joined v w) nobody
+      → Joins (Kept o) id v other w (joined_views v w) nobody
   join_allowed o id other v w none w_off v_off first s k at ne there =
       let fits = k.each id v at in
-      let was = ⊎_elim (λ (t : (other ≡ id) × (joined v w ≡ w)). absurd (ne t.0)) (λ (t : (other ≢ id) × (get_elem? s.views other ≡ some w)). t.1) (at_set s.views id other (joined v w) w there) in
+      let was = ⊎_elim (λ (t : (other ≡ id) × (joined_views v w ≡ w)). absurd (ne t.0)) (λ (t : (other ≢ id) × (get_elem? s.views other ≡ some w)). t.1) (at_set s.views id other (joined_views v w) w there) in
       let theirs = k.each other w was in
-      let b = joined v w in
+      let b = joined_views v w in
       let len = length-append v.parts w.parts in
       record {
         log = k.log;
@@ -223,7 +223,7 @@ module _ {A : Type 0} where
               numbers = All-append (λ (p : Part A). IsPassNumber o.seats p.number) v.parts w.parts fits.numbers theirs.numbers;
               busy = λ on. let o = v_off in absurd (cc);
               behind = All-append (Behind k.log) v.parts w.parts fits.behind theirs.behind;
-              noted = All-append (λ x. IsPrefix x k.log) v.notes w.notes fits.noted theirs.noted;
+              noted = All-append (λ x. BeginsHistory x k.log) v.notes w.notes fits.noted theirs.noted;
               turn_is = λ on. let o = v_off in absurd (cc);
               draws_few = let c = fits.draws_few in let d = theirs.draws_few in omega (arith, ap (λ n. n * 2 ^ 40) len);
             })
@@ -233,14 +233,14 @@ module _ {A : Type 0} where
               numbers = All-nil (λ (p : Part A). IsPassNumber o.seats p.number);
               busy = λ on. absurd (cc);
               behind = All-nil (Behind k.log);
-              noted = All-nil (λ x. IsPrefix x k.log);
+              noted = All-nil (λ x. BeginsHistory x k.log);
               turn_is = λ on. absurd (cc);
               draws_few = omega arith;
             });
         ticketed = λ x. total_join (tickets x) s.views id other v w b at there (let o = ap (λ t. one_if (is_mine x t)) none in omega arith) ∙ k.ticketed x;
         drawn = total_join draws s.views id other v w b at there (omega arith) ∙ k.drawn;
         all_passes = total_join passes s.views id other v w b at there (omega arith) ∙ k.all_passes;
-        apart = λ n. let t = total_join (numbered n) s.views id other v w b at there (let c = sum_by-append (λ (p : (Part A)). one_if (eqb p.number n)) v.parts w.parts in omega arith) in let d = k.apart n in omega arith;
+        apart = λ n. let t = total_join (count_numbered n) s.views id other v w b at there (let c = sum_by-append (λ (p : (Part A)). one_if (eqb p.number n)) v.parts w.parts in omega arith) in let d = k.apart n in omega arith;
         few = k.few;
         word_sized = k.word_sized;
       }
@@ -252,10 +252,10 @@ module _ {A : Type 0} where
 
   -- a pass that rests learns what another has seen
   module _ (settings : Settings) (number calls : ℕ) (settings' : Settings) (number' calls' : ℕ) (seen seen' : List (Entry A)) (me from noted both last : (Knows A)) (rests : me ≡ (resting settings number calls seen, [])) (from_rests : from ≡ (resting settings' number' calls' seen', []))
-      (noted_is : noted ≡ (note_of from.0, [])) (both_is : both ≡ (joined me.0 noted.0, me.1)) (last_is : last ≡ (settled both.0, both.1)) (caught : All (CaughtUp both.0.settings both.0.notes) both.0.parts) where
+      (noted_is : noted ≡ (note_of from.0, [])) (both_is : both ≡ (joined_views me.0 noted.0, me.1)) (last_is : last ≡ (settled both.0, both.1)) (caught : All (CaughtUp both.0.settings both.0.notes) both.0.parts) where
     pub both_now : both ≡ (record { settings = settings; draws = calls; ticket = None; turn = false; parts = part number seen; notes = seen' ∷ [] }, [])
     both_now =
-        both_is ∙ ((λ i. (joined (rests i).0 ((noted_is ∙ ap (λ (f : (Knows A)). (note_of f.0, [])) from_rests) i).0, (rests i).1))
+        both_is ∙ ((λ i. (joined_views (rests i).0 ((noted_is ∙ ap (λ (f : (Knows A)). (note_of f.0, [])) from_rests) i).0, (rests i).1))
         ∙ ap (λ n. (record { settings = settings; draws = n; ticket = None; turn = false; parts = part number seen; notes = seen' ∷ [] }, [])) (add-zero calls))
 
     pub learned_is : last ≡ (resting settings number calls (longer seen seen'), [])
@@ -264,8 +264,8 @@ module _ {A : Type 0} where
     pub learned : CaughtUp settings (seen' ∷ []) record { number = number; seen = seen }
     learned = All-head (CaughtUp settings (seen' ∷ [])) record { number = number; seen = seen } [] (subst (λ (b : (Knows A)). All (CaughtUp b.0.settings b.0.notes) b.0.parts) both_now caught)
 
-    pub told : IsPrefix seen' (longer seen seen')
-    told = All-head (λ (x : List (Entry A)). IsPrefix x (longer seen seen')) seen' [] learned.noted
+    pub told : BeginsHistory seen' (longer seen seen')
+    told = All-head (λ (x : List (Entry A)). BeginsHistory x (longer seen seen')) seen' [] learned.noted
 
   pub front_longer : (seen seen' : List (Entry A)) → max (length seen) (length seen') ≡ length (longer seen seen')
   front_longer seen seen' = at (nat_lt (length seen) (length seen')) refl
@@ -275,7 +275,7 @@ module _ {A : Type 0} where
       at false is = let le : length seen' ≤ length seen = grind (arith, nat_tests) in omega arith
 
   -- after each has told the other, both have seen the same
-  pub met : (seen right : List (Entry A)) → IsPrefix seen right → longer seen right ≡ right
+  pub met : (seen right : List (Entry A)) → BeginsHistory seen right → longer seen right ≡ right
   met seen right b = at (nat_lt (length seen) (length right)) refl
     where
       at : (c : Bool) → nat_lt (length seen) (length right) ≡ c → cond c right seen ≡ right

@@ -16,7 +16,7 @@ use Rattle.ups_manager.specs.Law.{is_legal}
 use Rattle.ups_turn.specs.declared.view.Part.{Part}
 use Rattle.ups_turn.specs.declared.view.View.{View}
 use Rattle.ups_turn.specs.declared.view.Opening.{Opening}
-use Rattle.ups_turn.specs.Rule.{Kept, FitsView, Behind, IsPrefix, IsPassNumber, settings_of, one_if, tickets, turns, draws, passes, numbered, between, parts_from, opening_view, first_view}
+use Rattle.ups_turn.specs.Rule.{Kept, FitsView, Behind, BeginsHistory, IsPassNumber, settings_of, one_if, tickets, turns, draws, passes, count_numbered, between, parts_from, opening_view, first_view}
 use Rattle.ups_turn.specs.Plays.{kept_back, dealt}
 use Rattle.ups_turn.specs.Pass.{are_seats, most_seats, fresh, passes_from, resting}
 
@@ -81,14 +81,14 @@ module _ {A : Type 0} where
           numbers = numbers_from o.seats log 1 o.seats (omega arith) (omega arith);
           busy = λ on. absurd (cc);
           behind = behind_from log 1 o.seats;
-          noted = All-nil (λ x. IsPrefix x log);
+          noted = All-nil (λ x. BeginsHistory x log);
           turn_is = λ on. absurd (cc);
           draws_few = omega arith;
         });
         ticketed = λ x. alone (tickets x) v ∙ sym (no_tickets x);
         drawn = alone draws v;
         all_passes = alone passes v ∙ length_from log 1 o.seats;
-        apart = λ n. let a = alone (numbered n) v in let b = at_most_once log n 1 o.seats in omega arith;
+        apart = λ n. let a = alone (count_numbered n) v in let b = at_most_once log n 1 o.seats in omega arith;
         few = few;
         word_sized = small;
       }

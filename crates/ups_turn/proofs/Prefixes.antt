@@ -8,7 +8,7 @@ use Rattle.ups_life.specs.declared.entry.Entry.{Entry}
 use Rattle.ups_manager.specs.Law.{is_legal}
 use Rattle.ups_manager.proofs.Legality.{beginning_legal}
 use Rattle.ups_turn.specs.declared.view.Part.{Part}
-use Rattle.ups_turn.specs.Rule.{Behind, IsPrefix}
+use Rattle.ups_turn.specs.Rule.{Behind, BeginsHistory}
 use Rattle.ups_turn.specs.Plays.{longer, longest, CaughtUp}
 use Rattle.ups_life.specs.Settings.{Settings}
 
@@ -29,13 +29,13 @@ cancel [] ys zs e = e
 cancel (x ∷ xs) ys zs e = cancel xs ys zs (cc)
 
 module _ {A : Type 0} where
-  pub behind_part : (log far : List (Entry A)) (p : (Part A)) → Behind log p → IsPrefix far log → length p.seen ≤ length far → Behind far p
+  pub behind_part : (log far : List (Entry A)) (p : (Part A)) → Behind log p → BeginsHistory far log → length p.seen ≤ length far → Behind far p
   behind_part log far p b f le =
       let w = within p.seen far b.0 f.0 (b.1 ∙ sym f.1) le in
       let split : b.0 ≡ w.0 ++ f.0 = cancel p.seen b.0 (w.0 ++ f.0) (b.1 ∙ (sym f.1 ∙ (ap (λ (x : List (Entry A)). x ++ f.0) (sym w.1) ∙ append_assoc p.seen w.0 f.0))) in
       (w.0, w.1, All-front (λ (e : (Entry A)). e.caller ≢ p.number) w.0 f.0 (subst (All (λ (e : (Entry A)). e.caller ≢ p.number)) split b.2))
 
-  prefix_part : (log far x : List (Entry A)) → IsPrefix x log → IsPrefix far log → length x ≤ length far → IsPrefix x far
+  prefix_part : (log far x : List (Entry A)) → BeginsHistory x log → BeginsHistory far log → length x ≤ length far → BeginsHistory x far
   prefix_part log far x b f le = within x far b.0 f.0 (b.1 ∙ sym f.1) le
 
   longer_is : (P : List (Entry A) → Type 0) (xs ys : List (Entry A)) → P xs → P ys → P (longer xs ys)
@@ -71,10 +71,10 @@ module _ {A : Type 0} where
   longest_each xs [] = All-nil _
   longest_each xs (ys ∷ yss) = All-cons (λ zs. length zs ≤ length (longest (longer xs ys) yss)) ys yss (let a = longer_right xs ys in let b = longest_first (longer xs ys) yss in omega arith) (longest_each (longer xs ys) yss)
 
-  pub longest_prefix : (log : List (Entry A)) (p : (Part A)) (notes : List (List (Entry A))) → Behind log p → All (λ x. IsPrefix x log) notes → IsPrefix (longest p.seen notes) log
-  longest_prefix log p notes b n = longest_is (λ x. IsPrefix x log) p.seen notes (b.0, b.1) n
+  pub longest_prefix : (log : List (Entry A)) (p : (Part A)) (notes : List (List (Entry A))) → Behind log p → All (λ x. BeginsHistory x log) notes → BeginsHistory (longest p.seen notes) log
+  longest_prefix log p notes b n = longest_is (λ x. BeginsHistory x log) p.seen notes (b.0, b.1) n
 
-  pub behind_longest : (log : List (Entry A)) (p : (Part A)) (notes : List (List (Entry A))) → Behind log p → All (λ x. IsPrefix x log) notes → Behind log record { number = p.number; seen = longest p.seen notes }
+  pub behind_longest : (log : List (Entry A)) (p : (Part A)) (notes : List (List (Entry A))) → Behind log p → All (λ x. BeginsHistory x log) notes → Behind log record { number = p.number; seen = longest p.seen notes }
   behind_longest log p notes b n =
       let f = longest_prefix log p notes b n in
       let w = behind_part log (longest p.seen notes) p b f (longest_first p.seen notes) in
@@ -85,7 +85,7 @@ module _ {A : Type 0} where
       back [] ys h = h
       back (x ∷ xs) ys h = back xs ys (All-tail (λ (e : (Entry A)). e.caller ≢ p.number) x (xs ++ ys) h)
 
-  pub caught_up : (settings : Settings) (log : List (Entry A)) (p : (Part A)) (notes : List (List (Entry A))) → is_legal settings log → Behind log p → All (λ x. IsPrefix x log) notes → CaughtUp settings notes p
+  pub caught_up : (settings : Settings) (log : List (Entry A)) (p : (Part A)) (notes : List (List (Entry A))) → is_legal settings log → Behind log p → All (λ x. BeginsHistory x log) notes → CaughtUp settings notes p
   caught_up settings log p notes legal b n =
       let f = longest_prefix log p notes b n in record {
         behind = behind_part log (longest p.seen notes) p b f (longest_first p.seen notes);

@@ -18,8 +18,8 @@ use Rattle.ups_manager.proofs.Legality.{legal_within}
 use Rattle.ups_turn.specs.declared.view.Part.{Part}
 use Rattle.ups_turn.specs.declared.view.View.{View}
 use Rattle.ups_turn.specs.declared.view.Opening.{Opening}
-use Rattle.ups_turn.specs.Rule.{Kept, FitsView, Slot, Behind, IsPrefix, IsPassNumber, EnteredByPasses, settings_of, state, is_mine, one_if, tickets, turns, draws, passes, numbered, between}
-use Rattle.ups_turn.specs.Plays.{Knows, with_ticket, seeing, at_turn, served, Draws, Looks, history_in, Decides, Serves, HasTurn}
+use Rattle.ups_turn.specs.Rule.{Kept, FitsView, Slot, Behind, BeginsHistory, IsPassNumber, EnteredByPasses, settings_of, manager_state, is_mine, one_if, tickets, turns, draws, passes, count_numbered, between}
+use Rattle.ups_turn.specs.Plays.{Knows, with_ticket, seeing, at_turn, served, Draws, Looks, history_in, Decides, ServesNext, HasTurn}
 use Rattle.ups_turn.proofs.Sums.{total_set, total_least, total_two, total_within, total_some, total_same, each_set}
 
 between_draw : (x low high : ℕ) → low ≤ high → between x low (high + 1) ≡ between x low high + one_if (eqb high x)
@@ -108,7 +108,7 @@ module _ {A : Type 0} where
               omega (arith, between_draw x k.serving k.ticket k.order);
           drawn = let h = total_set draws s.views id v w at in let d = k.drawn in omega arith;
           all_passes = let h = total_set passes s.views id v w at in let d = k.all_passes in omega arith;
-          apart = λ n. let h = total_set (numbered n) s.views id v w at in let d = k.apart n in omega arith;
+          apart = λ n. let h = total_set (count_numbered n) s.views id v w at in let d = k.apart n in omega arith;
           few = k.few;
           word_sized = k.word_sized;
         },
@@ -153,7 +153,7 @@ module _ {A : Type 0} where
 
   -- while the seat with the ticket that is served has not the turn, the manager is at home
   home : {o : Opening A} {s : Table (Option (State A)) (View A)} (k : Kept o s) (i : ℕ) (v : (View A)) → get_elem? s.views i ≡ some v → v.ticket ≡ Some k.serving → v.turn ≡ false
-      → (sum_by turns s.views ≡ 0) × (s.homes ≡ some (Some (state (settings_of o) k.log)) ∷ [])
+      → (sum_by turns s.views ≡ 0) × (s.homes ≡ some (Some (manager_state (settings_of o) k.log)) ∷ [])
   home {o} {s} k i v at mine off = ⊎_elim (λ h. h) (λ (h : (sum_by turns s.views ≡ 1) × (s.homes ≡ maybe.none ∷ [])). absurd (other h.0)) k.slot
     where
       other : sum_by turns s.views ≡ 1 → ⊥
@@ -180,7 +180,7 @@ module _ {A : Type 0} where
     ticketed = λ x. total_same (tickets x) s.views i v v at refl ∙ k.ticketed x;
     drawn = total_same draws s.views i v v at refl ∙ k.drawn;
     all_passes = total_same passes s.views i v v at refl ∙ k.all_passes;
-    apart = λ n. let h = total_same (numbered n) s.views i v v at refl in let d = k.apart n in omega arith;
+    apart = λ n. let h = total_same (count_numbered n) s.views i v v at refl in let d = k.apart n in omega arith;
     few = k.few;
     word_sized = k.word_sized;
   }
@@ -213,7 +213,7 @@ module _ {A : Type 0} where
         ticketed = λ x. total_same (tickets x) s.views i v w at refl ∙ k.ticketed x;
         drawn = total_same draws s.views i v w at refl ∙ k.drawn;
         all_passes = total_same passes s.views i v w at (length-seeing k.log v.parts) ∙ k.all_passes;
-        apart = λ n. let t = total_same (numbered n) s.views i v w at (numbered_seeing n k.log v.parts) in let d = k.apart n in omega arith;
+        apart = λ n. let t = total_same (count_numbered n) s.views i v w at (numbered_seeing n k.log v.parts) in let d = k.apart n in omega arith;
         few = k.few;
         word_sized = k.word_sized;
       }
@@ -233,10 +233,10 @@ module _ {A : Type 0} where
           let fits = k.each id v at in
           let settings_is = fits.settings_is some_part in (
             at_turn v true k.log,
-            takes 0 (Some (state (settings_of o) k.log)),
+            takes 0 (Some (manager_state (settings_of o) k.log)),
             ap (λ hs. get_elem? hs 0) h.1,
             turned k id v at mine off some_part,
-            rw is (record { log = k.log; behind = fits.behind; legal = subst (λ l. is_legal l k.log) (sym settings_is) k.legal; after_is = λ i. (at_turn v true k.log, (0, Some (state (sym settings_is i) k.log)) ∷ empty i) }),
+            rw is (record { log = k.log; behind = fits.behind; legal = subst (λ l. is_legal l k.log) (sym settings_is) k.legal; after_is = λ i. (at_turn v true k.log, (0, Some (manager_state (sym settings_is i) k.log)) ∷ empty i) }),
           )
 
   none_numbered : (k : ℕ) (ps : List (Part A)) → count_by (λ (p : (Part A)). eqb p.number k) ps ≡ 0 → All (λ (p : (Part A)). p.number ≢ k) ps
@@ -261,7 +261,7 @@ module _ {A : Type 0} where
   more_since seats before log added number b by known =
       (b.0 ++ added, sym (append_assoc before b.0 added) ∙ ap (λ xs. xs ++ added) b.1, All-append (λ (e : Entry A). IsPassNumber seats e.caller) b.0 added b.2 (λ k d lt. subst (IsPassNumber seats) (sym (by k d lt)) known))
 
-  prefix_more : (log added x : List (Entry A)) → IsPrefix x log → IsPrefix x (log ++ added)
+  prefix_more : (log added x : List (Entry A)) → BeginsHistory x log → BeginsHistory x (log ++ added)
   prefix_more log added x b = (b.0 ++ added, sym (append_assoc x b.0 added) ∙ ap (λ xs. xs ++ added) b.1)
 
   -- a view that has not the turn, after another's entry
@@ -282,7 +282,7 @@ module _ {A : Type 0} where
   taken {o} {s} k i v at on =
       let least = total_least turns s.views i v at in
       let one = ap one_if on in
-      ⊎_elim (λ (h : (sum_by turns s.views ≡ 0) × (s.homes ≡ some (Some (state (settings_of o) k.log)) ∷ [])). let z = h.0 in absurd (omega arith)) (λ h. h) k.slot
+      ⊎_elim (λ (h : (sum_by turns s.views ≡ 0) × (s.homes ≡ some (Some (manager_state (settings_of o) k.log)) ∷ [])). let z = h.0 in absurd (omega arith)) (λ h. h) k.slot
 
   whole : {o : Opening A} {serving : ℕ} (log : List (Entry A)) (v : (View A)) (p : (Part A)) → FitsView o log serving v → v.turn ≡ true → v.parts ≡ p ∷ [] → p.seen ≡ log
   whole log v p fits on parts = All-head (λ (q : (Part A)). q.seen ≡ log) p [] (subst (All (λ (q : (Part A)). q.seen ≡ log)) parts (fits.turn_is on).1)
@@ -299,7 +299,7 @@ module _ {A : Type 0} where
       let w = at_turn v true new in
       let fits64 = k.word_sized in
       let slot = taken k id v at has.turn in
-      let mine_once : numbered number v ≡ 1 = ap (λ ps. count_by (λ (p : (Part A)). eqb p.number number) ps) has.parts ∙ (let same : eqb number number ≡ true = grind (arith, nat_tests) in rw same) in (
+      let mine_once : count_numbered number v ≡ 1 = ap (λ ps. count_by (λ (p : (Part A)). eqb p.number number) ps) has.parts ∙ (let same : eqb number number ≡ true = grind (arith, nat_tests) in rw same) in (
         w,
         keeps,
         tt,
@@ -315,7 +315,7 @@ module _ {A : Type 0} where
           each = each_set (FitsView o new k.serving) s.views id w
               (λ j u ne e.
               let old = subst (λ l. FitsView o l k.serving u) (sym log_is) (k.each j u e) in
-              let two = total_two (numbered number) s.views j id u v ne e at in
+              let two = total_two (count_numbered number) s.views j id u v ne e at in
               let most = k.apart number in
               others_fit o k.serving number seen added u by (none_numbered number u.parts (omega arith)) (λ on. one_turn k id j v u at e ne mine on) old)
               (record {
@@ -323,14 +323,14 @@ module _ {A : Type 0} where
                 numbers = all_numbers o.seats new v.parts fits.numbers;
                 busy = λ _. let b = fits.busy has.turn in omega (arith, length-seeing new v.parts);
                 behind = all_seeing new v.parts;
-                noted = λ n d lt. prefix_more seen added _ (subst (IsPrefix _) (sym log_is) (fits.noted n d lt));
+                noted = λ n d lt. prefix_more seen added _ (subst (BeginsHistory _) (sym log_is) (fits.noted n d lt));
                 turn_is = λ on. (mine, all_seen new v.parts);
                 draws_few = let d = fits.draws_few in let l = length-seeing new v.parts in omega (arith, ap (λ n. n * 2 ^ 40) l);
               });
           ticketed = λ x. total_same (tickets x) s.views id v w at refl ∙ k.ticketed x;
           drawn = total_same draws s.views id v w at refl ∙ k.drawn;
           all_passes = total_same passes s.views id v w at (length-seeing new v.parts) ∙ k.all_passes;
-          apart = λ n. let t = total_same (numbered n) s.views id v w at (numbered_seeing n new v.parts) in let d = k.apart n in omega arith;
+          apart = λ n. let t = total_same (count_numbered n) s.views id v w at (numbered_seeing n new v.parts) in let d = k.apart n in omega arith;
           few = k.few;
           word_sized = k.word_sized;
         },
@@ -338,7 +338,7 @@ module _ {A : Type 0} where
       )
 
   pub serve_allowed : (o : Opening A) (id number : ℕ) (me : Knows A) (seen : List (Entry A)) (st : Step (Option (State A))) → HasTurn me number seen seen
-      → Allows (Kept o) 1 id me 2 (λ n. (n + 1) % 2 ^ 64) (Serves st me)
+      → Allows (Kept o) 1 id me 2 (λ n. (n + 1) % 2 ^ 64) (ServesNext st me)
   serve_allowed o id number me seen st has s k one at small =
       let v : (View A) = me.0 in
       let w = served v in
@@ -362,7 +362,7 @@ module _ {A : Type 0} where
           legal = k.legal;
           since = k.since;
           words = (λ i. set (k.words i) 2 ((slice_index (k.words i) 2 + 1) % 2 ^ 64)) ∙ ap (λ n. length k.log ∷ k.ticket ∷ n ∷ []) (one_more k.serving k.serving refl (omega arith));
-          slot = inl ((let t = total_set turns s.views id v w at in let on = ap one_if has.turn in let z = slot.0 in omega arith), (λ i. put_back (slot.1 i) (has.holds i)) ∙ (λ i. some (Some (state (fits.settings_is (fits.busy has.turn) i) (log_is i))) ∷ []));
+          slot = inl ((let t = total_set turns s.views id v w at in let on = ap one_if has.turn in let z = slot.0 in omega arith), (λ i. put_back (slot.1 i) (has.holds i)) ∙ (λ i. some (Some (manager_state (fits.settings_is (fits.busy has.turn) i) (log_is i))) ∷ []));
           each = each_set (FitsView o k.log (k.serving + 1)) s.views id w
               (λ j u ne e.
               let f = k.each j u e in record {
@@ -391,7 +391,7 @@ module _ {A : Type 0} where
               omega arith;
           drawn = total_same draws s.views id v w at refl ∙ k.drawn;
           all_passes = total_same passes s.views id v w at refl ∙ k.all_passes;
-          apart = λ n. let t = total_same (numbered n) s.views id v w at refl in let d = k.apart n in omega arith;
+          apart = λ n. let t = total_same (count_numbered n) s.views id v w at refl in let d = k.apart n in omega arith;
           few = k.few;
           word_sized = k.word_sized;
         },

@@ -12,7 +12,7 @@ use Rattle.ups_life.specs.Settings.{Settings}
 use Rattle.ups_manager.specs.State.{State}
 use Rattle.ups_manager.specs.Law.{callers, Serves as Law, Answers, entered, is_legal}
 use Rattle.ups_manager.proofs.Legality.{entered_numbered, lacking_enters_nothing}
-use Rattle.ups_turn.specs.Rule.{Behind, state}
+use Rattle.ups_turn.specs.Rule.{Behind, manager_state}
 use Rattle.ups_turn.specs.Plays.{Knows, with_ticket, at_turn, served, TakesTurn, Took, MayGive, MayDecide, MayServe, seeing, history_in}
 use Rattle.ups_turn.specs.Pass.{Standing, resting, most_calls, IsServed, IsSpent, IsCall}
 
@@ -25,7 +25,7 @@ module _ {A : Type 0} where
   pub in_hands : (drawn waited : Knows A) → TakesTurn drawn waited → (x : Option (State A)) × (waited.1 ≡ (0, x) ∷ rest waited.1)
   in_hands drawn waited turn =
       let hands = ap (λ (w : Knows A). w.1) turn.after_is in
-      let x : Option (State A) = Some (state drawn.0.settings turn.log) in
+      let x : Option (State A) = Some (manager_state drawn.0.settings turn.log) in
       (x, hands ∙ ap (λ (r : List (ℕ × Option (State A))). (0, x) ∷ r) (sym (ap rest hands)))
 
   some_same : {x y : State A} → Some x ≡ Some y → x ≡ y
@@ -52,11 +52,11 @@ module _ {A : Type 0} where
     pub at_rest : Took (resting settings number calls seen, []) after m
     at_rest = subst (λ (x : Knows A). Took x after m) rested turn
 
-    pub manager_before : m ≡ state settings at_rest.log
+    pub manager_before : m ≡ manager_state settings at_rest.log
     manager_before = at_rest.manager_is
 
-    pub manager_after : n ≡ state settings (at_rest.log ++ entered number ae moment ask reply)
-    manager_after = λ i. state ((settings_is ∙ ap (λ (x : State A). x.settings) manager_before) i) ((history_is ∙ ap (λ (x : State A). x.history ++ entered number ae moment ask reply) manager_before) i)
+    pub manager_after : n ≡ manager_state settings (at_rest.log ++ entered number ae moment ask reply)
+    manager_after = λ i. manager_state ((settings_is ∙ ap (λ (x : State A). x.settings) manager_before) i) ((history_is ∙ ap (λ (x : State A). x.history ++ entered number ae moment ask reply) manager_before) i)
 
     pub may_give : (count : ℕ) → length (entered number ae moment ask reply) ≡ count → is_legal n.settings n.history → MayGive after n count
     may_give count counted legal = subst (λ (a : Knows A). MayGive a n count) (sym at_rest.after_is) (record {
@@ -107,7 +107,7 @@ module _ {A : Type 0} where
   pub may_serve : (me given last : Knows A) (m : State A) (count : ℕ) → MayGive me m count → given ≡ (me.0, (0, Some m) ∷ rest me.1) → last ≡ (at_turn given.0 true (history_in given.1), given.1) → MayServe last
   may_serve me given last m count may is decided =
       let now : last ≡ (at_turn me.0 true m.history, (0, Some m) ∷ rest me.1) = decided ∙ ap (λ (g : Knows A). (at_turn g.0 true (history_in g.1), g.1)) is in
-      let whole : m ≡ state me.0.settings m.history = may.manager_is ∙ ap (state me.0.settings) (sym (ap (λ (x : State A). x.history) may.manager_is)) in
+      let whole : m ≡ manager_state me.0.settings m.history = may.manager_is ∙ ap (manager_state me.0.settings) (sym (ap (λ (x : State A). x.history) may.manager_is)) in
       subst (λ (g : Knows A). MayServe g) (sym now) (record { number = may.number; seen = m.history; has = record { turn = refl; parts = ap (seeing m.history) may.parts; holds = λ i. (0, Some (whole i)) ∷ rest (may.holds i) } })
 
   -- each call of a pass is one of a service that callers share

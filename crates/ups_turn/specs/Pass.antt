@@ -12,7 +12,7 @@ use Rattle.ups_turn.specs.declared.fault.OpenFault.{OpenFault}
 use Rattle.ups_turn.specs.declared.fault.OpenFault.TheVariants.{BadSeats, Memory}
 use Rattle.ups_turn.specs.declared.view.Part.{Part}
 use Rattle.ups_turn.specs.declared.view.View.{View}
-use Rattle.ups_turn.specs.Rule.{Behind, IsPrefix, IsPassNumber}
+use Rattle.ups_turn.specs.Rule.{Behind, BeginsHistory, IsPassNumber}
 use Rattle.ups_turn.specs.Plays.{longer}
 
 -- how a pass stands: at which desk, with which number, how many calls it has made, and the history that it has seen
@@ -94,7 +94,7 @@ pub record Learns {A : Type 0} (old from new : Standing A) : Type 0 where
   pub calls : new.calls ≡ old.calls
   pub seen : new.seen ≡ longer old.seen from.seen
   pub behind : Behind new.seen (part_of old)
-  pub told : IsPrefix from.seen new.seen
+  pub told : BeginsHistory from.seen new.seen
   pub legal : is_legal new.settings new.seen
 
 -- a pass that has made no call

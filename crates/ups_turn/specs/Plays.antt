@@ -7,15 +7,15 @@ use Rattle.ups_manager.specs.State.{State}
 use Rattle.ups_manager.specs.Law.{is_legal}
 use Rattle.ups_turn.specs.declared.view.Part.{Part}
 use Rattle.ups_turn.specs.declared.view.View.{View}
-use Rattle.ups_turn.specs.Rule.{Behind, IsPrefix, state, is_mine}
+use Rattle.ups_turn.specs.Rule.{Behind, BeginsHistory, manager_state, is_mine}
 
 -- a seat's view, and the slots that are in its hands
 abbrev pub Knows : Type 0 → Type 0
 Knows A = Me (Option (State A)) (View A)
 
 -- of a step: the seat before, the number found, and the seat after
-abbrev pub Tells : Type 0 → Type 1
-Tells A = Step (Option (State A)) → Knows A → ℕ → Knows A → Type 0
+abbrev pub StepLaw : Type 0 → Type 1
+StepLaw A = Step (Option (State A)) → Knows A → ℕ → Knows A → Type 0
 
 abbrev pub with_ticket : {A : Type 0} → View A → ℕ → View A
 with_ticket v t = record { settings = v.settings; draws = v.draws + 1; ticket = Some t; turn = v.turn; parts = v.parts; notes = v.notes }
@@ -31,7 +31,7 @@ abbrev pub served : {A : Type 0} → View A → View A
 served v = record { settings = v.settings; draws = v.draws; ticket = None; turn = false; parts = v.parts; notes = v.notes }
 
 -- Draw: the number found is the seat's ticket.
-abbrev pub Draws : {A : Type 0} → Tells A
+abbrev pub Draws : {A : Type 0} → StepLaw A
 Draws s me found after = after ≡ (with_ticket me.0 found, me.1)
 
 -- With the turn come the manager and its history, to which what was seen goes on by others' requests alone.
@@ -39,10 +39,10 @@ pub record TakesTurn {A : Type 0} (me after : Knows A) : Type 0 where
   pub log : List (Entry A)
   pub behind : All (Behind log) me.0.parts
   pub legal : is_legal me.0.settings log
-  pub after_is : after ≡ (at_turn me.0 true log, (0, Some (state me.0.settings log)) ∷ [])
+  pub after_is : after ≡ (at_turn me.0 true log, (0, Some (manager_state me.0.settings log)) ∷ [])
 
 -- Look: the seat has the turn where the number found is its ticket, and else nothing changes.
-abbrev pub Looks : {A : Type 0} → Tells A
+abbrev pub Looks : {A : Type 0} → StepLaw A
 Looks s me found after = MatchBool (is_mine found me.0.ticket) (TakesTurn me after) (after ≡ me)
 
 abbrev pub history_of : {A : Type 0} → Option (State A) → List (Entry A)
@@ -55,18 +55,18 @@ history_in [] = []
 history_in (x ∷ xs) = history_of x.1
 
 -- Decide: the history in the seat's hands is what is entered, and the seat has seen it.
-abbrev pub Decides : {A : Type 0} → Tells A
+abbrev pub Decides : {A : Type 0} → StepLaw A
 Decides s me found after = after ≡ (at_turn me.0 true (history_in me.1), me.1)
 
 -- Serve: the manager is at home, and the seat rests.
-abbrev pub Serves : {A : Type 0} → Tells A
-Serves s me found after = after ≡ (served me.0, [])
+abbrev pub ServesNext : {A : Type 0} → StepLaw A
+ServesNext s me found after = after ≡ (served me.0, [])
 
 -- a seat that stands for one pass has the turn, and the manager with this history
 pub record HasTurn {A : Type 0} (me : Knows A) (number : ℕ) (seen log : List (Entry A)) : Type 0 where
   pub turn : me.0.turn ≡ true
   pub parts : me.0.parts ≡ record { number = number; seen = seen } ∷ []
-  pub holds : me.1 ≡ (0, Some (state me.0.settings log)) ∷ []
+  pub holds : me.1 ≡ (0, Some (manager_state me.0.settings log)) ∷ []
 
 -- what is in the seat's hands may be entered: to what its pass has seen it adds so many requests, all of this pass
 pub record MayDecide {A : Type 0} (me : Knows A) (count : ℕ) : Type 0 where
@@ -90,7 +90,7 @@ pub record Took {A : Type 0} (me after : Knows A) (manager : State A) : Type 0 w
   pub log : List (Entry A)
   pub behind : All (Behind log) me.0.parts
   pub legal : is_legal me.0.settings log
-  pub manager_is : manager ≡ state me.0.settings log
+  pub manager_is : manager ≡ manager_state me.0.settings log
   pub after_is : after ≡ (at_turn (with_ticket me.0 ticket) true log, (0, None) ∷ [])
 
 -- the manager may be given back: to what the seat's pass has seen it adds so many requests, all of this pass
@@ -101,7 +101,7 @@ pub record MayGive {A : Type 0} (me : Knows A) (manager : State A) (count : ℕ)
   pub turn : me.0.turn ≡ true
   pub parts : me.0.parts ≡ record { number = number; seen = seen } ∷ []
   pub holds : me.1 ≡ (0, None) ∷ []
-  pub manager_is : manager ≡ state me.0.settings (seen ++ added)
+  pub manager_is : manager ≡ manager_state me.0.settings (seen ++ added)
   pub counted : length added ≡ count
   pub own : All (λ (e : Entry A). e.caller ≡ number) added
   pub legal : is_legal me.0.settings (seen ++ added)
@@ -111,8 +111,8 @@ abbrev pub note_of : {A : Type 0} → View A → View A
 note_of {A} v = record { settings = v.settings; draws = 0; ticket = None; turn = false; parts = []; notes = map (λ (p : Part A). p.seen) v.parts }
 
 -- Join: one seat stands for the passes of both, and has the notes of both.
-abbrev pub joined : {A : Type 0} → View A → View A → View A
-joined v w = record { settings = v.settings; draws = v.draws + w.draws; ticket = v.ticket; turn = v.turn; parts = v.parts ++ w.parts; notes = v.notes ++ w.notes }
+abbrev pub joined_views : {A : Type 0} → View A → View A → View A
+joined_views v w = record { settings = v.settings; draws = v.draws + w.draws; ticket = v.ticket; turn = v.turn; parts = v.parts ++ w.parts; notes = v.notes ++ w.notes }
 
 abbrev pub unset : Settings
 unset = record { peers = []; keep = 0; offset = pos 0; limit = 0 }
@@ -153,9 +153,9 @@ settled v = record { settings = v.settings; draws = v.draws; ticket = v.ticket; 
 -- others' requests alone
 pub record CaughtUp {A : Type 0} (settings : Settings) (notes : List (List (Entry A))) (p : Part A) : Type 0 where
   pub behind : Behind (longest p.seen notes) p
-  pub noted : All (λ x. IsPrefix x (longest p.seen notes)) notes
+  pub noted : All (λ x. BeginsHistory x (longest p.seen notes)) notes
   pub legal : is_legal settings (longest p.seen notes)
 
 -- Settle: each pass has seen the longest history that was noted.
-abbrev pub Settles : {A : Type 0} → Tells A
-Settles {A} s me found after = (after ≡ (settled me.0, me.1)) × All (CaughtUp me.0.settings me.0.notes) me.0.parts
+abbrev pub SettlesNotes : {A : Type 0} → StepLaw A
+SettlesNotes {A} s me found after = (after ≡ (settled me.0, me.1)) × All (CaughtUp me.0.settings me.0.notes) me.0.parts

@@ -21,15 +21,15 @@ IsPassNumber seats number = (1 ≤ number) × (number ≤ seats)
 abbrev pub EnteredByPasses : {A : Type 0} → ℕ → List (Entry A) → List (Entry A) → Type 0
 EnteredByPasses {A} seats before log = (rest : List (Entry A)) × (before ++ rest ≡ log) × All (λ (e : Entry A). IsPassNumber seats e.caller) rest
 
-abbrev pub IsPrefix : {A : Type 0} → List (Entry A) → List (Entry A) → Type 0
-IsPrefix {A} seen log = (rest : List (Entry A)) × (seen ++ rest ≡ log)
+abbrev pub BeginsHistory : {A : Type 0} → List (Entry A) → List (Entry A) → Type 0
+BeginsHistory {A} seen log = (rest : List (Entry A)) × (seen ++ rest ≡ log)
 
 -- what a pass has seen goes on to the history by requests of other callers alone
 abbrev pub Behind : {A : Type 0} → List (Entry A) → Part A → Type 0
 Behind {A} log p = (rest : List (Entry A)) × (p.seen ++ rest ≡ log) × All (λ (e : Entry A). e.caller ≢ p.number) rest
 
-abbrev pub state : {A : Type 0} → Settings → List (Entry A) → State A
-state settings log = record { settings = settings; history = log }
+abbrev pub manager_state : {A : Type 0} → Settings → List (Entry A) → State A
+manager_state settings log = record { settings = settings; history = log }
 
 -- what was fixed at the start of the manager that the desk opened with
 abbrev pub settings_of : {A : Type 0} → Opening A → Settings
@@ -56,8 +56,8 @@ draws v = v.draws
 abbrev pub passes : {A : Type 0} → View A → ℕ
 passes v = length v.parts
 
-abbrev pub numbered : {A : Type 0} → ℕ → View A → ℕ
-numbered {A} k v = count_by (λ (p : Part A). p.number == k) v.parts
+abbrev pub count_numbered : {A : Type 0} → ℕ → View A → ℕ
+count_numbered {A} k v = count_by (λ (p : Part A). p.number == k) v.parts
 
 -- 1 where x is a ticket that was drawn and is not yet served
 abbrev pub between : ℕ → ℕ → ℕ → ℕ
@@ -70,14 +70,14 @@ pub record FitsView {A : Type 0} (o : Opening A) (log : List (Entry A)) (serving
   pub numbers : All (λ (p : Part A). IsPassNumber o.seats p.number) v.parts
   pub busy : v.turn ≡ true → 0 < length v.parts
   pub behind : All (Behind log) v.parts
-  pub noted : All (λ x. IsPrefix x log) v.notes
+  pub noted : All (λ x. BeginsHistory x log) v.notes
   pub turn_is : v.turn ≡ true → (v.ticket ≡ Some serving) × All (λ (p : Part A). p.seen ≡ log) v.parts
   pub draws_few : v.draws ≤ length v.parts * 2 ^ 40
 
 -- the manager is at home where nobody has the turn, and else it is with the one who has it
 abbrev pub Slot : {A : Type 0} → Settings → List (Entry A) → List (maybe.Option (Option (State A))) → ℕ → Type 0
 Slot settings log homes out =
-    ((out ≡ 0) × (homes ≡ maybe.some (Some (state settings log)) ∷ []))
+    ((out ≡ 0) × (homes ≡ maybe.some (Some (manager_state settings log)) ∷ []))
     ⊎ ((out ≡ 1) × (homes ≡ maybe.none ∷ []))
 
 -- The rule. There is one legal history. It begins with the opening's, and goes on by requests of passes. Each ticket between
@@ -95,7 +95,7 @@ pub record Kept {A : Type 0} (o : Opening A) (s : Table (Option (State A)) (View
   pub ticketed : (x : ℕ) → sum_by (tickets x) s.views ≡ between x serving ticket
   pub drawn : sum_by draws s.views ≡ ticket
   pub all_passes : sum_by passes s.views ≡ o.seats
-  pub apart : (k : ℕ) → sum_by (numbered k) s.views ≤ 1
+  pub apart : (k : ℕ) → sum_by (count_numbered k) s.views ≤ 1
   pub few : o.seats ≤ 1024
   pub word_sized : (settings_of o).limit < 2 ^ 64
 
@@ -112,5 +112,5 @@ opening_view m k n = record { settings = m.settings; draws = 0; ticket = None; t
 abbrev pub first_view : {A : Type 0} → Opening A → View A
 first_view o = opening_view o.manager.value 1 o.seats
 
-abbrev pub Holds : {A : Type 0} → Opening A → Table (Option (State A)) (View A) → Type 0
-Holds o s = Kept o s
+abbrev pub KeepsRule : {A : Type 0} → Opening A → Table (Option (State A)) (View A) → Type 0
+KeepsRule o s = Kept o s

@@ -16,7 +16,7 @@ use atomic_table::{Refused, Table};
 use std::alloc::Allocator;
 use std::marker::Model;
 use std::snapshot::Snapshot;
-use std::sync::Wait;
+use std::sync::{Mutex, Wait};
 use ups_life::{Ask, Reply, Status};
 use ups_manager::Manager;
 use ups_pdu::Ae;
@@ -34,6 +34,9 @@ const MOST_CALLS: u64 = 1 << 40;
 pub struct Desk<A: Allocator + Copy> {
     table: Table<Option<Manager<A>>, View<A>, Opening<A>, InTurn, A>,
     seats: u64,
+    /// A pass draws its ticket with this lock held. So the turn is most often its own at once, and goes to whichever
+    /// pass runs, not to one that sleeps. No contract rests on it.
+    door: Mutex<()>,
 }
 
 impl<A: Allocator + Copy> Model for Desk<A> {
@@ -186,6 +189,7 @@ impl<A: Allocator + Copy> Desk<A> {
                     Desk {
                         table,
                         seats: u64::from(seats),
+                        door: Mutex::new(()),
                     },
                     passes,
                 ))
@@ -221,6 +225,7 @@ impl<A: Allocator + Copy> Desk<A> {
         if pass.calls >= MOST_CALLS {
             return Reply::Status(lacking(&ask));
         }
+        let _door = self.door.lock(rt);
         let shelf = &self.table.shared;
         let mut manager = take(rt, shelf, &mut pass.place);
         let before = manager.history().len() as u64;
@@ -284,7 +289,7 @@ impl<A: Allocator + Copy> Desk<A> {
         if passes.len() as u64 != self.seats {
             return Err((self, passes, CloseFault::Missing));
         }
-        let Desk { table, seats: _ } = self;
+        let Desk { table, .. } = self;
         let place = gather(&table.shared, passes);
         let mut closed = table.close_with(place);
         let slot = closed.take(0);

@@ -9,9 +9,9 @@ use ups_manager::Manager;
 pub struct InTurn;
 
 impl<A: Allocator + Copy> TableRule<Option<Manager<A>>, View<A>, Opening<A>> for InTurn {
-    ghost use Rattle.ups_turn.specs.Rule.{Holds, first_view};
+    ghost use Rattle.ups_turn.specs.Rule.{KeepsRule, first_view};
 
-    ghost holds = { Holds };
+    ghost holds = { KeepsRule };
 
     ghost first = { first_view };
 }
@@ -47,18 +47,18 @@ impl<A: Allocator + Copy> Play<Option<Manager<A>>, View<A>> for Decide {
 pub struct Serve;
 
 impl<A: Allocator + Copy> Play<Option<Manager<A>>, View<A>> for Serve {
-    ghost use Rattle.ups_turn.specs.Plays.{Serves};
+    ghost use Rattle.ups_turn.specs.Plays.{ServesNext};
 
-    ghost then = { Serves };
+    ghost then = { ServesNext };
 }
 
 /// Enters nothing, and learns what was noted.
 pub struct Settle;
 
 impl<A: Allocator + Copy> Play<Option<Manager<A>>, View<A>> for Settle {
-    ghost use Rattle.ups_turn.specs.Plays.{Settles};
+    ghost use Rattle.ups_turn.specs.Plays.{SettlesNotes};
 
-    ghost then = { Settles };
+    ghost then = { SettlesNotes };
 }
 
 /// Makes a note of what a seat's passes have seen.
@@ -87,9 +87,9 @@ impl<A: Allocator + Copy> Split<View<A>> for Deal {
 pub struct Both;
 
 impl<A: Allocator + Copy> Join<View<A>> for Both {
-    ghost use Rattle.ups_turn.specs.Plays.{joined, nobody};
+    ghost use Rattle.ups_turn.specs.Plays.{joined_views, nobody};
 
-    ghost both = { joined };
+    ghost both = { joined_views };
 
     ghost spent = { nobody };
 }

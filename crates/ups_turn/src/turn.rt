@@ -1,7 +1,7 @@
 //! The steps of a turn: draw a ticket, look until it is served, take the manager, give it back, decide, serve.
 ghost use Rattle.std.specs.Prelude.{◌≡◌, ℕ, ◌+◌, ◌^◌, ◌<◌, ◌≤◌, ◌*◌, ◌==◌, length, [], true, false, All, Some, None, MatchBool};
 ghost use Rattle.ups_turn.specs.Pass.{IsShelf};
-ghost use Rattle.ups_turn.specs.Plays.{with_ticket, at_turn, served, history_in, TakesTurn, MayDecide, MayServe, Took, MayGive, note_of, joined, kept_back, dealt, settled, CaughtUp};
+ghost use Rattle.ups_turn.specs.Plays.{with_ticket, at_turn, served, history_in, TakesTurn, MayDecide, MayServe, Took, MayGive, note_of, joined_views, kept_back, dealt, settled, CaughtUp};
 
 use crate::rule::{Both, Deal, Decide, Draw, Look, Note, Place, Serve, Settle, Shelf};
 use std::alloc::Allocator;
@@ -177,7 +177,7 @@ pub(crate) fn absorb<A: Allocator + Copy>(shelf: &Shelf<A>, place: &mut Place<A>
     requires rests { (place.old.me.0.turn ≡ false) × (other.me.0.ticket ≡ None) × (other.me.0.turn ≡ false) × (other.me.1 ≡ []) }
     requires some { 0 < length other.me.0.parts → 0 < length place.old.me.0.parts }
     ensures same { (place.new.table_id ≡ place.old.table_id) × (place.new.id ≡ place.old.id) }
-    ensures joined { place.new.me ≡ (joined place.old.me.0 other.me.0, place.old.me.1) }
+    ensures joined { place.new.me ≡ (joined_views place.old.me.0 other.me.0, place.old.me.1) }
 {
     shelf.join_seat::<Both>(place, other);
 }

@@ -10,20 +10,20 @@ use Rattle.ups_ulstate.specs.declared.state.UlAction.{UlAction}
 use Rattle.ups_ulstate.specs.declared.state.UlAction.TheVariants.{Ae1, Ae2, Ae3, Ae4, Ae5, Ae6, Ae7, Ae8, Dt1, Dt2, Ar1, Ar2, Ar3, Ar4, Ar5, Ar6, Ar7, Ar8, Ar9, Ar10, Aa1, Aa2, Aa3, Aa4, Aa5, Aa6, Aa7, Aa8}
 
 -- the number of a state: the columns of table 9-10
-abbrev pub number : UlState → ℕ
-number Sta1 = 1
-number Sta2 = 2
-number Sta3 = 3
-number Sta4 = 4
-number Sta5 = 5
-number Sta6 = 6
-number Sta7 = 7
-number Sta8 = 8
-number Sta9 = 9
-number Sta10 = 10
-number Sta11 = 11
-number Sta12 = 12
-number Sta13 = 13
+abbrev pub state_number : UlState → ℕ
+state_number Sta1 = 1
+state_number Sta2 = 2
+state_number Sta3 = 3
+state_number Sta4 = 4
+state_number Sta5 = 5
+state_number Sta6 = 6
+state_number Sta7 = 7
+state_number Sta8 = 8
+state_number Sta9 = 9
+state_number Sta10 = 10
+state_number Sta11 = 11
+state_number Sta12 = 12
+state_number Sta13 = 13
 
 -- PS3.8 table 9-10, row by row: the states in which an action is called for, for each action of the row; a
 -- state that isn't named has an empty cell
@@ -87,4 +87,4 @@ after requestor acceptable Aa8 = Sta13
 
 -- PS3.8 table 9-10 whole: what is done at an event in a state, and the state after it
 abbrev pub next_of : Bool → Bool → UlEvent → UlState → Option (UlAction × UlState)
-next_of requestor acceptable event state = option_map (λ a. (a, after requestor acceptable a)) (action_of (number state) (cells event))
+next_of requestor acceptable event state = option_map (λ a. (a, after requestor acceptable a)) (action_of (state_number state) (cells event))

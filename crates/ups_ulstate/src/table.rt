@@ -1,7 +1,7 @@
 //! The state transition table (PS3.8 table 9-10).
 
 ghost use Rattle.std.specs.Prelude.{◌≡◌};
-ghost use Rattle.ups_ulstate.specs.Table.{number, cells, action_of, after, next_of};
+ghost use Rattle.ups_ulstate.specs.Table.{state_number, cells, action_of, after, next_of};
 ghost use Rattle.ups_ulstate.specs.declared.state.UlEvent.TheVariants as events;
 
 use crate::state::UlState::{
@@ -27,7 +27,7 @@ pub fn next(
 
 /// The action of a cell.
 fn action_at(event: UlEvent, state: UlState) -> Option<UlAction>
-    ensures { result ≡ action_of (number state) (cells event) }
+    ensures { result ≡ action_of (state_number state) (cells event) }
 {
     match (event, state) {
         (UlEvent::AssociateRequest, Sta1) => Some(UlAction::Ae1),
@@ -56,7 +56,7 @@ fn action_at(event: UlEvent, state: UlState) -> Option<UlAction>
 }
 
 fn at_associate_ac(state: UlState) -> Option<UlAction>
-    ensures { result ≡ action_of (number state) (cells events.AssociateAc) }
+    ensures { result ≡ action_of (state_number state) (cells events.AssociateAc) }
 {
     match state {
         Sta2 => Some(UlAction::Aa1),
@@ -68,7 +68,7 @@ fn at_associate_ac(state: UlState) -> Option<UlAction>
 }
 
 fn at_associate_rj(state: UlState) -> Option<UlAction>
-    ensures { result ≡ action_of (number state) (cells events.AssociateRj) }
+    ensures { result ≡ action_of (state_number state) (cells events.AssociateRj) }
 {
     match state {
         Sta2 => Some(UlAction::Aa1),
@@ -80,7 +80,7 @@ fn at_associate_rj(state: UlState) -> Option<UlAction>
 }
 
 fn at_associate_rq(state: UlState) -> Option<UlAction>
-    ensures { result ≡ action_of (number state) (cells events.AssociateRq) }
+    ensures { result ≡ action_of (state_number state) (cells events.AssociateRq) }
 {
     match state {
         Sta2 => Some(UlAction::Ae6),
@@ -91,7 +91,7 @@ fn at_associate_rq(state: UlState) -> Option<UlAction>
 }
 
 fn at_data(state: UlState) -> Option<UlAction>
-    ensures { result ≡ action_of (number state) (cells events.Data) }
+    ensures { result ≡ action_of (state_number state) (cells events.Data) }
 {
     match state {
         Sta2 => Some(UlAction::Aa1),
@@ -104,7 +104,7 @@ fn at_data(state: UlState) -> Option<UlAction>
 }
 
 fn at_release_rq(state: UlState) -> Option<UlAction>
-    ensures { result ≡ action_of (number state) (cells events.ReleaseRq) }
+    ensures { result ≡ action_of (state_number state) (cells events.ReleaseRq) }
 {
     match state {
         Sta2 => Some(UlAction::Aa1),
@@ -117,7 +117,7 @@ fn at_release_rq(state: UlState) -> Option<UlAction>
 }
 
 fn at_release_rp(state: UlState) -> Option<UlAction>
-    ensures { result ≡ action_of (number state) (cells events.ReleaseRp) }
+    ensures { result ≡ action_of (state_number state) (cells events.ReleaseRp) }
 {
     match state {
         Sta2 => Some(UlAction::Aa1),
@@ -130,7 +130,7 @@ fn at_release_rp(state: UlState) -> Option<UlAction>
 }
 
 fn at_abort_request(state: UlState) -> Option<UlAction>
-    ensures { result ≡ action_of (number state) (cells events.AbortRequest) }
+    ensures { result ≡ action_of (state_number state) (cells events.AbortRequest) }
 {
     match state {
         Sta3 | Sta5 | Sta6 | Sta7 | Sta8 | Sta9 | Sta10 | Sta11 | Sta12 => Some(UlAction::Aa1),
@@ -140,7 +140,7 @@ fn at_abort_request(state: UlState) -> Option<UlAction>
 }
 
 fn at_abort(state: UlState) -> Option<UlAction>
-    ensures { result ≡ action_of (number state) (cells events.Abort) }
+    ensures { result ≡ action_of (state_number state) (cells events.Abort) }
 {
     match state {
         Sta2 | Sta13 => Some(UlAction::Aa2),
@@ -150,7 +150,7 @@ fn at_abort(state: UlState) -> Option<UlAction>
 }
 
 fn at_transport_closed(state: UlState) -> Option<UlAction>
-    ensures { result ≡ action_of (number state) (cells events.TransportClosed) }
+    ensures { result ≡ action_of (state_number state) (cells events.TransportClosed) }
 {
     match state {
         Sta1 => None,
@@ -163,7 +163,7 @@ fn at_transport_closed(state: UlState) -> Option<UlAction>
 }
 
 fn at_invalid(state: UlState) -> Option<UlAction>
-    ensures { result ≡ action_of (number state) (cells events.Invalid) }
+    ensures { result ≡ action_of (state_number state) (cells events.Invalid) }
 {
     match state {
         Sta2 => Some(UlAction::Aa1),

@@ -121,8 +121,8 @@ FailToName words faults.Memory = length words ≤ peer_limit
 FailToName words fault = ⊥
 
 -- the words of an argument that may be given several times
-abbrev pub words_of : Found → List ℕ → List (List ℕ)
-words_of found id = unwrap_or (option_map raw_values (matched_of found id)) []
+abbrev pub argument_words : Found → List ℕ → List (List ℕ)
+argument_words found id = unwrap_or (option_map raw_values (matched_of found id)) []
 
 -- a flag is set or not
 pub record IsFlag (found : Found) (id : List ℕ) (flag : Bool) : Type 0 where

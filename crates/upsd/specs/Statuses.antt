@@ -10,11 +10,11 @@ use Rattle.ups_script.specs.declared.fault.ScriptFault.TheVariants as scripts
 use Rattle.upsd.specs.declared.ending.Status.{Status}
 use Rattle.upsd.specs.declared.ending.Status.TheVariants.{Done, Usage, Stopped, Memory}
 
-abbrev pub code : Status → ℕ
-code Done = 0
-code Usage = 1
-code Stopped = 2
-code Memory = 3
+abbrev pub exit_code : Status → ℕ
+exit_code Done = 0
+exit_code Usage = 1
+exit_code Stopped = 2
+exit_code Memory = 3
 
 -- of an association: 0 at each End, 3 for lack of memory, 2 for any other fault
 abbrev pub session_status : Result End SessionFault → Status

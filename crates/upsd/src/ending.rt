@@ -2,7 +2,7 @@
 
 ghost use Rattle.std.specs.Prelude.{◌≡◌};
 ghost use Rattle.clap.specs.Values.{kind_of};
-ghost use Rattle.upsd.specs.Statuses.{code, parse_status, script_status, session_status};
+ghost use Rattle.upsd.specs.Statuses.{exit_code, parse_status, script_status, session_status};
 
 use clap::error::ErrorKind;
 use std::process::ExitCode;
@@ -25,7 +25,7 @@ pub enum Status {
 impl Status {
     /// The number that stands for it as an exit status.
     pub fn code(self) -> u8
-        ensures { result ≡ code self }
+        ensures { result ≡ exit_code self }
     {
         match self {
             Status::Done => 0,
@@ -39,7 +39,7 @@ impl Status {
 impl From<Status> for ExitCode {
     ghost use Rattle.std.specs.Process.{exit_status};
 
-    ghost from_gives = { λ status e. exit_status e ≡ code status };
+    ghost from_gives = { λ status e. exit_status e ≡ exit_code status };
 
     fn from(status: Status) -> ExitCode {
         ExitCode::from(status.code())

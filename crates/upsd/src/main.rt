@@ -6,7 +6,7 @@ ghost use Rattle.clap.specs.Matches.{first_value, found_of};
 ghost use Rattle.ups_manager.specs.Refusal.{refusal};
 ghost use Rattle.ups_life.specs.Limits.{history_limit, peer_limit};
 ghost use Rattle.ups_pdu.specs.Title.{SpellsAe};
-ghost use Rattle.upsd.specs.Arguments.{IsFlag, NamePeers, words_of};
+ghost use Rattle.upsd.specs.Arguments.{IsFlag, NamePeers, argument_words};
 ghost use Rattle.upsd.specs.Limits.{local_offset};
 
 mod arguments;
@@ -61,7 +61,7 @@ fn pipe_arguments<'a>(
 ) -> Result<PipeArguments, ArgumentFault<'a>>
     ensures title { IfOk result (λ asked. SpellsAe (unwrap_or (first_value (found_of matches.now) (codes "ae")) []) asked.ae) }
     ensures hex { IfOk result (λ asked. IsFlag (found_of matches.now) (codes "hex") asked.hex) }
-    ensures peers { IfOk result (λ asked. NamePeers (words_of (found_of matches.now) (codes "peer")) asked.peers.items) }
+    ensures peers { IfOk result (λ asked. NamePeers (argument_words (found_of matches.now) (codes "peer")) asked.peers.items) }
     ensures few { IfOk result (λ asked. length asked.peers.items ≤ peer_limit) }
     ensures allowed { IfOk result (λ asked. refusal asked.peers.items local_offset history_limit ≡ None) }
 {

@@ -9,8 +9,8 @@ ghost use Rattle.ups_script.specs.Limits.{max_lines};
 ghost use Rattle.ups_script.specs.Running.{Runs, TellsLine};
 ghost use Rattle.ups_life.specs.declared.entry.Entry.{Entry};
 ghost use Rattle.ups_life.specs.Limits.{history_limit, peer_limit};
-ghost use Rattle.upsd.specs.Arguments.{NamePeers, SaysKeep, SaysOffset, words_of};
-ghost use Rattle.upsd.specs.Statuses.{code, script_status};
+ghost use Rattle.upsd.specs.Arguments.{NamePeers, SaysKeep, SaysOffset, argument_words};
+ghost use Rattle.upsd.specs.Statuses.{exit_code, script_status};
 
 use crate::arguments::{ArgumentFault, keep_asked, offset_asked, peers_of};
 use crate::ending::{Status, script_status};
@@ -36,7 +36,7 @@ pub(crate) fn script_arguments<'a>(
     alloc: Global,
     matches: &ArgMatches<'a>,
 ) -> Result<ScriptArguments, ArgumentFault<'a>>
-    ensures peers { IfOk result (λ asked. NamePeers (words_of (found_of matches.now) (codes "peer")) asked.peers.items) }
+    ensures peers { IfOk result (λ asked. NamePeers (argument_words (found_of matches.now) (codes "peer")) asked.peers.items) }
     ensures keep { IfOk result (λ asked. SaysKeep (first_value (found_of matches.now) (codes "keep")) asked.keep) }
     ensures offset { IfOk result (λ asked. SaysOffset (first_value (found_of matches.now) (codes "offset")) asked.offset) }
     ensures few { IfOk result (λ asked. length asked.peers.items ≤ peer_limit) }
@@ -97,7 +97,7 @@ pub fn script<A: Allocator + Copy, R: BufRead, W: Write>(
     requires allowed { refusal peers.now offset history_limit ≡ None }
     ensures { (ended : Result Unit ScriptFault) × IfErr ended TellsLine
         × ((ended ≡ Err Memory) ⊎ ((history : List (Entry A)) × Runs (record { peers = peers.now; keep = keep; offset = offset; limit = history_limit }) max_lines (R.remaining reader.old) (R.remaining reader.new) (W.contents writer.old) (W.contents writer.new) [] history ended))
-        × (result ≡ code (script_status ended)) }
+        × (result ≡ exit_code (script_status ended)) }
 {
     script_status(&run(alloc, reader, writer, peers, keep, offset)).code()
 }

@@ -5,7 +5,7 @@ ghost use Rattle.clap.specs.Matches.{first_value, found_of};
 ghost use Rattle.ups_manager.specs.Refusal.{refusal};
 ghost use Rattle.ups_life.specs.Limits.{history_limit, peer_limit};
 ghost use Rattle.ups_pdu.specs.Title.{SpellsAe};
-ghost use Rattle.upsd.specs.Arguments.{NamePeers, SaysBind, SaysKeep, SaysOffset, SaysPort, SaysTimeout, SaysWorkersOrNot, words_of};
+ghost use Rattle.upsd.specs.Arguments.{NamePeers, SaysBind, SaysKeep, SaysOffset, SaysPort, SaysTimeout, SaysWorkersOrNot, argument_words};
 ghost use Rattle.upsd.specs.Limits.{workers_limit};
 
 use crate::arguments::{
@@ -53,7 +53,7 @@ pub(crate) fn serve_arguments<'a>(
     ensures title { IfOk result (λ asked. SpellsAe (unwrap_or (first_value (found_of matches.now) (codes "ae")) []) asked.ae) }
     ensures bind { IfOk result (λ asked. SaysBind (first_value (found_of matches.now) (codes "bind")) asked.bind.now) }
     ensures port { IfOk result (λ asked. SaysPort (unwrap_or (first_value (found_of matches.now) (codes "port")) []) asked.port) }
-    ensures peers { IfOk result (λ asked. NamePeers (words_of (found_of matches.now) (codes "peer")) asked.peers.items) }
+    ensures peers { IfOk result (λ asked. NamePeers (argument_words (found_of matches.now) (codes "peer")) asked.peers.items) }
     ensures keep { IfOk result (λ asked. SaysKeep (first_value (found_of matches.now) (codes "keep")) asked.keep) }
     ensures offset { IfOk result (λ asked. SaysOffset (first_value (found_of matches.now) (codes "offset")) asked.offset) }
     ensures workers { IfOk result (λ asked. SaysWorkersOrNot (first_value (found_of matches.now) (codes "associations")) asked.workers) }

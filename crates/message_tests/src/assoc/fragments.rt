@@ -99,7 +99,7 @@ fn are_answered(rt: &impl AllocGlobal, row: &str) -> Result<bool, Fail> {
     Ok(true)
 }
 
-/// In each row fragments and what they are answered: a context that was not accepted; another context inside a message,
+/// In each row fragments and what they are answered: an unknown presentation context; another context inside a message,
 /// or a command where data is due; data that no whole command announces; messages; what comes after a fault.
 const FRAGMENTS: &str = "0 3 CREATED=UnknownContext
 2 3 CREATED=UnknownContext

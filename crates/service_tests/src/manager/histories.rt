@@ -8,8 +8,8 @@ use std::alloc::Global;
 use std::process::Abort;
 use std::test::Fail;
 use ups_life::{
-    Ask, Entry, Event, MAX_MOMENT, Peer, Place, Reply, Request, StepState, Target, Watched, acked,
-    plain_events, plain_held, plain_watches,
+    Ask, Entry, Event, EventReport, MAX_MOMENT, Peer, Place, Reply, Request, StepState, Target,
+    Watched, acked, plain_events, plain_held, plain_watches,
 };
 use ups_manager::*;
 use ups_pdu::Ae;
@@ -347,13 +347,13 @@ fn is_same_event(one: &Event, other: &Event) -> bool {
         && one.readiness == other.readiness
 }
 
-/// Whether events are those of others that come behind so many.
-fn are_behind(events: &[Event], all: &[Event], count: u64) -> bool {
+/// Whether the events reported are those of others that come behind so many.
+fn are_behind(reports: &[EventReport<Global>], all: &[Event], count: u64) -> bool {
     let Some(rest) = all.get(count as usize..) else {
         return false;
     };
-    let mut pairs = events.iter().zip(rest.iter());
-    events.len() == rest.len() && pairs.all(|(one, other)| is_same_event(one, other))
+    let mut pairs = reports.iter().zip(rest.iter());
+    reports.len() == rest.len() && pairs.all(|(one, other)| is_same_event(&one.event, other))
 }
 
 /// Returns how many events a peer has not acknowledged, by a manager and by the plain programs.
@@ -364,13 +364,13 @@ fn pending_by_both(
 ) -> Result<usize, Fail> {
     let settings = settings_of(rt.alloc(), manager)?;
     let all = plain_events(rt.alloc(), &settings, manager.history(), ae)?;
-    let Reply::Reports(events) = manager.pending(ae, 1_000_000) else {
+    let Reply::Reports(reports) = manager.pending(ae, 1_000_000) else {
         return Err("a status alone".into());
     };
-    if !are_behind(events.as_slice(), &all, acked(manager.history(), ae)) {
+    if !are_behind(reports.as_slice(), &all, acked(manager.history(), ae)) {
         return Err("the plain program tells other events".into());
     }
-    Ok(events.as_slice().len())
+    Ok(reports.as_slice().len())
 }
 
 /// Compares what is told of the peers.

@@ -200,7 +200,7 @@ A moment is equal to another: 00404005
 "20240229"||no
 "20240229"|"soon"|no
 "20240229"|"20240229\20240301"|no
-A moment lies in a range: 00404005
+A moment lies in a range of dates and times: 00404005
 "20240229-"|"20240229"|yes
 "20240229-"|"20240228235959.999999"|no
 "20240229-"|"99991231"|yes

@@ -2,7 +2,7 @@ use Rattle.std.proofs.Common.{◌≡◌, ◌+◌, ◌*◌, map, drop}
 use Rattle.ups_dataset.specs.Data.{elements_of, items_of, weight, weight_data}
 use Rattle.ups_match.specs.Matching.{any_item}
 use Rattle.ups_match.specs.Met.{all_met}
-use Rattle.ups_match.specs.Prepared.{key_view, value_view}
+use Rattle.ups_match.specs.Prepared.{key_view, prepared_view}
 use Rattle.ups_match.proofs.meeting.+meeting.Given as goal
 
 abbrev pub invariant-meets_all-loop-key : goal.invariant-meets_all-loop-key
@@ -15,7 +15,7 @@ abbrev pub decreases-meets_all : goal.decreases-meets_all
 decreases-meets_all g l = 3 * weight l.keys.now + 1
 
 abbrev pub decreases-is_met : goal.decreases-is_met
-decreases-is_met g l = 3 * weight_data (value_view l.key.now.value)
+decreases-is_met g l = 3 * weight_data (prepared_view l.key.now.value)
 
 abbrev pub decreases-any_meets : goal.decreases-any_meets
 decreases-any_meets g l = 3 * weight l.keys.now + 2

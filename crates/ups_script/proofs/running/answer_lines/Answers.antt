@@ -4,7 +4,7 @@ use Rattle.std.specs.Io.KnownBytes.{IsAtEnd}
 use Rattle.std.proofs.KnownBytes.{Consumes-nil}
 use Rattle.std.proofs.lemmas.Result.{err_from_is_err_and}
 use Rattle.ups_life.specs.Settings.{Settings}
-use Rattle.ups_script.specs.Running.{Answers, Breaks}
+use Rattle.ups_script.specs.Running.{AnswersLine, Breaks}
 use Rattle.ups_script.proofs.Lasting.{none_yet, one_more, ended, too_many, failed, broken}
 use Rattle.ups_script.proofs.running.answer_lines.Goals as goal
 
@@ -41,7 +41,7 @@ pub loop-count-preserved : goal.loop-count-preserved
 loop-count-preserved g c =
     let (told, answers, said) = c.in_ok-answer.ensures.told in (
       one_more c.args.manager.now.settings c.loop-count.count _ _ _ _ _ _ _ _ _ _ c.in_ok-line.line.items told c.loop-count.invariant.0 c.is_at_end.ensures.kept c.in_ok-line.ensures.line
-          (subst (λ (s : Settings). Answers s c.loop-count.manager.history c.in_ok-line.line.items told c.answer.new.manager.history) c.loop-count.invariant.1 answers) said,
+          (subst (λ (s : Settings). AnswersLine s c.loop-count.manager.history c.in_ok-line.line.items told c.answer.new.manager.history) c.loop-count.invariant.1 answers) said,
       c.in_ok-answer.ensures.settings ∙ c.loop-count.invariant.1,
     )
 
