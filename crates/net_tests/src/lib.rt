@@ -2,4 +2,6 @@
 #![tactic(auto)]
 
 #[cfg(test)]
+mod peers;
+#[cfg(test)]
 mod running;

@@ -1,70 +1,87 @@
-//! A server with one worker and a sweeper, and a client.
-ghost use Rattle.std.specs.Prelude.{◌≡◌, ◌≤◌, All, length};
+//! A server with one worker, a deliverer and a sweeper, a client of it, and a watcher.
+ghost use Rattle.std.specs.Prelude.{◌≡◌, ◌≤◌, All, IfOk, length};
+ghost use denote.Param.Send.{IsSync};
 ghost use Rattle.ups_life.specs.Settings.{IsMoment};
 
+use crate::peers::{Lines, answered, knock, watched};
 use fixtures::vectors::{
-    ACCEPTED, CREATE, CREATED, GET, GOT, GOT_STEP, RELEASE, RELEASED, REQUEST, STEP,
+    ACCEPTED, CREATED, EVENT_REPORT, EVENT_REQUEST, EVENT_STATE, GOT, GOT_STEP, RELEASE, RELEASED,
 };
 use fixtures::{bytes_of_all, set_of, title, uid};
 use log::Log;
 use std::alloc::Global;
-use std::io::{self, Read, Write};
-use std::net::{Net, SocketAddr, TcpListener, TcpStream};
+use std::net::{Net, TcpListener, TcpStream};
 use std::sync::Wait;
 use std::test::Fail;
-use std::thread::{Threads, join};
-use std::time::{Clock, Duration};
+use std::thread::Threads;
+use std::time::Clock;
+use std::{io, thread};
 use ups_assoc::Config;
 use ups_dataset::DataSet;
 use ups_dataset::dictionary::*;
-use ups_life::{Entry, Request, StepUid};
+use ups_life::{Entry, Peer, Reply, Request, StepUid, Target};
 use ups_manager::{Call, Manager};
-use ups_net::{Terms, run};
+use ups_net::{Terms, Watcher, run};
 use ups_pdu::Ae;
 use ups_turn::{Desk, Pass};
 
-/// Sends bytes to a server, and reads all that it answers.
-fn answered<R: Net<Listener = TcpListener, Stream = TcpStream>>(
-    rt: &R,
-    alloc: Global,
-    address: &SocketAddr,
-    asked: &[u8],
-) -> io::Result<Vec<u8>> {
-    let mut stream = TcpStream::connect_timeout(rt, address, Duration::from_secs(10))?;
-    stream.set_read_timeout(Some(Duration::from_secs(10)))?;
-    stream.write_all(asked)?;
-    let mut answer = Vec::new(alloc);
-    stream.read_to_end(&mut answer)?;
-    Ok(answer)
+/// What a server and its peers come to.
+#[derive(Drop)]
+struct Ended {
+    /// Whether the server began.
+    began: bool,
+    /// Its passes.
+    passes: Vec<Pass<Global>>,
+    /// What the client was answered.
+    answer: io::Result<Vec<u8>>,
+    /// What the watcher heard.
+    heard: io::Result<Vec<u8>>,
 }
 
-/// What a server and its client come to: whether it began, its passes, and what it answered.
-type Ran = ((bool, Vec<Pass<Global>>), io::Result<Vec<u8>>);
-
-/// Runs a server with one round of the sweeper, and a client.
-fn ran<R>(
+/// Runs a server, a client and a watcher. Once the server is done, the test itself connects to the watcher, which accepts
+/// one connection in any case.
+///
+/// Errors: a thread of a peer can't be started.
+fn run_with_peers<R>(
     rt: &R,
     listener: &TcpListener,
     desk: &Desk<Global>,
     passes: Vec<Pass<Global>>,
     terms: &Terms,
-    address: &SocketAddr,
-    asked: &[u8],
-) -> Ran
+    watching: &TcpListener,
+    lines: &Lines,
+) -> io::Result<Ended>
 where
     R: Threads + Wait + Clock + Log + Sync + Net<Listener = TcpListener, Stream = TcpStream>,
     requires some { 2 ≤ length passes.items }
     requires here { All (λ p. p.table ≡ desk.now.table) passes.items }
-    ensures stay { All (λ p. p.table ≡ desk.now.table) result.0.1.items }
+    ensures stay { IfOk result (λ ended. All (λ p. p.table ≡ desk.now.table) ended.passes.items) }
 {
-    join(
+    thread::scope(
+        thread::scope_env(),
         rt,
-        || -> (bool, Vec<Pass<Global>>)
+        |scope| -> io::Result<Ended>
+            requires sync { IsSync R.row }
             requires some { 2 ≤ length passes.items }
             requires here { All (λ p. p.table ≡ desk.now.table) passes.items }
-            ensures stay { All (λ p. p.table ≡ desk.entry.now.table) result.1.items }
-        { run(rt, listener, desk, passes, terms, 1) },
-        || answered(rt, terms.alloc, address, asked),
+            ensures stay { IfOk result (λ ended. All (λ p. p.table ≡ desk.entry.now.table) ended.passes.items) }
+        {
+            let alloc = terms.alloc;
+            let Ok(client) = scope.spawn(move || answered(rt, alloc, listener, lines)) else {
+                return Err(io::Error::other("no thread for the client"));
+            };
+            let Ok(watcher) = scope.spawn(move || watched(alloc, watching, lines)) else {
+                return Err(io::Error::other("no thread for the watcher"));
+            };
+            let (began, passes) = run(rt, listener, desk, passes, terms);
+            knock(rt, watching);
+            Ok(Ended {
+                began,
+                passes,
+                answer: client.join(rt),
+                heard: watcher.join(rt),
+            })
+        },
     )
 }
 
@@ -80,11 +97,9 @@ fn enter(manager: &mut Manager<Global>, ae: Ae, moment: u64, request: Request<Gl
     });
 }
 
-/// A manager that holds a step that was canceled two minutes after 1970 began.
-fn manager_of(alloc: Global) -> Result<Manager<Global>, Fail> {
-    let ae = title("SCHED1")?;
-    let step = StepUid::of(uid("1.2.3.1")?).ok_or("a step")?;
-    let attributes = set_of(
+/// What a step is created with.
+fn attributes(alloc: Global) -> Result<DataSet<Global>, Fail> {
+    set_of(
         alloc,
         &[
             (SCHEDULED_PROCEDURE_STEP_START_DATE_TIME, "20240229120000"),
@@ -93,55 +108,96 @@ fn manager_of(alloc: Global) -> Result<Manager<Global>, Fail> {
             (SCHEDULED_PROCEDURE_STEP_PRIORITY, "MEDIUM"),
             (PROCEDURE_STEP_LABEL, "CT READ "),
         ],
-    )?;
-    let mut manager = Manager::new(alloc, &[], 60, 0, 1_000)?;
-    enter(&mut manager, ae, 0, Request::Create { step, attributes });
+    )
+}
+
+/// A manager that holds a step, 1.2.3.1, that was canceled two minutes after 1970 began; then W1 was subscribed to it,
+/// without a deletion lock. So one event waits for W1, and the step is due to be removed.
+fn manager_of(alloc: Global) -> Result<Manager<Global>, Fail> {
+    let scheduler = title("SCHED1")?;
+    let watcher = title("W1")?;
+    let step = StepUid::of(uid("1.2.3.1")?).ok_or("a step")?;
+    let attributes = attributes(alloc)?;
+    let peers = [Peer {
+        ae: watcher,
+        lock: false,
+    }];
+    let mut manager = Manager::new(alloc, &peers, 60, 0, 1_000)?;
     enter(
         &mut manager,
-        ae,
-        120,
-        Request::AskCancel {
-            step: Some(step),
-            reasons: DataSet::new(alloc),
-        },
+        scheduler,
+        0,
+        Request::Create { step, attributes },
     );
+    let cancel = Request::AskCancel {
+        step: Some(step),
+        reasons: DataSet::new(alloc),
+    };
+    enter(&mut manager, scheduler, 120, cancel);
+    let subscribe = Request::Subscribe {
+        target: Target::Single(Some(step)),
+        receiver: watcher,
+        lock: false,
+    };
+    enter(&mut manager, watcher, 120, subscribe);
     Ok(manager)
 }
 
-/// What is asked for in an entry, in one word.
+/// What is asked for in an entry, in a few words.
 fn verb_of(entry: &Entry<Global>) -> &'static str {
     match &entry.request {
         Request::Create { .. } => "create",
-        Request::AskCancel { .. } => "cancel",
+        Request::Ack { upto: 1 } => "ack 1",
         Request::Sweep => "sweep",
         _ => "other",
     }
 }
 
-/// How many entries of a history are of this caller, and ask for this.
-fn count_of(history: &[Entry<Global>], caller: u32, verb: &str) -> u64 {
+/// How many entries of a history are of this caller and this application entity, and ask for this.
+fn count_of(history: &[Entry<Global>], caller: u32, ae: &str, verb: &str) -> u64 {
     let mut count: u64 = 0;
     for entry in history {
-        if entry.caller == caller && verb_of(entry) == verb {
+        if entry.caller == caller
+            && entry.ae.as_bytes() == ae.as_bytes()
+            && verb_of(entry) == verb
+        {
             count = count.wrapping_add(1);
         }
     }
     count
 }
 
-/// Runs a server with one worker, which serves one association; and returns whether it began, what it answered, and the
-/// manager that it leaves.
-fn outcome_of<R>(
-    rt: &R,
-    alloc: Global,
-    asked: &[u8],
-) -> Result<(bool, Vec<u8>, Manager<Global>), Fail>
-where
-    R: Threads + Wait + Clock + Log + Sync + Net<Listener = TcpListener, Stream = TcpStream>,
-{
-    let listener = TcpListener::bind(rt, "127.0.0.1:0")?;
-    let address = listener.local_addr()?;
-    let terms = Terms {
+/// How many events wait for W1.
+fn pending_of(manager: &Manager<Global>) -> Result<usize, Fail> {
+    match manager.pending(title("W1")?, 16) {
+        Reply::Reports(reports) => Ok(reports.as_slice().len()),
+        _ => Err("no reports".into()),
+    }
+}
+
+/// What a server leaves, and what its peers heard.
+#[derive(Drop)]
+struct Outcome {
+    /// Whether the server began.
+    began: bool,
+    /// What the client was answered.
+    answer: Vec<u8>,
+    /// What the watcher heard.
+    heard: io::Result<Vec<u8>>,
+    /// The manager that the server leaves.
+    manager: Manager<Global>,
+}
+
+/// The terms of a server with one worker, which serves one association, and one round of the sweeper and the deliverer. W1
+/// is looked for at a port of this host.
+fn terms_of(alloc: Global, port: u16) -> Result<Terms, Fail> {
+    let mut watchers = Vec::new(alloc);
+    watchers.push(Watcher {
+        ae: title("W1")?,
+        host: "127.0.0.1".to_string(alloc)?,
+        port,
+    })?;
+    Ok(Terms {
         alloc,
         config: Config {
             ae: title("UPSD")?,
@@ -149,27 +205,129 @@ where
         },
         turns: 100,
         timeout: 10,
+        workers: 1,
         associations: 1,
-    };
-    let Ok((desk, passes)) = Desk::open(alloc, manager_of(alloc)?, 2) else {
+        rounds: 1,
+        verbose: true,
+        watchers,
+    })
+}
+
+/// Runs a server with its peers on listeners of theirs.
+fn outcome_on<R>(
+    rt: &R,
+    terms: &Terms,
+    listener: &TcpListener,
+    watching: &TcpListener,
+) -> Result<Outcome, Fail>
+where
+    R: AllocGlobal
+        + Threads
+        + Wait
+        + Clock
+        + Log
+        + Sync
+        + Net<Listener = TcpListener, Stream = TcpStream>,
+{
+    let alloc = rt.alloc();
+    let lines = Lines::new(rt)?;
+    let Ok((desk, passes)) = Desk::open(alloc, manager_of(alloc)?, 3) else {
         return Err("not opened".into());
     };
-    let ((began, passes), answer) = ran(rt, &listener, &desk, passes, &terms, &address, asked);
+    let Ended {
+        began,
+        passes,
+        answer,
+        heard,
+    } = run_with_peers(rt, listener, &desk, passes, terms, watching, &lines)?;
     let Ok(manager) = desk.close(passes) else {
         return Err("not closed".into());
     };
-    Ok((began, answer?, manager))
+    Ok(Outcome {
+        began,
+        answer: answer?,
+        heard,
+        manager,
+    })
+}
+
+/// A port on which nobody listens any more.
+fn closed_port<R: Net<Listener = TcpListener, Stream = TcpStream>>(rt: &R) -> io::Result<u16> {
+    let listener = TcpListener::bind(rt, "127.0.0.1:0")?;
+    Ok(listener.local_addr()?.port())
+}
+
+/// Runs a server with its peers, on ports of this host. The deliverer looks for W1 where it listens, or where nobody does.
+fn outcome_of<R>(rt: &R, is_reachable: bool) -> Result<Outcome, Fail>
+where
+    R: AllocGlobal
+        + Threads
+        + Wait
+        + Clock
+        + Log
+        + Sync
+        + Net<Listener = TcpListener, Stream = TcpStream>,
+{
+    let listener = TcpListener::bind(rt, "127.0.0.1:0")?;
+    let watching = TcpListener::bind(rt, "127.0.0.1:0")?;
+    let port = if is_reachable {
+        watching.local_addr()?.port()
+    } else {
+        closed_port(rt)?
+    };
+    let terms = terms_of(rt.alloc(), port)?;
+    outcome_on(rt, &terms, &listener, &watching)
+}
+
+/// Whether these are the bytes that texts stand for.
+fn are_bytes_of(rt: &impl AllocGlobal, bytes: &[u8], texts: &[&str]) -> Result<bool, Fail> {
+    let due = bytes_of_all(rt, texts)?;
+    Ok(bytes == due.as_slice())
+}
+
+/// Whether the client was answered that its step was created, and what it is.
+fn is_served(rt: &impl AllocGlobal, outcome: &Outcome) -> Result<bool, Fail> {
+    let texts = [ACCEPTED, CREATED, GOT, GOT_STEP, RELEASED];
+    are_bytes_of(rt, &outcome.answer, &texts)
+}
+
+/// Whether the watcher heard one report of the step, over an association that was released.
+fn is_told(rt: &impl AllocGlobal, outcome: &Outcome) -> Result<bool, Fail> {
+    match &outcome.heard {
+        Ok(heard) => are_bytes_of(
+            rt,
+            heard,
+            &[EVENT_REQUEST, EVENT_REPORT, EVENT_STATE, RELEASE],
+        ),
+        Err(_) => Ok(false),
+    }
 }
 
 #[test]
-fn a_server_answers_one_association_and_sweeps_once(rt: HostRuntime) -> Result<(), Fail> {
-    let asked = bytes_of_all(&rt, &[REQUEST, CREATE, STEP, GET, RELEASE])?;
-    let due = bytes_of_all(&rt, &[ACCEPTED, CREATED, GOT, GOT_STEP, RELEASED])?;
-    let (began, answer, manager) = outcome_of(&rt, rt.alloc(), &asked)?;
-    assert!(rt; began);
-    assert!(rt; answer.as_slice() == due.as_slice());
-    assert_eq!(rt; manager.history().len(), 4);
-    assert_eq!(rt; count_of(manager.history(), 1, "create"), 1);
-    assert_eq!(rt; count_of(manager.history(), 2, "sweep"), 1);
+fn a_server_answers_delivers_and_sweeps(rt: HostRuntime) -> Result<(), Fail> {
+    let outcome = outcome_of(&rt, true)?;
+    let history = outcome.manager.history();
+    assert!(rt; outcome.began);
+    assert!(rt; is_served(&rt, &outcome)?);
+    assert!(rt; is_told(&rt, &outcome)?);
+    assert_eq!(rt; history.len(), 6);
+    assert_eq!(rt; count_of(history, 1, "SCHED1", "create"), 1);
+    assert_eq!(rt; count_of(history, 2, "W1", "ack 1"), 1);
+    assert_eq!(rt; count_of(history, 3, "UPSD", "sweep"), 1);
+    assert_eq!(rt; pending_of(&outcome.manager)?, 0);
+    Ok(())
+}
+
+#[test]
+fn an_event_waits_for_a_watcher_that_is_unreachable(rt: HostRuntime) -> Result<(), Fail> {
+    let outcome = outcome_of(&rt, false)?;
+    let history = outcome.manager.history();
+    assert!(rt; outcome.began);
+    assert!(rt; is_served(&rt, &outcome)?);
+    assert!(rt; outcome.heard.is_err());
+    assert_eq!(rt; history.len(), 5);
+    assert_eq!(rt; count_of(history, 1, "SCHED1", "create"), 1);
+    assert_eq!(rt; count_of(history, 3, "UPSD", "sweep"), 1);
+    assert_eq!(rt; pending_of(&outcome.manager)?, 1);
     Ok(())
 }

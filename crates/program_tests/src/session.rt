@@ -1,6 +1,7 @@
 //! Whole sessions: what is said, and what is written and entered then (PS3.8 section 9.2).
 
 mod actions;
+mod delivering;
 mod failing;
 mod finding;
 mod words;
@@ -14,11 +15,11 @@ use std::io::{Read, Write};
 use std::process::Abort;
 use std::test::Fail;
 use ups_assoc::Config;
-use ups_life::{Entry, Peer};
+use ups_life::{Entry, Peer, Reply};
 use ups_manager::Manager;
 use ups_session::{
     CutReader, CutWriter, End, Gate, GateCall, ListGate, SessionFault, WatchedReader,
-    WatchedWriter, serve,
+    WatchedWriter, deliver, serve,
 };
 
 /// 2024-02-29 12:00:00 UTC, and a minute later.
@@ -27,7 +28,26 @@ const MOMENTS: [u64; 2] = [1_709_208_000, 1_709_208_060];
 /// What is said to create two steps.
 const STEPS: &str = "PUSH_AND_PULL CREATE_OF FIRST STEP CREATE_OF SECOND SECOND_STEP RELEASE";
 
-/// How a session with a manager ends, in its local time: it may read `turns` PDUs.
+/// What is said to have W1 told of a step that is created, a session in each line.
+const ONE_EVENT: &str = "\
+PUSH_AND_WATCH GLOBAL_ACTION 0300 TO_WATCH CREATE STEP RELEASE";
+
+/// What is said to have it told also that the step is claimed.
+const TWO_EVENTS: &str = "\
+PUSH_AND_WATCH GLOBAL_ACTION 0300 TO_WATCH CREATE STEP RELEASE
+PUSH_AND_PULL ACTION 0100 TO_IN_PROGRESS RELEASE";
+
+/// What is said to have it told also of a request to cancel the step, of its progress, and of its station.
+const FIVE_EVENTS: &str = "\
+PUSH_AND_WATCH GLOBAL_ACTION 0300 TO_WATCH CREATE STEP RELEASE
+PUSH_AND_PULL ACTION 0100 TO_IN_PROGRESS ACTION_ON_1 0200 NOTHING_ON_1 SET PROGRESS RELEASE";
+
+/// What is said to have it told 17 times that the step is scheduled.
+const MANY_EVENTS: &str = "\
+PUSH_AND_WATCH GLOBAL_ACTION 0300 TO_WATCH CREATE STEP WATCH_AGAIN*16 RELEASE";
+
+/// How a session with a manager ends, in its local time: it may read `turns` PDUs. Where it `delivers`, this side asks W1
+/// for the association, and reports events over it.
 fn ended<A: Allocator + Copy, R: Read + Drop, W: Write + Drop, G: Gate>(
     alloc: A,
     manager: &mut Manager<A>,
@@ -35,13 +55,27 @@ fn ended<A: Allocator + Copy, R: Read + Drop, W: Write + Drop, G: Gate>(
     reader: R,
     writer: W,
     turns: u64,
+    delivers: bool,
 ) -> Result<Result<End, SessionFault>, Fail> {
     let config = Config {
         ae: title("UPSD")?,
         offset: manager.offset(),
     };
+    let watcher = title("W1")?;
     let mut reader = WatchedReader::new(reader);
     let mut writer = WatchedWriter::new(writer);
+    if delivers {
+        return Ok(deliver(
+            alloc,
+            &mut reader,
+            &mut writer,
+            manager,
+            gate,
+            &config,
+            watcher,
+            turns,
+        ));
+    }
     Ok(serve(
         alloc,
         &mut reader,
@@ -88,7 +122,7 @@ fn in_full<A: Allocator + Copy>(
 ///
 /// `(turns N)` and `(room N)` limit the PDUs that it may read and the bytes that it may write. The reader that `(fails)`
 /// does so behind its bytes. `(reads)` and `(writes)` are interrupted. `(in full)` tells the calls of the gate and the
-/// entries, instead of how many these are.
+/// entries, instead of how many these are. Where it `(delivers)`, this side asks W1 for the association.
 fn course_with<A: Allocator + Copy>(
     rt: &impl AllocGlobal,
     alloc: A,
@@ -103,7 +137,9 @@ fn course_with<A: Allocator + Copy>(
     let reader = CutReader::new(input, heading.contains("(fails)"));
     let reader = Interrupted::new(reader, heading.contains("(reads)"));
     let writer = Interrupted::new(&mut taken, heading.contains("(writes)"));
-    let ended = ended(alloc, manager, &mut gate, reader, writer, u64::from(turns))?;
+    let delivers = heading.contains("(delivers)");
+    let turns = u64::from(turns);
+    let ended = ended(alloc, manager, &mut gate, reader, writer, turns, delivers)?;
     let told = told(rt, taken.written(), ended)?;
     if heading.contains("(in full)") {
         let more = in_full(rt, gate.calls(), manager.history())?;
@@ -112,8 +148,47 @@ fn course_with<A: Allocator + Copy>(
     Ok(format!(in rt.alloc(); "{told} {}", manager.history().len())?)
 }
 
+/// A course, and behind it, where this side `(delivers)`, the numbers of the events that are then pending for W1.
+fn with_pending<A: Allocator + Copy>(
+    rt: &impl AllocGlobal,
+    manager: &Manager<A>,
+    heading: &str,
+    course: &str,
+) -> Result<String, Fail> {
+    let mut text = String::new(rt.alloc());
+    text.push_str(course)?;
+    if heading.contains("(delivers)") {
+        text.push_str(", pending")?;
+        let Reply::Reports(reports) = manager.pending(title("W1")?, u64::MAX) else {
+            return Err("no reports".into());
+        };
+        for report in reports.as_slice() {
+            write!(text, " {}", report.event.number)?;
+        }
+    }
+    Ok(text)
+}
+
+/// What is said before a session under a heading, a session in each line.
+fn before(heading: &str) -> &'static str {
+    if heading.contains("(two steps)") {
+        STEPS
+    } else if heading.contains("(one event)") {
+        ONE_EVENT
+    } else if heading.contains("(two events)") {
+        TWO_EVENTS
+    } else if heading.contains("(five events)") {
+        FIVE_EVENTS
+    } else if heading.contains("(many events)") {
+        MANY_EVENTS
+    } else {
+        ""
+    }
+}
+
 /// A manager with the peer W1, which may lock steps. It enters so many requests as `(history N)` says, its local time is
-/// that of `(offset N)`, and it may hold `(two steps)`.
+/// that of `(offset N)`, and it may hold `(two steps)`, or one step of which W1 is to be told `(one event)`, `(two events)`,
+/// `(five events)` or `(many events)`.
 fn manager_of<A: Allocator + Copy>(
     rt: &impl AllocGlobal,
     alloc: A,
@@ -128,8 +203,8 @@ fn manager_of<A: Allocator + Copy>(
         .unwrap_or("0")
         .parse::<i16>()?;
     let mut manager = Manager::new(alloc, &[watcher], 60, offset, u64::from(limit))?;
-    if heading.contains("(two steps)") {
-        course_with(rt, alloc, &mut manager, "", &said(rt, STEPS)?)?;
+    for words in before(heading).lines() {
+        course_with(rt, alloc, &mut manager, "", &said(rt, words)?)?;
     }
     Ok(manager)
 }
@@ -137,7 +212,8 @@ fn manager_of<A: Allocator + Copy>(
 /// What a session with a new manager comes to under a heading.
 fn course_of(rt: &impl AllocGlobal, heading: &str, input: &[u8]) -> Result<String, Fail> {
     let mut manager = manager_of(rt, rt.alloc(), heading)?;
-    course_with(rt, rt.alloc(), &mut manager, heading, input)
+    let course = course_with(rt, rt.alloc(), &mut manager, heading, input)?;
+    with_pending(rt, &manager, heading, course.as_str())
 }
 
 /// The text of a course by the words that are answered, ` : `, and the rest.

@@ -23,7 +23,7 @@ use Rattle.ups_assoc.specs.declared.negotiating.Acceptance.{Acceptance}
 use Rattle.ups_assoc.specs.declared.negotiating.Outcome.TheVariants.{Accept}
 use Rattle.ups_assoc.specs.Titles.{title, is_this_title}
 use Rattle.ups_assoc.specs.Classes.{class_of}
-use Rattle.ups_assoc.specs.Contexts.{first_syntax, answer_of, answer_to, answered}
+use Rattle.ups_assoc.specs.Contexts.{first_syntax, answer_of, context_answer, answered}
 use Rattle.ups_assoc.specs.Negotiation.{has_version_1, is_dicom, is_too_small, this_server, accepting_answer, acceptance, outcome, IsWritable}
 use Rattle.ups_assoc.proofs.Different.{at_most}
 
@@ -55,12 +55,12 @@ answer_of_short (Some c) None = omega arith
 answer_of_short (Some c) (Some Implicit) = omega arith
 answer_of_short (Some c) (Some Explicit) = omega arith
 
-answer_fits : {A : Type 0} (p : ProposedContext A) → FitsAnswer (answer_to p)
-unfolding answer_to
+answer_fits : {A : Type 0} (p : ProposedContext A) → FitsAnswer (context_answer p)
+unfolding context_answer
 answer_fits p = answer_of_fits (class_of p.abstract_syntax) (first_syntax p.transfer_syntaxes)
 
-answer_short : {A : Type 0} (p : ProposedContext A) → length (written_syntax (answer_to p)) ≤ 19
-unfolding answer_to
+answer_short : {A : Type 0} (p : ProposedContext A) → length (written_syntax (context_answer p)) ≤ 19
+unfolding context_answer
 answer_short p = answer_of_short (class_of p.abstract_syntax) (first_syntax p.transfer_syntaxes)
 
 abbrev written_answer : AnsweredContext → List ℕ

@@ -37,11 +37,11 @@ answer_of None syntax = Refused 3
 answer_of (Some class) None = Refused 4
 answer_of (Some class) (Some syntax) = Accepted (syntax_uid syntax)
 
-unfoldable pub answer_to : {A : Type 0} → ProposedContext A → ContextAnswer
-answer_to proposed = answer_of (class_of proposed.abstract_syntax) (first_syntax proposed.transfer_syntaxes)
+unfoldable pub context_answer : {A : Type 0} → ProposedContext A → ContextAnswer
+context_answer proposed = answer_of (class_of proposed.abstract_syntax) (first_syntax proposed.transfer_syntaxes)
 
 abbrev pub answered : {A : Type 0} → ProposedContext A → AnsweredContext
-answered proposed = record { id = proposed.id; answer = answer_to proposed }
+answered proposed = record { id = proposed.id; answer = context_answer proposed }
 
 -- the accepted context, where it is accepted
 abbrev pub context_of : ℕ → Option SopClass → Option TransferSyntax → Option AcceptedContext

@@ -1,13 +1,13 @@
 //! The answer to an association request (PS3.8 sections 7.1, 9.3.2 to 9.3.4; PS3.7 annex D.3.3).
 
-ghost use Rattle.std.specs.Prelude.{◌≡◌, ◌<◌, ◌++◌, List, ℕ, IfOk, IfErr, OnOk, OnErr, map, option_to_list};
+ghost use Rattle.std.specs.Prelude.{◌≡◌, ◌<◌, ◌++◌, [], ◌∷◌, List, ℕ, IfOk, IfErr, OnOk, OnErr, map, option_to_list};
 ghost use Rattle.std.specs.List.{flat_map, AllByRecursion};
 ghost use Rattle.ups_pdu.specs.declared.pdu.Pdu.TheVariants.{AssociateRq as RequestPdu};
 ghost use Rattle.ups_pdu.specs.Spelling.{SpellsPdu};
 ghost use Rattle.ups_assoc.specs.declared.fault.AssocFault.TheVariants.{Memory};
 ghost use Rattle.ups_assoc.specs.declared.negotiating.Outcome.TheVariants.{Accept};
 ghost use Rattle.ups_assoc.specs.Titles.{title, is_this_title};
-ghost use Rattle.ups_assoc.specs.Contexts.{known_syntax, first_syntax, syntax_uid, answer_of, answer_to, answered, context_of, accepted};
+ghost use Rattle.ups_assoc.specs.Contexts.{known_syntax, first_syntax, syntax_uid, answer_of, context_answer, answered, context_of, accepted};
 ghost use Rattle.ups_assoc.specs.Negotiation.{number_result, number_source, number_reason, has_version_1, is_dicom, counted, is_too_small, this_server, acceptance, outcome, IsWritable};
 
 use crate::fault::AssocFault;
@@ -62,6 +62,19 @@ impl<A: Allocator + Copy> Model for AcceptedContexts<A> {
 }
 
 impl<A: Allocator + Copy> AcceptedContexts<A> {
+    /// The list of one context.
+    ///
+    /// # Errors
+    ///
+    /// Where memory runs out.
+    pub fn of(alloc: A, context: AcceptedContext) -> Result<AcceptedContexts<A>, AllocError>
+        ensures { IfOk result (λ c. c ≡ context ∷ []) }
+    {
+        let mut contexts = Vec::new(alloc);
+        contexts.push(context)?;
+        Ok(AcceptedContexts { contexts })
+    }
+
     /// The list, lent.
     pub fn as_slice(&self) -> &[AcceptedContext]
         ensures { result.now ≡ self.now }
@@ -216,9 +229,9 @@ fn answer_of(sop_class: Option<SopClass>, transfer_syntax: Option<TransferSyntax
 }
 
 /// The answer to a proposed presentation context.
-#[tactic(auto, unfolding(crate::specs::Contexts::answer_to))]
-fn answer_to<A: Allocator + Copy>(proposed: &ProposedContext<A>) -> ContextAnswer
-    ensures { result ≡ answer_to proposed.now }
+#[tactic(auto, unfolding(crate::specs::Contexts::context_answer))]
+fn context_answer<A: Allocator + Copy>(proposed: &ProposedContext<A>) -> ContextAnswer
+    ensures { result ≡ context_answer proposed.now }
 {
     answer_of(
         SopClass::of(&proposed.abstract_syntax),
@@ -276,7 +289,7 @@ fn answers_to<A: Allocator + Copy>(
 {
     let mut answers = Vec::new(alloc);
     for context in proposed {
-        answers.push(answer_at(context.id, answer_to(context)))?;
+        answers.push(answer_at(context.id, context_answer(context)))?;
     }
     Ok(AnsweredContexts::from_vec(answers))
 }

@@ -41,8 +41,8 @@ written syntax set = written_elements syntax (elements_of set)
 abbrev pub written_element : TransferSyntax → El → List ℕ
 written_element syntax e = written_head syntax e.tag e.vr (length (written_data syntax e.value)) ++ written_data syntax e.value
 
-abbrev pub written_item : TransferSyntax → List El → List ℕ
-written_item syntax s = (tag_bytes item_tag ++ to_le_bytes w32 (length (written syntax s))) ++ written syntax s
+abbrev pub sequence_item : TransferSyntax → List El → List ℕ
+sequence_item syntax s = (tag_bytes item_tag ++ to_le_bytes w32 (length (written syntax s))) ++ written syntax s
 
 -- Without letters a reading gives each element, at any depth, the representation that it has.
 abbrev mutual

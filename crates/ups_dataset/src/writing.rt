@@ -3,7 +3,7 @@
 ghost use Rattle.std.specs.Prelude.{◌≡◌, ◌<◌, ◌^◌, ◌++◌, length, min, OnOk, IfOk};
 ghost use Rattle.ups_dataset.specs.declared.syntax.TransferSyntax.TheVariants.{Explicit};
 ghost use Rattle.ups_dataset.specs.View.{value_view, element_view};
-ghost use Rattle.ups_dataset.specs.Written.{written, written_length, written_head, written_data, written_element, written_item, KeepsVrs};
+ghost use Rattle.ups_dataset.specs.Written.{written, written_length, written_head, written_data, written_element, sequence_item, KeepsVrs};
 ghost use Rattle.ups_dataset.specs.Vr.{is_long};
 ghost use Rattle.ups_dataset.specs.Spelling.{SpellsSet};
 ghost use Rattle.ups_dataset.specs.Tag.{item_tag};
@@ -140,8 +140,8 @@ fn put_item<A: Allocator + Copy>(
     syntax: TransferSyntax,
     set: &DataSet<A>,
 ) -> Result<(), AllocError>
-    requires { length (written_item syntax set.now) < 2 ^ 32 }
-    ensures { OnOk result (out.new.items ≡ out.old.items ++ written_item syntax set.now) }
+    requires { length (sequence_item syntax set.now) < 2 ^ 32 }
+    ensures { OnOk result (out.new.items ≡ out.old.items ++ sequence_item syntax set.now) }
 {
     let len = set_size(syntax, set) as u32;
     ITEM.put(out)?;

@@ -1,2 +1,4 @@
+pub mod Delivering
 pub mod Serving
 pub mod Sweeping
+pub mod Working

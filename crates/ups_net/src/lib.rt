@@ -5,6 +5,9 @@
 #![tactic(auto)]
 
 mod clock;
+mod delivering;
+mod journal;
+mod rounds;
 mod seated;
 mod serving;
 mod socket;
@@ -15,10 +18,11 @@ mod wire;
 mod workers;
 
 pub use clock::{HostClock, moment_of};
+pub use delivering::deliver_rounds;
 pub use serving::serve_one;
 pub use socket::{next_connection, tune};
 pub use sweeping::sweep;
 pub use terms::Terms;
 pub use watcher::Watcher;
-pub use wire::{Wire, WireReader, WireWriter};
+pub use wire::{Deadline, Wire, WireReader, WireWriter};
 pub use workers::{run, work};

@@ -1,4 +1,4 @@
-//! One association on a connection, and what is told of it.
+//! One association on a connection.
 
 ghost use Rattle.std.specs.Prelude.{◌≡◌};
 ghost use Rattle.ups_turn.specs.Pass.{SamePass};
@@ -6,9 +6,10 @@ ghost use Rattle.ups_net.specs.Serving.{ServesAssociation};
 
 use crate::clock::HostClock;
 use crate::seated::{Kept, Seated};
+use crate::socket::limit_of;
 use crate::terms::Terms;
-use crate::wire::{Wire, WireReader, WireWriter};
-use log::{Log, info};
+use crate::wire::{Deadline, Wire, WireReader, WireWriter};
+use log::Log;
 use std::alloc::Global;
 use std::io::BufReader;
 use std::marker::Brand;
@@ -19,22 +20,30 @@ use ups_session::{End, SessionFault, WatchedReader, WatchedWriter, serve};
 use ups_turn::{Desk, Pass};
 
 /// How many bytes are read at once: a P-DATA-TF of the longest kind fits.
-const READ_AT_ONCE: usize = 16_640;
+pub(crate) const READ_AT_ONCE: usize = 16_640;
 
 /// What a connection is read through.
-type Reader<'a> = WatchedReader<BufReader<WireReader<'a>, Global>>;
+pub(crate) type Reader<'a, R> = WatchedReader<BufReader<WireReader<'a, R>, Global>>;
 
 /// What a connection is written through.
-type Writer<'a> = WatchedWriter<WireWriter<'a>>;
+pub(crate) type Writer<'a, R> = WatchedWriter<WireWriter<'a, R>>;
+
+/// What the peer of an association is allowed that this side accepts, with so many seconds as the limit (0: none).
+fn deadline_of(seconds: u32) -> Deadline {
+    match limit_of(seconds) {
+        Some(limit) => Deadline::Request(limit),
+        None => Deadline::None,
+    }
+}
 
 // One association of a pass, whose desk, settings and number are kept.
-fn serve_kept<K: Kept, R: Wait + Clock>(
+fn serve_kept<K: Kept, R: Wait + Clock + Log>(
     rt: &R,
     desk: &Desk<Global>,
     pass: Pass<Global>,
     terms: &Terms,
-    reader: &mut Reader<'_>,
-    writer: &mut Writer<'_>,
+    reader: &mut Reader<'_, R>,
+    writer: &mut Writer<'_, R>,
 ) -> (Pass<Global>, Result<End, SessionFault>)
     requires desk { desk.now.table ≡ K.table }
     requires table { pass.table ≡ K.table }
@@ -58,7 +67,7 @@ fn serve_kept<K: Kept, R: Wait + Clock>(
 
 /// Serves one association on a connection (PS3.8 section 9.2), for a pass that this function owns meanwhile. What waits
 /// to be sent at the end is sent, as far as the peer takes it.
-pub fn serve_one<R: Wait + Clock>(
+pub fn serve_one<R: Wait + Clock + Log>(
     rt: &R,
     stream: &TcpStream,
     desk: &Desk<Global>,
@@ -68,7 +77,13 @@ pub fn serve_one<R: Wait + Clock>(
     requires here { pass.table ≡ desk.now.table }
     ensures { ServesAssociation terms.now.config terms.now.turns pass result.1 result.0 }
 {
-    let wire = Wire::new(terms.alloc, stream);
+    let wire = Wire::new(
+        rt,
+        terms.alloc,
+        stream,
+        deadline_of(terms.timeout),
+        terms.verbose,
+    );
     let Ok(reader) = BufReader::with_capacity(terms.alloc, READ_AT_ONCE, wire.reader()) else {
         return (pass, Err(SessionFault::Memory));
     };
@@ -77,24 +92,4 @@ pub fn serve_one<R: Wait + Clock>(
     let served = serve_kept::<Brand, R>(rt, desk, pass, terms, &mut reader, &mut writer);
     let _ = wire.send();
     served
-}
-
-/// The name of what an association came to.
-pub(crate) fn name_of(ended: &Result<End, SessionFault>) -> &'static str {
-    match ended {
-        Ok(End::Released) => "Released",
-        Ok(End::AbortSent) => "AbortSent",
-        Ok(End::AbortReceived) => "AbortReceived",
-        Ok(End::Closed) => "Closed",
-        Ok(End::Rejected) => "Rejected",
-        Err(SessionFault::Read) => "Read",
-        Err(SessionFault::Write) => "Write",
-        Err(SessionFault::Turns) => "Turns",
-        Err(SessionFault::Memory) => "Memory",
-    }
-}
-
-/// Tells in one line what an association came to.
-pub(crate) fn tell<R: Log>(rt: &R, ended: &Result<End, SessionFault>) {
-    info!(rt; target: "upsd", "serve: {}", name_of(ended));
 }

@@ -10,7 +10,7 @@ use std::{io, thread};
 const PAUSE: u64 = 100;
 
 /// So many seconds as a limit; none for 0.
-fn limit_of(seconds: u32) -> Option<Duration> {
+pub(crate) fn limit_of(seconds: u32) -> Option<Duration> {
     if seconds == 0 {
         return None;
     }

@@ -3,15 +3,18 @@
 ghost use Rattle.std.specs.Prelude.{◌≡◌, ◌≤◌, ◌+◌, All, length, vec_capacity};
 ghost use Rattle.atomic_table.specs.Seated.{TableId};
 ghost use denote.Param.Send.{IsSync};
-ghost use Rattle.ups_net.specs.Serving.{IsWorker, ServesAssociations};
+ghost use Rattle.ups_net.specs.Serving.{ServesAssociations};
+ghost use Rattle.ups_net.specs.Working.{DoesJob};
 
-use crate::serving::{serve_one, tell};
+use crate::delivering::deliver_rounds;
+use crate::journal::tell_served;
+use crate::serving::serve_one;
 use crate::socket::next_connection;
 use crate::sweeping::sweep;
 use crate::terms::Terms;
 use log::Log;
 use std::alloc::Global;
-use std::net::TcpListener;
+use std::net::{Net, TcpListener, TcpStream};
 use std::snapshot::Snapshot;
 use std::sync::Wait;
 use std::sync::atomic::{AtomicU64, Ordering};
@@ -45,7 +48,7 @@ pub fn work<R: Wait + Clock + Log>(
         let stream = next_connection(rt, listener, terms.timeout);
         let (after, ended) = serve_one(rt, &stream, desk, pass, terms);
         pass = after;
-        tell(rt, &ended);
+        tell_served(rt, &ended);
     }
     pass
 }
@@ -62,8 +65,9 @@ fn begins<R: Wait>(rt: &R, start: &AtomicU64) -> bool {
     unreachable!()
 }
 
-/// What a worker's thread does: it works once the workers begin, and hands its pass back.
-fn worker<R: Wait + Clock + Log>(
+/// What a thread does once the threads begin, before it hands its pass back: a worker serves associations, and the
+/// deliverer delivers event reports. The number of its pass says which of them it is.
+fn do_job<R>(
     rt: &R,
     start: &AtomicU64,
     listener: &TcpListener,
@@ -71,17 +75,22 @@ fn worker<R: Wait + Clock + Log>(
     pass: Pass<Global>,
     terms: &Terms,
 ) -> Pass<Global>
+where
+    R: Wait + Clock + Log + Net<Listener = TcpListener, Stream = TcpStream>,
     requires here { pass.table ≡ desk.now.table }
-    ensures works { IsWorker terms.now.config terms.now.turns terms.now.associations pass result }
+    ensures works { DoesJob terms.now pass result }
     ensures stays { result.table ≡ pass.table }
 {
-    if begins(rt, start) {
+    if !begins(rt, start) {
+        return pass;
+    }
+    if pass.number() <= terms.workers {
         return work(rt, listener, desk, pass, terms);
     }
-    pass
+    deliver_rounds(rt, desk, pass, terms)
 }
 
-/// The promise of a worker's thread: the pass that it hands back is at the desk of the one that it was given.
+/// The promise of a thread: the pass that it hands back is at the desk of the one that it was given.
 #[derive(Drop)]
 struct AtSameDesk {
     pass: Snapshot<Pass<Global>>,
@@ -115,18 +124,19 @@ fn release(start: &AtomicU64, word: u64) {
     start.wake_all();
 }
 
-/// Runs a server: each pass but the last is a worker's, in a thread of its own, and the last sweeps, in this one. It
-/// returns once each worker has served as many associations as `terms` says, and the sweeper has made `rounds` rounds,
-/// a second apart: true, and the passes. Where a thread can't be started, or memory runs out before, none begins its
-/// work: false, and the passes.
-pub fn run<R: Threads + Wait + Clock + Log + Sync>(
+/// Runs a server: of the passes the last sweeps, in this thread. Each other one has a thread of its own: those with the
+/// numbers up to `terms.workers` are the workers', and one with a greater number delivers event reports. It returns once
+/// each worker has served as many associations as `terms` says, and the others have made as many rounds: true, and the
+/// passes. Where a thread can't be started, or memory runs out before, none begins its work: false, and the passes.
+pub fn run<R>(
     rt: &R,
     listener: &TcpListener,
     desk: &Desk<Global>,
     passes: Vec<Pass<Global>>,
     terms: &Terms,
-    rounds: u64,
 ) -> (bool, Vec<Pass<Global>>)
+where
+    R: Threads + Wait + Clock + Log + Sync + Net<Listener = TcpListener, Stream = TcpStream>,
     requires some { 2 ≤ length passes.items }
     requires here { All (λ p. p.table ≡ desk.now.table) passes.items }
     ensures all { length result.1.items ≡ length passes.items }
@@ -171,7 +181,7 @@ pub fn run<R: Threads + Wait + Clock + Log + Sync>(
                     move || -> Pass<Global>
                         requires { pass.table ≡ desk.now.table }
                         ensures { result.table ≡ pass.table }
-                    { worker(rt, start, listener, desk, pass, terms) },
+                    { do_job(rt, start, listener, desk, pass, terms) },
                 ) {
                     Ok(handle) => handles.push_reserved(handle),
                     Err(refused) => {
@@ -183,7 +193,7 @@ pub fn run<R: Threads + Wait + Clock + Log + Sync>(
             }
             if all {
                 release(start, BEGUN);
-                sweep(rt, desk, &mut sweeper, terms.config.ae, rounds);
+                sweep(rt, desk, &mut sweeper, terms.config.ae, terms.rounds);
             }
             join_all(rt, handles, &mut back);
             back.push_reserved(sweeper);

@@ -58,8 +58,12 @@ taken_whole {A} {L} side a association after u v open_ g =
       sends = g.sends;
     }
 
+-- what the side does first happened
+pub came_begun : {A L W : Type 0} (side : Side A L W) (start begun : L) (u v : World A) → Performed (Happens side) side.first start begun u v okay → Progress side start begun [] [] [] u v
+came_begun side start begun u v begins = record { whole = []; parts = refl; spells = refl; begun = begun; between = v; begins = begins; performed = goes_nowhere (Processes side) begun v tt }
+
 pub came_first : {A L W : Type 0} (side : Side A L W) (start : L) (u : World A) → Performed (Happens side) side.first start start u u okay → Progress side start start [] [] [] u u
-came_first side start u begins = record { whole = []; parts = refl; spells = refl; begun = start; between = u; begins = begins; performed = goes_nowhere (Processes side) start u tt }
+came_first side start u begins = came_begun side start start u u begins
 
 pub came_on : {A L W : Type 0} (side : Side A L W) (start mid after : L) (input more : List ℕ) (arrivals : List (Arrival A)) (a : Arrival A) (u v w : World A)
     → Progress side start mid input [] arrivals u v → IsOpen (side.state mid) → Spells more a → Performed (Happens side) (brings a) mid after v w okay → Progress side start after (input ++ more) [] (arrivals ++ a ∷ []) u w
@@ -100,6 +104,22 @@ session_failed side ending start association after turns now input more arrivals
     inr (arrivals, association, more, remainder, v, last, came_more side start association input more arrivals u v c, on, is, why, g)
 session_failed side ending start association after turns now input more arrivals u v w Memory c on (remainder, last, is, why, g) =
     inr (arrivals, association, more, remainder, v, last, came_more side start association input more arrivals u v c, on, is, why, g)
+
+-- not all of what the side does first happened
+pub session_unbegun : {A L W : Type 0} (side : Side A L W) (ending : L → End) (start last : L) (turns : ℕ) (now : Input) (u v : World A) (fault : SessionFault)
+    → Performed (Happens side) side.first start last u v (failing fault) → IsSession side ending start turns now [] u v (stopped fault)
+session_unbegun side ending start last turns now u v Write g = inl (last, refl, g)
+session_unbegun side ending start last turns now u v Memory g = inl (last, refl, g)
+session_unbegun side ending start last turns now u v Read g = absurd (no_read g.sends.1)
+  where
+    no_read : FallsShort Read v.output.failed (pdu_bytes (pdus_of g.visits)) g.sent → ⊥
+    no_read (inl (e, really, part)) = cc
+    no_read (inr (e, part)) = cc
+session_unbegun side ending start last turns now u v Turns g = absurd (no_turns g.sends.1)
+  where
+    no_turns : FallsShort Turns v.output.failed (pdu_bytes (pdus_of g.visits)) g.sent → ⊥
+    no_turns (inl (e, really, part)) = cc
+    no_turns (inr (e, part)) = cc
 
 abbrev pub lost_for : (A : Type 0) → SessionFault → Result (PduRead A) SessionFault
 lost_for A fault = Err fault

@@ -125,3 +125,40 @@ goes_short Step all association after w = record {
   did = (all, refl);
   sends = (([], refl), inr (refl, refl));
 }
+
+-- the same, whatever the result holds
+pub goes_alike : {A L X Y Z : Type 0} (Step : L → X → Exchange A → L → Type 0) (all : List X) (from after : L) (u v : World A) (y : Y) (z : Z) → Performed Step all from after u v (Ok y) → Performed Step all from after u v (Ok z)
+goes_alike Step all from after u v y z g = record {
+  some = g.some;
+  exchange = g.exchange;
+  end = g.end;
+  visits = g.visits;
+  sent = g.sent;
+  ran = g.ran;
+  settings = g.settings;
+  others = g.others;
+  caller = g.caller;
+  writes = g.writes;
+  tells = g.tells;
+  calls = g.calls;
+  did = g.did;
+  sends = g.sends;
+}
+
+pub fails_alike : {A L X Y Z : Type 0} (Step : L → X → Exchange A → L → Type 0) (all : List X) (from after : L) (u v : World A) (e : SessionFault) → Performed Step all from after u v (failing {Y = Y} e) → Performed Step all from after u v (failing {Y = Z} e)
+fails_alike Step all from after u v e g = record {
+  some = g.some;
+  exchange = g.exchange;
+  end = g.end;
+  visits = g.visits;
+  sent = g.sent;
+  ran = g.ran;
+  settings = g.settings;
+  others = g.others;
+  caller = g.caller;
+  writes = g.writes;
+  tells = g.tells;
+  calls = g.calls;
+  did = g.did;
+  sends = g.sends;
+}

@@ -11,7 +11,8 @@ use Rattle.ups_assoc.specs.Feeding.{Fed, more, whole, fault, Feeds}
 use Rattle.ups_session.specs.Association.{AssociationView, EstablishedView}
 use Rattle.ups_session.specs.declared.effect.Effect.{Effect}
 use Rattle.ups_session.specs.declared.fault.SessionFault.{SessionFault}
-use Rattle.ups_session.specs.Acceptor.{sending, aborting, on_message_effect, with_begun, OnMessage, Continues}
+use Rattle.ups_session.specs.Acceptor.{on_message_effect, OnMessage, Continues}
+use Rattle.ups_session.specs.Sides.{sending, aborting, with_begun}
 use Rattle.ups_session.specs.Effects.{said_by, awaited_by, message_effect}
 use Rattle.ups_session.proofs.Parts.{if_ok}
 
@@ -19,16 +20,16 @@ use Rattle.ups_session.proofs.Parts.{if_ok}
 abbrev pub after : {A : Type 0} → AssociationView A → EstablishedView A → Assembly A → AssociationView A
 after association established assembly = record { state = association.state; established = Some (record { parameters = established.parameters; assembler = assembly }); ending = association.ending }
 
-after_is : {A : Type 0} (association : AssociationView A) (established : EstablishedView A) (new : Assembly A) (begun : Begun A) → new.ids ≡ established.assembler.ids → new.begun ≡ begun → after association established new ≡ with_begun association established begun
+pub after_is : {A : Type 0} (association : AssociationView A) (established : EstablishedView A) (new : Assembly A) (begun : Begun A) → new.ids ≡ established.assembler.ids → new.begun ≡ begun → after association established new ≡ with_begun association established begun
 after_is association established new begun e f = λ i. record { state = association.state; established = Some (record { parameters = established.parameters; assembler = record { ids = e i; begun = f i } }); ending = association.ending }
 
 says_nothing : {A : Type 0} (association : AssociationView A) (effect : Effect A) → said_by effect ≡ [] → awaited_by effect ≡ None → on_message_effect false association (message_effect (Some effect)) ≡ sending association []
 says_nothing association effect p q = λ i. record { association = association; send = p i; waiting = q i }
 
-abbrev fed_on : {A : Type 0} → Option (RawMessage A) → Result (Option (RawMessage A)) AssocFault
+abbrev pub fed_on : {A : Type 0} → Option (RawMessage A) → Result (Option (RawMessage A)) AssocFault
 fed_on found = Ok found
 
-abbrev fed_not : {A : Type 0} → AssocFault → Result (Option (RawMessage A)) AssocFault
+abbrev pub fed_not : {A : Type 0} → AssocFault → Result (Option (RawMessage A)) AssocFault
 fed_not e = Err e
 
 pub more_came : {A : Type 0} (offset : ℤ) (association : AssociationView A) (established : EstablishedView A) (f : Fed A) (new : Assembly A) (effect : Effect A) → new.ids ≡ established.assembler.ids → Feeds f new.begun (fed_on None) → said_by effect ≡ [] → awaited_by effect ≡ None

@@ -17,7 +17,8 @@ use Rattle.ups_session.specs.declared.association.Association.{Association}
 use Rattle.ups_session.specs.declared.association.Parameters.{Parameters}
 use Rattle.ups_session.specs.Association.{ParametersView, EstablishedView, AssociationView}
 use Rattle.ups_session.specs.Dispatch.{DispatchView, answered, asking, AwaitedRequestView}
-use Rattle.ups_session.specs.Acceptor.{ReactionOf, MessageEffect}
+use Rattle.ups_session.specs.Acceptor.{MessageEffect}
+use Rattle.ups_session.specs.Sides.{ReactionOf}
 
 -- the negotiated parameters, the established association, and the association
 abbrev pub parameters_view : {A : Type 0} → Parameters A → ParametersView

@@ -4,6 +4,7 @@ use Rattle.ups_ulstate.specs.declared.state.UlState.{UlState}
 use Rattle.ups_ulstate.specs.declared.state.UlState.TheVariants.{Sta1, Sta13}
 use Rattle.ups_ulstate.specs.declared.state.UlEvent.{UlEvent}
 use Rattle.ups_ulstate.specs.declared.state.UlEvent.TheVariants as events
+use Rattle.ups_pdu.specs.declared.associate.AssociateAc.{AssociateAc}
 use Rattle.ups_pdu.specs.declared.associate.AssociateRq.{AssociateRq}
 use Rattle.ups_pdu.specs.declared.fault.PduFault.{PduFault}
 use Rattle.ups_pdu.specs.declared.pdu.Pdu.{Pdu}
@@ -16,13 +17,14 @@ use Rattle.ups_life.specs.declared.request.Reply.{Reply}
 pub data Indication (A : Type 0) : Type 0 where
   event : UlEvent → Indication A
   request : AssociateRq A → Indication A
+  confirmation : AssociateAc A → Indication A
   fragment : Pdv A → Indication A
   invalid : PduFault → Indication A
 
 -- the indications of a PDU: each fragment of a P-DATA-TF is one
 abbrev pub indications : {A : Type 0} → Pdu A → List (Indication A)
 indications (pdus.AssociateRq rq) = request rq ∷ []
-indications (pdus.AssociateAc ac) = event events.AssociateAc ∷ []
+indications (pdus.AssociateAc ac) = confirmation ac ∷ []
 indications (pdus.AssociateRj result source reason) = event events.AssociateRj ∷ []
 indications (pdus.Data pdvs) = map fragment pdvs
 indications pdus.ReleaseRq = event events.ReleaseRq ∷ []

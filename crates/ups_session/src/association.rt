@@ -1,6 +1,6 @@
-//! An association, as the side that accepts it keeps it.
+//! An association, as its sides keep it.
 
-ghost use Rattle.std.specs.Prelude.{◌≡◌, ◌≢◌, ◌≤◌, [], ◌∷◌, ℕ, List, Option, None, Some, MatchOption, IfOk, IfErr, OnErr, OnOk, true, false};
+ghost use Rattle.std.specs.Prelude.{◌≡◌, ◌≢◌, ◌≤◌, Bool, [], ◌∷◌, ℕ, List, Option, None, Some, MatchOption, IfOk, IfErr, OnErr, OnOk, true, false};
 ghost use Rattle.std.specs.Option.{option_map, unwrap_or};
 ghost use Rattle.ups_ulstate.specs.Table.{next_of};
 ghost use Rattle.ups_ulstate.specs.declared.state.UlEvent.TheVariants as events;
@@ -16,9 +16,10 @@ ghost use Rattle.ups_assoc.specs.declared.fault.AssocFault.{AssocFault};
 ghost use Rattle.ups_assoc.specs.Feeding.{fed, fault as faulty};
 ghost use Rattle.ups_session.specs.declared.fault.SessionFault.TheVariants.{Memory};
 ghost use Rattle.ups_session.specs.Association.{AssociationView};
-ghost use Rattle.ups_session.specs.Acceptor.{end_after, on_local_event, releases, on_action, on_event, reason_of, is_acceptable, rejecting, answers, requested, aborting, on_message_effect, Continues, Received, Indicated, opened};
+ghost use Rattle.ups_session.specs.Acceptor.{is_acceptable, rejecting, answers, requested, on_message_effect, Continues, Received, Indicated, opened};
+ghost use Rattle.ups_session.specs.Sides.{end_after, on_local_event, releases, on_action, on_event, reason_of, aborting};
 ghost use Rattle.ups_session.specs.Fold.{IsOpen};
-ghost use Rattle.ups_session.specs.Effects.{established_view, association_view, reaction_of, message_effect, IsSendable, AreSendable, IsRoomy, IsAccepting};
+ghost use Rattle.ups_session.specs.Effects.{established_view, association_view, awaited_by, reaction_of, message_effect, IsSendable, AreSendable, IsRoomy, IsAccepting};
 
 use crate::dispatch::on_message;
 use crate::effect::Effect;
@@ -33,8 +34,8 @@ use ups_ulstate::{UlAction, UlEvent, UlState, next};
 /// The reason of an abort by the service provider for a PDU that doesn't fit the state (PS3.8 table 9-26).
 pub(crate) const UNEXPECTED: u8 = 2;
 
-/// This side is not the association requestor: it accepts associations.
-const REQUESTOR: bool = false;
+/// Not the association requestor: the side that accepts it.
+pub(crate) const ACCEPTOR: bool = false;
 
 /// The parameters negotiated with a peer (PS3.8 section 7.1).
 #[derive(Drop)]
@@ -59,7 +60,7 @@ pub(crate) struct Established<A: Allocator + Copy> {
 /// Tells a lack of memory from any other fault in a fragment, for which the association is aborted.
 ///
 /// Errors: out of memory.
-fn unless_memory(fault: AssocFault) -> Result<(), SessionFault>
+pub(crate) fn unless_memory(fault: AssocFault) -> Result<(), SessionFault>
     ensures other { OnOk result (fault ≢ NoMemory) }
     ensures lost { OnErr result (fault ≡ NoMemory) }
     ensures memory { IfErr result (λ e. e ≡ Memory) }
@@ -124,7 +125,7 @@ fn end_after(event: UlEvent, action: UlAction) -> Option<End>
 }
 
 /// The reason of an abort by the service provider for bytes that are no PDU (PS3.8 table 9-26).
-fn reason_of(fault: PduFault) -> u8
+pub(crate) fn reason_of(fault: PduFault) -> u8
     ensures { result ≡ reason_of fault }
 {
     match fault {
@@ -151,11 +152,13 @@ fn sent<A: Allocator + Copy>(
     reason: u8,
     action: UlAction,
 ) -> Result<Effect<A>, SessionFault>
-    ensures said { (association : AssociationView A) → action ≢ Ar2 → action ≢ Ar8 → action ≢ Ar10 → IfOk result (λ effect. reaction_of association effect ≡ on_action false reason association action) }
+    ensures said { (requestor : Bool) → (association : AssociationView A) → action ≢ Ar2 → action ≢ Ar8 → action ≢ Ar10 → IfOk result (λ effect. reaction_of association effect ≡ on_action requestor reason association action) }
+    ensures quiet { IfOk result (λ effect. awaited_by effect ≡ None) }
     ensures writable { IfOk result IsSendable }
     ensures memory { IfErr result (λ e. e ≡ Memory) }
 {
     match action {
+        UlAction::Ar1 => Effect::send(alloc, Pdu::ReleaseRq),
         UlAction::Aa1 => Effect::send(
             alloc,
             Pdu::Abort {
@@ -192,7 +195,7 @@ impl<A: Allocator + Copy> Association<A> {
     }
 
     /// Records an action of the state machine and the state that it leads to.
-    fn transition(&mut self, event: UlEvent, action: UlAction, state: UlState)
+    pub fn transition(&mut self, event: UlEvent, action: UlAction, state: UlState)
         ensures { self.new ≡ record { state = state; established = self.old.established; ending = unwrap_or (end_after event action) self.old.ending } }
     {
         self.state = state;
@@ -202,11 +205,11 @@ impl<A: Allocator + Copy> Association<A> {
     }
 
     /// Processes an event that this side causes itself.
-    fn on_local_event(&mut self, event: UlEvent)
-        ensures done { association_view self.new ≡ on_local_event false event (association_view self.old) }
+    fn on_local_event(&mut self, requestor: bool, event: UlEvent)
+        ensures done { association_view self.new ≡ on_local_event requestor event (association_view self.old) }
         ensures established { self.new.established ≡ self.old.established }
     {
-        if let Some((action, state)) = next(self.state, event, REQUESTOR, true) {
+        if let Some((action, state)) = next(self.state, event, requestor, true) {
             self.transition(event, action, state);
         }
     }
@@ -214,14 +217,15 @@ impl<A: Allocator + Copy> Association<A> {
     /// Responds to a release request, if the state machine has a transition for it (PS3.8 section 7.2).
     ///
     /// Errors: out of memory.
-    fn release(&mut self, alloc: A) -> Result<Effect<A>, SessionFault>
-        ensures reaction { IfOk result (λ effect. reaction_of (association_view self.new) effect ≡ releases (association_view self.old) (next_of false true events.ReleaseResponse self.old.state)) }
+    fn release(&mut self, alloc: A, requestor: bool) -> Result<Effect<A>, SessionFault>
+        ensures reaction { IfOk result (λ effect. reaction_of (association_view self.new) effect ≡ releases (association_view self.old) (next_of requestor true events.ReleaseResponse self.old.state)) }
+        ensures quiet { IfOk result (λ effect. awaited_by effect ≡ None) }
         ensures writable { IfOk result IsSendable }
         ensures established { self.new.established ≡ self.old.established }
         ensures memory { IfErr result (λ e. e ≡ Memory) }
     {
         let event = UlEvent::ReleaseResponse;
-        let Some((action, state)) = next(self.state, event, REQUESTOR, true) else {
+        let Some((action, state)) = next(self.state, event, requestor, true) else {
             return Ok(Effect::nothing(alloc));
         };
         self.transition(event, action, state);
@@ -231,19 +235,21 @@ impl<A: Allocator + Copy> Association<A> {
     /// Performs an action that needs no data of the event.
     ///
     /// Errors: out of memory.
-    fn on_action(
+    pub fn on_action(
         &mut self,
         alloc: A,
+        requestor: bool,
         reason: u8,
         action: UlAction,
     ) -> Result<Effect<A>, SessionFault>
-        ensures reaction { IfOk result (λ effect. reaction_of (association_view self.new) effect ≡ on_action false reason (association_view self.old) action) }
+        ensures reaction { IfOk result (λ effect. reaction_of (association_view self.new) effect ≡ on_action requestor reason (association_view self.old) action) }
+        ensures quiet { IfOk result (λ effect. awaited_by effect ≡ None) }
         ensures writable { IfOk result IsSendable }
         ensures established { self.new.established ≡ self.old.established }
         ensures memory { IfErr result (λ e. e ≡ Memory) }
     {
         match action {
-            UlAction::Ar2 | UlAction::Ar8 | UlAction::Ar10 => self.release(alloc),
+            UlAction::Ar2 | UlAction::Ar8 | UlAction::Ar10 => self.release(alloc, requestor),
             _ => sent(alloc, reason, action),
         }
     }
@@ -254,31 +260,39 @@ impl<A: Allocator + Copy> Association<A> {
     pub fn on_event(
         &mut self,
         alloc: A,
+        requestor: bool,
         reason: u8,
         event: UlEvent,
     ) -> Result<Effect<A>, SessionFault>
-        ensures reaction { IfOk result (λ effect. reaction_of (association_view self.new) effect ≡ on_event false reason (association_view self.old) event (next_of false true event self.old.state)) }
+        ensures reaction { IfOk result (λ effect. reaction_of (association_view self.new) effect ≡ on_event requestor reason (association_view self.old) event (next_of requestor true event self.old.state)) }
+        ensures quiet { IfOk result (λ effect. awaited_by effect ≡ None) }
         ensures writable { IfOk result IsSendable }
         ensures established { self.new.established ≡ self.old.established }
         ensures memory { IfErr result (λ e. e ≡ Memory) }
     {
-        let Some((action, state)) = next(self.state, event, REQUESTOR, true) else {
+        let Some((action, state)) = next(self.state, event, requestor, true) else {
             return Ok(Effect::nothing(alloc));
         };
         self.transition(event, action, state);
-        self.on_action(alloc, reason, action)
+        self.on_action(alloc, requestor, reason, action)
     }
 
     /// Processes bytes that are not a PDU.
     ///
     /// Errors: out of memory.
-    pub fn on_invalid_pdu(&mut self, alloc: A, fault: PduFault) -> Result<Effect<A>, SessionFault>
-        ensures reaction { IfOk result (λ effect. reaction_of (association_view self.new) effect ≡ on_event false (reason_of fault) (association_view self.old) events.Invalid (next_of false true events.Invalid self.old.state)) }
+    pub fn on_invalid_pdu(
+        &mut self,
+        alloc: A,
+        requestor: bool,
+        fault: PduFault,
+    ) -> Result<Effect<A>, SessionFault>
+        ensures reaction { IfOk result (λ effect. reaction_of (association_view self.new) effect ≡ on_event requestor (reason_of fault) (association_view self.old) events.Invalid (next_of requestor true events.Invalid self.old.state)) }
+        ensures quiet { IfOk result (λ effect. awaited_by effect ≡ None) }
         ensures writable { IfOk result IsSendable }
         ensures established { self.new.established ≡ self.old.established }
         ensures memory { IfErr result (λ e. e ≡ Memory) }
     {
-        self.on_event(alloc, reason_of(fault), UlEvent::Invalid)
+        self.on_event(alloc, requestor, reason_of(fault), UlEvent::Invalid)
     }
 
     /// Accepts an association request.
@@ -301,7 +315,7 @@ impl<A: Allocator + Copy> Association<A> {
         let Ok(assembler) = Assembler::new(alloc, contexts.as_slice()) else {
             return Err(SessionFault::Memory);
         };
-        self.on_local_event(UlEvent::LocalAccept);
+        self.on_local_event(ACCEPTOR, UlEvent::LocalAccept);
         let parameters = Parameters { ae, contexts, max };
         self.established = Some(Established {
             parameters,
@@ -322,7 +336,7 @@ impl<A: Allocator + Copy> Association<A> {
         if rejection.source() == 2 {
             self.ending = End::Rejected;
         } else {
-            self.on_local_event(UlEvent::LocalReject);
+            self.on_local_event(ACCEPTOR, UlEvent::LocalReject);
         }
         Effect::send(
             alloc,
@@ -369,27 +383,28 @@ impl<A: Allocator + Copy> Association<A> {
             return Err(SessionFault::Memory);
         };
         let acceptable = is_acceptable(&outcome);
-        let Some((action, state)) = next(self.state, UlEvent::AssociateRq, REQUESTOR, acceptable)
+        let Some((action, state)) = next(self.state, UlEvent::AssociateRq, ACCEPTOR, acceptable)
         else {
             return Ok(Effect::nothing(alloc));
         };
         self.transition(UlEvent::AssociateRq, action, state);
         match action {
             UlAction::Ae6 => self.answer_request(alloc, outcome),
-            _ => self.on_action(alloc, UNEXPECTED, action),
+            _ => self.on_action(alloc, ACCEPTOR, UNEXPECTED, action),
         }
     }
 
     /// Aborts the association (PS3.8 section 7.3).
     ///
     /// Errors: out of memory.
-    fn abort(&mut self, alloc: A) -> Result<Effect<A>, SessionFault>
-        ensures reaction { IfOk result (λ effect. reaction_of (association_view self.new) effect ≡ aborting false (association_view self.old)) }
+    pub fn abort(&mut self, alloc: A, requestor: bool) -> Result<Effect<A>, SessionFault>
+        ensures reaction { IfOk result (λ effect. reaction_of (association_view self.new) effect ≡ aborting requestor (association_view self.old)) }
+        ensures quiet { IfOk result (λ effect. awaited_by effect ≡ None) }
         ensures writable { IfOk result IsSendable }
         ensures established { self.new.established ≡ self.old.established }
         ensures memory { IfErr result (λ e. e ≡ Memory) }
     {
-        self.on_local_event(UlEvent::AbortRequest);
+        self.on_local_event(requestor, UlEvent::AbortRequest);
         Effect::send(
             alloc,
             Pdu::Abort {
@@ -418,7 +433,7 @@ impl<A: Allocator + Copy> Association<A> {
         self.established = Some(established);
         match found {
             Some(effect) => Ok(effect),
-            None => self.abort(alloc),
+            None => self.abort(alloc, ACCEPTOR),
         }
     }
 
@@ -479,13 +494,13 @@ impl<A: Allocator + Copy> Association<A> {
         ensures roomy { OnOk result (IsRoomy self.new.established) }
         ensures memory { IfErr result (λ e. e ≡ Memory) }
     {
-        let Some((action, state)) = next(self.state, UlEvent::Data, REQUESTOR, true) else {
+        let Some((action, state)) = next(self.state, UlEvent::Data, ACCEPTOR, true) else {
             return Ok(Effect::nothing(alloc));
         };
         self.transition(UlEvent::Data, action, state);
         match action {
             UlAction::Dt2 => self.on_data(alloc, config, pdv),
-            _ => self.on_action(alloc, UNEXPECTED, action),
+            _ => self.on_action(alloc, ACCEPTOR, UNEXPECTED, action),
         }
     }
 }

@@ -15,7 +15,8 @@ ghost use Rattle.ups_dimse.specs.Commands.{SpellsCommand};
 ghost use Rattle.ups_session.specs.declared.dispatch.Dispatch.{Dispatch};
 ghost use Rattle.ups_session.specs.declared.fault.SessionFault.TheVariants.{Memory};
 ghost use Rattle.ups_dimse.specs.declared.fault.DimseFault.TheVariants.{Memory as NoRoomForCommand};
-ghost use Rattle.ups_session.specs.Acceptor.{context_at, message_effect_of, OnCommand, OnMessage};
+ghost use Rattle.ups_session.specs.Acceptor.{message_effect_of, OnCommand, OnMessage};
+ghost use Rattle.ups_session.specs.Sides.{context_at};
 
 use crate::association::Parameters;
 use crate::effect::{AwaitedRequest, Effect};
@@ -200,7 +201,7 @@ pub(crate) fn dispatch_request<A: Allocator + Copy>(
 }
 
 /// The accepted presentation context with an id.
-fn context_at(id: u8, contexts: &[AcceptedContext]) -> Option<AcceptedContext>
+pub(crate) fn context_at(id: u8, contexts: &[AcceptedContext]) -> Option<AcceptedContext>
     ensures { result ≡ context_at id contexts.now }
 {
     contexts.iter().copied().find(|context| context.id == id)

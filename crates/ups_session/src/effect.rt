@@ -58,4 +58,15 @@ impl<A: Allocator + Copy> Effect<A> {
         said.push(pdu)?;
         Ok(Effect::Send(said))
     }
+
+    /// The PDUs of an effect that awaits no reply.
+    pub fn into_said(self) -> Vec<Pdu<A>, A>
+        requires { awaited_by self ≡ None }
+        ensures { result.items ≡ said_by self }
+    {
+        match self {
+            Effect::Send(said) => said,
+            Effect::Call(_) => unreachable!(),
+        }
+    }
 }

@@ -209,7 +209,7 @@ pub(crate) fn read_one<A: Allocator + Copy, R: Read>(
 /// Sends one PDU, between two calls of the gate.
 ///
 /// Errors: a failed write, or out of memory; a beginning of the bytes was then written.
-fn send_pdu<A: Allocator + Copy, W: Write, G: Gate>(
+pub(crate) fn send_pdu<A: Allocator + Copy, W: Write, G: Gate>(
     alloc: A,
     writer: &mut WatchedWriter<W>,
     gate: &mut G,

@@ -44,7 +44,7 @@ fn response_bytes<A: Allocator + Copy>(
 /// Cuts a message into PDUs of at most `max` bytes.
 ///
 /// Errors: out of memory.
-fn pieces<A: Allocator + Copy>(
+pub(crate) fn pieces<A: Allocator + Copy>(
     alloc: A,
     max: u32,
     context: u8,

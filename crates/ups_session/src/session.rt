@@ -5,7 +5,7 @@ ghost use Rattle.std.specs.Io.KnownBytes.{Consumes};
 ghost use Rattle.ups_pdu.specs.declared.pdu.Pdu.TheVariants as pdus;
 ghost use Rattle.ups_pdu.specs.Spelling.{SpellsPdu};
 ghost use Rattle.ups_assoc.specs.declared.negotiating.Config.{Config};
-ghost use Rattle.ups_session.specs.Fold.{Indication, event as happened, request as requested, fragment as delivered, invalid as arrived, indications, Happens};
+ghost use Rattle.ups_session.specs.Fold.{Indication, event as happened, request as requested, confirmation as agreed, fragment as delivered, invalid as arrived, indications, Happens};
 ghost use Rattle.ups_session.specs.Acceptor.{acceptor, opened, Reacts};
 ghost use Rattle.ups_session.specs.Effects.{association_view, awaited_view, reaction_of, IsSendable, IsRoomy};
 ghost use Rattle.ups_session.specs.Association.{AssociationView};
@@ -13,7 +13,7 @@ ghost use Rattle.ups_session.specs.World.{world, Performed};
 ghost use Rattle.ups_session.specs.Turn.{IsTurn};
 ghost use Rattle.ups_session.specs.Session.{IsSession};
 
-use crate::association::{Association, UNEXPECTED};
+use crate::association::{ACCEPTOR, Association, UNEXPECTED};
 use crate::effect::{AwaitedRequest, Effect};
 use crate::fault::{End, SessionFault};
 use crate::gate::Gate;
@@ -24,7 +24,7 @@ use std::alloc::Allocator;
 use std::io::{Read, Write};
 use ups_assoc::Config;
 use ups_manager::Service;
-use ups_pdu::{AssociateRq, Pdu, PduFault, Pdv};
+use ups_pdu::{AssociateAc, AssociateRq, Pdu, PduFault, Pdv};
 use ups_ulstate::UlEvent;
 
 /// Calls the service with what a request asks, and sends its reply.
@@ -93,7 +93,7 @@ fn handle_event<A: Allocator + Copy, W: Write, S: Service<A>, G: Gate>(
         (world writer.new (G.told gate.new) (S.settings service.new) (S.others service.new) (S.caller service.new) (S.seen service.new)) result }
     ensures established { association.new.established ≡ association.old.established }
 {
-    let effect = association.on_event(alloc, UNEXPECTED, event)?;
+    let effect = association.on_event(alloc, ACCEPTOR, UNEXPECTED, event)?;
     perform(alloc, writer, service, gate, effect)
 }
 
@@ -113,7 +113,7 @@ fn handle_invalid_pdu<A: Allocator + Copy, W: Write, S: Service<A>, G: Gate>(
         (world writer.new (G.told gate.new) (S.settings service.new) (S.others service.new) (S.caller service.new) (S.seen service.new)) result }
     ensures established { association.new.established ≡ association.old.established }
 {
-    let effect = association.on_invalid_pdu(alloc, fault)?;
+    let effect = association.on_invalid_pdu(alloc, ACCEPTOR, fault)?;
     perform(alloc, writer, service, gate, effect)
 }
 
@@ -136,6 +136,27 @@ fn handle_associate_request<A: Allocator + Copy, W: Write, S: Service<A>, G: Gat
     ensures roomy { IsRoomy association.old.established → IsRoomy association.new.established }
 {
     let effect = association.on_associate_request(alloc, config, request)?;
+    perform(alloc, writer, service, gate, effect)
+}
+
+/// Handles an A-ASSOCIATE-AC: the side that accepts an association asked for none.
+///
+/// Errors: a failed write; out of memory.
+fn handle_associate_accept<A: Allocator + Copy, W: Write, S: Service<A>, G: Gate>(
+    alloc: A,
+    association: &mut Association<A>,
+    writer: &mut WatchedWriter<W>,
+    service: &mut S,
+    gate: &mut G,
+    answer: &AssociateAc<A>,
+) -> Result<(), SessionFault>
+    ensures performed { (config : Config) → Performed (Happens (acceptor config)) (agreed answer.now ∷ []) (association_view association.old) (association_view association.new)
+        (world writer.old (G.told gate.old) (S.settings service.old) (S.others service.old) (S.caller service.old) (S.seen service.old))
+        (world writer.new (G.told gate.new) (S.settings service.new) (S.others service.new) (S.caller service.new) (S.seen service.new)) result }
+    ensures established { association.new.established ≡ association.old.established }
+{
+    let _answer = answer;
+    let effect = association.on_event(alloc, ACCEPTOR, UNEXPECTED, UlEvent::AssociateAc)?;
     perform(alloc, writer, service, gate, effect)
 }
 
@@ -216,6 +237,9 @@ fn handle_pdu<A: Allocator + Copy, W: Write, S: Service<A>, G: Gate>(
                 request,
             );
         }
+        Pdu::AssociateAc(answer) => {
+            return handle_associate_accept(alloc, association, writer, service, gate, answer);
+        }
         Pdu::Data(pdvs) => {
             return handle_fragments(
                 alloc,
@@ -227,7 +251,6 @@ fn handle_pdu<A: Allocator + Copy, W: Write, S: Service<A>, G: Gate>(
                 pdvs.as_slice(),
             );
         }
-        Pdu::AssociateAc(_) => UlEvent::AssociateAc,
         Pdu::AssociateRj { .. } => UlEvent::AssociateRj,
         Pdu::ReleaseRq => UlEvent::ReleaseRq,
         Pdu::ReleaseRp => UlEvent::ReleaseRp,

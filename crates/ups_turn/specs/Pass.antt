@@ -40,13 +40,13 @@ most_calls = 2 ^ 40
 abbrev pub are_seats : ℕ → Bool
 are_seats seats = nat_le 1 seats && nat_le seats most_seats
 
-abbrev pub fault_of : Bool → OpenFault
-fault_of true = Memory
-fault_of false = BadSeats
+abbrev pub seats_fault : Bool → OpenFault
+seats_fault true = Memory
+seats_fault false = BadSeats
 
 -- why a desk with so many seats does not open
 abbrev pub open_fault : ℕ → OpenFault
-open_fault seats = fault_of (are_seats seats)
+open_fault seats = seats_fault (are_seats seats)
 
 abbrev pub part : {A : Type 0} → ℕ → List (Entry A) → List (Part A)
 part number seen = record { number = number; seen = seen } ∷ []

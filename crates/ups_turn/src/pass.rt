@@ -35,6 +35,13 @@ impl<A: Allocator + Copy> Model for Pass<A> {
 }
 
 impl<A: Allocator + Copy> Pass<A> {
+    /// The number of the pass, from 1 up. The entries of the pass have it as their caller.
+    pub fn number(&self) -> u32
+        ensures { result ≡ self.now.number }
+    {
+        self.number
+    }
+
     /// The seat of the pass.
     pub(crate) fn into_place(self) -> Place<A>
         ensures table { result.table_id ≡ self.table }

@@ -14,7 +14,7 @@ use Rattle.std.proofs.Math.Seq.{get_or-append_seam, take-suc, drop-cons}
 use Rattle.ups_life.specs.declared.entry.Peer.{Peer}
 use Rattle.ups_pdu.specs.Title.{SpellsAe}
 use Rattle.ups_manager.specs.Refusal.{is_twice}
-use Rattle.upsd.specs.Arguments.{IsPort, IsAddress, SaysLock, NamesPeer, NamePeers, StopsAt, ending_of}
+use Rattle.upsd.specs.Arguments.{IsPort, IsAddress, SaysAddress, SaysLock, SaysPlace, NamesPeer, NamesPlace, EachNames, NamePeers, StopsAt, ending_of}
 
 both_true : (a b : Bool) → a ≡ true → b ≡ true → (a && b) ≡ true
 both_true true b e f = f
@@ -70,6 +70,9 @@ port_from bs r v h e d =
       λ p. is_above v (subst (λ (n : ℕ). 1 ≤ n) (sym k.value) p.least),
     )
 
+pub port_value : {E : Type 0} (bs : List ℕ) (r : Result ℕ E) (v : ℕ) → ParsesUnsigned 16 10 bs r → r ≡ Ok v → list_all is_ascii_digit bs ≡ true → v ≡ digits_value 10 bs
+port_value bs r v h e d = (reads bs r v h e d).value
+
 pub no_port : {E : Type 0} (bs : List ℕ) (r : Result ℕ E) (x : E) → ParsesUnsigned 16 10 bs r → r ≡ Err x → list_all is_ascii_digit bs ≡ true → IsPort bs → ⊥
 no_port bs r x h e d p =
     let k : IsNumeral 10 (without_leading_plus bs) × (digits_value 10 (without_leading_plus bs) < 2 ^ 16) → ⊥ = rw e at h in
@@ -124,8 +127,12 @@ cut_from bs host port (i, j, found, front, back, le, before, behind) = record {
 pub cut_at : (bs : List ℕ) (r : Option (Bor (List ℕ) × Bor (List ℕ))) (host port : Bor (List ℕ)) → IsLastSplit bs r → r ≡ Some (host, port) → Cut bs host.now port.now
 cut_at bs r host port h e = let s : SplitsAroundMatch (RFindsChar 58) bs host.now port.now = rw e at h in cut_from bs host.now port.now s
 
-pub address_from : (bs host port : List ℕ) → Cut bs host port → 0 < length host → IsPort port → IsAddress bs
-address_from bs host port c some p = record { host = host; port = port; parts = c.parts; some_host = some; is_port = p }
+pub address_from : (bs host port : List ℕ) (number : ℕ) → Cut bs host port → 0 < length host → IsPort port → number ≡ digits_value 10 port → SaysAddress bs host number
+address_from bs host port number c some p is = record {
+  is_address = record { host = host; port = port; parts = c.parts; some_host = some; is_port = p };
+  is_host = refl;
+  is_port = is;
+}
 
 pub address_parts : (bs host port : List ℕ) → Cut bs host port → IsAddress bs → (0 < length host) × IsPort port
 address_parts bs host port c a =
@@ -161,6 +168,20 @@ pub unaddressed : (text : List ℕ) → ((front : List ℕ) → text ≢ front +
 unaddressed text unending never true s = unending s.address s.parts
 unaddressed text unending never false s = never (subst IsAddress (sym (s.parts ∙ append-nil s.address)) s.is_address)
 
+pub locked : (text address host : List ℕ) (port : ℕ) → text ≡ address ++ ending_of true → SaysAddress address host port → SaysPlace text host port true
+locked text address host port e a = record {
+  says = record { address = address; parts = e; is_address = a.is_address };
+  is_host = a.is_host;
+  is_port = a.is_port;
+}
+
+pub unmarked : (text host : List ℕ) (port : ℕ) → SaysAddress text host port → SaysPlace text host port false
+unmarked text host port a = record {
+  says = record { address = text; parts = sym (append-nil text); is_address = a.is_address };
+  is_host = a.is_host;
+  is_port = a.is_port;
+}
+
 pub unsplit : (bs : List ℕ) (r : Option (Bor (List ℕ) × Bor (List ℕ))) → IsSplitOnceResult 61 bs r → r ≡ None → (p : Peer) → NamesPeer bs p → ⊥
 unsplit bs r h e p n = let k = split_after 61 bs n.title n.rest r h (lit< tt) n.parts n.first in rw e at k
 
@@ -186,30 +207,35 @@ untitled bs title rest f never p n = never p.ae (subst (λ (t : List ℕ). Spell
 pub unlockable : (bs title rest : List ℕ) → First bs title rest → ((lock : Bool) → SaysLock rest lock → ⊥) → (p : Peer) → NamesPeer bs p → ⊥
 unlockable bs title rest f never p n = never p.lock (subst (λ (t : List ℕ). SaysLock t p.lock) (sym (f.only p n).1) n.says)
 
-pub names : (bs title rest ae : List ℕ) (lock : Bool) → First bs title rest → SpellsAe title ae → SaysLock rest lock → NamesPeer bs record { ae = ae; lock = lock }
-names bs title rest ae lock f spells says = record { title = title; rest = rest; parts = f.parts; first = f.first; spells = spells; says = says }
+pub names : (bs title rest ae host : List ℕ) (port : ℕ) (lock : Bool) → First bs title rest → SpellsAe title ae → SaysPlace rest host port lock → NamesPlace bs record { ae = ae; lock = lock } host port
+names bs title rest ae host port lock f spells place = record {
+  names = record { title = title; rest = rest; parts = f.parts; first = f.first; spells = spells; says = place.says };
+  is_host = place.is_host;
+  is_port = place.is_port;
+}
 
-pub one_more : (ws : List (List ℕ)) (ps : List Peer) (w : List ℕ) (p : Peer) → NamePeers ws ps → NamesPeer w p → NamePeers (ws ++ w ∷ []) (ps ++ p ∷ [])
-one_more [] [] w p n is = (is, tt)
-one_more [] (q ∷ ps) w p n is = absurd n
-one_more (v ∷ ws) [] w p n is = absurd n
-one_more (v ∷ ws) (q ∷ ps) w p n is = (n.0, one_more ws ps w p n.1 is)
+pub one_more : {P : Type 0} (Names : List ℕ → P → Type 0) (ws : List (List ℕ)) (ps : List P) (w : List ℕ) (p : P) → EachNames Names ws ps → Names w p → EachNames Names (ws ++ w ∷ []) (ps ++ p ∷ [])
+one_more Names [] [] w p n is = (is, tt)
+one_more Names [] (q ∷ ps) w p n is = absurd n
+one_more Names (v ∷ ws) [] w p n is = absurd n
+one_more Names (v ∷ ws) (q ∷ ps) w p n is = (n.0, one_more Names ws ps w p n.1 is)
 
 abbrev texts : List (Bor (List ℕ)) → List (List ℕ)
 texts words = map (λ (w : Bor (List ℕ)). w.now) words
 
-pub one_further : (words : List (Bor (List ℕ))) (i : ℕ) (d : Bor (List ℕ)) (ps after : List Peer) (p : Peer) → i < length words
-    → NamePeers (take i (map (λ (w : Bor (List ℕ)). w.now) words)) ps → NamesPeer (get_or words i d).now p → after ≡ ps ++ p ∷ [] → NamePeers (take (i + 1) (map (λ (w : Bor (List ℕ)). w.now) words)) after
-one_further words i d ps after p l n is e =
+pub one_further : {P : Type 0} (Names : List ℕ → P → Type 0) (words : List (Bor (List ℕ))) (i : ℕ) (d : Bor (List ℕ)) (ps after : List P) (p : P) → i < length words
+    → EachNames Names (take i (map (λ (w : Bor (List ℕ)). w.now) words)) ps → Names (get_or words i d).now p → after ≡ ps ++ p ∷ [] → EachNames Names (take (i + 1) (map (λ (w : Bor (List ℕ)). w.now) words)) after
+one_further {P} Names words i d ps after p l n is e =
     let short : i < length (texts words) = omega (arith, length-map words (λ (w : Bor (List ℕ)). w.now)) in
     let step : take (suc i) (texts words) ≡ take i (texts words) ++ get_or (texts words) i [] ∷ [] = take-suc (texts words) i [] short in
     let word : get_or (texts words) i [] ≡ (get_or words i d).now = get_or-map (λ (w : Bor (List ℕ)). w.now) words i d [] l in
     let whole : take (i + 1) (texts words) ≡ take i (texts words) ++ (get_or words i d).now ∷ [] = ap (λ n. take n (texts words)) (add-one i) ∙ step ∙ ap (λ w. take i (texts words) ++ w ∷ []) word in
-    subst (λ (xs : List (List ℕ)). NamePeers xs after) (sym whole)
-    (subst (λ (qs : List Peer). NamePeers (take i (texts words) ++ (get_or words i d).now ∷ []) qs) (sym e) (one_more (take i (texts words)) ps (get_or words i d).now p n is))
+    subst (λ (xs : List (List ℕ)). EachNames Names xs after) (sym whole)
+    (subst (λ (qs : List P). EachNames Names (take i (texts words) ++ (get_or words i d).now ∷ []) qs) (sym e) (one_more Names (take i (texts words)) ps (get_or words i d).now p n is))
 
-pub all_named : (words : List (Bor (List ℕ))) (i : ℕ) (ps : List Peer) → length words ≤ i → NamePeers (take i (map (λ (w : Bor (List ℕ)). w.now) words)) ps → NamePeers (map (λ (w : Bor (List ℕ)). w.now) words) ps
-all_named words i ps l n = subst (λ (xs : List (List ℕ)). NamePeers xs ps) (take_all i (texts words) (omega (arith, length-map words (λ (w : Bor (List ℕ)). w.now)))) n
+pub all_named : {P : Type 0} (Names : List ℕ → P → Type 0) (words : List (Bor (List ℕ))) (i : ℕ) (ps : List P) → length words ≤ i → EachNames Names (take i (map (λ (w : Bor (List ℕ)). w.now) words)) ps
+    → EachNames Names (map (λ (w : Bor (List ℕ)). w.now) words) ps
+all_named Names words i ps l n = subst (λ (xs : List (List ℕ)). EachNames Names xs ps) (take_all i (texts words) (omega (arith, length-map words (λ (w : Bor (List ℕ)). w.now)))) n
 
 -- the words before the one at a place name peers
 pub stops_here : (words : List (Bor (List ℕ))) (i : ℕ) (d : Bor (List ℕ)) (ps : List Peer) → i < length words → NamePeers (take i (map (λ (w : Bor (List ℕ)). w.now) words)) ps → is_twice ps ≡ false

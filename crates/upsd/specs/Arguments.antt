@@ -1,11 +1,12 @@
 -- What the words of a command line say.
-use Rattle.std.specs.Prelude.{◌≡◌, ◌≢◌, ℕ, ◌<◌, ◌≤◌, ◌^◌, ℤ, Bool, true, false, List, [], ◌∷◌, ◌++◌, length, slice_index, codes, Option, Some, None, option_map, unwrap_or}
+use Rattle.std.specs.Prelude.{◌≡◌, ◌≢◌, ℕ, ◌<◌, ◌≤◌, ◌^◌, ℤ, Bool, true, false, List, [], ◌∷◌, ◌++◌, length, slice_index, codes, string_bytes, Option, Some, None, option_map, unwrap_or}
 use Rattle.std.specs.Str.Parse.{IsNumeral, digits_value, signed_digits_value, without_leading_plus, without_leading_sign}
 use Rattle.clap.specs.declared.parser.matches.Found.{Found}
 use Rattle.clap.specs.Matches.{matched_of, one_text, raw_values}
 use Rattle.ups_life.specs.declared.entry.Peer.{Peer}
 use Rattle.ups_life.specs.Limits.{peer_limit}
 use Rattle.ups_manager.specs.Refusal.{is_bad_offset, is_named, is_twice}
+use Rattle.ups_net.specs.declared.watcher.Watcher.{Watcher}
 use Rattle.ups_pdu.specs.Title.{SpellsAe}
 use Rattle.upsd.specs.declared.arguments.ArgumentFault.{ArgumentFault}
 use Rattle.upsd.specs.declared.arguments.ArgumentFault.TheVariants as faults
@@ -86,6 +87,18 @@ pub record SaysLock (text : List ℕ) (lock : Bool) : Type 0 where
   pub parts : text ≡ address ++ ending_of lock
   pub is_address : IsAddress address
 
+-- an address, with its host and its port
+pub record SaysAddress (text host : List ℕ) (port : ℕ) : Type 0 where
+  pub is_address : IsAddress text
+  pub is_host : host ≡ is_address.host
+  pub is_port : port ≡ digits_value 10 is_address.port
+
+-- the address of a peer, with its host and its port, and whether the peer may lock steps
+pub record SaysPlace (text host : List ℕ) (port : ℕ) (lock : Bool) : Type 0 where
+  pub says : SaysLock text lock
+  pub is_host : host ≡ says.is_address.host
+  pub is_port : port ≡ digits_value 10 says.is_address.port
+
 -- a title, =, and the address; the first = ends the title
 pub record NamesPeer (word : List ℕ) (peer : Peer) : Type 0 where
   pub title : List ℕ
@@ -95,12 +108,28 @@ pub record NamesPeer (word : List ℕ) (peer : Peer) : Type 0 where
   pub spells : SpellsAe title peer.ae
   pub says : SaysLock rest peer.lock
 
--- each word names the peer in its place
+-- a word names a peer, and the host and the port where it listens
+pub record NamesPlace (word : List ℕ) (peer : Peer) (host : List ℕ) (port : ℕ) : Type 0 where
+  pub names : NamesPeer word peer
+  pub is_host : host ≡ names.says.is_address.host
+  pub is_port : port ≡ digits_value 10 names.says.is_address.port
+
+-- a word names a watcher: the title of a peer, and where it listens
+abbrev pub NamesWatcher : List ℕ → Watcher → Type 0
+NamesWatcher word watcher = (lock : Bool) × NamesPlace word (record { ae = watcher.ae; lock = lock }) (string_bytes watcher.host) watcher.port
+
+-- each word names what is in its place
+abbrev pub EachNames : {P : Type 0} → (List ℕ → P → Type 0) → List (List ℕ) → List P → Type 0
+EachNames Names [] [] = Unit {0}
+EachNames Names [] (p ∷ ps) = ⊥
+EachNames Names (w ∷ ws) [] = ⊥
+EachNames Names (w ∷ ws) (p ∷ ps) = Names w p × EachNames Names ws ps
+
 abbrev pub NamePeers : List (List ℕ) → List Peer → Type 0
-NamePeers [] [] = Unit {0}
-NamePeers [] (p ∷ ps) = ⊥
-NamePeers (w ∷ ws) [] = ⊥
-NamePeers (w ∷ ws) (p ∷ ps) = NamesPeer w p × NamePeers ws ps
+NamePeers = EachNames NamesPeer
+
+abbrev pub NameWatchers : List (List ℕ) → List Watcher → Type 0
+NameWatchers = EachNames NamesWatcher
 
 -- the words before this one name peers, each another one
 pub record StopsAt (words : List (List ℕ)) (word : List ℕ) (before : List Peer) : Type 0 where

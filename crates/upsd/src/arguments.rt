@@ -2,19 +2,21 @@
 
 ghost use Rattle.std.specs.Prelude.{◌≡◌, ◌≤◌, ◌<◌, ◌↔◌, ℕ, ℤ, Bool, List, length, map, option_map, IfOk, IfErr, IsTrue, MatchOption, MatchResult, false};
 ghost use Rattle.std.specs.Char.{is_ascii_digit};
+ghost use Rattle.std.specs.Str.Parse.{digits_value};
 ghost use Rattle.std.specs.List.{list_all};
 ghost use Rattle.ups_manager.specs.Refusal.{is_named, is_twice};
 ghost use Rattle.ups_life.specs.declared.entry.Peer.{Peer};
 ghost use Rattle.ups_life.specs.Limits.{peer_limit};
 ghost use Rattle.ups_pdu.specs.Title.{SpellsAe};
 ghost use Rattle.upsd.specs.declared.arguments.ArgumentFault.TheVariants.{Memory};
-ghost use Rattle.upsd.specs.Arguments.{FailToName, IsAddress, IsPort, NamePeers, NamesPeer, SaysBind, SaysKeep, SaysLock, SaysMinutes, SaysOffset, SaysPort, SaysSeconds, SaysTimeout, SaysWorkers, SaysWorkersOrNot};
+ghost use Rattle.upsd.specs.Arguments.{FailToName, IsAddress, IsPort, NamePeers, NamesPeer, NamesPlace, NameWatchers, SaysAddress, SaysBind, SaysKeep, SaysLock, SaysMinutes, SaysOffset, SaysPlace, SaysPort, SaysSeconds, SaysTimeout, SaysWorkers, SaysWorkersOrNot};
 
 use crate::limits::{KEEP, LOOPBACK, MAX_WORKERS, OFFSET, TIMEOUT, WORKERS};
 use clap::{Arg, ArgAction, Command};
 use std::alloc::{AllocError, AllocFailed, Allocator, Global};
 use thiserror::Error;
 use ups_life::{MAX_OFFSET, MAX_PEERS, MIN_OFFSET, Peer};
+use ups_net::Watcher;
 use ups_pdu::Ae;
 
 /// Why the words of a command line are refused.
@@ -72,7 +74,9 @@ impl<T: Drop> From<AllocFailed<T>> for ArgumentFault<'_> {
 fn peer_words<'a>(alloc: Global) -> Arg<'a> {
     Arg::new(alloc, "peer")
         .value_name("PEER")
-        .help("an application entity that may watch steps: AE=host:port or AE=host:port,lock")
+        .help(
+            "an application entity that may watch steps, and gets its reports there: AE=host:port or AE=host:port,lock",
+        )
         .action(ArgAction::Append)
 }
 
@@ -142,11 +146,16 @@ fn with_network<'a>(alloc: Global, command: Command<'a>) -> Result<Command<'a>, 
         .value_name("SECONDS")
         .help("how long a peer may take to send or to receive, 0 for any time [default: 60]")
         .action(ArgAction::Set);
+    let verbose = Arg::new(alloc, "verbose")
+        .long("verbose")
+        .help("tell of each association who asks for it, and whether it is accepted")
+        .action(ArgAction::SetTrue);
     command
         .arg(port)?
         .arg(bind)?
         .arg(associations)?
-        .arg(timeout)
+        .arg(timeout)?
+        .arg(verbose)
 }
 
 /// The command line of `upsd serve`.
@@ -158,7 +167,7 @@ fn serve_command<'a>(alloc: Global) -> Result<Command<'a>, AllocError> {
         .required(true)
         .action(ArgAction::Set);
     let command = Command::new(alloc, "serve")
-        .about("answers associations over TCP")
+        .about("answers associations over TCP, and delivers event reports")
         .arg(ae)?;
     with_times(alloc, with_network(alloc, command)?)?.arg(peer_words(alloc))
 }
@@ -184,51 +193,75 @@ fn are_digits(text: &str) -> bool
     text.as_bytes().iter().all(|b| b.is_ascii_digit())
 }
 
-/// Whether a text is the number of a port, from 1 to 65535, in decimal digits.
-fn is_port(text: &str) -> bool
-    ensures { IsTrue result ↔ IsPort text.now }
+/// The number of a port that a text is, from 1 to 65535, in decimal digits; None where it is none.
+fn port_number(text: &str) -> Option<u16>
+    ensures { MatchOption result (IsPort text.now → ⊥) (λ port. IsPort text.now × (port ≡ digits_value 10 text.now)) }
 {
     if !are_digits(text) {
-        return false;
+        return None;
     }
-    match text.parse::<u16>() {
-        Ok(port) => port > 0,
-        Err(_) => false,
+    let Ok(port) = text.parse::<u16>() else {
+        return None;
+    };
+    if port == 0 {
+        return None;
     }
+    Some(port)
 }
 
-/// Whether a text is an address, host:port. The last colon begins the port.
-fn is_address(text: &str) -> bool
-    ensures { IsTrue result ↔ IsAddress text.now }
-{
-    match text.rsplit_once(':') {
-        Some((host, port)) => !host.is_empty() && is_port(port),
-        None => false,
-    }
+/// Where a peer listens.
+#[derive(Clone, Copy)]
+pub(crate) struct Address<'a> {
+    /// A name, or an address of the Internet Protocol.
+    pub(crate) host: &'a str,
+    /// From 1 to 65535.
+    pub(crate) port: u16,
 }
 
-/// Whether the peer with this address, and perhaps `,lock` behind it, may lock steps; None where it is no address.
-fn lock_of(text: &str) -> Option<bool>
-    ensures { MatchOption result ((lock : Bool) → SaysLock text.now lock → ⊥) (SaysLock text.now) }
+/// The address that a text is, host:port; None where it is none. The last colon begins the port.
+fn address_of<'a>(text: &'a str) -> Option<Address<'a>>
+    ensures { MatchOption result (IsAddress text.now → ⊥) (λ address. SaysAddress text.now address.host.now address.port) }
 {
-    if let Some(address) = text.strip_suffix(",lock") {
-        return if is_address(address) {
-            Some(true)
-        } else {
-            None
-        };
+    let (host, port) = text.rsplit_once(':')?;
+    if host.is_empty() {
+        return None;
     }
-    if is_address(text) { Some(false) } else { None }
+    let port = port_number(port)?;
+    Some(Address { host, port })
 }
 
-/// The peer that a word names, as `AE=host:port` or `AE=host:port,lock`. The first `=` ends the title.
-pub(crate) fn peer_of(word: &str) -> Option<Peer>
-    ensures { MatchOption result ((peer : Peer) → NamesPeer word.now peer → ⊥) (NamesPeer word.now) }
+/// The address of a peer, and whether the peer may lock steps: `,lock` behind the address says so. None where the text is
+/// no address.
+fn lock_of<'a>(text: &'a str) -> Option<(Address<'a>, bool)>
+    ensures { MatchOption result ((lock : Bool) → SaysLock text.now lock → ⊥) (λ r. SaysPlace text.now r.0.host.now r.0.port r.1) }
 {
-    let (title, address) = word.split_once('=')?;
+    if let Some(front) = text.strip_suffix(",lock") {
+        let address = address_of(front)?;
+        return Some((address, true));
+    }
+    let address = address_of(text)?;
+    Some((address, false))
+}
+
+/// A peer, and where it listens.
+#[derive(Clone, Copy)]
+pub(crate) struct Place<'a> {
+    pub(crate) peer: Peer,
+    pub(crate) address: Address<'a>,
+}
+
+/// The peer that a word names, and where it listens, as `AE=host:port` or `AE=host:port,lock`. The first `=` ends the
+/// title.
+pub(crate) fn place_of<'a>(word: &'a str) -> Option<Place<'a>>
+    ensures { MatchOption result ((peer : Peer) → NamesPeer word.now peer → ⊥) (λ p. NamesPlace word.now p.peer p.address.host.now p.address.port) }
+{
+    let (title, rest) = word.split_once('=')?;
     let ae = Ae::of(title.as_bytes())?;
-    let lock = lock_of(address)?;
-    Some(Peer { ae, lock })
+    let (address, lock) = lock_of(rest)?;
+    Some(Place {
+        peer: Peer { ae, lock },
+        address,
+    })
 }
 
 /// The title that a word is (PS3.5 section 6.2, AE).
@@ -377,7 +410,7 @@ pub(crate) fn peers_of<'a, A: Allocator + Copy>(
         return Err(ArgumentFault::TooMany);
     }
     for word in words {
-        let Some(peer) = peer_of(word) else {
+        let Some(Place { peer, address: _ }) = place_of(word) else {
             return Err(ArgumentFault::Peer(word));
         };
         if is_named(&peers, peer.ae) {
@@ -393,4 +426,27 @@ fn is_named(peers: &[Peer], ae: Ae) -> bool
     ensures { result ≡ is_named ae peers.now }
 {
     peers.iter().any(|peer| peer.ae == ae)
+}
+
+/// The watchers that words name: the titles of the peers, and where they listen.
+///
+/// Errors: Peer by the first word that names none; out of memory.
+pub(crate) fn watchers_of<'a>(
+    alloc: Global,
+    words: &[&'a str],
+) -> Result<Vec<Watcher>, ArgumentFault<'a>>
+    ensures named { IfOk result (λ watchers. NameWatchers (map (λ w. w.now) words.now) watchers.items) }
+{
+    let mut watchers = Vec::new(alloc);
+    for word in words {
+        let Some(place) = place_of(word) else {
+            return Err(ArgumentFault::Peer(word));
+        };
+        watchers.push(Watcher {
+            ae: place.peer.ae,
+            host: place.address.host.to_string(alloc)?,
+            port: place.address.port,
+        })?;
+    }
+    Ok(watchers)
 }

@@ -15,8 +15,8 @@ pub(crate) const KEEP: u32 = 60;
 /// The offset of the local time from UTC in minutes, where nothing else is said.
 pub(crate) const OFFSET: i16 = 0;
 
-/// How many associations may be served at the same time: a desk has 1,024 passes, one of which sweeps, and one is kept
-/// for the delivery of events.
+/// How many associations may be served at the same time: a desk has 1,024 passes, of which one sweeps and one delivers
+/// event reports.
 pub(crate) const MAX_WORKERS: u32 = 1_022;
 
 /// How many associations are served at the same time, where nothing else is said.

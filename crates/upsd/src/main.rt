@@ -157,7 +157,7 @@ where
         + Net<Listener = TcpListener, Stream = TcpStream>,
 {
     match serve_arguments(rt.alloc(), matches) {
-        Ok(asked) => answer_network(rt, &asked),
+        Ok(asked) => answer_network(rt, asked),
         Err(fault) => refuse(rt, fault),
     }
 }

@@ -1,16 +1,16 @@
-//! Associations over TCP.
+//! Associations over TCP, and event reports.
 
 ghost use Rattle.std.specs.Prelude.{◌≡◌, ◌≤◌, [], codes, length, None, IfOk, unwrap_or};
 ghost use Rattle.clap.specs.Matches.{first_value, found_of};
 ghost use Rattle.ups_manager.specs.Refusal.{refusal};
 ghost use Rattle.ups_life.specs.Limits.{history_limit, peer_limit};
 ghost use Rattle.ups_pdu.specs.Title.{SpellsAe};
-ghost use Rattle.upsd.specs.Arguments.{NamePeers, SaysBind, SaysKeep, SaysOffset, SaysPort, SaysTimeout, SaysWorkersOrNot, argument_words};
-ghost use Rattle.upsd.specs.Limits.{workers_limit};
+ghost use Rattle.upsd.specs.Arguments.{IsFlag, NamePeers, NameWatchers, SaysBind, SaysKeep, SaysOffset, SaysPort, SaysTimeout, SaysWorkersOrNot, argument_words};
+ghost use Rattle.upsd.specs.Limits.{turns_limit, workers_limit};
 
 use crate::arguments::{
     ArgumentFault, ae_of, bind_asked, keep_asked, offset_asked, peers_of, port_of, timeout_asked,
-    workers_asked,
+    watchers_of, workers_asked,
 };
 use crate::ending::Status;
 use crate::limits::TURNS;
@@ -25,7 +25,7 @@ use std::{io, str};
 use ups_assoc::Config;
 use ups_life::{MAX_HISTORY, Peer};
 use ups_manager::Manager;
-use ups_net::{Terms, run};
+use ups_net::{Terms, Watcher, run};
 use ups_pdu::Ae;
 use ups_turn::Desk;
 
@@ -36,10 +36,12 @@ pub(crate) struct ServeArguments<'a> {
     bind: &'a str,
     port: u16,
     peers: Vec<Peer>,
+    watchers: Vec<Watcher>,
     keep: u32,
     offset: i16,
     workers: u32,
     timeout: u32,
+    verbose: bool,
 }
 
 /// Reads what a command line asks of `serve`.
@@ -54,10 +56,12 @@ pub(crate) fn serve_arguments<'a>(
     ensures bind { IfOk result (λ asked. SaysBind (first_value (found_of matches.now) (codes "bind")) asked.bind.now) }
     ensures port { IfOk result (λ asked. SaysPort (unwrap_or (first_value (found_of matches.now) (codes "port")) []) asked.port) }
     ensures peers { IfOk result (λ asked. NamePeers (argument_words (found_of matches.now) (codes "peer")) asked.peers.items) }
+    ensures watchers { IfOk result (λ asked. NameWatchers (argument_words (found_of matches.now) (codes "peer")) asked.watchers.items) }
     ensures keep { IfOk result (λ asked. SaysKeep (first_value (found_of matches.now) (codes "keep")) asked.keep) }
     ensures offset { IfOk result (λ asked. SaysOffset (first_value (found_of matches.now) (codes "offset")) asked.offset) }
     ensures workers { IfOk result (λ asked. SaysWorkersOrNot (first_value (found_of matches.now) (codes "associations")) asked.workers) }
     ensures timeout { IfOk result (λ asked. SaysTimeout (first_value (found_of matches.now) (codes "timeout")) asked.timeout) }
+    ensures verbose { IfOk result (λ asked. IsFlag (found_of matches.now) (codes "verbose") asked.verbose) }
     ensures some { IfOk result (λ asked. 1 ≤ asked.workers) }
     ensures most { IfOk result (λ asked. asked.workers ≤ workers_limit) }
     ensures few { IfOk result (λ asked. length asked.peers.items ≤ peer_limit) }
@@ -68,10 +72,12 @@ pub(crate) fn serve_arguments<'a>(
         bind: bind_asked(matches.get_str("bind")),
         port: port_of(matches.get_str("port").unwrap_or(""))?,
         peers: peers_of(alloc, matches.get_strs("peer").unwrap_or(&[]))?,
+        watchers: watchers_of(alloc, matches.get_strs("peer").unwrap_or(&[]))?,
         keep: keep_asked(matches.get_str("keep"))?,
         offset: offset_asked(matches.get_str("offset"))?,
         workers: workers_asked(matches.get_str("associations"))?,
         timeout: timeout_asked(matches.get_str("timeout"))?,
+        verbose: matches.get_flag("verbose"),
     })
 }
 
@@ -92,39 +98,70 @@ where
     Ok(listener)
 }
 
+/// How the threads of a server work, as the command line asks.
+fn terms_of(alloc: Global, asked: ServeArguments<'_>) -> Terms
+    ensures ae { result.config.ae ≡ asked.entry.ae }
+    ensures offset { result.config.offset ≡ asked.entry.offset }
+    ensures turns { result.turns ≡ turns_limit }
+    ensures timeout { result.timeout ≡ asked.entry.timeout }
+    ensures workers { result.workers ≡ asked.entry.workers }
+    ensures watchers { result.watchers ≡ asked.entry.watchers }
+    ensures verbose { result.verbose ≡ asked.entry.verbose }
+{
+    let ServeArguments {
+        ae,
+        offset,
+        workers,
+        timeout,
+        watchers,
+        verbose,
+        ..
+    } = asked;
+    Terms {
+        alloc,
+        config: Config { ae, offset },
+        turns: TURNS,
+        timeout,
+        workers,
+        associations: u64::MAX,
+        rounds: u64::MAX,
+        verbose,
+        watchers,
+    }
+}
+
 /// Runs a server on a listener, for as long as the program lives, and gives how the program ends: for lack of memory where
 /// a thread can't be started.
 ///
 /// Errors: lack of memory before it begins.
-fn serve_on<R: Threads + Wait + Clock + Log + Sync + AllocGlobal>(
+fn serve_on<R>(
     rt: &R,
     listener: &TcpListener,
-    asked: &ServeArguments<'_>,
+    asked: ServeArguments<'_>,
 ) -> Result<Status, AllocError>
-    requires some { 1 ≤ asked.now.workers }
-    requires most { asked.now.workers ≤ workers_limit }
-    requires few { length asked.now.peers.items ≤ peer_limit }
-    requires allowed { refusal asked.now.peers.items asked.now.offset history_limit ≡ None }
+where
+    R: Threads
+        + Wait
+        + Clock
+        + Log
+        + Sync
+        + AllocGlobal
+        + Net<Listener = TcpListener, Stream = TcpStream>,
+    requires some { 1 ≤ asked.workers }
+    requires most { asked.workers ≤ workers_limit }
+    requires few { length asked.peers.items ≤ peer_limit }
+    requires allowed { refusal asked.peers.items asked.offset history_limit ≡ None }
 {
     let alloc = rt.alloc();
     let Ok(manager) = Manager::new(alloc, &asked.peers, asked.keep, asked.offset, MAX_HISTORY)
     else {
         return Err(AllocError);
     };
-    let Ok((desk, passes)) = Desk::open(alloc, manager, asked.workers + 1) else {
+    let Ok((desk, passes)) = Desk::open(alloc, manager, asked.workers + 2) else {
         return Err(AllocError);
     };
-    let terms = Terms {
-        alloc,
-        config: Config {
-            ae: asked.ae,
-            offset: asked.offset,
-        },
-        turns: TURNS,
-        timeout: asked.timeout,
-        associations: u64::MAX,
-    };
-    match run(rt, listener, &desk, passes, &terms, u64::MAX) {
+    let terms = terms_of(alloc, asked);
+    match run(rt, listener, &desk, passes, &terms) {
         (true, _) => Ok(Status::Done),
         (false, _) => Err(AllocError),
     }
@@ -133,7 +170,7 @@ fn serve_on<R: Threads + Wait + Clock + Log + Sync + AllocGlobal>(
 /// Answers associations over TCP, as the command line asks, tells its fault, and gives how the program ends.
 ///
 /// Errors: lack of memory.
-pub(crate) fn answer_network<R>(rt: &R, asked: &ServeArguments<'_>) -> Result<Status, AllocError>
+pub(crate) fn answer_network<R>(rt: &R, asked: ServeArguments<'_>) -> Result<Status, AllocError>
 where
     R: Threads
         + Wait
@@ -144,12 +181,12 @@ where
         + Print
         + Eprint
         + Net<Listener = TcpListener, Stream = TcpStream>,
-    requires some { 1 ≤ asked.now.workers }
-    requires most { asked.now.workers ≤ workers_limit }
-    requires few { length asked.now.peers.items ≤ peer_limit }
-    requires allowed { refusal asked.now.peers.items asked.now.offset history_limit ≡ None }
+    requires some { 1 ≤ asked.workers }
+    requires most { asked.workers ≤ workers_limit }
+    requires few { length asked.peers.items ≤ peer_limit }
+    requires allowed { refusal asked.peers.items asked.offset history_limit ≡ None }
 {
-    match listen(rt, asked) {
+    match listen(rt, &asked) {
         Ok(listener) => serve_on(rt, &listener, asked),
         Err(fault) => {
             let _ = eprintln!(rt;

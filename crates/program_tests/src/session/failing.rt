@@ -37,13 +37,13 @@ fn an_input_that_ends_early_is_closed_between_pdus_alone_and_one_that_fails_is_t
     Ok(())
 }
 
-/// Whether a session whose writer takes so many bytes wrote the first of these, and has then so many entries.
-fn is_cut_short(
+/// Whether a session whose writer takes so many bytes wrote the first of these, and is then told to have such entries.
+pub(super) fn is_cut_short(
     rt: &impl AllocGlobal,
     heading: &str,
     input: &[u8],
     written: &[u8],
-    entries: usize,
+    entries: &str,
 ) -> Result<bool, Fail> {
     let heading = format!(in rt.alloc(); "{heading} (room {})", written.len())?;
     let found = course_of(rt, heading.as_str(), input)?;
@@ -59,7 +59,7 @@ fn a_writer_that_fails_has_the_first_bytes(rt: HostRuntime) -> Result<(), Fail> 
     assert_eq!(rt; answered.len(), 547);
     for room in 0..547 {
         let written = answered.get(..room).ok_or("a part")?;
-        let entries = usize::from(room >= 163);
+        let entries = if room < 163 { "0" } else { "1" };
         assert!(rt; is_cut_short(&rt, "", &input, written, entries)?, "{room}");
     }
     Ok(())
@@ -75,7 +75,7 @@ fn a_writer_that_fails_within_the_matches_has_the_first_bytes(rt: HostRuntime) -
     for room in 0..answered.len() {
         let written = answered.get(..room).ok_or("a part")?;
         assert!(rt;
-            is_cut_short(&rt, "(two steps)", &input, written, 2)?,
+            is_cut_short(&rt, "(two steps)", &input, written, "2")?,
             "{room}"
         );
     }
@@ -83,7 +83,7 @@ fn a_writer_that_fails_within_the_matches_has_the_first_bytes(rt: HostRuntime) -
 }
 
 /// What a session comes to that lacks the growth of this number; `all: ` stands before it where there are not so many.
-fn without_growth(
+pub(super) fn without_growth(
     rt: &impl AllocGlobal,
     heading: &str,
     input: &[u8],
@@ -94,7 +94,9 @@ fn without_growth(
     heap.refuse(growth);
     let told = course_with(rt, &heap, &mut manager, heading, input)?;
     let front = if heap.is_armed() { "all: " } else { "" };
-    Ok(format!(in rt.alloc(); "{front}{told}")?)
+    heap.refuse(0);
+    let course = format!(in rt.alloc(); "{front}{told}")?;
+    with_pending(rt, &manager, heading, course.as_str())
 }
 
 /// Whether a course that ends for lack of memory writes a beginning of what is answered.
@@ -117,7 +119,7 @@ fn is_among(rt: &impl AllocGlobal, told: &str, others: &str) -> Result<bool, Fai
 
 /// What becomes of a session that lacks a growth: it ends for lack of memory behind a beginning of what is
 /// `expected` (`short`); or the peer is told one of `others` (`told`); or there are not so many growths (`all`).
-fn fate<R: Abort + AllocGlobal>(
+pub(super) fn fate<R: Abort + AllocGlobal>(
     rt: &R,
     told: &str,
     expected: &str,

@@ -1,7 +1,7 @@
 //! The words of the command line by themselves.
 
 use super::words::add_often;
-use crate::arguments::{ae_of, keep_of, offset_of, peer_of, peers_of};
+use crate::arguments::{ae_of, keep_of, offset_of, peers_of, place_of, watchers_of};
 use std::test::Fail;
 
 /// What is read, a word or words, and what is read from it. Several words stand between semicolons, and are repeated as
@@ -33,6 +33,13 @@ peers|A=h:1;B|Peer("B")
 peers|A=h:1*1001|TooMany
 peers|W#=host:104*1000|1000
 peers|W#=host:104*1001|TooMany
+# Reports go to the host and the port of a word; its last colon begins the port
+watchers|WATCH1=host:104|WATCH1 host 104
+watchers|WATCH1=host:104,lock|WATCH1 host 104
+watchers|A=h:1;B=[::1]:65535,lock|A h 1 B [::1] 65535
+watchers|A=B=c:00022|A B=c 22
+watchers|A=h:1;B=h:0|Peer("B=h:0")
+watchers|A=h,lock:2|A h,lock 2
 # The title of the application entity is not empty
 ae|UPSD|None
 ae||Some(Ae)
@@ -56,10 +63,10 @@ offset|x|Err(Offset)"#;
 
 /// Tells the title of the peer that a word names, and whether it may lock steps, or `none`.
 fn peer_told(rt: &impl AllocGlobal, word: &str) -> Result<String, Fail> {
-    Ok(match peer_of(word) {
-        Some(peer) => {
-            let title = std::str::from_utf8(peer.ae.as_bytes())?;
-            format!(in rt.alloc(); "{title} {}", peer.lock)?
+    Ok(match place_of(word) {
+        Some(place) => {
+            let title = std::str::from_utf8(place.peer.ae.as_bytes())?;
+            format!(in rt.alloc(); "{title} {}", place.peer.lock)?
         }
         None => format!(in rt.alloc(); "none")?,
     })
@@ -73,14 +80,37 @@ fn count_told(rt: &impl AllocGlobal, words: &[&str]) -> Result<String, Fail> {
     })
 }
 
-/// Tells what words between semicolons name.
-fn peers_told(rt: &impl AllocGlobal, list: &str) -> Result<String, Fail> {
+/// Tells the watchers that words name, each with its title, its host and its port, or why they name none.
+fn watchers_told(rt: &impl AllocGlobal, words: &[&str]) -> Result<String, Fail> {
+    let watchers = match watchers_of(rt.alloc(), words) {
+        Ok(watchers) => watchers,
+        Err(fault) => return Ok(format!(in rt.alloc(); "{fault:?}")?),
+    };
+    let mut text = String::new(rt.alloc());
+    for watcher in &watchers {
+        let title = std::str::from_utf8(watcher.ae.as_bytes())?;
+        let space = if text.is_empty() { "" } else { " " };
+        write!(
+            text,
+            "{space}{title} {} {}",
+            watcher.host.as_str(),
+            watcher.port
+        )?;
+    }
+    Ok(text)
+}
+
+/// Tells what words between semicolons name: how many peers, or where `watched` the watchers.
+fn list_told(rt: &impl AllocGlobal, list: &str, watched: bool) -> Result<String, Fail> {
     let (part, times) = list.split_once('*').unwrap_or((list, "1"));
     let mut text = String::new(rt.alloc());
     add_often(rt, &mut text, part, times, ';')?;
     let mut words = Vec::new(rt.alloc());
     for word in text.as_str().split_terminator(';') {
         words.push(word)?;
+    }
+    if watched {
+        return watchers_told(rt, &words);
     }
     count_told(rt, &words)
 }
@@ -89,7 +119,8 @@ fn peers_told(rt: &impl AllocGlobal, list: &str) -> Result<String, Fail> {
 fn told(rt: &impl AllocGlobal, what: &str, word: &str) -> Result<String, Fail> {
     match what {
         "peer" => peer_told(rt, word),
-        "peers" => peers_told(rt, word),
+        "peers" => list_told(rt, word, false),
+        "watchers" => list_told(rt, word, true),
         "ae" => Ok(format!(in rt.alloc(); "{:?}", ae_of(word).err())?),
         "keep" => Ok(format!(in rt.alloc(); "{:?}", keep_of(word))?),
         "offset" => Ok(format!(in rt.alloc(); "{:?}", offset_of(word))?),

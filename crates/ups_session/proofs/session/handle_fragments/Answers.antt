@@ -18,12 +18,12 @@ pub returns-in_err-handle_fragment-clause-performed : goal.returns-in_err-handle
 returns-in_err-handle_fragment-clause-performed g c =
     let p = err_from_is_err_and c.from_residual.result c.from_residual.ensures.1 in
     rw (p.1, p.2)
-    (fragments_cut c.args.config.now c.loop-pdv.pdv-index c.args.pdvs.now c.pdv-item.result (association_view c.args.association.now) (association_view c.loop-pdv.association) (association_view c.handle_fragment.new.association) _ _ _ c.in_err-handle_fragment.field-0.0 c.loop-pdv-test.true c.pdv-item.is c.loop-pdv.invariant.1 c.in_err-handle_fragment.ensures.performed)
+    (fragments_cut (acceptor c.args.config.now) c.loop-pdv.pdv-index c.args.pdvs.now c.pdv-item.result (association_view c.args.association.now) (association_view c.loop-pdv.association) (association_view c.handle_fragment.new.association) _ _ _ c.in_err-handle_fragment.field-0.0 c.loop-pdv-test.true c.pdv-item.is c.loop-pdv.invariant.1 c.in_err-handle_fragment.ensures.performed)
 
 pub loop-pdv-preserved : goal.loop-pdv-preserved
 loop-pdv-preserved g c = (
   c.in_ok-handle_fragment.ensures.roomy,
-  fragments_on c.args.config.now c.loop-pdv.pdv-index c.args.pdvs.now c.pdv-item.result (association_view c.args.association.now) (association_view c.loop-pdv.association) (association_view c.handle_fragment.new.association) _ _ _ c.loop-pdv-test.true c.pdv-item.is c.loop-pdv.invariant.1 c.in_ok-handle_fragment.ensures.performed,
+  fragments_on (acceptor c.args.config.now) c.loop-pdv.pdv-index c.args.pdvs.now c.pdv-item.result (association_view c.args.association.now) (association_view c.loop-pdv.association) (association_view c.handle_fragment.new.association) _ _ _ c.loop-pdv-test.true c.pdv-item.is c.loop-pdv.invariant.1 c.in_ok-handle_fragment.ensures.performed,
 )
 
 pub returns-clause-performed : goal.returns-clause-performed

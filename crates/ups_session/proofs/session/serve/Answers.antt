@@ -9,7 +9,7 @@ use Rattle.ups_session.specs.Effects.{association_view}
 use Rattle.ups_session.specs.Session.{Progress}
 use Rattle.ups_session.specs.World.{world}
 use Rattle.ups_session.proofs.Coming.{at_end_on, no_end_on, came_first, came_on, session_failed}
-use Rattle.ups_session.proofs.Closing.{no_end_here}
+use Rattle.ups_session.proofs.Closing.{acceptor_over, no_end_here}
 use Rattle.ups_session.proofs.Going.{goes_nowhere}
 use Rattle.ups_session.proofs.session.serve.Goals as goal
 
@@ -73,6 +73,6 @@ loop-left-preserved g c =
       arrivals ++ a ∷ [],
       Consumes-trans _ _ _ _ _ consumed then,
       omega (arith, count, c.loop-left-test.true, length-append arrivals (a ∷ [])),
-      no_end_on arrivals a unended (no_end_here c.args.config.now a (association_view c.loop-left.association) (association_view c.serve_one.new.association) _ _ performed c.in_default.ensures),
+      no_end_on arrivals a unended (no_end_here (acceptor c.args.config.now) (acceptor_over c.args.config.now) a (association_view c.loop-left.association) (association_view c.serve_one.new.association) _ _ performed c.in_default.ensures),
       came_on (acceptor c.args.config.now) opened (association_view c.loop-left.association) (association_view c.serve_one.new.association) input more arrivals a _ _ _ progress is_open spells performed,
     )

@@ -3,18 +3,19 @@ use Rattle.std.proofs.lemmas.List.{length-map}
 use Rattle.ups_life.specs.declared.entry.Peer.{Peer}
 use Rattle.ups_manager.specs.Refusal.{is_twice}
 use Rattle.upsd.proofs.Naming.{twice_on}
+use Rattle.upsd.specs.Arguments.{NamesPeer}
 use Rattle.upsd.proofs.Parts.{one_further, all_named, stops_here}
 use Rattle.upsd.proofs.arguments.peers_of.Goals as goal
 
 pub loop-word-preserved : goal.loop-word-preserved
 loop-word-preserved g c = record {
   few = omega (arith, ap length c.in_ok-push.ensures.items, length-append {A = Peer}, c.loop-word.invariant.few);
-  once = ap is_twice c.in_ok-push.ensures.items ∙ twice_on c.loop-word.peers.items c.in-Some.peer c.loop-word.invariant.once (search rules);
-  named = one_further c.args.words.now c.loop-word.word-index _ c.loop-word.peers.items _ c.in-Some.peer (search rules) c.loop-word.invariant.named c.in-Some.ensures c.in_ok-push.ensures.items;
+  once = ap is_twice c.in_ok-push.ensures.items ∙ twice_on c.loop-word.peers.items c.in-Some.field-0.peer c.loop-word.invariant.once (search rules);
+  named = one_further NamesPeer c.args.words.now c.loop-word.word-index _ c.loop-word.peers.items _ c.in-Some.field-0.peer (search rules) c.loop-word.invariant.named c.in-Some.ensures.names c.in_ok-push.ensures.items;
 }
 
 pub returns-clause-named : goal.returns-clause-named
-returns-clause-named g c = all_named c.args.words.now c.loop-word.word-index c.loop-word.peers.items (search rules) c.loop-word.invariant.named
+returns-clause-named g c = all_named NamesPeer c.args.words.now c.loop-word.word-index c.loop-word.peers.items (search rules) c.loop-word.invariant.named
 
 pub returns-in_default-clause-fault : goal.returns-in_default-clause-fault
 returns-in_default-clause-fault g c = (
@@ -29,8 +30,8 @@ returns-then-is_named-clause-fault g c = (
   omega (arith, length-map c.args.words.now (λ (w : Bor (List ℕ)). w.now)),
   c.loop-word.peers.items,
   _,
-  c.in-Some.peer,
+  c.in-Some.field-0.peer,
   stops_here c.args.words.now c.loop-word.word-index record { ref_ptr = (0, 0); now = [] } c.loop-word.peers.items (search rules) c.loop-word.invariant.named c.loop-word.invariant.once,
-  c.in-Some.ensures,
+  c.in-Some.ensures.names,
   search rules,
 )

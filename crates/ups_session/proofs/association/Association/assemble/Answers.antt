@@ -1,6 +1,7 @@
 use Rattle.std.proofs.Common.{sym, subst}
 use Rattle.ups_assoc.specs.Feeding.{fed}
-use Rattle.ups_session.specs.Acceptor.{ReactionOf, Continues}
+use Rattle.ups_session.specs.Acceptor.{Continues}
+use Rattle.ups_session.specs.Sides.{ReactionOf}
 use Rattle.ups_session.specs.Effects.{association_view, established_view}
 use Rattle.std.proofs.Common.{false}
 use Rattle.ups_session.proofs.Parts.{if_ok}

@@ -1,0 +1,145 @@
+-- What a fragment and a message make of a delivery.
+use Rattle.std.proofs.Common.{◌≡◌, true, false, cond, Bool, List, [], ◌∷◌, length, ap, sym, ◌∙◌, subst, refl, inr, Option, Some, None}
+use Rattle.std.specs.Prelude.{ℕ, ◌≢◌, ◌==◌}
+use Rattle.ups_ulstate.specs.declared.state.UlState.{UlState}
+use Rattle.ups_ulstate.specs.Table.{next_of}
+use Rattle.ups_ulstate.specs.declared.state.UlEvent.{UlEvent}
+use Rattle.ups_ulstate.specs.declared.state.UlEvent.TheVariants as events
+use Rattle.ups_ulstate.specs.declared.state.UlAction.{UlAction}
+use Rattle.ups_ulstate.specs.declared.state.UlAction.TheVariants.{Ae3, Ar6, Dt2}
+use Rattle.ups_pdu.specs.declared.associate.AssociateAc.{AssociateAc}
+use Rattle.ups_pdu.specs.declared.pdv.Pdv.{Pdv}
+use Rattle.ups_dimse.specs.declared.command.Command.{Command}
+use Rattle.ups_dimse.specs.declared.fault.DimseFault.{DimseFault}
+use Rattle.ups_dimse.specs.declared.fault.DimseFault.TheVariants as dimse_faults
+use Rattle.ups_dimse.specs.Commands.{SpellsCommand}
+use Rattle.ups_assoc.specs.Assembly.{Assembly}
+use Rattle.ups_assoc.specs.declared.assembling.Begun.TheVariants.{Nothing, Failed}
+use Rattle.ups_assoc.specs.declared.fault.AssocFault.{AssocFault}
+use Rattle.ups_assoc.specs.declared.fault.AssocFault.TheVariants as faults
+use Rattle.ups_assoc.specs.declared.message.RawMessage.{RawMessage}
+use Rattle.ups_assoc.specs.Feeding.{Fed, more, whole, fault, Feeds}
+use Rattle.ups_assoc.specs.declared.negotiating.Config.{Config}
+use Rattle.ups_life.specs.declared.event_reports.EventReport.{EventReport}
+use Rattle.ups_life.specs.declared.request.Reply.{Reply}
+use Rattle.ups_life.specs.declared.request.Reply.TheVariants.{Status as Told, Reports}
+use Rattle.ups_life.specs.declared.status.Status.TheVariants.{ResourceLimitation}
+use Rattle.ups_session.specs.declared.delivery.Route.{Route}
+use Rattle.ups_session.specs.declared.delivery.Wanted.{Wanted}
+use Rattle.ups_session.specs.declared.delivery.Wanted.TheVariants.{Pendings}
+use Rattle.ups_session.specs.Association.{AssociationView, EstablishedView}
+use Rattle.ups_session.specs.Delivery.{DeliveryView}
+use Rattle.ups_session.specs.Sides.{transition, on_action, on_event, unexpected, aborting, with_begun}
+use Rattle.ups_session.specs.Requestor.{DeliveryReaction, with_association, along, releasing, reporting, reporting_next, most_messages, proceeding, with_ahead, on_pendings, on_acknowledged, Understands, Assembles, OnFragment, on_answer, Delivers}
+use Rattle.ups_session.specs.Reports.{route_of}
+use Rattle.ups_session.specs.Fold.{event}
+use Rattle.ups_session.proofs.Receiving.{after, after_is, fed_on, fed_not}
+
+-- a message whose command can't be read
+pub not_understood : {A : Type 0} (d : DeliveryView A) (released : Bool) (message : RawMessage A) (bytes : List ℕ) (why : DimseFault) (reaction : DeliveryReaction A) → bytes ≡ message.command
+    → ((command : Command A) → SpellsCommand bytes command → why ≡ dimse_faults.Memory) → why ≢ dimse_faults.Memory → reaction ≡ along d (aborting true d.association) → Understands d released message reaction
+not_understood d released message bytes why reaction is only other e = inr ((λ command s. other (only command (subst (λ (l : List ℕ). SpellsCommand l command) (sym is) s))), e)
+
+-- with another assembler
+abbrev pub assembling : {A : Type 0} → DeliveryView A → EstablishedView A → Assembly A → DeliveryView A
+assembling d established assembly = with_association d (after d.association established assembly)
+
+came : {A : Type 0} (d : DeliveryView A) (established : EstablishedView A) (released : Bool) (f : Fed A) (new : Assembly A) (message : RawMessage A) (reaction : DeliveryReaction A) → new.ids ≡ established.assembler.ids
+    → Feeds f new.begun (fed_on (Some message)) → Understands (assembling d established new) released message reaction → Assembles d established released f reaction
+came d established released (more b) new message reaction e is u = absurd is
+came {A} d established released (whole m) new message reaction e is u =
+    let same = subst (λ (x : RawMessage A). Understands (assembling d established new) released x reaction) is.0 u in
+    subst (λ (a : AssociationView A). Understands (with_association d a) released m reaction) (after_is d.association established new Nothing e is.1) same
+came d established released (fault why) new message reaction e is u = absurd is
+
+-- a message is whole
+pub whole_came : {A : Type 0} (d : DeliveryView A) (established : EstablishedView A) (released : Bool) (f : Fed A) (new : Assembly A) (progress : Option (RawMessage A)) (message : RawMessage A) (reaction : DeliveryReaction A) → progress ≡ Some message
+    → new.ids ≡ established.assembler.ids → Feeds f new.begun (fed_on progress) → Understands (assembling d established new) released message reaction → Assembles d established released f reaction
+whole_came {A} d established released f new progress message reaction one e is u =
+    came d established released f new message reaction e (subst (λ (o : Option (RawMessage A)). Feeds f new.begun (fed_on o)) one is) u
+
+-- there is none
+pub fault_came : {A : Type 0} (d : DeliveryView A) (established : EstablishedView A) (released : Bool) (f : Fed A) (new : Assembly A) (why : AssocFault) (reaction : DeliveryReaction A) → new.ids ≡ established.assembler.ids
+    → Feeds f new.begun (fed_not why) → why ≢ faults.Memory → reaction ≡ along d (aborting true (after d.association established new)) → Assembles d established released f reaction
+fault_came d established released (more b) new why reaction e is other same = absurd (other is.0)
+fault_came d established released (whole m) new why reaction e is other same = absurd (other is.0)
+fault_came {A} d established released (fault f) new why reaction e is other same = same ∙ ap (λ (a : AssociationView A). along d (aborting true a)) (after_is d.association established new Failed e is.1)
+
+other_action : {A : Type 0} (d : DeliveryView A) (pdv : Pdv A) (action : UlAction) (state : UlState) (reaction : DeliveryReaction A) → action ≢ Dt2 → action ≢ Ar6
+    → reaction ≡ along d (on_action true unexpected (transition d.association events.Data action state) action) → OnFragment d pdv (Some (action, state)) reaction
+other_action d pdv Dt2 state reaction unlike never e = absurd (unlike refl)
+other_action d pdv Ar6 state reaction unlike never e = absurd (never refl)
+other_action d pdv action state reaction unlike never e = e
+
+-- a fragment in a state in which no message is received
+pub not_received : {A : Type 0} (d : DeliveryView A) (pdv : Pdv A) (cell : Option (UlAction × UlState)) (action : UlAction) (state : UlState) (mid : AssociationView A) (reaction : DeliveryReaction A) → cell ≡ Some (action, state) → action ≢ Dt2 → action ≢ Ar6
+    → mid ≡ transition d.association events.Data action state → reaction ≡ along d (on_action true unexpected mid action) → OnFragment d pdv cell reaction
+not_received {A} d pdv cell action state mid reaction is unlike never same e =
+    subst (λ (o : Option (UlAction × UlState)). OnFragment d pdv o reaction) (sym is)
+    (other_action d pdv action state reaction unlike never (e ∙ ap (λ (a : AssociationView A). along d (on_action true unexpected a action)) same))
+
+other_answer : {A : Type 0} (ae : List ℕ) (d : DeliveryView A) (ac : AssociateAc A) (action : UlAction) (state : UlState) (reaction : DeliveryReaction A) → action ≢ Ae3
+    → reaction ≡ along d (on_action true unexpected (transition d.association events.AssociateAc action state) action) → reaction ≡ on_answer ae d ac (Some (action, state))
+other_answer ae d ac Ae3 state reaction unlike e = absurd (unlike refl)
+other_answer ae d ac action state reaction unlike e = e
+
+-- an answer in a state in which none is awaited
+pub not_accepted : {A : Type 0} (ae : List ℕ) (d : DeliveryView A) (ac : AssociateAc A) (cell : Option (UlAction × UlState)) (action : UlAction) (state : UlState) (mid : AssociationView A) (reaction : DeliveryReaction A) → cell ≡ Some (action, state) → action ≢ Ae3
+    → mid ≡ transition d.association events.AssociateAc action state → reaction ≡ along d (on_action true unexpected mid action) → reaction ≡ on_answer ae d ac cell
+not_accepted {A} ae d ac cell action state mid reaction is unlike same e =
+    other_answer ae d ac action state reaction unlike (e ∙ ap (λ (a : AssociationView A). along d (on_action true unexpected a action)) same) ∙ ap (on_answer ae d ac) (sym is)
+
+-- what is asked for behind a report
+
+clash : {w : Wanted} → None ≡ Some w → ⊥
+clash e = cc
+
+reporting_silent : {A : Type 0} (d : DeliveryView A) (report : EventReport A) (rest : List (EventReport A)) (route : Option Route) → (reporting d report rest route).waiting ≡ None
+reporting_silent d report rest None = refl
+reporting_silent d report rest (Some route) = refl
+
+next_wants : {A : Type 0} (d : DeliveryView A) (reports : List (EventReport A)) (w : Wanted) → (reporting_next d reports).waiting ≡ Some w → w ≡ Pendings
+next_wants d [] w e = cc
+next_wants d (report ∷ rest) w e = absurd (clash (sym (reporting_silent d report rest (route_of d.association.established)) ∙ e))
+
+if_wants : {A : Type 0} (b : Bool) (x y : DeliveryReaction A) (w : Wanted) → x.waiting ≡ None → (y.waiting ≡ Some w → w ≡ Pendings) → (cond b x y).waiting ≡ Some w → w ≡ Pendings
+if_wants true x y w silent then e = absurd (clash (sym silent ∙ e))
+if_wants false x y w silent then e = then e
+
+going_wants : {A : Type 0} (d : DeliveryView A) (w : Wanted) → (proceeding d).waiting ≡ Some w → w ≡ Pendings
+going_wants d w e = if_wants (d.sent == most_messages) (releasing d) (reporting_next d d.ahead) w refl (next_wants d d.ahead w) e
+
+-- behind an acknowledgement only what is pending is asked for
+pub acknowledged_wants : {A : Type 0} (d : DeliveryView A) (reply : Reply A) (w : Wanted) → (on_acknowledged d reply).waiting ≡ Some w → w ≡ Pendings
+acknowledged_wants d (Told ResourceLimitation) w e = absurd (clash e)
+acknowledged_wants d reply w e = going_wants d w e
+
+if_silent : {A : Type 0} (b : Bool) (x y : DeliveryReaction A) → x.waiting ≡ None → y.waiting ≡ None → (cond b x y).waiting ≡ None
+if_silent true x y e f = e
+if_silent false x y e f = f
+
+-- a reply with events is reported, or the association is released: nothing more is asked
+pub pendings_silent : {A : Type 0} (d : DeliveryView A) (reply : Reply A) → (on_pendings d reply).waiting ≡ None
+pendings_silent d (Reports (report ∷ rest)) =
+    let e = with_ahead d (report ∷ rest) in
+    if_silent (d.sent == most_messages) (releasing e) (reporting e report rest (route_of d.association.established)) refl (reporting_silent e report rest (route_of d.association.established))
+pendings_silent d reply = refl
+
+told_of : {A : Type 0} (d : DeliveryView A) (reports : List (EventReport A)) → (reports ≡ [] → ⊥) → proceeding (with_ahead d reports) ≡ on_pendings d (Reports reports)
+told_of d [] some = absurd (some refl)
+told_of d (report ∷ rest) some = refl
+
+apart : false ≡ true → ⊥
+apart e = cc
+
+-- events are told of
+pub events_told : {A : Type 0} (d : DeliveryView A) (reply : Reply A) (reports items : List (EventReport A)) (b : Bool) (reaction : DeliveryReaction A) → reply ≡ Reports reports → items ≡ reports → b ≡ (length items == 0) → b ≡ false
+    → reaction ≡ proceeding (with_ahead d reports) → reaction ≡ on_pendings d reply
+events_told {A} d reply reports items b reaction is same test no_test e =
+    e ∙ told_of d reports (λ none. apart (sym no_test ∙ test ∙ ap (λ (l : List (EventReport A)). length l == 0) (same ∙ none))) ∙ ap (on_pendings d) (sym is)
+
+-- an event that is not the transport connection's confirmation
+pub plain_event : {A : Type 0} (config : Config) (ae : List ℕ) (d : DeliveryView A) (e : UlEvent) (reaction : DeliveryReaction A) → e ≢ events.TransportConfirmed
+    → reaction ≡ along d (on_event true unexpected d.association e (next_of true true e d.association.state)) → Delivers config ae d (event e) reaction
+plain_event config ae d events.TransportConfirmed reaction other is = absurd (other refl)
+plain_event config ae d e reaction other is = is

@@ -1,0 +1,109 @@
+-- How a reaction is settled, and what an indication comes to then.
+use Rattle.std.proofs.Common.{◌≡◌, ℕ, List, [], ◌∷◌, refl, sym, ◌∙◌, append-nil, subst, Some, None, Result, Ok, Err, OnOk}
+use Rattle.ups_pdu.specs.declared.pdu.Pdu.{Pdu}
+use Rattle.ups_life.specs.Settings.{Settings}
+use Rattle.ups_life.specs.declared.entry.Entry.{Entry}
+use Rattle.ups_life.specs.declared.request.Reply.{Reply}
+use Rattle.ups_manager.specs.Law.{Others, Serves}
+use Rattle.ups_session.specs.declared.fault.SessionFault.{SessionFault}
+use Rattle.ups_session.specs.declared.gate.GateCall.TheVariants.{Moment}
+use Rattle.ups_session.specs.Fold.{Asked, Indication, Exchange, Reaction, Side, Happens, Settles}
+use Rattle.ups_session.specs.Settled.{IsSettled}
+use Rattle.ups_session.specs.Tells.{Told, Tells}
+use Rattle.ups_session.specs.Visits.{timed, calls_of, moments_of, SendsPdus}
+use Rattle.ups_session.specs.WatchedIo.{Output}
+use Rattle.ups_session.specs.World.{World, world, ServesAll, IsDone, Performed}
+use Rattle.ups_session.proofs.Chains.{chain_one}
+use Rattle.ups_session.specs.declared.fault.SessionFault.TheVariants.{Memory}
+use Rattle.ups_session.proofs.Spoken.{stopping, says_lost}
+use Rattle.ups_session.proofs.Telling.{Tells-trans}
+
+-- the service stands for the same as before
+ServesAll-at : {A : Type 0} (s t : Settings) (o p : Others) (k l : ℕ) (seen after : List (Entry A)) (asks : List (Asked A)) (moments : List ℕ) (replies : List (Reply A)) → t ≡ s → p ≡ o → l ≡ k
+    → ServesAll t p l seen asks moments replies after → ServesAll s o k seen asks moments replies after
+ServesAll-at {A} s t o p k l seen after asks moments replies same shared one is =
+    subst (λ (x : Settings). ServesAll x o k seen asks moments replies after) same
+    (subst (λ (x : Others). ServesAll t x k seen asks moments replies after) shared (subst (λ (x : ℕ). ServesAll t p x seen asks moments replies after) one is))
+
+-- nothing is asked, and what is due is said, or a beginning of it
+pub settled_said : {A L W Y : Type 0} (side : Side A L W) (reaction : Reaction A L W) (after : L) (c0 c1 : Output) (m0 m1 : Told) (s : Settings) (o : Others) (k : ℕ) (seen : List (Entry A)) (r : Result Y SessionFault)
+    → reaction.waiting ≡ None → OnOk r (reaction.association ≡ after) → SendsPdus reaction.send c0 c1 m0 m1 r → IsSettled side reaction after (world c0 m0 s o k seen) (world c1 m1 s o k seen) r
+settled_said {A} side reaction after c0 c1 m0 m1 s o k seen r silent done is = record {
+  replies = [];
+  said = reaction.send;
+  asks = [];
+  end = reaction.association;
+  visits = is.visits;
+  sent = is.sent;
+  settles = (silent, refl, refl, refl);
+  settings = refl;
+  others = refl;
+  caller = refl;
+  writes = is.writes;
+  tells = is.tells;
+  calls = subst (λ (l : List ℕ). ServesAll {A = A} s o k seen [] l [] seen) (sym is.timeless) refl;
+  did = done;
+  sends = is.sends;
+}
+
+-- memory ran out before it was said
+pub settled_lost : {A L W Y : Type 0} (side : Side A L W) (reaction : Reaction A L W) (after : L) (c : Output) (m : Told) (s : Settings) (o : Others) (k : ℕ) (seen : List (Entry A)) → reaction.waiting ≡ None
+    → IsSettled side reaction after (world c m s o k seen) (world c m s o k seen) (stopping {Y = Y} Memory)
+settled_lost side reaction after c m s o k seen silent = settled_said side reaction after c c m m s o k seen (stopping Memory) silent tt (says_lost reaction.send c m)
+
+pub on_ok : {L Y : Type 0} (l : L) (r : Result Y SessionFault) → OnOk r (l ≡ l)
+on_ok l (Ok y) = refl
+on_ok l (Err e) = tt
+
+-- something is asked, and then what the reply comes to
+pub settled_asked : {A L W Y : Type 0} (side : Side A L W) (association after : L) (waiting : W) (m : ℕ) (q : Reply A) (next : Reaction A L W) (c0 : Output) (m0 m1 : Told) (s s1 : Settings) (o o1 : Others) (k k1 : ℕ) (seen seen1 : List (Entry A)) (w : World A) (r : Result Y SessionFault)
+    → Tells m0 m1 (Moment m ∷ []) → s1 ≡ s → o1 ≡ o → k1 ≡ k → Serves s o k seen (side.asked waiting).ae m (side.asked waiting).ask q seen1
+    → side.OnReply association waiting q next → IsSettled side next after (world c0 m1 s1 o1 k1 seen1) w r
+    → IsSettled side (record { association = association; send = []; waiting = Some waiting }) after (world c0 m0 s o k seen) w r
+settled_asked {A} side association after waiting m q next c0 m0 m1 s s1 o o1 k k1 seen seen1 w r told same shared one serves replied is = record {
+  replies = q ∷ is.replies;
+  said = is.said;
+  asks = side.asked waiting ∷ is.asks;
+  end = is.end;
+  visits = timed m ∷ is.visits;
+  sent = is.sent;
+  settles = (waiting, next, is.said, is.asks, refl, replied, is.settles, refl, refl);
+  settings = is.settings ∙ same;
+  others = is.others ∙ shared;
+  caller = is.caller ∙ one;
+  writes = is.writes;
+  tells = Tells-trans m0 m1 w.told (Moment m ∷ []) (calls_of is.visits) told is.tells;
+  calls = (
+    seen1,
+    serves,
+    ServesAll-at s s1 o o1 k k1 seen1 w.seen is.asks (moments_of is.visits) is.replies same shared one is.calls,
+  );
+  did = is.did;
+  sends = is.sends;
+}
+
+did_one : {A L Y : Type 0} (end after : L) (h : Indication A) (r : Result Y SessionFault) → OnOk r (end ≡ after) → IsDone end after (h ∷ []) (h ∷ []) r
+did_one end after h (Ok y) e = (e, refl)
+did_one end after h (Err e) t = ([], append-nil (h ∷ []))
+
+-- an indication, whose reaction is settled
+pub performed_settled : {A L W Y : Type 0} (side : Side A L W) (from after : L) (h : Indication A) (reaction : Reaction A L W) (u v : World A) (r : Result Y SessionFault)
+    → side.Reacts from h reaction → IsSettled side reaction after u v r → Performed (Happens side) (h ∷ []) from after u v r
+performed_settled {A} side from after h reaction u v r reacts is =
+    let exchange : Exchange A = record { said = is.said; asks = is.asks; replies = is.replies } in
+    record {
+      some = h ∷ [];
+      exchange = exchange;
+      end = is.end;
+      visits = is.visits;
+      sent = is.sent;
+      ran = chain_one (Happens side) h from is.end exchange (reaction, reacts, is.settles);
+      settings = is.settings;
+      others = is.others;
+      caller = is.caller;
+      writes = is.writes;
+      tells = is.tells;
+      calls = is.calls;
+      did = did_one is.end after h r is.did;
+      sends = is.sends;
+    }

@@ -1,0 +1,17 @@
+use Rattle.std.proofs.lemmas.Result.{err_from_is_err_and}
+use Rattle.ups_session.specs.Fold.{Happens, event}
+use Rattle.ups_session.specs.Deliveries.{delivery_view}
+use Rattle.ups_session.specs.Requestor.{requestor, saying}
+use Rattle.ups_session.proofs.Delivered.{plain_event}
+use Rattle.ups_session.proofs.Going.{goes_short}
+use Rattle.ups_session.proofs.Settling.{performed_settled}
+use Rattle.ups_session.proofs.delivering.take_event.Goals as goal
+
+pub returns-in_err-said-clause-performed : goal.returns-in_err-said-clause-performed
+returns-in_err-said-clause-performed g c = λ config.
+    let p = err_from_is_err_and c.from_residual.result c.from_residual.ensures.1 in
+    rw (p.1, p.2, c.in_err-said.ensures.memory) (goes_short (Happens (requestor config c.args.ae)) _ _ _ _)
+
+pub returns-clause-performed : goal.returns-clause-performed
+returns-clause-performed g c = λ config.
+    performed_settled (requestor config c.args.ae) (delivery_view c.args.delivery.now) (delivery_view c.carry_out.new.delivery) (event c.args.event) (saying (delivery_view c.on_event.new.self) c.in_ok-said.said.items) _ _ c.carry_out.result (plain_event config c.args.ae (delivery_view c.args.delivery.now) c.args.event _ c.requires.other c.in_ok-said.ensures.reaction) (c.carry_out.ensures.settled config)

@@ -1,0 +1,37 @@
+use Rattle.std.proofs.Common.{rules, List, map, subst}
+use Rattle.std.proofs.lemmas.List.{take_all}
+use Rattle.std.proofs.lemmas.Result.{err_from_is_err_and}
+use Rattle.ups_pdu.specs.declared.pdv.Pdv.{Pdv}
+use Rattle.ups_session.specs.Fold.{fragment, Happens}
+use Rattle.ups_session.specs.Requestor.{requestor}
+use Rattle.ups_session.specs.Deliveries.{delivery_view}
+use Rattle.ups_session.specs.Session.{okay}
+use Rattle.ups_session.specs.World.{world, Performed}
+use Rattle.ups_session.proofs.Going.{goes_nowhere}
+use Rattle.ups_session.proofs.Carrying.{fragments_on, fragments_cut}
+use Rattle.ups_session.proofs.delivering.take_fragments.Goals as goal
+
+pub loop-pdv-init : goal.loop-pdv-init
+loop-pdv-init g c = (c.requires.roomy, λ config. goes_nowhere (Happens (requestor config c.args.ae)) (delivery_view c.args.delivery.now) _ tt)
+
+pub returns-in_err-take_fragment-clause-performed : goal.returns-in_err-take_fragment-clause-performed
+returns-in_err-take_fragment-clause-performed g c = λ config.
+    let p = err_from_is_err_and c.from_residual.result c.from_residual.ensures.1 in
+    rw (p.1, p.2)
+    (fragments_cut (requestor config c.args.ae) c.loop-pdv.pdv-index c.args.pdvs.now c.pdv-item.result (delivery_view c.args.delivery.now) (delivery_view c.loop-pdv.delivery) (delivery_view c.take_fragment.new.delivery) _ _ _ c.in_err-take_fragment.field-0.0 c.loop-pdv-test.true c.pdv-item.is (c.loop-pdv.invariant.1 config) (c.in_err-take_fragment.ensures.performed config))
+
+pub loop-pdv-preserved : goal.loop-pdv-preserved
+loop-pdv-preserved g c = (
+  c.in_ok-take_fragment.ensures.roomy,
+  λ config. fragments_on (requestor config c.args.ae) c.loop-pdv.pdv-index c.args.pdvs.now c.pdv-item.result (delivery_view c.args.delivery.now) (delivery_view c.loop-pdv.delivery) (delivery_view c.take_fragment.new.delivery) _ _ _ c.loop-pdv-test.true c.pdv-item.is (c.loop-pdv.invariant.1 config) (c.in_ok-take_fragment.ensures.performed config),
+)
+
+pub returns-clause-performed : goal.returns-clause-performed
+returns-clause-performed g c = λ config.
+    subst (λ (l : List (Pdv g.row.A.Denot)). Performed (Happens (requestor config c.args.ae)) (map fragment l) (delivery_view c.args.delivery.now) (delivery_view c.loop-pdv.delivery)
+    (world c.args.writer.now (g.G.Gate.told c.args.gate.now) (g.S.Service.settings c.args.service.now) (g.S.Service.others c.args.service.now) (g.S.Service.caller c.args.service.now) (g.S.Service.seen c.args.service.now))
+    (world c.loop-pdv.writer (g.G.Gate.told c.loop-pdv.gate) (g.S.Service.settings c.loop-pdv.service) (g.S.Service.others c.loop-pdv.service) (g.S.Service.caller c.loop-pdv.service) (g.S.Service.seen c.loop-pdv.service)) okay)
+    (take_all c.loop-pdv.pdv-index c.args.pdvs.now (search rules)) (c.loop-pdv.invariant.1 config)
+
+pub take_fragment-requires : goal.take_fragment-requires
+take_fragment-requires g c = record { roomy = c.loop-pdv.invariant.0 }

@@ -1,0 +1,558 @@
+//! A delivery: an association that this side asks for, and the reports that it sends over it.
+
+ghost use Rattle.std.specs.Prelude.{◌≡◌, ◌≢◌, ◌≤◌, [], true, false, Option, None, Some, IfOk, IfErr, IfSome, OnOk, OnErr, ◌<◌};
+ghost use Rattle.std.specs.Option.{option_map};
+ghost use Rattle.std.specs.List.{AllByRecursion};
+ghost use Rattle.ups_ulstate.specs.Table.{next_of};
+ghost use Rattle.ups_ulstate.specs.declared.state.UlEvent.TheVariants as events;
+ghost use Rattle.ups_pdu.specs.Fits.{Fits};
+ghost use Rattle.ups_assoc.specs.Feeding.{fed};
+ghost use Rattle.ups_dimse.specs.declared.fault.DimseFault.TheVariants.{Memory as NoRoomForCommand};
+ghost use Rattle.ups_session.specs.declared.fault.SessionFault.TheVariants.{Memory};
+ghost use Rattle.ups_session.specs.Effects.{established_view, association_view, said_by, awaited_by, IsRoomy};
+ghost use Rattle.ups_session.specs.Sides.{aborting, on_action, on_event, reason_of, unexpected};
+ghost use Rattle.ups_session.specs.Reports.{route_of};
+ghost use Rattle.ups_session.specs.Proposing.{agreement};
+ghost use Rattle.ups_session.specs.Delivery.{DeliveryView};
+ghost use Rattle.ups_session.specs.Deliveries.{delivery_view, move_reaction, IsSendableMove};
+ghost use Rattle.ups_session.specs.Requestor.{proposed, saying, with_association, along, releasing, reporting, reporting_next, proceeding, on_pendings, on_acknowledged, event_answered, on_response, refusing, on_command, Understands, Assembles, Receives, OnFragment, established_by, on_agreement, on_answer};
+
+use crate::association::{
+    Association, Established, Parameters, UNEXPECTED, reason_of, unless_memory,
+};
+use crate::dispatch::context_at;
+use crate::effect::Effect;
+use crate::fault::{End, SessionFault};
+use crate::proposing::{PROPOSED_ID, agreement, counted};
+use crate::reports::report_pdus;
+use crate::response::bare_response;
+use std::alloc::Allocator;
+use ups_assoc::{AcceptedContext, AcceptedContexts, Assembler, RawMessage, SopClass};
+use ups_dataset::TransferSyntax;
+use ups_dimse::{
+    Command, DimseFault, OperationResult, RequestCommand, ResponseCommand, read_command,
+};
+use ups_life::{EventReport, EventReports, Reply, Status};
+use ups_pdu::{Ae, AssociateAc, Pdu, PduFault, Pdv};
+use ups_ulstate::{UlAction, UlEvent, UlState, next};
+
+/// This side is the association requestor.
+const REQUESTOR: bool = true;
+
+/// A report whose response is awaited.
+#[derive(Clone, Copy)]
+pub(crate) struct Flight {
+    /// The message ID of the report.
+    pub message: u16,
+    /// The number of the event.
+    pub event: u64,
+}
+
+/// What a delivery asks of the service.
+#[derive(Clone, Copy)]
+pub(crate) enum Wanted {
+    /// Which events are pending.
+    Pendings,
+    /// That the events up to this number are acknowledged.
+    Acknowledgement(u64),
+}
+
+/// Where reports go.
+#[derive(Clone, Copy)]
+pub(crate) struct Route {
+    /// The presentation context.
+    pub context: AcceptedContext,
+    /// The longest P-DATA-TF that the peer receives, in bytes.
+    pub max: u32,
+}
+
+/// What a delivery does next.
+#[derive(Drop)]
+pub(crate) enum Move<A: Allocator + Copy> {
+    /// Sends these PDUs.
+    Say(Vec<Pdu<A>, A>),
+    /// Asks the service.
+    Want(Wanted),
+}
+
+/// The state of a delivery.
+#[derive(Drop)]
+pub(crate) struct Delivery<A: Allocator + Copy> {
+    /// The association with the peer.
+    pub association: Association<A>,
+    /// The reports that the service told of last.
+    pub reports: EventReports<A>,
+    /// How many of those reports were sent.
+    pub taken: usize,
+    /// The report whose response is awaited.
+    pub flying: Option<Flight>,
+    /// How many reports were sent in all.
+    pub sent: u16,
+}
+
+/// Tells a lack of memory from any other fault in reading a command, for which the association is aborted.
+///
+/// Errors: out of memory.
+fn unless_no_room(fault: DimseFault) -> Result<(), SessionFault>
+    ensures other { OnOk result (fault ≢ NoRoomForCommand) }
+    ensures memory { IfErr result (λ e. e ≡ Memory) }
+{
+    match fault {
+        DimseFault::Memory => Err(SessionFault::Memory),
+        _ => Ok(()),
+    }
+}
+
+/// The event of the report in flight, if this is the response to it.
+fn event_answered(flying: Option<Flight>, response: &ResponseCommand) -> Option<u64>
+    ensures { result ≡ event_answered flying response.now }
+{
+    let flight = flying?;
+    match response.result {
+        OperationResult::EventReport { .. } if response.responded_to == flight.message => {
+            Some(flight.event)
+        }
+        _ => None,
+    }
+}
+
+/// What an answer leaves: an association with this peer, over the proposed presentation context.
+///
+/// Errors: out of memory.
+fn established_by<A: Allocator + Copy>(
+    alloc: A,
+    ae: Ae,
+    max: u32,
+    syntax: TransferSyntax,
+) -> Result<Established<A>, SessionFault>
+    ensures established { IfOk result (λ e. established_view e ≡ established_by ae max syntax) }
+    ensures max { IfOk result (λ e. e.parameters.max ≡ max) }
+    ensures memory { IfErr result (λ e. e ≡ Memory) }
+{
+    let context = AcceptedContext {
+        id: PROPOSED_ID,
+        sop_class: SopClass::UpsEvent,
+        transfer_syntax: syntax,
+    };
+    let contexts = AcceptedContexts::of(alloc, context)?;
+    let Ok(assembler) = Assembler::new(alloc, contexts.as_slice()) else {
+        return Err(SessionFault::Memory);
+    };
+    Ok(Established {
+        parameters: Parameters { ae, contexts, max },
+        assembler,
+    })
+}
+
+impl<A: Allocator + Copy> Move<A> {
+    /// Sends nothing.
+    fn nothing(alloc: A) -> Move<A>
+        ensures silent { (d : DeliveryView A) → move_reaction d result ≡ saying d [] }
+        ensures writable { IsSendableMove result }
+    {
+        Move::Say(Vec::new(alloc))
+    }
+}
+
+impl<A: Allocator + Copy> Delivery<A> {
+    /// Starts with an open transport connection, on which an A-ASSOCIATE-RQ is sent.
+    pub fn proposed(alloc: A) -> Delivery<A>
+        ensures proposed { delivery_view result ≡ proposed }
+        ensures roomy { IsRoomy result.association.established }
+    {
+        Delivery {
+            association: Association {
+                state: UlState::Sta5,
+                established: None,
+                ending: End::Closed,
+            },
+            reports: EventReports::new(alloc),
+            taken: 0,
+            flying: None,
+            sent: 0,
+        }
+    }
+
+    /// Where reports go, once the association is established.
+    fn route(&self) -> Option<Route>
+        ensures route { result ≡ route_of (option_map established_view self.now.association.established) }
+        ensures roomy { IsRoomy self.now.association.established → IfSome result (λ route. 8 ≤ route.max) }
+    {
+        let Some(established) = &self.association.established else {
+            return None;
+        };
+        let contexts = established.parameters.contexts.as_slice();
+        match context_at(PROPOSED_ID, contexts) {
+            Some(context) => Some(Route {
+                context,
+                max: established.parameters.max,
+            }),
+            None => None,
+        }
+    }
+
+    /// Processes an event that carries no data.
+    ///
+    /// Errors: out of memory.
+    pub fn on_event(
+        &mut self,
+        alloc: A,
+        reason: u8,
+        event: UlEvent,
+    ) -> Result<Vec<Pdu<A>, A>, SessionFault>
+        ensures reaction { IfOk result (λ said. saying (delivery_view self.new) said.items ≡ along (delivery_view self.old) (on_event true reason (association_view self.old.association) event (next_of true true event self.old.association.state))) }
+        ensures writable { IfOk result (λ said. AllByRecursion (λ p. Fits p) said.items) }
+        ensures established { self.new.association.established ≡ self.old.association.established }
+        ensures memory { IfErr result (λ e. e ≡ Memory) }
+    {
+        let effect = self.association.on_event(alloc, REQUESTOR, reason, event)?;
+        Ok(effect.into_said())
+    }
+
+    /// Performs an action of the state machine that needs no data of the event.
+    ///
+    /// Errors: out of memory.
+    fn on_action(&mut self, alloc: A, action: UlAction) -> Result<Vec<Pdu<A>, A>, SessionFault>
+        ensures reaction { IfOk result (λ said. saying (delivery_view self.new) said.items ≡ along (delivery_view self.old) (on_action true unexpected (association_view self.old.association) action)) }
+        ensures writable { IfOk result (λ said. AllByRecursion (λ p. Fits p) said.items) }
+        ensures established { self.new.association.established ≡ self.old.association.established }
+        ensures memory { IfErr result (λ e. e ≡ Memory) }
+    {
+        let effect = self
+            .association
+            .on_action(alloc, REQUESTOR, UNEXPECTED, action)?;
+        Ok(effect.into_said())
+    }
+
+    /// Aborts the association (PS3.8 section 7.3).
+    ///
+    /// Errors: out of memory.
+    fn abort(&mut self, alloc: A) -> Result<Vec<Pdu<A>, A>, SessionFault>
+        ensures reaction { IfOk result (λ said. saying (delivery_view self.new) said.items ≡ along (delivery_view self.old) (aborting true (association_view self.old.association))) }
+        ensures writable { IfOk result (λ said. AllByRecursion (λ p. Fits p) said.items) }
+        ensures established { self.new.association.established ≡ self.old.association.established }
+        ensures memory { IfErr result (λ e. e ≡ Memory) }
+    {
+        let effect = self.association.abort(alloc, REQUESTOR)?;
+        Ok(effect.into_said())
+    }
+
+    /// Processes bytes that are not a PDU.
+    ///
+    /// Errors: out of memory.
+    pub fn on_invalid_pdu(
+        &mut self,
+        alloc: A,
+        fault: PduFault,
+    ) -> Result<Vec<Pdu<A>, A>, SessionFault>
+        ensures reaction { IfOk result (λ said. saying (delivery_view self.new) said.items ≡ along (delivery_view self.old) (on_event true (reason_of fault) (association_view self.old.association) events.Invalid (next_of true true events.Invalid self.old.association.state))) }
+        ensures writable { IfOk result (λ said. AllByRecursion (λ p. Fits p) said.items) }
+        ensures established { self.new.association.established ≡ self.old.association.established }
+        ensures memory { IfErr result (λ e. e ≡ Memory) }
+    {
+        self.on_event(alloc, reason_of(fault), UlEvent::Invalid)
+    }
+
+    /// Releases the association (PS3.8 section 7.2).
+    ///
+    /// Errors: out of memory.
+    fn release(&mut self, alloc: A) -> Result<Vec<Pdu<A>, A>, SessionFault>
+        ensures reaction { IfOk result (λ said. saying (delivery_view self.new) said.items ≡ releasing (delivery_view self.old)) }
+        ensures writable { IfOk result (λ said. AllByRecursion (λ p. Fits p) said.items) }
+        ensures established { self.new.association.established ≡ self.old.association.established }
+        ensures memory { IfErr result (λ e. e ≡ Memory) }
+    {
+        self.on_event(alloc, UNEXPECTED, UlEvent::ReleaseRequest)
+    }
+
+    /// Sends a report of those that the service told of.
+    ///
+    /// Errors: out of memory.
+    fn report(&mut self, alloc: A) -> Result<Move<A>, SessionFault>
+        requires roomy { IsRoomy self.old.association.established }
+        requires more { self.old.sent < 65535 }
+        ensures reaction { IfOk result (λ found. move_reaction (delivery_view self.new) found ≡ reporting_next (delivery_view self.old) (delivery_view self.old).ahead) }
+        ensures writable { IfOk result IsSendableMove }
+        ensures established { self.new.association.established ≡ self.old.association.established }
+        ensures memory { IfErr result (λ e. e ≡ Memory) }
+        ensures lost { OnErr result ((reporting_next (delivery_view self.old) (delivery_view self.old).ahead).waiting ≡ None) }
+    {
+        let Some(report) = self.reports.as_slice().get(self.taken) else {
+            return Ok(Move::Want(Wanted::Pendings));
+        };
+        let Some(route) = self.route() else {
+            return Ok(Move::Say(self.release(alloc)?));
+        };
+        let message = self.sent + 1;
+        let event = report.event.number;
+        let said = report_pdus(alloc, &route, message, report)?;
+        self.taken += 1;
+        self.flying = Some(Flight { message, event });
+        self.sent = message;
+        Ok(Move::Say(said))
+    }
+
+    /// Goes on with the next report, or asks again for those that are pending; after 65,535 reports it releases the
+    /// association.
+    ///
+    /// Errors: out of memory.
+    fn go_on(&mut self, alloc: A) -> Result<Move<A>, SessionFault>
+        requires roomy { IsRoomy self.old.association.established }
+        ensures reaction { IfOk result (λ found. move_reaction (delivery_view self.new) found ≡ proceeding (delivery_view self.old)) }
+        ensures writable { IfOk result IsSendableMove }
+        ensures established { self.new.association.established ≡ self.old.association.established }
+        ensures memory { IfErr result (λ e. e ≡ Memory) }
+        ensures lost { OnErr result ((proceeding (delivery_view self.old)).waiting ≡ None) }
+    {
+        if self.sent == u16::MAX {
+            return Ok(Move::Say(self.release(alloc)?));
+        }
+        self.report(alloc)
+    }
+
+    /// Takes up what the service tells of the events that are pending.
+    ///
+    /// Errors: out of memory.
+    pub fn on_pendings(&mut self, alloc: A, reply: Reply<A>) -> Result<Vec<Pdu<A>, A>, SessionFault>
+        requires roomy { IsRoomy self.old.association.established }
+        ensures reaction { IfOk result (λ said. saying (delivery_view self.new) said.items ≡ on_pendings (delivery_view self.old) reply) }
+        ensures writable { IfOk result (λ said. AllByRecursion (λ p. Fits p) said.items) }
+        ensures established { self.new.association.established ≡ self.old.association.established }
+        ensures memory { IfErr result (λ e. e ≡ Memory) }
+        ensures silent { (on_pendings (delivery_view self.old) reply).waiting ≡ None }
+    {
+        let Reply::Reports(reports) = reply else {
+            return self.release(alloc);
+        };
+        if reports.as_slice().is_empty() {
+            return self.release(alloc);
+        }
+        self.reports = reports;
+        self.taken = 0;
+        match self.go_on(alloc)? {
+            Move::Say(said) => Ok(said),
+            Move::Want(_) => unreachable!(),
+        }
+    }
+
+    /// Goes on once the service has taken an acknowledgement; there may have been no room for it.
+    ///
+    /// Errors: out of memory.
+    pub fn on_acknowledged(&mut self, alloc: A, reply: &Reply<A>) -> Result<Move<A>, SessionFault>
+        requires roomy { IsRoomy self.old.association.established }
+        ensures reaction { IfOk result (λ found. move_reaction (delivery_view self.new) found ≡ on_acknowledged (delivery_view self.old) reply.now) }
+        ensures writable { IfOk result IsSendableMove }
+        ensures established { self.new.association.established ≡ self.old.association.established }
+        ensures memory { IfErr result (λ e. e ≡ Memory) }
+        ensures lost { OnErr result ((on_acknowledged (delivery_view self.old) reply.now).waiting ≡ None) }
+    {
+        match reply {
+            Reply::Status(Status::ResourceLimitation) => Ok(Move::Say(self.release(alloc)?)),
+            _ => self.go_on(alloc),
+        }
+    }
+
+    /// Takes up the answer to the association request: it asks which events are pending, or releases the association.
+    ///
+    /// Errors: out of memory.
+    fn take_up(
+        &mut self,
+        alloc: A,
+        ae: Ae,
+        answer: &AssociateAc<A>,
+    ) -> Result<Move<A>, SessionFault>
+        ensures reaction { IfOk result (λ found. move_reaction (delivery_view self.new) found ≡ on_agreement ae (delivery_view self.old) answer.now (agreement answer.now)) }
+        ensures writable { IfOk result IsSendableMove }
+        ensures roomy { IsRoomy self.old.association.established → OnOk result (IsRoomy self.new.association.established) }
+        ensures memory { IfErr result (λ e. e ≡ Memory) }
+    {
+        let Some(syntax) = agreement(answer) else {
+            return Ok(Move::Say(self.release(alloc)?));
+        };
+        let max = counted(answer.user_information.maximum_length);
+        self.association.established = Some(established_by(alloc, ae, max, syntax)?);
+        Ok(Move::Want(Wanted::Pendings))
+    }
+
+    /// Processes an A-ASSOCIATE-AC.
+    ///
+    /// Errors: out of memory.
+    pub fn on_answer(
+        &mut self,
+        alloc: A,
+        ae: Ae,
+        answer: &AssociateAc<A>,
+    ) -> Result<Move<A>, SessionFault>
+        ensures reaction { IfOk result (λ found. move_reaction (delivery_view self.new) found ≡ on_answer ae (delivery_view self.old) answer.now (next_of true true events.AssociateAc self.old.association.state)) }
+        ensures writable { IfOk result IsSendableMove }
+        ensures roomy { IsRoomy self.old.association.established → OnOk result (IsRoomy self.new.association.established) }
+        ensures memory { IfErr result (λ e. e ≡ Memory) }
+    {
+        let event = UlEvent::AssociateAc;
+        let Some((action, state)) = next(self.association.state, event, REQUESTOR, true) else {
+            return Ok(Move::nothing(alloc));
+        };
+        self.association.transition(event, action, state);
+        match action {
+            UlAction::Ae3 => self.take_up(alloc, ae, answer),
+            _ => Ok(Move::Say(self.on_action(alloc, action)?)),
+        }
+    }
+
+    /// Refuses a request: nothing may be requested of this side.
+    ///
+    /// Errors: out of memory.
+    fn refuse(
+        &mut self,
+        alloc: A,
+        command: &RequestCommand<A>,
+    ) -> Result<Vec<Pdu<A>, A>, SessionFault>
+        requires roomy { IsRoomy self.old.association.established }
+        ensures reaction { IfOk result (λ said. saying (delivery_view self.new) said.items ≡ refusing (delivery_view self.old) command.now (route_of (option_map established_view self.old.association.established))) }
+        ensures writable { IfOk result (λ said. AllByRecursion (λ p. Fits p) said.items) }
+        ensures established { self.new.association.established ≡ self.old.association.established }
+        ensures memory { IfErr result (λ e. e ≡ Memory) }
+    {
+        match self.route() {
+            Some(route) => bare_response(
+                alloc,
+                route.max,
+                &route.context,
+                command,
+                Status::UnrecognizedOperation,
+            ),
+            None => self.abort(alloc),
+        }
+    }
+
+    /// Processes a response: one to the report in flight is told to the service, and any other taken.
+    fn on_response(&mut self, alloc: A, response: &ResponseCommand) -> Move<A>
+        ensures reaction { move_reaction (delivery_view self.new) result ≡ on_response (delivery_view self.old) (event_answered self.old.flying response.now) }
+        ensures writable { IsSendableMove result }
+        ensures established { self.new.association.established ≡ self.old.association.established }
+    {
+        match event_answered(self.flying, response) {
+            Some(event) => {
+                self.flying = None;
+                Move::Want(Wanted::Acknowledgement(event))
+            }
+            None => Move::nothing(alloc),
+        }
+    }
+
+    /// Processes a command. Once the release was requested, nothing is answered.
+    ///
+    /// Errors: out of memory.
+    fn on_command(
+        &mut self,
+        alloc: A,
+        released: bool,
+        command: &Command<A>,
+    ) -> Result<Move<A>, SessionFault>
+        requires roomy { IsRoomy self.old.association.established }
+        ensures reaction { IfOk result (λ found. move_reaction (delivery_view self.new) found ≡ on_command (delivery_view self.old) released command.now) }
+        ensures writable { IfOk result IsSendableMove }
+        ensures established { self.new.association.established ≡ self.old.association.established }
+        ensures memory { IfErr result (λ e. e ≡ Memory) }
+    {
+        if released {
+            return Ok(Move::nothing(alloc));
+        }
+        match command {
+            Command::Response(response) => Ok(self.on_response(alloc, response)),
+            Command::Cancel(_) => Ok(Move::nothing(alloc)),
+            Command::Request(request) => Ok(Move::Say(self.refuse(alloc, request)?)),
+        }
+    }
+
+    /// Processes a whole message; if its command can't be read, the association is aborted.
+    ///
+    /// Errors: out of memory.
+    fn on_message(
+        &mut self,
+        alloc: A,
+        released: bool,
+        message: &RawMessage<A>,
+    ) -> Result<Move<A>, SessionFault>
+        requires roomy { IsRoomy self.old.association.established }
+        ensures reaction { IfOk result (λ found. Understands (delivery_view self.old) released message.now (move_reaction (delivery_view self.new) found)) }
+        ensures writable { IfOk result IsSendableMove }
+        ensures established { self.new.association.established ≡ self.old.association.established }
+        ensures memory { IfErr result (λ e. e ≡ Memory) }
+    {
+        match read_command(alloc, message.command.as_slice()) {
+            Ok(command) => self.on_command(alloc, released, &command),
+            Err(fault) => {
+                unless_no_room(fault)?;
+                Ok(Move::Say(self.abort(alloc)?))
+            }
+        }
+    }
+
+    /// Processes a PDV of an established association.
+    ///
+    /// Errors: out of memory.
+    fn assemble(
+        &mut self,
+        alloc: A,
+        released: bool,
+        established: Established<A>,
+        pdv: &Pdv<A>,
+    ) -> Result<Move<A>, SessionFault>
+        requires roomy { 8 ≤ established.parameters.max }
+        ensures reaction { IfOk result (λ found. Assembles (delivery_view self.old) (established_view established) released (fed established.assembler.ids established.assembler.begun pdv.now) (move_reaction (delivery_view self.new) found)) }
+        ensures writable { IfOk result IsSendableMove }
+        ensures roomy { IsRoomy self.new.association.established }
+        ensures memory { IfErr result (λ e. e ≡ Memory) }
+    {
+        let mut established = established;
+        let came = established.assembler.feed(pdv);
+        self.association.established = Some(established);
+        match came {
+            Ok(None) => Ok(Move::nothing(alloc)),
+            Ok(Some(message)) => self.on_message(alloc, released, &message),
+            Err(fault) => {
+                unless_memory(fault)?;
+                Ok(Move::Say(self.abort(alloc)?))
+            }
+        }
+    }
+
+    /// Processes a PDV in a state in which messages are received.
+    ///
+    /// Errors: out of memory.
+    fn receive(&mut self, alloc: A, released: bool, pdv: &Pdv<A>) -> Result<Move<A>, SessionFault>
+        requires roomy { IsRoomy self.old.association.established }
+        ensures reaction { IfOk result (λ found. Receives (delivery_view self.old) (option_map established_view self.old.association.established) released pdv.now (move_reaction (delivery_view self.new) found)) }
+        ensures writable { IfOk result IsSendableMove }
+        ensures roomy { OnOk result (IsRoomy self.new.association.established) }
+        ensures memory { IfErr result (λ e. e ≡ Memory) }
+    {
+        match self.association.established.take() {
+            Some(established) => self.assemble(alloc, released, established, pdv),
+            None => Ok(Move::nothing(alloc)),
+        }
+    }
+
+    /// Processes a PDV of a P-DATA-TF.
+    ///
+    /// Errors: out of memory.
+    pub fn on_fragment(&mut self, alloc: A, pdv: &Pdv<A>) -> Result<Move<A>, SessionFault>
+        requires roomy { IsRoomy self.old.association.established }
+        ensures reaction { IfOk result (λ found. OnFragment (delivery_view self.old) pdv.now (next_of true true events.Data self.old.association.state) (move_reaction (delivery_view self.new) found)) }
+        ensures writable { IfOk result IsSendableMove }
+        ensures roomy { OnOk result (IsRoomy self.new.association.established) }
+        ensures memory { IfErr result (λ e. e ≡ Memory) }
+    {
+        let event = UlEvent::Data;
+        let Some((action, state)) = next(self.association.state, event, REQUESTOR, true) else {
+            return Ok(Move::nothing(alloc));
+        };
+        self.association.transition(event, action, state);
+        match action {
+            UlAction::Dt2 => self.receive(alloc, false, pdv),
+            UlAction::Ar6 => self.receive(alloc, true, pdv),
+            _ => Ok(Move::Say(self.on_action(alloc, action)?)),
+        }
+    }
+}
