@@ -19,7 +19,7 @@ use Rattle.ups_life.specs.declared.watching.Target.TheVariants.{Single, Global, 
 use Rattle.ups_life.specs.Instances.{step_in}
 use Rattle.ups_life.specs.Subscribing.{named_receiver, named_lock, filter_keys, filtered, target_of, subscribed_to, subscribed, place_of, unsubscribed_at, unsubscribed, suspended_for, suspended}
 use Rattle.ups_life.specs.Asking.{asked, created, changed, changed_to, asked_cancel, finds, named_state, transaction_of}
-use Rattle.ups_session.specs.Dispatch.{answered, asking}
+use Rattle.ups_session.specs.Dispatch.{answered_at_once, asking}
 use Rattle.ups_session.specs.Rules.{dispatched, question}
 
 -- the number that tells of out of memory
@@ -145,7 +145,7 @@ asks_lacking {A} offset same operation set status is_same other lost (inl (is, a
 asks_lacking {A} offset same operation set status is_same other lost (inr e) = absurd (asked_not same operation set (e ∙ ap (refusing A) lost))
 
 -- what is refused for another reason is answered with that
-refused : {A : Type 0} (offset : ℤ) (operation : Operation A) (set : List El) (status : Status) → (operation ≡ operations.Echo → ⊥) → asked offset operation set ≡ refusing A status → answered status ≡ dispatched offset operation set
+refused : {A : Type 0} (offset : ℤ) (operation : Operation A) (set : List El) (status : Status) → (operation ≡ operations.Echo → ⊥) → asked offset operation set ≡ refusing A status → answered_at_once status ≡ dispatched offset operation set
 refused offset (operations.Create instance) set status other e = sym (ap question e)
 refused offset (operations.Get instance told_calls) set status other e = sym (ap question e)
 refused offset (operations.Set instance) set status other e = sym (ap question e)
@@ -155,7 +155,7 @@ refused offset operations.Echo set status other e = absurd (other refl)
 refused offset (operations.EventReport instance event) set status other e = sym (ap question e)
 
 pub answers_refused : {A : Type 0} (offset same : ℤ) (operation : Operation A) (set : List El) (status : Status) → same ≡ offset → (operation ≡ operations.Echo → ⊥) → (status ≡ ResourceLimitation → ⊥)
-    → ((status ≡ ResourceLimitation) × (ask : Ask A) × (asked same operation set ≡ Ok ask)) ⊎ (asked same operation set ≡ refusing A status) → answered status ≡ dispatched offset operation set
+    → ((status ≡ ResourceLimitation) × (ask : Ask A) × (asked same operation set ≡ Ok ask)) ⊎ (asked same operation set ≡ refusing A status) → answered_at_once status ≡ dispatched offset operation set
 answers_refused offset same operation set status is_same other kept (inl (is, ask, e)) = absurd (kept is)
 answers_refused {A} offset same operation set status is_same other kept (inr e) =
     refused offset operation set status other (subst (λ (z : ℤ). asked z operation set ≡ refusing A status) is_same e)

@@ -15,7 +15,7 @@ use Rattle.ups_session.specs.WatchedIo.{Output}
 use Rattle.ups_session.specs.Tells.{Told, Tells}
 use Rattle.ups_session.specs.declared.gate.GateCall.TheVariants.{Moment}
 use Rattle.ups_session.specs.Visits.{timed, calls_of, SendsPdus}
-use Rattle.ups_session.specs.Fold.{Indication, fragment, Exchange, Side, Happens}
+use Rattle.ups_session.specs.Fold.{Indication, presentation_data, Exchange, Side, Happens}
 use Rattle.ups_session.specs.Acceptor.{acceptor, Reacts}
 use Rattle.ups_session.specs.Sides.{sending}
 use Rattle.ups_session.specs.Responses.{response}
@@ -77,26 +77,26 @@ asks_on {A} config from association h w m q c0 c1 m0 m1 m2 s s2 o o2 k k2 seen s
     }
 
 -- the fragments so far, and one more
-came_more : {A : Type 0} (k : ℕ) (xs : List (Pdv A)) (p : Pdv A) → take (k + 1) xs ≡ take k xs ++ p ∷ [] → map fragment (take (k + 1) xs) ≡ map fragment (take k xs) ++ fragment p ∷ []
-came_more k xs p e = ap (map fragment) e ∙ map-append fragment (take k xs) (p ∷ [])
+came_more : {A : Type 0} (k : ℕ) (xs : List (Pdv A)) (p : Pdv A) → take (k + 1) xs ≡ take k xs ++ p ∷ [] → map presentation_data (take (k + 1) xs) ≡ map presentation_data (take k xs) ++ presentation_data p ∷ []
+came_more k xs p e = ap (map presentation_data) e ∙ map-append presentation_data (take k xs) (p ∷ [])
 
-came_all : {A : Type 0} (k : ℕ) (xs : List (Pdv A)) → map fragment xs ≡ map fragment (take k xs) ++ map fragment (drop k xs)
-came_all k xs = ap (map fragment) (sym (take-append-drop k xs)) ∙ map-append fragment (take k xs) (drop k xs)
+came_all : {A : Type 0} (k : ℕ) (xs : List (Pdv A)) → map presentation_data xs ≡ map presentation_data (take k xs) ++ map presentation_data (drop k xs)
+came_all k xs = ap (map presentation_data) (sym (take-append-drop k xs)) ∙ map-append presentation_data (take k xs) (drop k xs)
 
 one_more : {A : Type 0} (k : ℕ) (xs : List (Pdv A)) (p : Pdv A) → k < length xs → p ≡ get_or xs k p → take (k + 1) xs ≡ take k xs ++ p ∷ []
 one_more k xs p lt e = take_more xs k p lt ∙ ap (λ q. take k xs ++ q ∷ []) (sym e)
 
 pub fragments_on : {A L W : Type 0} (side : Side A L W) (k : ℕ) (xs : List (Pdv A)) (p : Pdv A) (association mid after : L) (u v w : World A) → k < length xs → p ≡ get_or xs k p
-    → Performed (Happens side) (map fragment (take k xs)) association mid u v okay → Performed (Happens side) (fragment p ∷ []) mid after v w okay → Performed (Happens side) (map fragment (take (k + 1) xs)) association after u w okay
+    → Performed (Happens side) (map presentation_data (take k xs)) association mid u v okay → Performed (Happens side) (presentation_data p ∷ []) mid after v w okay → Performed (Happens side) (map presentation_data (take (k + 1) xs)) association after u w okay
 fragments_on {A} side k xs p association mid after u v w lt e g h =
     subst (λ (hs : List (Indication A)). Performed (Happens side) hs association after u w okay) (sym (came_more k xs p (one_more k xs p lt e)))
-    (goes_on (Happens side) (map fragment (take k xs)) (fragment p ∷ []) association mid after u v w tt okay g h)
+    (goes_on (Happens side) (map presentation_data (take k xs)) (presentation_data p ∷ []) association mid after u v w tt okay g h)
 
 pub fragments_cut : {A L W : Type 0} (side : Side A L W) (k : ℕ) (xs : List (Pdv A)) (p : Pdv A) (association mid after : L) (u v w : World A) (e : SessionFault) → k < length xs → p ≡ get_or xs k p
-    → Performed (Happens side) (map fragment (take k xs)) association mid u v okay → Performed (Happens side) (fragment p ∷ []) mid after v w (failing e) → Performed (Happens side) (map fragment xs) association after u w (failing e)
+    → Performed (Happens side) (map presentation_data (take k xs)) association mid u v okay → Performed (Happens side) (presentation_data p ∷ []) mid after v w (failing e) → Performed (Happens side) (map presentation_data xs) association after u w (failing e)
 fragments_cut {A} side k xs p association mid after u v w e lt is g h =
-    let some : Performed (Happens side) (map fragment (take (k + 1) xs)) association after u w (failing e) =
+    let some : Performed (Happens side) (map presentation_data (take (k + 1) xs)) association after u w (failing e) =
     subst (λ (hs : List (Indication A)). Performed (Happens side) hs association after u w (failing e)) (sym (came_more k xs p (one_more k xs p lt is)))
-    (goes_on (Happens side) (map fragment (take k xs)) (fragment p ∷ []) association mid after u v w tt (failing e) g h) in
+    (goes_on (Happens side) (map presentation_data (take k xs)) (presentation_data p ∷ []) association mid after u v w tt (failing e) g h) in
     subst (λ (hs : List (Indication A)). Performed (Happens side) hs association after u w (failing e)) (sym (came_all (k + 1) xs))
-    (goes_cut (Happens side) (map fragment (take (k + 1) xs)) (map fragment (drop (k + 1) xs)) association after after u w e some)
+    (goes_cut (Happens side) (map presentation_data (take (k + 1) xs)) (map presentation_data (drop (k + 1) xs)) association after after u w e some)

@@ -28,8 +28,8 @@ use Rattle.ups_life.specs.declared.request.Reply.TheVariants.{Status as Replied}
 use Rattle.ups_session.specs.declared.fault.End.{End}
 use Rattle.ups_session.specs.declared.fault.End.TheVariants.{Closed, Rejected}
 use Rattle.ups_session.specs.Association.{ParametersView, EstablishedView, AssociationView}
-use Rattle.ups_session.specs.Dispatch.{DispatchView, answered, asking, AwaitedRequestView}
-use Rattle.ups_session.specs.Fold.{Indication, event, request, confirmation, fragment, invalid, Side}
+use Rattle.ups_session.specs.Dispatch.{DispatchView, answered_at_once, asking, AwaitedRequestView}
+use Rattle.ups_session.specs.Fold.{Indication, event, request, confirmation, presentation_data, invalid, Side}
 use Rattle.ups_session.specs.Rules.{Dispatches}
 use Rattle.ups_session.specs.Sides.{ReactionOf, sending, transition, on_local_event, on_action, on_event, unexpected, reason_of, ids, aborting, with_begun, context_at}
 use Rattle.ups_session.specs.Responses.{response}
@@ -71,7 +71,7 @@ on_message_effect requestor association (Some (send, waiting)) = record { associ
 
 -- a request is answered at once, or its reply is awaited
 abbrev pub message_effect_of : {A : Type 0} → ParametersView → AcceptedContext → RequestCommand A → DispatchView A → MessageEffect A
-message_effect_of parameters context command (answered status) = Some (response parameters.max context command (Replied status), None)
+message_effect_of parameters context command (answered_at_once status) = Some (response parameters.max context command (Replied status), None)
 message_effect_of parameters context command (asking ask) = Some ([], Some (record { ae = parameters.ae; ask = ask; max = parameters.max; context = context; command = command }))
 
 -- A response that nobody asked for is taken, and not answered; and so is a C-CANCEL, since each C-FIND is answered whole
@@ -110,7 +110,7 @@ abbrev pub Reacts : {A : Type 0} → Bool → Config → AssociationView A → I
 Reacts requestor config association (event e) reaction = reaction ≡ on_event requestor unexpected association e (next_of requestor true e association.state)
 Reacts requestor config association (request rq) reaction = reaction ≡ requested requestor association (outcome config.ae rq)
 Reacts requestor config association (confirmation ac) reaction = reaction ≡ on_event requestor unexpected association events.AssociateAc (next_of requestor true events.AssociateAc association.state)
-Reacts requestor config association (fragment pdv) reaction = Indicated requestor config.offset association pdv (next_of requestor true events.Data association.state) reaction
+Reacts requestor config association (presentation_data pdv) reaction = Indicated requestor config.offset association pdv (next_of requestor true events.Data association.state) reaction
 Reacts requestor config association (invalid f) reaction = reaction ≡ on_event requestor (reason_of f) association events.Invalid (next_of requestor true events.Invalid association.state)
 
 -- the reply of the service is sent as the response to the request

@@ -16,7 +16,7 @@ use Rattle.ups_session.specs.declared.association.Established.{Established}
 use Rattle.ups_session.specs.declared.association.Association.{Association}
 use Rattle.ups_session.specs.declared.association.Parameters.{Parameters}
 use Rattle.ups_session.specs.Association.{ParametersView, EstablishedView, AssociationView}
-use Rattle.ups_session.specs.Dispatch.{DispatchView, answered, asking, AwaitedRequestView}
+use Rattle.ups_session.specs.Dispatch.{DispatchView, answered_at_once, asking, AwaitedRequestView}
 use Rattle.ups_session.specs.Acceptor.{MessageEffect}
 use Rattle.ups_session.specs.Sides.{ReactionOf}
 
@@ -32,7 +32,7 @@ association_view association = record { state = association.state; established =
 
 -- the outcome of a request
 abbrev pub dispatch_view : {A : Type 0} → Dispatch A → DispatchView A
-dispatch_view (Answer status) = answered status
+dispatch_view (Answer status) = answered_at_once status
 dispatch_view (Question ask) = asking ask
 
 -- the request whose reply is awaited

@@ -37,7 +37,7 @@ use Rattle.ups_session.specs.declared.delivery.Wanted.TheVariants.{Pendings, Ack
 use Rattle.ups_session.specs.declared.fault.End.TheVariants.{Closed}
 use Rattle.ups_session.specs.Association.{EstablishedView, AssociationView}
 use Rattle.ups_session.specs.Delivery.{DeliveryView}
-use Rattle.ups_session.specs.Fold.{Indication, event, request, confirmation, fragment, invalid, Reaction, Side}
+use Rattle.ups_session.specs.Fold.{Indication, event, request, confirmation, presentation_data, invalid, Reaction, Side}
 use Rattle.ups_session.specs.Proposing.{association_request, agreement, accepted_event_context}
 use Rattle.ups_session.specs.Reports.{route_of, report_pdus}
 use Rattle.ups_session.specs.Responses.{bare_response}
@@ -199,7 +199,7 @@ Delivers config ae d (event events.TransportConfirmed) reaction = reaction ≡ p
 Delivers config ae d (event e) reaction = reaction ≡ along d (on_event true unexpected d.association e (next_of true true e d.association.state))
 Delivers config ae d (request rq) reaction = reaction ≡ along d (on_event true unexpected d.association events.AssociateRq (next_of true true events.AssociateRq d.association.state))
 Delivers config ae d (confirmation ac) reaction = reaction ≡ on_answer ae d ac (next_of true true events.AssociateAc d.association.state)
-Delivers config ae d (fragment pdv) reaction = OnFragment d pdv (next_of true true events.Data d.association.state) reaction
+Delivers config ae d (presentation_data pdv) reaction = OnFragment d pdv (next_of true true events.Data d.association.state) reaction
 Delivers config ae d (invalid f) reaction = reaction ≡ along d (on_event true (reason_of f) d.association events.Invalid (next_of true true events.Invalid d.association.state))
 
 abbrev pub GoesOnBy : {A : Type 0} → DeliveryView A → Wanted → Reply A → DeliveryReaction A → Type 0

@@ -17,7 +17,7 @@ use Rattle.ups_life.specs.declared.request.Ask.{Ask}
 use Rattle.ups_life.specs.declared.status.Status.{Status}
 use Rattle.ups_life.specs.declared.status.Status.TheVariants.{Success, UnrecognizedOperation, NoSuchSopClass, NoSuchActionType, ProcessingFailure, UnableToProcess}
 use Rattle.ups_life.specs.Asking.{asked}
-use Rattle.ups_session.specs.Dispatch.{DispatchView, answered, asking}
+use Rattle.ups_session.specs.Dispatch.{DispatchView, answered_at_once, asking}
 
 -- the operations of each SOP class (PS3.4 annexes A and CC.2)
 abbrev pub supports_operation : {A : Type 0} → SopClass → Operation A → Bool
@@ -72,10 +72,10 @@ unreadable_status operation = ProcessingFailure
 -- from UTC, in minutes.
 abbrev pub question : {A : Type 0} → Result (Ask A) Status → DispatchView A
 question (Ok ask) = asking ask
-question (Err status) = answered status
+question (Err status) = answered_at_once status
 
 abbrev pub dispatched : {A : Type 0} → ℤ → Operation A → List El → DispatchView A
-dispatched offset operations.Echo set = answered Success
+dispatched offset operations.Echo set = answered_at_once Success
 dispatched offset operation set = question (asked offset operation set)
 
 -- The outcome of a request with its data set on a context. It is refused, in this order, where the context's SOP class
@@ -87,7 +87,7 @@ Dispatches offset context request body dispatch_view =
     MatchBool (accepts_sop_class context.sop_class request.operation request.sop_class) (
     MatchBool (supports_action_type context.sop_class request.operation) (
     ((set : List El) × HasSet context.transfer_syntax body set × (dispatch_view ≡ dispatched offset request.operation set))
-    ⊎ (((set : List El) → HasSet context.transfer_syntax body set → ⊥) × (dispatch_view ≡ answered (unreadable_status request.operation))))
-    (dispatch_view ≡ answered NoSuchActionType))
-    (dispatch_view ≡ answered NoSuchSopClass))
-    (dispatch_view ≡ answered UnrecognizedOperation)
+    ⊎ (((set : List El) → HasSet context.transfer_syntax body set → ⊥) × (dispatch_view ≡ answered_at_once (unreadable_status request.operation))))
+    (dispatch_view ≡ answered_at_once NoSuchActionType))
+    (dispatch_view ≡ answered_at_once NoSuchSopClass))
+    (dispatch_view ≡ answered_at_once UnrecognizedOperation)

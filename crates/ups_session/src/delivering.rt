@@ -8,7 +8,7 @@ ghost use Rattle.ups_life.specs.Settings.{Settings};
 ghost use Rattle.ups_life.specs.declared.entry.Entry.{Entry};
 ghost use Rattle.ups_manager.specs.Law.{Others};
 ghost use Rattle.ups_session.specs.declared.delivery.Wanted.TheVariants.{Pendings, Acknowledgement};
-ghost use Rattle.ups_session.specs.Fold.{event as happened, request as requested, confirmation as agreed, fragment as delivered, invalid as arrived, indications, Happens};
+ghost use Rattle.ups_session.specs.Fold.{event as happened, request as requested, confirmation as agreed, presentation_data as delivered, invalid as arrived, indications, Happens};
 ghost use Rattle.ups_session.specs.Requestor.{awaiting, requestor, unconnected, proposed};
 ghost use Rattle.ups_session.specs.Deliveries.{delivery_view, move_reaction, IsSendableMove};
 ghost use Rattle.ups_session.specs.Effects.{IsRoomy};

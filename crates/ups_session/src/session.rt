@@ -5,7 +5,7 @@ ghost use Rattle.std.specs.Io.KnownBytes.{Consumes};
 ghost use Rattle.ups_pdu.specs.declared.pdu.Pdu.TheVariants as pdus;
 ghost use Rattle.ups_pdu.specs.Spelling.{SpellsPdu};
 ghost use Rattle.ups_assoc.specs.declared.negotiating.Config.{Config};
-ghost use Rattle.ups_session.specs.Fold.{Indication, event as happened, request as requested, confirmation as agreed, fragment as delivered, invalid as arrived, indications, Happens};
+ghost use Rattle.ups_session.specs.Fold.{Indication, event as happened, request as requested, confirmation as agreed, presentation_data as delivered, invalid as arrived, indications, Happens};
 ghost use Rattle.ups_session.specs.Acceptor.{acceptor, opened, Reacts};
 ghost use Rattle.ups_session.specs.Effects.{association_view, awaited_view, reaction_of, IsSendable, IsRoomy};
 ghost use Rattle.ups_session.specs.Association.{AssociationView};

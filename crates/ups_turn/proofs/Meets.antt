@@ -16,7 +16,7 @@ use Rattle.ups_turn.specs.declared.view.Part.{Part}
 use Rattle.ups_turn.specs.declared.view.View.{View}
 use Rattle.ups_turn.specs.declared.view.Opening.{Opening}
 use Rattle.ups_turn.specs.Rule.{Kept, FitsView, Slot, Behind, BeginsHistory, IsPassNumber, settings_of, is_mine, one_if, tickets, turns, draws, passes, count_numbered}
-use Rattle.ups_turn.specs.Plays.{Knows, note_of, joined_views, nobody, first_part, other_parts, dealt, kept_back, catching_up, settled, CaughtUp, SettlesNotes, longer}
+use Rattle.ups_turn.specs.Plays.{Knows, note_of, joined_views, spent_view, first_part, other_parts, dealt, kept_back, catching_up, settled, CaughtUp, SettlesNotes, longer}
 use Rattle.ups_turn.specs.Pass.{resting, part}
 use Rattle.std.proofs.lemmas.Bool.Decides.{nat_tests}
 use Rattle.ups_turn.proofs.Sums.{total_set, total_same, each_set}
@@ -192,15 +192,15 @@ module _ {A : Type 0} where
       }
 
   -- a sum, after two views were made one
-  total_join : (f : (View A) → ℕ) (views : List (View A)) (id other : ℕ) (v w both : (View A)) → get_elem? views id ≡ some v → get_elem? (set views id both) other ≡ some w → f both + f nobody ≡ f v + f w
-      → sum_by f (set (set views id both) other nobody) ≡ sum_by f views
+  total_join : (f : (View A) → ℕ) (views : List (View A)) (id other : ℕ) (v w both : (View A)) → get_elem? views id ≡ some v → get_elem? (set views id both) other ≡ some w → f both + f spent_view ≡ f v + f w
+      → sum_by f (set (set views id both) other spent_view) ≡ sum_by f views
   total_join f views id other v w both at there same =
       let a = total_set f views id v both at in
-      let b = total_set f (set views id both) other w nobody there in
+      let b = total_set f (set views id both) other w spent_view there in
       omega arith
 
   pub join_allowed : (o : Opening A) (id other : ℕ) (v w : (View A)) → w.ticket ≡ None → w.turn ≡ false → v.turn ≡ false → (0 < length w.parts → 0 < length v.parts)
-      → Joins (Kept o) id v other w (joined_views v w) nobody
+      → Joins (Kept o) id v other w (joined_views v w) spent_view
   join_allowed o id other v w none w_off v_off first s k at ne there =
       let fits = k.each id v at in
       let was = ⊎_elim (λ (t : (other ≡ id) × (joined_views v w ≡ w)). absurd (ne t.0)) (λ (t : (other ≢ id) × (get_elem? s.views other ≡ some w)). t.1) (at_set s.views id other (joined_views v w) w there) in
@@ -216,7 +216,7 @@ module _ {A : Type 0} where
         since = k.since;
         words = k.words;
         slot = subst (Slot (settings_of o) k.log s.homes) (sym (total_join turns s.views id other v w b at there (let o = ap one_if w_off in omega arith))) k.slot;
-        each = each_set (FitsView o k.log k.serving) (set s.views id b) other nobody
+        each = each_set (FitsView o k.log k.serving) (set s.views id b) other spent_view
             (λ j u apart e. each_set (FitsView o k.log k.serving) s.views id b (λ i x ne' h. k.each i x h)
             (record {
               settings_is = λ h. fits.settings_is (some_part (length v.parts) (length w.parts) (omega arith) first);

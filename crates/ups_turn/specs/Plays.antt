@@ -118,8 +118,8 @@ abbrev pub unset : Settings
 unset = record { peers = []; keep = 0; offset = pos 0; limit = 0 }
 
 -- the view of a seat that was joined to another
-abbrev pub nobody : {A : Type 0} → View A
-nobody = record { settings = unset; draws = 0; ticket = None; turn = false; parts = []; notes = [] }
+abbrev pub spent_view : {A : Type 0} → View A
+spent_view = record { settings = unset; draws = 0; ticket = None; turn = false; parts = []; notes = [] }
 
 abbrev pub first_part : {A : Type 0} → List (Part A) → List (Part A)
 first_part [] = []

@@ -87,11 +87,11 @@ impl<A: Allocator + Copy> Split<View<A>> for Deal {
 pub struct Both;
 
 impl<A: Allocator + Copy> Join<View<A>> for Both {
-    ghost use Rattle.ups_turn.specs.Plays.{joined_views, nobody};
+    ghost use Rattle.ups_turn.specs.Plays.{joined_views, spent_view};
 
     ghost both = { joined_views };
 
-    ghost spent = { nobody };
+    ghost spent = { spent_view };
 }
 
 /// The words and the slot, as all passes share them.

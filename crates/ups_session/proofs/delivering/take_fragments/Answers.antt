@@ -2,7 +2,7 @@ use Rattle.std.proofs.Common.{rules, List, map, subst}
 use Rattle.std.proofs.lemmas.List.{take_all}
 use Rattle.std.proofs.lemmas.Result.{err_from_is_err_and}
 use Rattle.ups_pdu.specs.declared.pdv.Pdv.{Pdv}
-use Rattle.ups_session.specs.Fold.{fragment, Happens}
+use Rattle.ups_session.specs.Fold.{presentation_data, Happens}
 use Rattle.ups_session.specs.Requestor.{requestor}
 use Rattle.ups_session.specs.Deliveries.{delivery_view}
 use Rattle.ups_session.specs.Session.{okay}
@@ -28,7 +28,7 @@ loop-pdv-preserved g c = (
 
 pub returns-clause-performed : goal.returns-clause-performed
 returns-clause-performed g c = λ config.
-    subst (λ (l : List (Pdv g.row.A.Denot)). Performed (Happens (requestor config c.args.ae)) (map fragment l) (delivery_view c.args.delivery.now) (delivery_view c.loop-pdv.delivery)
+    subst (λ (l : List (Pdv g.row.A.Denot)). Performed (Happens (requestor config c.args.ae)) (map presentation_data l) (delivery_view c.args.delivery.now) (delivery_view c.loop-pdv.delivery)
     (world c.args.writer.now (g.G.Gate.told c.args.gate.now) (g.S.Service.settings c.args.service.now) (g.S.Service.others c.args.service.now) (g.S.Service.caller c.args.service.now) (g.S.Service.seen c.args.service.now))
     (world c.loop-pdv.writer (g.G.Gate.told c.loop-pdv.gate) (g.S.Service.settings c.loop-pdv.service) (g.S.Service.others c.loop-pdv.service) (g.S.Service.caller c.loop-pdv.service) (g.S.Service.seen c.loop-pdv.service)) okay)
     (take_all c.loop-pdv.pdv-index c.args.pdvs.now (search rules)) (c.loop-pdv.invariant.1 config)
