@@ -12,13 +12,10 @@ built with checks (`rt try`) may need more memory: the last line tells how much 
     a byte a second     from the first byte, in the body of an association request, and in the header and in the body of a
                         P-DATA-TF: such a peer loses its worker within 3 limits
     never read          200 C-FINDs with 50 answers of 10 KB each, of which the peer reads none: within 3 limits
-    1,000 silent peers  say nothing. Each takes a worker for one limit when its turn comes, so the queue takes 250 limits at
-                        most, 750 s. (The listener's backlog keeps most of them out, and the kernel of a peer tries anew for two
-                        minutes, so that it takes some four.) A working peer that comes behind them, and tries anew when
-                        it can't connect, is served within that time and one limit more. When they have been hung up on,
-                        or have given up, all workers are back within one limit
+    1,000 silent peers  connect at the same time and say nothing. A connection that says nothing is closed where another one
+                        waits, so a working peer that comes behind them is served within one limit of 10 seconds
 
-It starts the server on a free port of this machine and ends by itself, in five or six minutes. It prints a line for each
+It starts the server on a free port of this machine and ends by itself, in two or three minutes. It prints a line for each
 trial that doesn't agree, and in the end how many agree. It ends with 1 where one doesn't.
 """
 
@@ -27,7 +24,6 @@ import contextlib
 import os
 import random
 import resource
-import select
 import signal
 import socket
 import struct
@@ -45,8 +41,7 @@ WORKERS = 4
 LIMIT = 3
 SLOW = 3 * LIMIT  # how long a peer may hold its worker that sends or reads slowly
 SILENT = 1000
-QUEUE = -(-SILENT // WORKERS) * LIMIT
-QUIET = 70  # a connection that the backlog keeps out tries anew after 64 s at most
+QUEUE = 10  # the time limit of the server that silent peers crowd
 MEMORY = 100_000_000
 FAULTS = (OSError, EOFError, AssertionError)
 
@@ -231,47 +226,26 @@ def hostile_trial(server, tally, name, hostile, seconds):
     tally.tell(f"{name}, when they are gone", all_back(server.port, LIMIT))
 
 
-def stubborn(port, seconds, result):
-    """A working peer that tries anew where it can't connect: after how long it was served."""
+def served_behind(port, seconds):
+    """After how long a working peer is served that tries anew where it can't connect, or None where it isn't in time."""
     began = time.monotonic()
     while time.monotonic() - began < seconds:
         with contextlib.suppress(*FAULTS):
-            peer = connect(port, 5)
-            peer.settimeout(seconds)
-            caller = Caller.__new__(Caller)
-            caller.socket, caller.left = peer, b""
-            peer.sendall(REQUEST)
-            assert caller.pdu()[0] == 2 and caller.ask(ECHO) == 0
-            caller.release()
-            result.append(time.monotonic() - began)
-            return
+            peer = Caller(port, seconds)
+            assert peer.ask(ECHO) == 0
+            peer.release()
+            return time.monotonic() - began
+    return None
 
 
-def wait_for_end(peers, seconds):
-    """Waits until each connection was hung up on or given up, or none was for a while; at most so many seconds."""
-    poll, left = select.poll(), {it.fileno() for it in peers}
-    for it in left:
-        poll.register(it, select.POLLIN)
-    last = time.monotonic()
-    deadline = last + seconds
-    while left and time.monotonic() < min(deadline, last + QUIET):
-        for number, _ in poll.poll(1000):
-            poll.unregister(number)
-            left.discard(number)
-            last = time.monotonic()
-
-
-def silent_trial(server, tally):
-    """1,000 silent peers in the queue, and a working peer behind them."""
-    with contextlib.ExitStack() as stack:
-        peers, served = silent(server.port, SILENT, stack), []
-        behind = threading.Thread(target=stubborn, args=(server.port, QUEUE + LIMIT, served), daemon=True)
-        behind.start()
-        wait_for_end(peers, QUEUE)
-        tally.tell(f"{SILENT} silent peers, when their time is over", all_back(server.port, LIMIT))
-        behind.join(LIMIT)
-        tally.tell("a peer behind them", None if served else f"it is not served within {QUEUE + LIMIT} s")
-        return served
+def silent_trial(program, tally):
+    """Silent peers at a server of its own, and a working peer behind them: after how long that was served, and the memory."""
+    with Server(program, "--associations", str(WORKERS), "--timeout", str(QUEUE)) as server, contextlib.ExitStack() as stack:
+        silent(server.port, SILENT, stack)
+        waited = served_behind(server.port, QUEUE)
+        tally.tell(f"a peer behind {SILENT} silent ones", None if waited else f"it is not served within {QUEUE} s")
+        tally.tell(f"{SILENT} silent peers, all workers", all_back(server.port, QUEUE))
+        return waited, status(server, "VmHWM")
 
 
 def status(server, field):
@@ -294,15 +268,14 @@ def end_trial(server, tally):
 
 def main():
     parser = argparse.ArgumentParser(description=__doc__, formatter_class=argparse.RawDescriptionHelpFormatter)
-    parser.add_argument("--no-queue", action="store_true", help="leave the queue of silent peers out, which takes minutes")
     parser.add_argument("program", nargs="*", default=[os.path.join(HERE, "crates/upsd/out/upsd")],
                         help="the program, and words before those of `serve` (default: crates/upsd/out/upsd, which `rt run` builds)")
     asked = parser.parse_args()
     most = resource.getrlimit(resource.RLIMIT_NOFILE)[1]
     resource.setrlimit(resource.RLIMIT_NOFILE, (most, most))
     signal.signal(signal.SIGALRM, lambda *_: sys.exit("abuse.py: it does not end"))
-    signal.alarm(QUEUE + 300)
-    tally, waited = Tally(), ""
+    signal.alarm(400)
+    tally = Tally()
     with Server(asked.program, "--associations", str(WORKERS), "--timeout", str(LIMIT)) as server:
         tally.tell("before all", all_back(server.port, LIMIT))
         before, first = threads(server), status(server, "VmHWM")
@@ -317,13 +290,13 @@ def main():
             (f"{SILENT} silent peers that leave", leave_silently, LIMIT),
         ):
             hostile_trial(server, tally, name, hostile, seconds)
-        if not asked.no_queue:
-            served = silent_trial(server, tally)
-            waited = f", a peer behind {SILENT} silent ones served after {served[0]:.0f} s" if served else ""
         most = status(server, "VmHWM")
-        tally.tell("memory", None if most * 1024 < MEMORY else f"VmHWM is {most * 1024:,} bytes")
         tally.tell("threads", None if holds(lambda: threads(server) == before, LIMIT) else f"{threads(server)}, and {before} at the start")
         end_trial(server, tally)
+    waited, crowded = silent_trial(asked.program, tally)
+    most = max(most, crowded)
+    tally.tell("memory", None if most * 1024 < MEMORY else f"VmHWM is {most * 1024:,} bytes")
+    waited = f", a peer behind {SILENT} silent ones served after {waited:.1f} s" if waited else ""
     tally.end(f"VmHWM {first / 1024:.1f} MiB at the start, {most / 1024:.1f} MiB in the end{waited}")
 
 

@@ -6,9 +6,10 @@ use fixtures::vectors::{
 use fixtures::{bytes_of, bytes_of_all};
 use std::alloc::Global;
 use std::io::{self, Read, Write};
-use std::net::{Net, TcpListener, TcpStream};
+use std::net::{Net, SocketAddr, TcpListener, TcpStream};
 use std::test::Fail;
 use std::time::Duration;
+use ups_net::Door;
 
 /// For how many seconds a peer waits for bytes.
 const PATIENCE: u64 = 10;
@@ -38,12 +39,11 @@ impl Lines {
     }
 }
 
-/// Connects to a listener. No read of the connection waits forever.
+/// Connects to an address. No read of the connection waits forever.
 fn connect<R: Net<Listener = TcpListener, Stream = TcpStream>>(
     rt: &R,
-    listener: &TcpListener,
+    address: SocketAddr,
 ) -> io::Result<TcpStream> {
-    let address = listener.local_addr()?;
     let patience = Duration::from_secs(PATIENCE);
     let stream = TcpStream::connect_timeout(rt, &address, patience)?;
     stream.set_read_timeout(Some(patience))?;
@@ -55,17 +55,34 @@ pub(crate) fn knock<R: Net<Listener = TcpListener, Stream = TcpStream>>(
     rt: &R,
     listener: &TcpListener,
 ) {
-    let _ = connect(rt, listener);
+    if let Ok(address) = listener.local_addr() {
+        let _ = connect(rt, address);
+    }
+}
+
+/// Connects so many peers to a server that say nothing.
+pub(crate) fn silent_peers<R: Net<Listener = TcpListener, Stream = TcpStream>>(
+    rt: &R,
+    alloc: Global,
+    server: &Door,
+    count: usize,
+) -> io::Result<Vec<TcpStream>> {
+    let address = server.address()?;
+    let mut peers = Vec::new(alloc);
+    for _ in 0..count {
+        peers.push(connect(rt, address)?)?;
+    }
+    Ok(peers)
 }
 
 /// The client says all of its part to a server at once: all that it is answered.
 pub(crate) fn answered<R: Net<Listener = TcpListener, Stream = TcpStream>>(
     rt: &R,
     alloc: Global,
-    server: &TcpListener,
+    server: &Door,
     lines: &Lines,
 ) -> io::Result<Vec<u8>> {
-    let mut stream = connect(rt, server)?;
+    let mut stream = connect(rt, server.address()?)?;
     stream.write_all(&lines.asked)?;
     let mut answer = Vec::new(alloc);
     stream.read_to_end(&mut answer)?;

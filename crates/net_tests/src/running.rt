@@ -3,7 +3,7 @@ ghost use Rattle.std.specs.Prelude.{◌≡◌, ◌≤◌, All, IfOk, length};
 ghost use denote.Param.Send.{IsSync};
 ghost use Rattle.ups_life.specs.Settings.{IsMoment};
 
-use crate::peers::{Lines, answered, knock, watched};
+use crate::peers::{Lines, answered, knock, silent_peers, watched};
 use fixtures::vectors::{
     ACCEPTED, CREATED, EVENT_REPORT, EVENT_REQUEST, EVENT_STATE, GOT, GOT_STEP, RELEASE, RELEASED,
 };
@@ -21,7 +21,7 @@ use ups_dataset::DataSet;
 use ups_dataset::dictionary::*;
 use ups_life::{Entry, Peer, Reply, Request, StepUid, Target};
 use ups_manager::{Call, Manager};
-use ups_net::{Terms, Watcher, run};
+use ups_net::{Door, Terms, Watcher, run};
 use ups_pdu::Ae;
 use ups_turn::{Desk, Pass};
 
@@ -44,7 +44,7 @@ struct Ended {
 /// Errors: a thread of a peer can't be started.
 fn run_with_peers<R>(
     rt: &R,
-    listener: &TcpListener,
+    door: &Door,
     desk: &Desk<Global>,
     passes: Vec<Pass<Global>>,
     terms: &Terms,
@@ -67,13 +67,13 @@ where
             ensures stay { IfOk result (λ ended. All (λ p. p.table ≡ desk.entry.now.table) ended.passes.items) }
         {
             let alloc = terms.alloc;
-            let Ok(client) = scope.spawn(move || answered(rt, alloc, listener, lines)) else {
+            let Ok(client) = scope.spawn(move || answered(rt, alloc, door, lines)) else {
                 return Err(io::Error::other("no thread for the client"));
             };
             let Ok(watcher) = scope.spawn(move || watched(alloc, watching, lines)) else {
                 return Err(io::Error::other("no thread for the watcher"));
             };
-            let (began, passes) = run(rt, listener, desk, passes, terms);
+            let (began, passes) = run(rt, door, desk, passes, terms);
             knock(rt, watching);
             Ok(Ended {
                 began,
@@ -213,11 +213,11 @@ fn terms_of(alloc: Global, port: u16) -> Result<Terms, Fail> {
     })
 }
 
-/// Runs a server with its peers on listeners of theirs.
+/// Runs a server with its peers, at a door of its own and a listener of the watcher.
 fn outcome_on<R>(
     rt: &R,
     terms: &Terms,
-    listener: &TcpListener,
+    door: &Door,
     watching: &TcpListener,
 ) -> Result<Outcome, Fail>
 where
@@ -239,7 +239,7 @@ where
         passes,
         answer,
         heard,
-    } = run_with_peers(rt, listener, &desk, passes, terms, watching, &lines)?;
+    } = run_with_peers(rt, door, &desk, passes, terms, watching, &lines)?;
     let Ok(manager) = desk.close(passes) else {
         return Err("not closed".into());
     };
@@ -257,7 +257,11 @@ fn closed_port<R: Net<Listener = TcpListener, Stream = TcpStream>>(rt: &R) -> io
     Ok(listener.local_addr()?.port())
 }
 
+/// How many peers say nothing, and have connected before the client.
+const SILENT: usize = 3;
+
 /// Runs a server with its peers, on ports of this host. The deliverer looks for W1 where it listens, or where nobody does.
+/// The client is behind peers that say nothing, so that it is served only where these make way.
 fn outcome_of<R>(rt: &R, is_reachable: bool) -> Result<Outcome, Fail>
 where
     R: AllocGlobal
@@ -268,7 +272,7 @@ where
         + Sync
         + Net<Listener = TcpListener, Stream = TcpStream>,
 {
-    let listener = TcpListener::bind(rt, "127.0.0.1:0")?;
+    let door = Door::new(TcpListener::bind(rt, "127.0.0.1:0")?);
     let watching = TcpListener::bind(rt, "127.0.0.1:0")?;
     let port = if is_reachable {
         watching.local_addr()?.port()
@@ -276,7 +280,8 @@ where
         closed_port(rt)?
     };
     let terms = terms_of(rt.alloc(), port)?;
-    outcome_on(rt, &terms, &listener, &watching)
+    let _silent = silent_peers(rt, rt.alloc(), &door, SILENT)?;
+    outcome_on(rt, &terms, &door, &watching)
 }
 
 /// Whether these are the bytes that texts stand for.

@@ -3,16 +3,15 @@ use mir.Syntax.{Lifetime}
 use base.Fml.{Lft}
 use denote.Ref.{ShrRef}
 use denote.Param.Send.{IsSend, IsSync, sendable, shr_send}
-use Rattle.std.proofs.net.tcp.TcpListener.TheSendSync as listener
 use Rattle.std.proofs.sync.atomic.AtomicU64.TheSendSync as word
 use Rattle.std.proofs.Crossing.{crosses}
-use Rattle.std.specs.contracts.net.tcp.TcpListener as Listener
 use Rattle.std.specs.contracts.sync.atomic.AtomicU64 as Word
+use Rattle.ups_net.specs.contracts.door.Door as Door
 use Rattle.ups_net.specs.contracts.terms.Terms as Terms
 use Rattle.ups_net.specs.contracts.watcher.Watcher as Watcher
 
-pub listener_sync : IsSync Listener.the_row
-listener_sync = search (sendable, listener.the_sync) depth 30
+pub door_sync : IsSync Door.the_row
+door_sync = search (sendable, crosses) depth 40
 
 pub word_sync : IsSync Word.the_row
 word_sync = search (sendable, word.the_sync) depth 30
@@ -24,8 +23,8 @@ pub terms_sync : IsSync Terms.the_row
 terms_sync = search (sendable, crosses, watcher_sync) depth 40
 
 -- what a thread is lent of these
-pub listener_lent : (ℓ : Lifetime) (κ : Lft) → IsSend (ShrRef ℓ κ Listener.the_row)
-listener_lent ℓ κ = shr_send ℓ κ Listener.the_row listener_sync
+pub door_lent : (ℓ : Lifetime) (κ : Lft) → IsSend (ShrRef ℓ κ Door.the_row)
+door_lent ℓ κ = shr_send ℓ κ Door.the_row door_sync
 
 pub word_lent : (ℓ : Lifetime) (κ : Lft) → IsSend (ShrRef ℓ κ Word.the_row)
 word_lent ℓ κ = shr_send ℓ κ Word.the_row word_sync

@@ -6,6 +6,7 @@
 
 mod clock;
 mod delivering;
+mod door;
 mod journal;
 mod rounds;
 mod seated;
@@ -19,8 +20,9 @@ mod workers;
 
 pub use clock::{HostClock, moment_of};
 pub use delivering::deliver_rounds;
+pub use door::Door;
 pub use serving::serve_one;
-pub use socket::{next_connection, tune};
+pub use socket::tune;
 pub use sweeping::sweep;
 pub use terms::Terms;
 pub use watcher::Watcher;

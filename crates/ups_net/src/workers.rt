@@ -7,9 +7,9 @@ ghost use Rattle.ups_net.specs.Serving.{ServesAssociations};
 ghost use Rattle.ups_net.specs.Working.{DoesJob};
 
 use crate::delivering::deliver_rounds;
+use crate::door::Door;
 use crate::journal::tell_served;
 use crate::serving::serve_one;
-use crate::socket::next_connection;
 use crate::sweeping::sweep;
 use crate::terms::Terms;
 use log::Log;
@@ -31,10 +31,10 @@ const BEGUN: u64 = 1;
 /// One could not be started, and none begins.
 const CALLED_OFF: u64 = 2;
 
-/// Serves so many associations, one after another, each on the next connection of the listener.
+/// Serves so many associations, one after another, each on the next connection at the door.
 pub fn work<R: Wait + Clock + Log>(
     rt: &R,
-    listener: &TcpListener,
+    door: &Door,
     desk: &Desk<Global>,
     pass: Pass<Global>,
     terms: &Terms,
@@ -45,7 +45,7 @@ pub fn work<R: Wait + Clock + Log>(
 {
     let mut pass = pass;
     for _ in 0..terms.associations {
-        let stream = next_connection(rt, listener, terms.timeout);
+        let stream = door.next_connection(rt, terms.timeout);
         let (after, ended) = serve_one(rt, &stream, desk, pass, terms);
         pass = after;
         tell_served(rt, &ended);
@@ -70,7 +70,7 @@ fn begins<R: Wait>(rt: &R, start: &AtomicU64) -> bool {
 fn do_job<R>(
     rt: &R,
     start: &AtomicU64,
-    listener: &TcpListener,
+    door: &Door,
     desk: &Desk<Global>,
     pass: Pass<Global>,
     terms: &Terms,
@@ -85,7 +85,7 @@ where
         return pass;
     }
     if pass.number() <= terms.workers {
-        return work(rt, listener, desk, pass, terms);
+        return work(rt, door, desk, pass, terms);
     }
     deliver_rounds(rt, desk, pass, terms)
 }
@@ -130,7 +130,7 @@ fn release(start: &AtomicU64, word: u64) {
 /// passes. Where a thread can't be started, or memory runs out before, none begins its work: false, and the passes.
 pub fn run<R>(
     rt: &R,
-    listener: &TcpListener,
+    door: &Door,
     desk: &Desk<Global>,
     passes: Vec<Pass<Global>>,
     terms: &Terms,
@@ -181,7 +181,7 @@ where
                     move || -> Pass<Global>
                         requires { pass.table ≡ desk.now.table }
                         ensures { result.table ≡ pass.table }
-                    { do_job(rt, start, listener, desk, pass, terms) },
+                    { do_job(rt, start, door, desk, pass, terms) },
                 ) {
                     Ok(handle) => handles.push_reserved(handle),
                     Err(refused) => {

@@ -25,7 +25,7 @@ use std::{io, str};
 use ups_assoc::Config;
 use ups_life::{MAX_HISTORY, Peer};
 use ups_manager::Manager;
-use ups_net::{Terms, Watcher, run};
+use ups_net::{Door, Terms, Watcher, run};
 use ups_pdu::Ae;
 use ups_turn::Desk;
 
@@ -84,18 +84,19 @@ pub(crate) fn serve_arguments<'a>(
 /// Listens where the command line says. With port 0 the port that was taken is printed, so that a client can be told.
 ///
 /// Errors: those of the network, and of the output.
-fn listen<R>(rt: &R, asked: &ServeArguments<'_>) -> io::Result<TcpListener>
+fn listen<R>(rt: &R, asked: &ServeArguments<'_>) -> io::Result<Door>
 where
     R: Net<Listener = TcpListener, Stream = TcpStream> + Print + Log,
 {
     let listener = TcpListener::bind(rt, (asked.bind, asked.port))?;
-    let address = listener.local_addr()?;
+    let door = Door::new(listener);
+    let address = door.address()?;
     if asked.port == 0 {
         println!(rt; "{}", address.port())?;
     }
     let title = str::from_utf8(asked.ae.as_bytes()).unwrap_or("");
     info!(rt; target: "upsd", "{title} listens on {address} with {} workers", asked.workers);
-    Ok(listener)
+    Ok(door)
 }
 
 /// How the threads of a server work, as the command line asks.
@@ -130,15 +131,11 @@ fn terms_of(alloc: Global, asked: ServeArguments<'_>) -> Terms
     }
 }
 
-/// Runs a server on a listener, for as long as the program lives, and gives how the program ends: for lack of memory where
+/// Runs a server at a door, for as long as the program lives, and gives how the program ends: for lack of memory where
 /// a thread can't be started.
 ///
 /// Errors: lack of memory before it begins.
-fn serve_on<R>(
-    rt: &R,
-    listener: &TcpListener,
-    asked: ServeArguments<'_>,
-) -> Result<Status, AllocError>
+fn serve_on<R>(rt: &R, door: &Door, asked: ServeArguments<'_>) -> Result<Status, AllocError>
 where
     R: Threads
         + Wait
@@ -161,7 +158,7 @@ where
         return Err(AllocError);
     };
     let terms = terms_of(alloc, asked);
-    match run(rt, listener, &desk, passes, &terms) {
+    match run(rt, door, &desk, passes, &terms) {
         (true, _) => Ok(Status::Done),
         (false, _) => Err(AllocError),
     }
@@ -187,7 +184,7 @@ where
     requires allowed { refusal asked.peers.items asked.offset history_limit ≡ None }
 {
     match listen(rt, &asked) {
-        Ok(listener) => serve_on(rt, &listener, asked),
+        Ok(door) => serve_on(rt, &door, asked),
         Err(fault) => {
             let _ = eprintln!(rt;
                 "upsd: it can't listen on {}, port {}: {fault}",
