@@ -5,14 +5,16 @@ It starts the server on a free port of this machine, with as many workers as the
 Each association is a process of its own that sends one request and waits for its answer. These processes take more
 time than the server does, so the requests a second are those of the clients; the processor time is the server's alone,
 as /proc tells it. Before that, eight associations claim the same hundred steps at the same moment, and each step has to
-go to one of them.
+go to one of them. Where DCMTK is installed, its storescp is asked for C-ECHO in the same way, for comparison.
 
 Usage: bench/serve.py [PROGRAM]        (crates/upsd/out/upsd, which `rt run` builds)
 """
 
+import functools
 import multiprocessing
 import os
 import re
+import shutil
 import socket
 import struct
 import subprocess
@@ -130,6 +132,14 @@ def one_find(peer, me, i):
     return peer.ask(find(PULL_ON, 1, keys))
 
 
+def one_find_of_all(peer, me, i):
+    return peer.ask(find(PULL_ON, 1, told(0x0008, 0x0018, b"UI", b"") + told(0x0010, 0x0020, b"LO", b"")))
+
+
+def one_create(peer, me, i):
+    return peer.ask(create(PUSH_ON, 1, b"1.3.%d.%d" % (me, i), a_step(b"L")))
+
+
 def one_life(peer, me, i):
     instance, transaction = b"1.3.%d.%d" % (me, i), b"2.%d" % me
     return (peer.ask(create(PUSH_ON, 1, instance, a_step(b"L"))) or peer.ask(claim(1, instance, transaction))
@@ -185,6 +195,30 @@ class Server:
         self.process.wait()
 
 
+class Storescp:
+    """DCMTK's server, which serves one association at a time."""
+
+    def __init__(self):
+        with socket.socket() as it:
+            it.bind(("127.0.0.1", 0))
+            self.port = it.getsockname()[1]
+        # Without this it writes an answer in two parts, of which the second waits for the client's kernel for 40 ms.
+        quick = {**os.environ, "TCP_NODELAY": "1"}
+        self.process = subprocess.Popen(["storescp", str(self.port)], stdout=subprocess.DEVNULL, stderr=subprocess.DEVNULL, env=quick)
+        for _ in range(100):
+            try:
+                socket.create_connection(("127.0.0.1", self.port)).close()
+                return
+            except ConnectionRefusedError:
+                time.sleep(0.1)
+        sys.exit("storescp does not listen")
+
+    def fill(self, steps):
+        pass
+
+    __enter__, __exit__ = Server.__enter__, Server.__exit__
+
+
 def race(program):
     """Eight associations claim the same hundred steps."""
     with Server(program, 8) as server:
@@ -201,10 +235,13 @@ def race(program):
     print("8 associations claimed 100 steps at the same moment: each went to one of them")
 
 
-def measure(program, name, steps, count, one, each=1, again=False):
+def measure(start, name, steps, count, one, each=1, again=False, most=12):
     cells = []
     for associations in (1, 4, 12):
-        with Server(program, associations) as server:
+        if associations > most:
+            cells.append("")
+            continue
+        with start(associations) as server:
             server.fill(steps)
             barrier, results = multiprocessing.Barrier(associations + 1), multiprocessing.Queue()
             peers = [multiprocessing.Process(target=worker, args=(server.port, i, count, one, again, barrier, results)) for i in range(associations)]
@@ -227,15 +264,21 @@ def main():
         print(__doc__)
         return
     program = sys.argv[1] if sys.argv[1:] else "crates/upsd/out/upsd"
+    start = functools.partial(Server, program)
     race(program)
     print("| requests a second, and processor time of the server for each | 1 association | 4 | 12 |")
     print("|---|---|---|---|")
-    measure(program, "C-ECHO", 0, 2000, one_echo)
-    measure(program, "open, C-ECHO, release", 0, 300, one_echo, again=True)
-    measure(program, "N-GET, 10 steps", 10, 2000, one_get)
-    measure(program, "C-FIND by patient ID, 10 steps", 10, 1000, one_find)
-    measure(program, "C-FIND by patient ID, 1,000 steps", 1000, 1000, one_find)
-    measure(program, "life cycle: create, claim, set, cancel", 0, 100, one_life, each=4)
+    measure(start, "C-ECHO", 0, 10_000, one_echo)
+    if shutil.which("storescp"):
+        measure(lambda _: Storescp(), "C-ECHO, of DCMTK's storescp", 0, 10_000, one_echo, most=1)
+    measure(start, "open, C-ECHO, release", 0, 1_000, one_echo, again=True)
+    measure(start, "N-GET, 10 steps", 10, 5_000, one_get)
+    measure(start, "N-CREATE", 0, 200, one_create)
+    measure(start, "C-FIND by patient ID, 10 steps", 10, 2_000, one_find)
+    measure(start, "C-FIND by patient ID, 1,000 steps", 1000, 500, one_find)
+    measure(start, "C-FIND by nothing, 10 steps", 10, 500, one_find_of_all)
+    measure(start, "C-FIND by nothing, 1,000 steps", 1000, 20, one_find_of_all)
+    measure(start, "life cycle: create, claim, set, cancel", 0, 100, one_life, each=4)
 
 
 if __name__ == "__main__":
