@@ -124,36 +124,30 @@ fn release(start: &AtomicU64, word: u64) {
     start.wake_all();
 }
 
-/// Runs a server: of the passes the last sweeps, in this thread. Each other one has a thread of its own: those with the
-/// numbers up to `terms.workers` are the workers', and one with a greater number delivers event reports. It returns once
-/// each worker has served as many associations as `terms` says, and the others have made as many rounds: true, and the
-/// passes. Where a thread can't be started, or memory runs out before, none begins its work: false, and the passes.
-pub fn run<R>(
+/// The threads of a server: one for each of these passes, while the sweeper's pass sweeps in this one. It puts each pass
+/// behind those that are back.
+fn run_threads<R>(
     rt: &R,
     door: &Door,
     desk: &Desk<Global>,
     passes: Vec<Pass<Global>>,
+    mut sweeper: Pass<Global>,
+    mut handles: Vec<PromisedHandle<Pass<Global>, AtSameDesk>>,
+    mut back: Vec<Pass<Global>>,
     terms: &Terms,
 ) -> (bool, Vec<Pass<Global>>)
 where
     R: Threads + Wait + Clock + Log + Sync + Net<Listener = TcpListener, Stream = TcpStream>,
-    requires some { 2 ≤ length passes.items }
     requires here { All (λ p. p.table ≡ desk.now.table) passes.items }
-    ensures all { length result.1.items ≡ length passes.items }
+    requires sweeper { sweeper.table ≡ desk.now.table }
+    requires room { length passes.items + 1 ≤ vec_capacity back }
+    requires empty { length back.items ≡ 0 }
+    requires handles { (length passes.items ≤ vec_capacity handles) × (length handles.items ≡ 0) }
+    ensures all { length result.1.items ≡ length passes.items + 1 }
     ensures stay { All (λ p. p.table ≡ desk.now.table) result.1.items }
 {
-    let Ok(mut back) = Vec::with_capacity(terms.alloc, passes.len()) else {
-        return (false, passes);
-    };
-    let Ok(mut handles) = Vec::with_capacity(terms.alloc, passes.len()) else {
-        return (false, passes);
-    };
     let start = AtomicU64::new(HELD);
     let start = &start;
-    let mut passes = passes;
-    let Some(mut sweeper) = passes.pop() else {
-        unreachable!()
-    };
     thread::scope(
         thread::scope_env(),
         rt,
@@ -200,4 +194,35 @@ where
             (all, back)
         },
     )
+}
+
+/// Runs a server: of the passes the last sweeps, in this thread. Each other one has a thread of its own: those with the
+/// numbers up to `terms.workers` are the workers', and one with a greater number delivers event reports. It returns once
+/// each worker has served as many associations as `terms` says, and the others have made as many rounds: true, and the
+/// passes. Where a thread can't be started, or memory runs out before, none begins its work: false, and the passes.
+pub fn run<R>(
+    rt: &R,
+    door: &Door,
+    desk: &Desk<Global>,
+    passes: Vec<Pass<Global>>,
+    terms: &Terms,
+) -> (bool, Vec<Pass<Global>>)
+where
+    R: Threads + Wait + Clock + Log + Sync + Net<Listener = TcpListener, Stream = TcpStream>,
+    requires some { 2 ≤ length passes.items }
+    requires here { All (λ p. p.table ≡ desk.now.table) passes.items }
+    ensures all { length result.1.items ≡ length passes.items }
+    ensures stay { All (λ p. p.table ≡ desk.now.table) result.1.items }
+{
+    let Ok(back) = Vec::with_capacity(terms.alloc, passes.len()) else {
+        return (false, passes);
+    };
+    let Ok(handles) = Vec::with_capacity(terms.alloc, passes.len()) else {
+        return (false, passes);
+    };
+    let mut passes = passes;
+    let Some(sweeper) = passes.pop() else {
+        unreachable!()
+    };
+    run_threads(rt, door, desk, passes, sweeper, handles, back, terms)
 }

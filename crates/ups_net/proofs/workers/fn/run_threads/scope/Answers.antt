@@ -3,8 +3,8 @@ use Rattle.ups_turn.proofs.Crosses.{desk_crosses}
 use Rattle.ups_net.proofs.Crosses.{door_lent, word_lent, terms_lent}
 use Rattle.std.proofs.Common.{rules, ◌≡◌, ◌+◌}
 use Rattle.std.proofs.lemmas.Grind.{elements}
-use Rattle.ups_net.proofs.workers.fn.run.scope.Goals as goal
-use Rattle.ups_net.proofs.workers.fn.run.scope.Goals.{then-all, else-all}
+use Rattle.ups_net.proofs.workers.fn.run_threads.scope.Goals as goal
+use Rattle.ups_net.proofs.workers.fn.run_threads.scope.Goals.{then-all, else-all}
 
 pub loop-pass-preserved-then-not-all : goal.loop-pass-preserved-then-not-all
 loop-pass-preserved-then-not-all g c =
