@@ -7,7 +7,10 @@ time than the server does, so the requests a second are those of the clients; th
 as /proc tells it. Before that, eight associations claim the same hundred steps at the same moment, and each step has to
 go to one of them. Where DCMTK is installed, its storescp is asked for C-ECHO in the same way, for comparison.
 
-Usage: bench/serve.py [PROGRAM]        (crates/upsd/out/upsd, which `rt run` builds)
+With --calls it counts the server's system calls for each request by strace instead, over 1,000 requests of each kind on
+one association, with the C library's memory as it comes and with one arena (MALLOC_ARENA_MAX=1).
+
+Usage: bench/serve.py [--calls] [PROGRAM]        (crates/upsd/out/upsd, which `rt run` builds)
 """
 
 import functools
@@ -15,10 +18,12 @@ import multiprocessing
 import os
 import re
 import shutil
+import signal
 import socket
 import struct
 import subprocess
 import sys
+import tempfile
 import time
 
 sys.path.insert(0, __file__.rsplit("/", 1)[0])
@@ -176,9 +181,9 @@ def processor(pid):
 
 
 class Server:
-    def __init__(self, program, workers):
+    def __init__(self, program, workers, **variables):
         self.process = subprocess.Popen([program, "serve", "--ae", "UPSD", "--port", "0", "--associations", str(workers)],
-                                        stdout=subprocess.PIPE, stderr=subprocess.DEVNULL)
+                                        stdout=subprocess.PIPE, stderr=subprocess.DEVNULL, env={**os.environ, **variables})
         self.port = int(re.match(rb"\d+", self.process.stdout.readline())[0])
 
     def fill(self, steps):
@@ -259,11 +264,38 @@ def measure(start, name, steps, count, one, each=1, again=False, most=12):
     print(f"| {name} | " + " | ".join(cells) + " |", flush=True)
 
 
+def calls_of(program, one, **variables):
+    """The server's system calls for each of 1,000 requests, by name."""
+    with Server(program, 1, **variables) as server, tempfile.NamedTemporaryFile("r") as counted:
+        peer = Peer(server.port)
+        for i in range(10):
+            assert peer.ask(create(PUSH_ON, 1, b"1.2.0.%d" % i, a_step(b"P%d" % i))) == 0
+        words = ["strace", "-f", "-c", "-o", counted.name, "-p", str(server.process.pid)]
+        with subprocess.Popen(words, stderr=subprocess.PIPE, text=True) as strace:
+            strace.stderr.readline()  # it has attached
+            assert all(one(peer, 0, i) == 0 for i in range(1_000))
+            strace.send_signal(signal.SIGINT)
+        peer.release()
+        rows = [line.split() for line in counted]
+        counts = {row[-1]: int(row[3]) / 1_000 for row in rows if len(row) > 4 and row[-1] != "total" and row[0][0].isdigit()}
+        return ", ".join(f"{name} {count:.2f}" for name, count in counts.items() if count >= 0.005)
+
+
+def count_calls(program):
+    print("| system calls for each request | | one arena |\n|---|---|---|")
+    for name, one in (("C-ECHO", one_echo), ("N-GET", one_get), ("N-CREATE", one_create), ("C-FIND by patient ID, 10 steps", one_find)):
+        print(f"| {name} | {calls_of(program, one)} | {calls_of(program, one, MALLOC_ARENA_MAX='1')} |", flush=True)
+
+
 def main():
-    if len(sys.argv) > 2 or sys.argv[1:] and sys.argv[1].startswith("-"):
+    words = [it for it in sys.argv[1:] if it != "--calls"]
+    if len(words) > 1 or words and words[0].startswith("-"):
         print(__doc__)
         return
-    program = sys.argv[1] if sys.argv[1:] else "crates/upsd/out/upsd"
+    program = words[0] if words else "crates/upsd/out/upsd"
+    if "--calls" in sys.argv[1:]:
+        count_calls(program)
+        return
     start = functools.partial(Server, program)
     race(program)
     print("| requests a second, and processor time of the server for each | 1 association | 4 | 12 |")
