@@ -21,7 +21,7 @@ use ups_dataset::DataSet;
 use ups_dataset::dictionary::*;
 use ups_life::{Entry, Peer, Reply, Request, StepUid, Target};
 use ups_manager::{Call, Manager};
-use ups_net::{Door, Terms, Watcher, run};
+use ups_net::{Door, ServerOptions, Watcher, run};
 use ups_pdu::Ae;
 use ups_turn::{Desk, Pass};
 
@@ -47,7 +47,7 @@ fn run_with_peers<R>(
     door: &Door,
     desk: &Desk<Global>,
     passes: Vec<Pass<Global>>,
-    terms: &Terms,
+    options: &ServerOptions,
     watching: &TcpListener,
     lines: &Lines,
 ) -> io::Result<Ended>
@@ -66,14 +66,14 @@ where
             requires here { All (λ p. p.table ≡ desk.now.table) passes.items }
             ensures stay { IfOk result (λ ended. All (λ p. p.table ≡ desk.entry.now.table) ended.passes.items) }
         {
-            let alloc = terms.alloc;
+            let alloc = options.alloc;
             let Ok(client) = scope.spawn(move || answered(rt, alloc, door, lines)) else {
                 return Err(io::Error::other("no thread for the client"));
             };
             let Ok(watcher) = scope.spawn(move || watched(alloc, watching, lines)) else {
                 return Err(io::Error::other("no thread for the watcher"));
             };
-            let (began, passes) = run(rt, door, desk, passes, terms);
+            let (began, passes) = run(rt, door, desk, passes, options);
             knock(rt, watching);
             Ok(Ended {
                 began,
@@ -188,16 +188,16 @@ struct Outcome {
     manager: Manager<Global>,
 }
 
-/// The terms of a server with one worker, which serves one association, and one round of the sweeper and the deliverer. W1
-/// is looked for at a port of this host.
-fn terms_of(alloc: Global, port: u16) -> Result<Terms, Fail> {
+/// The options of a server with one worker, which serves one association, and one round of the sweeper and the deliverer.
+/// W1 is looked for at a port of this host.
+fn options_of(alloc: Global, port: u16) -> Result<ServerOptions, Fail> {
     let mut watchers = Vec::new(alloc);
     watchers.push(Watcher {
         ae: title("W1")?,
         host: "127.0.0.1".to_string(alloc)?,
         port,
     })?;
-    Ok(Terms {
+    Ok(ServerOptions {
         alloc,
         config: Config {
             ae: title("UPSD")?,
@@ -216,7 +216,7 @@ fn terms_of(alloc: Global, port: u16) -> Result<Terms, Fail> {
 /// Runs a server with its peers, at a door of its own and a listener of the watcher.
 fn outcome_on<R>(
     rt: &R,
-    terms: &Terms,
+    options: &ServerOptions,
     door: &Door,
     watching: &TcpListener,
 ) -> Result<Outcome, Fail>
@@ -239,7 +239,7 @@ where
         passes,
         answer,
         heard,
-    } = run_with_peers(rt, door, &desk, passes, terms, watching, &lines)?;
+    } = run_with_peers(rt, door, &desk, passes, options, watching, &lines)?;
     let Ok(manager) = desk.close(passes) else {
         return Err("not closed".into());
     };
@@ -279,9 +279,9 @@ where
     } else {
         closed_port(rt)?
     };
-    let terms = terms_of(rt.alloc(), port)?;
+    let options = options_of(rt.alloc(), port)?;
     let _silent = silent_peers(rt, rt.alloc(), &door, SILENT)?;
-    outcome_on(rt, &terms, &door, &watching)
+    outcome_on(rt, &options, &door, &watching)
 }
 
 /// Whether these are the bytes that texts stand for.

@@ -7,7 +7,7 @@ use Rattle.std.proofs.sync.atomic.AtomicU64.TheSendSync as word
 use Rattle.std.proofs.Crossing.{crosses}
 use Rattle.std.specs.contracts.sync.atomic.AtomicU64 as Word
 use Rattle.ups_net.specs.contracts.door.Door as Door
-use Rattle.ups_net.specs.contracts.terms.Terms as Terms
+use Rattle.ups_net.specs.contracts.options.ServerOptions as ServerOptions
 use Rattle.ups_net.specs.contracts.watcher.Watcher as Watcher
 
 pub door_sync : IsSync Door.the_row
@@ -19,8 +19,8 @@ word_sync = search (sendable, word.the_sync) depth 30
 watcher_sync : IsSync Watcher.the_row
 watcher_sync = search (sendable, crosses) depth 40
 
-pub terms_sync : IsSync Terms.the_row
-terms_sync = search (sendable, crosses, watcher_sync) depth 40
+pub options_sync : IsSync ServerOptions.the_row
+options_sync = search (sendable, crosses, watcher_sync) depth 40
 
 -- what a thread is lent of these
 pub door_lent : (ℓ : Lifetime) (κ : Lft) → IsSend (ShrRef ℓ κ Door.the_row)
@@ -29,5 +29,5 @@ door_lent ℓ κ = shr_send ℓ κ Door.the_row door_sync
 pub word_lent : (ℓ : Lifetime) (κ : Lft) → IsSend (ShrRef ℓ κ Word.the_row)
 word_lent ℓ κ = shr_send ℓ κ Word.the_row word_sync
 
-pub terms_lent : (ℓ : Lifetime) (κ : Lft) → IsSend (ShrRef ℓ κ Terms.the_row)
-terms_lent ℓ κ = shr_send ℓ κ Terms.the_row terms_sync
+pub options_lent : (ℓ : Lifetime) (κ : Lft) → IsSend (ShrRef ℓ κ ServerOptions.the_row)
+options_lent ℓ κ = shr_send ℓ κ ServerOptions.the_row options_sync

@@ -9,9 +9,9 @@ ghost use Rattle.ups_net.specs.Working.{DoesJob};
 use crate::delivering::deliver_rounds;
 use crate::door::Door;
 use crate::journal::tell_served;
+use crate::options::ServerOptions;
 use crate::serving::serve_one;
 use crate::sweeping::sweep;
-use crate::terms::Terms;
 use log::Log;
 use std::alloc::Global;
 use std::net::{Net, TcpListener, TcpStream};
@@ -37,16 +37,16 @@ pub fn work<R: Wait + Clock + Log>(
     door: &Door,
     desk: &Desk<Global>,
     pass: Pass<Global>,
-    terms: &Terms,
+    options: &ServerOptions,
 ) -> Pass<Global>
     requires here { pass.table ≡ desk.now.table }
-    ensures serves { ServesAssociations terms.now.config terms.now.turns terms.now.associations pass result }
+    ensures serves { ServesAssociations options.now.config options.now.turns options.now.associations pass result }
     ensures stays { result.table ≡ pass.table }
 {
     let mut pass = pass;
-    for _ in 0..terms.associations {
-        let stream = door.next_connection(rt, terms.timeout);
-        let (after, ended) = serve_one(rt, &stream, desk, pass, terms);
+    for _ in 0..options.associations {
+        let stream = door.next_connection(rt, options.timeout);
+        let (after, ended) = serve_one(rt, &stream, desk, pass, options);
         pass = after;
         tell_served(rt, &ended);
     }
@@ -73,21 +73,21 @@ fn do_job<R>(
     door: &Door,
     desk: &Desk<Global>,
     pass: Pass<Global>,
-    terms: &Terms,
+    options: &ServerOptions,
 ) -> Pass<Global>
 where
     R: Wait + Clock + Log + Net<Listener = TcpListener, Stream = TcpStream>,
     requires here { pass.table ≡ desk.now.table }
-    ensures works { DoesJob terms.now pass result }
+    ensures works { DoesJob options.now pass result }
     ensures stays { result.table ≡ pass.table }
 {
     if !begins(rt, start) {
         return pass;
     }
-    if pass.number() <= terms.workers {
-        return work(rt, door, desk, pass, terms);
+    if pass.number() <= options.workers {
+        return work(rt, door, desk, pass, options);
     }
-    deliver_rounds(rt, desk, pass, terms)
+    deliver_rounds(rt, desk, pass, options)
 }
 
 /// The promise of a thread: the pass that it hands back is at the desk of the one that it was given.
@@ -134,7 +134,7 @@ fn run_threads<R>(
     mut sweeper: Pass<Global>,
     mut handles: Vec<PromisedHandle<Pass<Global>, AtSameDesk>>,
     mut back: Vec<Pass<Global>>,
-    terms: &Terms,
+    options: &ServerOptions,
 ) -> (bool, Vec<Pass<Global>>)
 where
     R: Threads + Wait + Clock + Log + Sync + Net<Listener = TcpListener, Stream = TcpStream>,
@@ -175,7 +175,7 @@ where
                     move || -> Pass<Global>
                         requires { pass.table ≡ desk.now.table }
                         ensures { result.table ≡ pass.table }
-                    { do_job(rt, start, door, desk, pass, terms) },
+                    { do_job(rt, start, door, desk, pass, options) },
                 ) {
                     Ok(handle) => handles.push_reserved(handle),
                     Err(refused) => {
@@ -187,7 +187,7 @@ where
             }
             if all {
                 release(start, BEGUN);
-                sweep(rt, desk, &mut sweeper, terms.config.ae, terms.rounds);
+                sweep(rt, desk, &mut sweeper, options.config.ae, options.rounds);
             }
             join_all(rt, handles, &mut back);
             back.push_reserved(sweeper);
@@ -197,15 +197,15 @@ where
 }
 
 /// Runs a server: of the passes the last sweeps, in this thread. Each other one has a thread of its own: those with the
-/// numbers up to `terms.workers` are the workers', and one with a greater number delivers event reports. It returns once
-/// each worker has served as many associations as `terms` says, and the others have made as many rounds: true, and the
+/// numbers up to `options.workers` are the workers', and one with a greater number delivers event reports. It returns once
+/// each worker has served as many associations as `options` says, and the others have made as many rounds: true, and the
 /// passes. Where a thread can't be started, or memory runs out before, none begins its work: false, and the passes.
 pub fn run<R>(
     rt: &R,
     door: &Door,
     desk: &Desk<Global>,
     passes: Vec<Pass<Global>>,
-    terms: &Terms,
+    options: &ServerOptions,
 ) -> (bool, Vec<Pass<Global>>)
 where
     R: Threads + Wait + Clock + Log + Sync + Net<Listener = TcpListener, Stream = TcpStream>,
@@ -214,15 +214,15 @@ where
     ensures all { length result.1.items ≡ length passes.items }
     ensures stay { All (λ p. p.table ≡ desk.now.table) result.1.items }
 {
-    let Ok(back) = Vec::with_capacity(terms.alloc, passes.len()) else {
+    let Ok(back) = Vec::with_capacity(options.alloc, passes.len()) else {
         return (false, passes);
     };
-    let Ok(handles) = Vec::with_capacity(terms.alloc, passes.len()) else {
+    let Ok(handles) = Vec::with_capacity(options.alloc, passes.len()) else {
         return (false, passes);
     };
     let mut passes = passes;
     let Some(sweeper) = passes.pop() else {
         unreachable!()
     };
-    run_threads(rt, door, desk, passes, sweeper, handles, back, terms)
+    run_threads(rt, door, desk, passes, sweeper, handles, back, options)
 }

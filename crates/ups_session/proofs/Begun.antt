@@ -24,7 +24,7 @@ use Rattle.ups_session.proofs.Spoken.{says_nothing}
 
 -- the transport connection is awaited
 abbrev connecting : {A : Type 0} → DeliveryView A
-connecting = record { association = record { state = Sta4; established = None; ending = Closed }; ahead = []; flying = None; sent = 0 }
+connecting = record { association = record { state = Sta4; established = None; ending = Closed }; ahead = []; in_flight = None; sent = 0 }
 
 -- it connects, and sends the A-ASSOCIATE-RQ
 pub begins : {A Y : Type 0} (config : Config) (ae : List ℕ) (c0 c1 : Output) (m0 m1 : Told) (s : Settings) (o : Others) (k : ℕ) (seen : List (Entry A)) (r : Result Y SessionFault)

@@ -25,8 +25,8 @@ use Rattle.ups_life.specs.declared.request.Reply.{Reply}
 use Rattle.ups_life.specs.declared.request.Reply.TheVariants.{Status as Told, Reports}
 use Rattle.ups_life.specs.declared.status.Status.TheVariants.{ResourceLimitation}
 use Rattle.ups_session.specs.declared.delivery.Route.{Route}
-use Rattle.ups_session.specs.declared.delivery.Wanted.{Wanted}
-use Rattle.ups_session.specs.declared.delivery.Wanted.TheVariants.{Pendings}
+use Rattle.ups_session.specs.declared.delivery.DeliveryCall.{DeliveryCall}
+use Rattle.ups_session.specs.declared.delivery.DeliveryCall.TheVariants.{Pendings}
 use Rattle.ups_session.specs.Association.{AssociationView, EstablishedView}
 use Rattle.ups_session.specs.Delivery.{DeliveryView}
 use Rattle.ups_session.specs.Sides.{transition, on_action, on_event, unexpected, aborting, with_begun}
@@ -91,28 +91,28 @@ not_accepted {A} ae d ac cell action state mid reaction is unlike same e =
 
 -- what is asked for behind a report
 
-clash : {w : Wanted} → None ≡ Some w → ⊥
+clash : {w : DeliveryCall} → None ≡ Some w → ⊥
 clash e = cc
 
 reporting_silent : {A : Type 0} (d : DeliveryView A) (report : EventReport A) (rest : List (EventReport A)) (route : Option Route) → (reporting d report rest route).waiting ≡ None
 reporting_silent d report rest None = refl
 reporting_silent d report rest (Some route) = refl
 
-next_wants : {A : Type 0} (d : DeliveryView A) (reports : List (EventReport A)) (w : Wanted) → (reporting_next d reports).waiting ≡ Some w → w ≡ Pendings
-next_wants d [] w e = cc
-next_wants d (report ∷ rest) w e = absurd (clash (sym (reporting_silent d report rest (route_of d.association.established)) ∙ e))
+next_calls : {A : Type 0} (d : DeliveryView A) (reports : List (EventReport A)) (w : DeliveryCall) → (reporting_next d reports).waiting ≡ Some w → w ≡ Pendings
+next_calls d [] w e = cc
+next_calls d (report ∷ rest) w e = absurd (clash (sym (reporting_silent d report rest (route_of d.association.established)) ∙ e))
 
-if_wants : {A : Type 0} (b : Bool) (x y : DeliveryReaction A) (w : Wanted) → x.waiting ≡ None → (y.waiting ≡ Some w → w ≡ Pendings) → (cond b x y).waiting ≡ Some w → w ≡ Pendings
-if_wants true x y w silent then e = absurd (clash (sym silent ∙ e))
-if_wants false x y w silent then e = then e
+if_calls : {A : Type 0} (b : Bool) (x y : DeliveryReaction A) (w : DeliveryCall) → x.waiting ≡ None → (y.waiting ≡ Some w → w ≡ Pendings) → (cond b x y).waiting ≡ Some w → w ≡ Pendings
+if_calls true x y w silent then e = absurd (clash (sym silent ∙ e))
+if_calls false x y w silent then e = then e
 
-going_wants : {A : Type 0} (d : DeliveryView A) (w : Wanted) → (proceeding d).waiting ≡ Some w → w ≡ Pendings
-going_wants d w e = if_wants (d.sent == most_messages) (releasing d) (reporting_next d d.ahead) w refl (next_wants d d.ahead w) e
+going_calls : {A : Type 0} (d : DeliveryView A) (w : DeliveryCall) → (proceeding d).waiting ≡ Some w → w ≡ Pendings
+going_calls d w e = if_calls (d.sent == most_messages) (releasing d) (reporting_next d d.ahead) w refl (next_calls d d.ahead w) e
 
 -- behind an acknowledgement only what is pending is asked for
-pub acknowledged_wants : {A : Type 0} (d : DeliveryView A) (reply : Reply A) (w : Wanted) → (on_acknowledged d reply).waiting ≡ Some w → w ≡ Pendings
-acknowledged_wants d (Told ResourceLimitation) w e = absurd (clash e)
-acknowledged_wants d reply w e = going_wants d w e
+pub acknowledged_calls : {A : Type 0} (d : DeliveryView A) (reply : Reply A) (w : DeliveryCall) → (on_acknowledged d reply).waiting ≡ Some w → w ≡ Pendings
+acknowledged_calls d (Told ResourceLimitation) w e = absurd (clash e)
+acknowledged_calls d reply w e = going_calls d w e
 
 if_silent : {A : Type 0} (b : Bool) (x y : DeliveryReaction A) → x.waiting ≡ None → y.waiting ≡ None → (cond b x y).waiting ≡ None
 if_silent true x y e f = e

@@ -1,7 +1,7 @@
 -- A delivery of event reports, as the side sees it that asks for the association (PS3.4 CC.2.4).
 use Rattle.std.specs.Prelude.{ℕ, List, Option}
 use Rattle.ups_life.specs.declared.event_reports.EventReport.{EventReport}
-use Rattle.ups_session.specs.declared.delivery.Flight.{Flight}
+use Rattle.ups_session.specs.declared.delivery.ReportInFlight.{ReportInFlight}
 use Rattle.ups_session.specs.Association.{AssociationView}
 
 -- The association; the reports that are still to be sent, of those that the service told of last; the report whose
@@ -9,5 +9,5 @@ use Rattle.ups_session.specs.Association.{AssociationView}
 pub record DeliveryView (A : Type 0) : Type 0 where
   pub association : AssociationView A
   pub ahead : List (EventReport A)
-  pub flying : Option Flight
+  pub in_flight : Option ReportInFlight
   pub sent : ℕ

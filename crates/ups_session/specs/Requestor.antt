@@ -30,10 +30,10 @@ use Rattle.ups_life.specs.declared.request.Reply.{Reply}
 use Rattle.ups_life.specs.declared.request.Reply.TheVariants.{Status as Told, Reports}
 use Rattle.ups_life.specs.declared.request.Request.TheVariants.{Ack}
 use Rattle.ups_life.specs.declared.status.Status.TheVariants.{ResourceLimitation, UnrecognizedOperation}
-use Rattle.ups_session.specs.declared.delivery.Flight.{Flight}
+use Rattle.ups_session.specs.declared.delivery.ReportInFlight.{ReportInFlight}
 use Rattle.ups_session.specs.declared.delivery.Route.{Route}
-use Rattle.ups_session.specs.declared.delivery.Wanted.{Wanted}
-use Rattle.ups_session.specs.declared.delivery.Wanted.TheVariants.{Pendings, Acknowledgement}
+use Rattle.ups_session.specs.declared.delivery.DeliveryCall.{DeliveryCall}
+use Rattle.ups_session.specs.declared.delivery.DeliveryCall.TheVariants.{Pendings, Acknowledgement}
 use Rattle.ups_session.specs.declared.fault.End.TheVariants.{Closed}
 use Rattle.ups_session.specs.Association.{EstablishedView, AssociationView}
 use Rattle.ups_session.specs.Delivery.{DeliveryView}
@@ -44,16 +44,16 @@ use Rattle.ups_session.specs.Responses.{bare_response}
 use Rattle.ups_session.specs.Sides.{ReactionOf, sending, transition, on_action, on_event, unexpected, reason_of, ids, aborting, with_begun}
 
 abbrev pub DeliveryReaction : Type 0 → Type 0
-DeliveryReaction A = Reaction A (DeliveryView A) Wanted
+DeliveryReaction A = Reaction A (DeliveryView A) DeliveryCall
 
 abbrev pub saying : {A : Type 0} → DeliveryView A → List (Pdu A) → DeliveryReaction A
 saying d said = record { association = d; send = said; waiting = None }
 
-abbrev pub awaiting : {A : Type 0} → DeliveryView A → Wanted → DeliveryReaction A
-awaiting d wanted = record { association = d; send = []; waiting = Some wanted }
+abbrev pub awaiting : {A : Type 0} → DeliveryView A → DeliveryCall → DeliveryReaction A
+awaiting d call = record { association = d; send = []; waiting = Some call }
 
 abbrev pub with_association : {A : Type 0} → DeliveryView A → AssociationView A → DeliveryView A
-with_association d association = record { association = association; ahead = d.ahead; flying = d.flying; sent = d.sent }
+with_association d association = record { association = association; ahead = d.ahead; in_flight = d.in_flight; sent = d.sent }
 
 -- what the association does alone
 abbrev pub along : {A : Type 0} → DeliveryView A → ReactionOf A → DeliveryReaction A
@@ -65,9 +65,9 @@ releasing d = along d (on_event true unexpected d.association events.ReleaseRequ
 
 -- THE REPORTS
 
--- after a report, which flies until its response comes
-abbrev pub with_flight : {A : Type 0} → DeliveryView A → List (EventReport A) → Flight → DeliveryView A
-with_flight d rest flight = record { association = d.association; ahead = rest; flying = Some flight; sent = d.sent + 1 }
+-- after a report, which is in flight until its response comes
+abbrev pub with_flight : {A : Type 0} → DeliveryView A → List (EventReport A) → ReportInFlight → DeliveryView A
+with_flight d rest flight = record { association = d.association; ahead = rest; in_flight = Some flight; sent = d.sent + 1 }
 
 -- a report is sent, in a message of its own: the messages are numbered from 1
 abbrev pub reporting : {A : Type 0} → DeliveryView A → EventReport A → List (EventReport A) → Option Route → DeliveryReaction A
@@ -89,7 +89,7 @@ proceeding d = if d.sent == most_messages then releasing d else reporting_next d
 -- WHAT IS ASKED
 
 abbrev pub with_ahead : {A : Type 0} → DeliveryView A → List (EventReport A) → DeliveryView A
-with_ahead d reports = record { association = d.association; ahead = reports; flying = d.flying; sent = d.sent }
+with_ahead d reports = record { association = d.association; ahead = reports; in_flight = d.in_flight; sent = d.sent }
 
 -- events that are pending are reported; where there are none, or none are told of, the association is released
 abbrev pub on_pendings : {A : Type 0} → DeliveryView A → Reply A → DeliveryReaction A
@@ -101,7 +101,7 @@ abbrev pub on_acknowledged : {A : Type 0} → DeliveryView A → Reply A → Del
 on_acknowledged d (Told ResourceLimitation) = releasing d
 on_acknowledged d reply = proceeding d
 
-abbrev pub on_reply : {A : Type 0} → DeliveryView A → Wanted → Reply A → DeliveryReaction A
+abbrev pub on_reply : {A : Type 0} → DeliveryView A → DeliveryCall → Reply A → DeliveryReaction A
 on_reply d Pendings reply = on_pendings d reply
 on_reply d (Acknowledgement upto) reply = on_acknowledged d reply
 
@@ -109,7 +109,7 @@ on_reply d (Acknowledgement upto) reply = on_acknowledged d reply
 abbrev pub events_asked_for : ℕ
 events_asked_for = 16
 
-abbrev pub ask_of : {A : Type 0} → Wanted → Ask A
+abbrev pub ask_of : {A : Type 0} → DeliveryCall → Ask A
 ask_of Pendings = Pending events_asked_for
 ask_of (Acknowledgement upto) = Do (Ack upto)
 
@@ -120,17 +120,17 @@ is_report_result (results.EventReport instance kind) = true
 is_report_result result = false
 
 -- the event of the report in flight, where this responds to it: with whatever status
-abbrev pub event_answered : Option Flight → ResponseCommand → Option ℕ
+abbrev pub event_answered : Option ReportInFlight → ResponseCommand → Option ℕ
 event_answered None response = None
 event_answered (Some flight) response = if is_report_result response.result && (response.responded_to == flight.message) then Some flight.event else None
 
-abbrev pub landed : {A : Type 0} → DeliveryView A → DeliveryView A
-landed d = record { association = d.association; ahead = d.ahead; flying = None; sent = d.sent }
+abbrev pub without_flight : {A : Type 0} → DeliveryView A → DeliveryView A
+without_flight d = record { association = d.association; ahead = d.ahead; in_flight = None; sent = d.sent }
 
 -- a response to the report in flight is told to the service; any other is taken
 abbrev pub on_response : {A : Type 0} → DeliveryView A → Option ℕ → DeliveryReaction A
 on_response d None = saying d []
-on_response d (Some number) = awaiting (landed d) (Acknowledgement number)
+on_response d (Some number) = awaiting (without_flight d) (Acknowledgement number)
 
 -- nothing may be requested of this side
 abbrev pub refusing : {A : Type 0} → DeliveryView A → RequestCommand A → Option Route → DeliveryReaction A
@@ -140,7 +140,7 @@ refusing d command (Some route) = saying d (bare_response route.max route.contex
 -- a command; once the release was requested, nothing is answered (PS3.8 section 9.2, AR-6)
 abbrev pub on_command : {A : Type 0} → DeliveryView A → Bool → Command A → DeliveryReaction A
 on_command d true command = saying d []
-on_command d false (Response response) = on_response d (event_answered d.flying response)
+on_command d false (Response response) = on_response d (event_answered d.in_flight response)
 on_command d false (Cancel cancel) = saying d []
 on_command d false (Request command) = refusing d command (route_of d.association.established)
 
@@ -202,23 +202,23 @@ Delivers config ae d (confirmation ac) reaction = reaction ≡ on_answer ae d ac
 Delivers config ae d (presentation_data pdv) reaction = OnFragment d pdv (next_of true true events.Data d.association.state) reaction
 Delivers config ae d (invalid f) reaction = reaction ≡ along d (on_event true (reason_of f) d.association events.Invalid (next_of true true events.Invalid d.association.state))
 
-abbrev pub GoesOnBy : {A : Type 0} → DeliveryView A → Wanted → Reply A → DeliveryReaction A → Type 0
-GoesOnBy d wanted reply reaction = reaction ≡ on_reply d wanted reply
+abbrev pub GoesOnBy : {A : Type 0} → DeliveryView A → DeliveryCall → Reply A → DeliveryReaction A → Type 0
+GoesOnBy d call reply reaction = reaction ≡ on_reply d call reply
 
 -- the side that asks for an association with a peer: it connects, and sends the A-ASSOCIATE-RQ
-abbrev pub requestor : {A : Type 0} → Config → List ℕ → Side A (DeliveryView A) Wanted
+abbrev pub requestor : {A : Type 0} → Config → List ℕ → Side A (DeliveryView A) DeliveryCall
 requestor config ae = record {
   state = λ d. d.association.state;
   first = event events.AssociateRequest ∷ event events.TransportConfirmed ∷ [];
   Reacts = Delivers config ae;
-  asked = λ wanted. record { ae = ae; ask = ask_of wanted };
+  asked = λ call. record { ae = ae; ask = ask_of call };
   OnReply = GoesOnBy;
 }
 
 -- there is no transport connection yet
 abbrev pub unconnected : {A : Type 0} → DeliveryView A
-unconnected = record { association = record { state = Sta1; established = None; ending = Closed }; ahead = []; flying = None; sent = 0 }
+unconnected = record { association = record { state = Sta1; established = None; ending = Closed }; ahead = []; in_flight = None; sent = 0 }
 
 -- the A-ASSOCIATE-RQ was sent
 abbrev pub proposed : {A : Type 0} → DeliveryView A
-proposed = record { association = record { state = Sta5; established = None; ending = Closed }; ahead = []; flying = None; sent = 0 }
+proposed = record { association = record { state = Sta5; established = None; ending = Closed }; ahead = []; in_flight = None; sent = 0 }

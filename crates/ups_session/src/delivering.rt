@@ -7,10 +7,10 @@ ghost use Rattle.ups_assoc.specs.declared.negotiating.Config.{Config};
 ghost use Rattle.ups_life.specs.Settings.{Settings};
 ghost use Rattle.ups_life.specs.declared.entry.Entry.{Entry};
 ghost use Rattle.ups_manager.specs.Law.{Others};
-ghost use Rattle.ups_session.specs.declared.delivery.Wanted.TheVariants.{Pendings, Acknowledgement};
+ghost use Rattle.ups_session.specs.declared.delivery.DeliveryCall.TheVariants.{Pendings, Acknowledgement};
 ghost use Rattle.ups_session.specs.Fold.{event as happened, request as requested, confirmation as agreed, presentation_data as delivered, invalid as arrived, indications, Happens};
 ghost use Rattle.ups_session.specs.Requestor.{awaiting, requestor, unconnected, proposed};
-ghost use Rattle.ups_session.specs.Deliveries.{delivery_view, move_reaction, IsSendableMove};
+ghost use Rattle.ups_session.specs.Deliveries.{delivery_view, delivery_reaction_of, IsSendableDelivery};
 ghost use Rattle.ups_session.specs.Effects.{IsRoomy};
 ghost use Rattle.ups_session.specs.Settled.{IsSettled};
 ghost use Rattle.ups_session.specs.World.{world, Performed};
@@ -18,7 +18,7 @@ ghost use Rattle.ups_session.specs.Turn.{IsTurn};
 ghost use Rattle.ups_session.specs.Session.{IsSession};
 
 use crate::association::UNEXPECTED;
-use crate::delivery::{Delivery, Move, Wanted};
+use crate::delivery::{Delivery, DeliveryCall, DeliveryEffect};
 use crate::fault::{End, SessionFault};
 use crate::gate::Gate;
 use crate::pdu_io::{PduRead, read_one, send_pdu, send_pdus};
@@ -83,34 +83,36 @@ fn acknowledge<A: Allocator + Copy, W: Write, S: Service<A>, G: Gate>(
     let moment = gate.now();
     let reply = service.call(ae, moment, Ask::Do(Request::Ack { upto: number }));
     match delivery.on_acknowledged(alloc, &reply)? {
-        Move::Say(said) => send_pdus(alloc, writer, gate, said.as_slice()),
-        Move::Want(_) => ask_pendings(alloc, ae, delivery, writer, service, gate),
+        DeliveryEffect::Send(said) => send_pdus(alloc, writer, gate, said.as_slice()),
+        DeliveryEffect::Call(_) => ask_pendings(alloc, ae, delivery, writer, service, gate),
     }
 }
 
 /// Does what a delivery does next.
 ///
 /// Errors: a failed write; out of memory. What the service accepted stays accepted.
-fn carry_out<A: Allocator + Copy, W: Write, S: Service<A>, G: Gate>(
+fn perform_delivery<A: Allocator + Copy, W: Write, S: Service<A>, G: Gate>(
     alloc: A,
     ae: Ae,
     delivery: &mut Delivery<A>,
     writer: &mut WatchedWriter<W>,
     service: &mut S,
     gate: &mut G,
-    found: Move<A>,
+    found: DeliveryEffect<A>,
 ) -> Result<(), SessionFault>
     requires roomy { IsRoomy delivery.old.association.established }
-    requires sendable { IsSendableMove found }
-    ensures settled { (config : Config) → IsSettled (requestor config ae) (move_reaction (delivery_view delivery.old) found) (delivery_view delivery.new)
+    requires sendable { IsSendableDelivery found }
+    ensures settled { (config : Config) → IsSettled (requestor config ae) (delivery_reaction_of (delivery_view delivery.old) found) (delivery_view delivery.new)
         (world writer.old (G.told gate.old) (S.settings service.old) (S.others service.old) (S.caller service.old) (S.seen service.old))
         (world writer.new (G.told gate.new) (S.settings service.new) (S.others service.new) (S.caller service.new) (S.seen service.new)) result }
     ensures established { delivery.new.association.established ≡ delivery.old.association.established }
 {
     match found {
-        Move::Say(said) => send_pdus(alloc, writer, gate, said.as_slice()),
-        Move::Want(Wanted::Pendings) => ask_pendings(alloc, ae, delivery, writer, service, gate),
-        Move::Want(Wanted::Acknowledgement(number)) => {
+        DeliveryEffect::Send(said) => send_pdus(alloc, writer, gate, said.as_slice()),
+        DeliveryEffect::Call(DeliveryCall::Pendings) => ask_pendings(
+            alloc, ae, delivery, writer, service, gate,
+        ),
+        DeliveryEffect::Call(DeliveryCall::Acknowledgement(number)) => {
             acknowledge(alloc, ae, delivery, writer, service, gate, number)
         }
     }
@@ -136,7 +138,15 @@ fn take_event<A: Allocator + Copy, W: Write, S: Service<A>, G: Gate>(
     ensures established { delivery.new.association.established ≡ delivery.old.association.established }
 {
     let said = delivery.on_event(alloc, UNEXPECTED, event)?;
-    carry_out(alloc, ae, delivery, writer, service, gate, Move::Say(said))
+    perform_delivery(
+        alloc,
+        ae,
+        delivery,
+        writer,
+        service,
+        gate,
+        DeliveryEffect::Send(said),
+    )
 }
 
 /// Handles an A-ASSOCIATE-RQ: the side that asks for an association accepts none.
@@ -159,7 +169,15 @@ fn take_request<A: Allocator + Copy, W: Write, S: Service<A>, G: Gate>(
 {
     let _request = request;
     let said = delivery.on_event(alloc, UNEXPECTED, UlEvent::AssociateRq)?;
-    carry_out(alloc, ae, delivery, writer, service, gate, Move::Say(said))
+    perform_delivery(
+        alloc,
+        ae,
+        delivery,
+        writer,
+        service,
+        gate,
+        DeliveryEffect::Send(said),
+    )
 }
 
 /// Handles bytes that are not a PDU.
@@ -181,7 +199,15 @@ fn take_invalid_pdu<A: Allocator + Copy, W: Write, S: Service<A>, G: Gate>(
     ensures established { delivery.new.association.established ≡ delivery.old.association.established }
 {
     let said = delivery.on_invalid_pdu(alloc, fault)?;
-    carry_out(alloc, ae, delivery, writer, service, gate, Move::Say(said))
+    perform_delivery(
+        alloc,
+        ae,
+        delivery,
+        writer,
+        service,
+        gate,
+        DeliveryEffect::Send(said),
+    )
 }
 
 /// Handles an A-ASSOCIATE-AC.
@@ -203,7 +229,7 @@ fn take_answer<A: Allocator + Copy, W: Write, S: Service<A>, G: Gate>(
     ensures roomy { OnOk result (IsRoomy delivery.new.association.established) }
 {
     let found = delivery.on_answer(alloc, ae, answer)?;
-    carry_out(alloc, ae, delivery, writer, service, gate, found)
+    perform_delivery(alloc, ae, delivery, writer, service, gate, found)
 }
 
 /// Handles a PDV.
@@ -225,7 +251,7 @@ fn take_fragment<A: Allocator + Copy, W: Write, S: Service<A>, G: Gate>(
     ensures roomy { OnOk result (IsRoomy delivery.new.association.established) }
 {
     let found = delivery.on_fragment(alloc, pdv)?;
-    carry_out(alloc, ae, delivery, writer, service, gate, found)
+    perform_delivery(alloc, ae, delivery, writer, service, gate, found)
 }
 
 /// Handles the PDVs of a P-DATA-TF, in order.

@@ -14,7 +14,7 @@ ghost use Rattle.ups_session.specs.Sides.{aborting, on_action, on_event, reason_
 ghost use Rattle.ups_session.specs.Reports.{route_of};
 ghost use Rattle.ups_session.specs.Proposing.{agreement};
 ghost use Rattle.ups_session.specs.Delivery.{DeliveryView};
-ghost use Rattle.ups_session.specs.Deliveries.{delivery_view, move_reaction, IsSendableMove};
+ghost use Rattle.ups_session.specs.Deliveries.{delivery_view, delivery_reaction_of, IsSendableDelivery};
 ghost use Rattle.ups_session.specs.Requestor.{proposed, saying, with_association, along, releasing, reporting, reporting_next, proceeding, on_pendings, on_acknowledged, event_answered, on_response, refusing, on_command, Understands, Assembles, Receives, OnFragment, established_by, on_agreement, on_answer};
 
 use crate::association::{
@@ -41,7 +41,7 @@ const REQUESTOR: bool = true;
 
 /// A report whose response is awaited.
 #[derive(Clone, Copy)]
-pub(crate) struct Flight {
+pub(crate) struct ReportInFlight {
     /// The message ID of the report.
     pub message: u16,
     /// The number of the event.
@@ -50,7 +50,7 @@ pub(crate) struct Flight {
 
 /// What a delivery asks of the service.
 #[derive(Clone, Copy)]
-pub(crate) enum Wanted {
+pub(crate) enum DeliveryCall {
     /// Which events are pending.
     Pendings,
     /// That the events up to this number are acknowledged.
@@ -68,11 +68,11 @@ pub(crate) struct Route {
 
 /// What a delivery does next.
 #[derive(Drop)]
-pub(crate) enum Move<A: Allocator + Copy> {
+pub(crate) enum DeliveryEffect<A: Allocator + Copy> {
     /// Sends these PDUs.
-    Say(Vec<Pdu<A>, A>),
+    Send(Vec<Pdu<A>, A>),
     /// Asks the service.
-    Want(Wanted),
+    Call(DeliveryCall),
 }
 
 /// The state of a delivery.
@@ -85,7 +85,7 @@ pub(crate) struct Delivery<A: Allocator + Copy> {
     /// How many of those reports were sent.
     pub taken: usize,
     /// The report whose response is awaited.
-    pub flying: Option<Flight>,
+    pub in_flight: Option<ReportInFlight>,
     /// How many reports were sent in all.
     pub sent: u16,
 }
@@ -104,10 +104,10 @@ fn unless_no_room(fault: DimseFault) -> Result<(), SessionFault>
 }
 
 /// The event of the report in flight, if this is the response to it.
-fn event_answered(flying: Option<Flight>, response: &ResponseCommand) -> Option<u64>
-    ensures { result ≡ event_answered flying response.now }
+fn event_answered(in_flight: Option<ReportInFlight>, response: &ResponseCommand) -> Option<u64>
+    ensures { result ≡ event_answered in_flight response.now }
 {
-    let flight = flying?;
+    let flight = in_flight?;
     match response.result {
         OperationResult::EventReport { .. } if response.responded_to == flight.message => {
             Some(flight.event)
@@ -144,13 +144,13 @@ fn established_by<A: Allocator + Copy>(
     })
 }
 
-impl<A: Allocator + Copy> Move<A> {
+impl<A: Allocator + Copy> DeliveryEffect<A> {
     /// Sends nothing.
-    fn nothing(alloc: A) -> Move<A>
-        ensures silent { (d : DeliveryView A) → move_reaction d result ≡ saying d [] }
-        ensures writable { IsSendableMove result }
+    fn nothing(alloc: A) -> DeliveryEffect<A>
+        ensures silent { (d : DeliveryView A) → delivery_reaction_of d result ≡ saying d [] }
+        ensures writable { IsSendableDelivery result }
     {
-        Move::Say(Vec::new(alloc))
+        DeliveryEffect::Send(Vec::new(alloc))
     }
 }
 
@@ -168,7 +168,7 @@ impl<A: Allocator + Copy> Delivery<A> {
             },
             reports: EventReports::new(alloc),
             taken: 0,
-            flying: None,
+            in_flight: None,
             sent: 0,
         }
     }
@@ -268,44 +268,44 @@ impl<A: Allocator + Copy> Delivery<A> {
     /// Sends a report of those that the service told of.
     ///
     /// Errors: out of memory.
-    fn report(&mut self, alloc: A) -> Result<Move<A>, SessionFault>
+    fn report(&mut self, alloc: A) -> Result<DeliveryEffect<A>, SessionFault>
         requires roomy { IsRoomy self.old.association.established }
         requires more { self.old.sent < 65535 }
-        ensures reaction { IfOk result (λ found. move_reaction (delivery_view self.new) found ≡ reporting_next (delivery_view self.old) (delivery_view self.old).ahead) }
-        ensures writable { IfOk result IsSendableMove }
+        ensures reaction { IfOk result (λ found. delivery_reaction_of (delivery_view self.new) found ≡ reporting_next (delivery_view self.old) (delivery_view self.old).ahead) }
+        ensures writable { IfOk result IsSendableDelivery }
         ensures established { self.new.association.established ≡ self.old.association.established }
         ensures memory { IfErr result (λ e. e ≡ Memory) }
         ensures lost { OnErr result ((reporting_next (delivery_view self.old) (delivery_view self.old).ahead).waiting ≡ None) }
     {
         let Some(report) = self.reports.as_slice().get(self.taken) else {
-            return Ok(Move::Want(Wanted::Pendings));
+            return Ok(DeliveryEffect::Call(DeliveryCall::Pendings));
         };
         let Some(route) = self.route() else {
-            return Ok(Move::Say(self.release(alloc)?));
+            return Ok(DeliveryEffect::Send(self.release(alloc)?));
         };
         let message = self.sent + 1;
         let event = report.event.number;
         let said = report_pdus(alloc, &route, message, report)?;
         self.taken += 1;
-        self.flying = Some(Flight { message, event });
+        self.in_flight = Some(ReportInFlight { message, event });
         self.sent = message;
-        Ok(Move::Say(said))
+        Ok(DeliveryEffect::Send(said))
     }
 
     /// Goes on with the next report, or asks again for those that are pending; after 65,535 reports it releases the
     /// association.
     ///
     /// Errors: out of memory.
-    fn go_on(&mut self, alloc: A) -> Result<Move<A>, SessionFault>
+    fn go_on(&mut self, alloc: A) -> Result<DeliveryEffect<A>, SessionFault>
         requires roomy { IsRoomy self.old.association.established }
-        ensures reaction { IfOk result (λ found. move_reaction (delivery_view self.new) found ≡ proceeding (delivery_view self.old)) }
-        ensures writable { IfOk result IsSendableMove }
+        ensures reaction { IfOk result (λ found. delivery_reaction_of (delivery_view self.new) found ≡ proceeding (delivery_view self.old)) }
+        ensures writable { IfOk result IsSendableDelivery }
         ensures established { self.new.association.established ≡ self.old.association.established }
         ensures memory { IfErr result (λ e. e ≡ Memory) }
         ensures lost { OnErr result ((proceeding (delivery_view self.old)).waiting ≡ None) }
     {
         if self.sent == u16::MAX {
-            return Ok(Move::Say(self.release(alloc)?));
+            return Ok(DeliveryEffect::Send(self.release(alloc)?));
         }
         self.report(alloc)
     }
@@ -330,24 +330,30 @@ impl<A: Allocator + Copy> Delivery<A> {
         self.reports = reports;
         self.taken = 0;
         match self.go_on(alloc)? {
-            Move::Say(said) => Ok(said),
-            Move::Want(_) => unreachable!(),
+            DeliveryEffect::Send(said) => Ok(said),
+            DeliveryEffect::Call(_) => unreachable!(),
         }
     }
 
     /// Goes on once the service has taken an acknowledgement; there may have been no room for it.
     ///
     /// Errors: out of memory.
-    pub fn on_acknowledged(&mut self, alloc: A, reply: &Reply<A>) -> Result<Move<A>, SessionFault>
+    pub fn on_acknowledged(
+        &mut self,
+        alloc: A,
+        reply: &Reply<A>,
+    ) -> Result<DeliveryEffect<A>, SessionFault>
         requires roomy { IsRoomy self.old.association.established }
-        ensures reaction { IfOk result (λ found. move_reaction (delivery_view self.new) found ≡ on_acknowledged (delivery_view self.old) reply.now) }
-        ensures writable { IfOk result IsSendableMove }
+        ensures reaction { IfOk result (λ found. delivery_reaction_of (delivery_view self.new) found ≡ on_acknowledged (delivery_view self.old) reply.now) }
+        ensures writable { IfOk result IsSendableDelivery }
         ensures established { self.new.association.established ≡ self.old.association.established }
         ensures memory { IfErr result (λ e. e ≡ Memory) }
         ensures lost { OnErr result ((on_acknowledged (delivery_view self.old) reply.now).waiting ≡ None) }
     {
         match reply {
-            Reply::Status(Status::ResourceLimitation) => Ok(Move::Say(self.release(alloc)?)),
+            Reply::Status(Status::ResourceLimitation) => Ok(DeliveryEffect::Send(self.release(
+                alloc,
+            )?)),
             _ => self.go_on(alloc),
         }
     }
@@ -355,23 +361,23 @@ impl<A: Allocator + Copy> Delivery<A> {
     /// Takes up the answer to the association request: it asks which events are pending, or releases the association.
     ///
     /// Errors: out of memory.
-    fn take_up(
+    fn establish(
         &mut self,
         alloc: A,
         ae: Ae,
         answer: &AssociateAc<A>,
-    ) -> Result<Move<A>, SessionFault>
-        ensures reaction { IfOk result (λ found. move_reaction (delivery_view self.new) found ≡ on_agreement ae (delivery_view self.old) answer.now (agreement answer.now)) }
-        ensures writable { IfOk result IsSendableMove }
+    ) -> Result<DeliveryEffect<A>, SessionFault>
+        ensures reaction { IfOk result (λ found. delivery_reaction_of (delivery_view self.new) found ≡ on_agreement ae (delivery_view self.old) answer.now (agreement answer.now)) }
+        ensures writable { IfOk result IsSendableDelivery }
         ensures roomy { IsRoomy self.old.association.established → OnOk result (IsRoomy self.new.association.established) }
         ensures memory { IfErr result (λ e. e ≡ Memory) }
     {
         let Some(syntax) = agreement(answer) else {
-            return Ok(Move::Say(self.release(alloc)?));
+            return Ok(DeliveryEffect::Send(self.release(alloc)?));
         };
         let max = counted(answer.user_information.maximum_length);
         self.association.established = Some(established_by(alloc, ae, max, syntax)?);
-        Ok(Move::Want(Wanted::Pendings))
+        Ok(DeliveryEffect::Call(DeliveryCall::Pendings))
     }
 
     /// Processes an A-ASSOCIATE-AC.
@@ -382,20 +388,20 @@ impl<A: Allocator + Copy> Delivery<A> {
         alloc: A,
         ae: Ae,
         answer: &AssociateAc<A>,
-    ) -> Result<Move<A>, SessionFault>
-        ensures reaction { IfOk result (λ found. move_reaction (delivery_view self.new) found ≡ on_answer ae (delivery_view self.old) answer.now (next_of true true events.AssociateAc self.old.association.state)) }
-        ensures writable { IfOk result IsSendableMove }
+    ) -> Result<DeliveryEffect<A>, SessionFault>
+        ensures reaction { IfOk result (λ found. delivery_reaction_of (delivery_view self.new) found ≡ on_answer ae (delivery_view self.old) answer.now (next_of true true events.AssociateAc self.old.association.state)) }
+        ensures writable { IfOk result IsSendableDelivery }
         ensures roomy { IsRoomy self.old.association.established → OnOk result (IsRoomy self.new.association.established) }
         ensures memory { IfErr result (λ e. e ≡ Memory) }
     {
         let event = UlEvent::AssociateAc;
         let Some((action, state)) = next(self.association.state, event, REQUESTOR, true) else {
-            return Ok(Move::nothing(alloc));
+            return Ok(DeliveryEffect::nothing(alloc));
         };
         self.association.transition(event, action, state);
         match action {
-            UlAction::Ae3 => self.take_up(alloc, ae, answer),
-            _ => Ok(Move::Say(self.on_action(alloc, action)?)),
+            UlAction::Ae3 => self.establish(alloc, ae, answer),
+            _ => Ok(DeliveryEffect::Send(self.on_action(alloc, action)?)),
         }
     }
 
@@ -426,17 +432,17 @@ impl<A: Allocator + Copy> Delivery<A> {
     }
 
     /// Processes a response: one to the report in flight is told to the service, and any other taken.
-    fn on_response(&mut self, alloc: A, response: &ResponseCommand) -> Move<A>
-        ensures reaction { move_reaction (delivery_view self.new) result ≡ on_response (delivery_view self.old) (event_answered self.old.flying response.now) }
-        ensures writable { IsSendableMove result }
+    fn on_response(&mut self, alloc: A, response: &ResponseCommand) -> DeliveryEffect<A>
+        ensures reaction { delivery_reaction_of (delivery_view self.new) result ≡ on_response (delivery_view self.old) (event_answered self.old.in_flight response.now) }
+        ensures writable { IsSendableDelivery result }
         ensures established { self.new.association.established ≡ self.old.association.established }
     {
-        match event_answered(self.flying, response) {
+        match event_answered(self.in_flight, response) {
             Some(event) => {
-                self.flying = None;
-                Move::Want(Wanted::Acknowledgement(event))
+                self.in_flight = None;
+                DeliveryEffect::Call(DeliveryCall::Acknowledgement(event))
             }
-            None => Move::nothing(alloc),
+            None => DeliveryEffect::nothing(alloc),
         }
     }
 
@@ -448,20 +454,20 @@ impl<A: Allocator + Copy> Delivery<A> {
         alloc: A,
         released: bool,
         command: &Command<A>,
-    ) -> Result<Move<A>, SessionFault>
+    ) -> Result<DeliveryEffect<A>, SessionFault>
         requires roomy { IsRoomy self.old.association.established }
-        ensures reaction { IfOk result (λ found. move_reaction (delivery_view self.new) found ≡ on_command (delivery_view self.old) released command.now) }
-        ensures writable { IfOk result IsSendableMove }
+        ensures reaction { IfOk result (λ found. delivery_reaction_of (delivery_view self.new) found ≡ on_command (delivery_view self.old) released command.now) }
+        ensures writable { IfOk result IsSendableDelivery }
         ensures established { self.new.association.established ≡ self.old.association.established }
         ensures memory { IfErr result (λ e. e ≡ Memory) }
     {
         if released {
-            return Ok(Move::nothing(alloc));
+            return Ok(DeliveryEffect::nothing(alloc));
         }
         match command {
             Command::Response(response) => Ok(self.on_response(alloc, response)),
-            Command::Cancel(_) => Ok(Move::nothing(alloc)),
-            Command::Request(request) => Ok(Move::Say(self.refuse(alloc, request)?)),
+            Command::Cancel(_) => Ok(DeliveryEffect::nothing(alloc)),
+            Command::Request(request) => Ok(DeliveryEffect::Send(self.refuse(alloc, request)?)),
         }
     }
 
@@ -473,10 +479,10 @@ impl<A: Allocator + Copy> Delivery<A> {
         alloc: A,
         released: bool,
         message: &RawMessage<A>,
-    ) -> Result<Move<A>, SessionFault>
+    ) -> Result<DeliveryEffect<A>, SessionFault>
         requires roomy { IsRoomy self.old.association.established }
-        ensures reaction { IfOk result (λ found. Understands (delivery_view self.old) released message.now (move_reaction (delivery_view self.new) found)) }
-        ensures writable { IfOk result IsSendableMove }
+        ensures reaction { IfOk result (λ found. Understands (delivery_view self.old) released message.now (delivery_reaction_of (delivery_view self.new) found)) }
+        ensures writable { IfOk result IsSendableDelivery }
         ensures established { self.new.association.established ≡ self.old.association.established }
         ensures memory { IfErr result (λ e. e ≡ Memory) }
     {
@@ -484,7 +490,7 @@ impl<A: Allocator + Copy> Delivery<A> {
             Ok(command) => self.on_command(alloc, released, &command),
             Err(fault) => {
                 unless_no_room(fault)?;
-                Ok(Move::Say(self.abort(alloc)?))
+                Ok(DeliveryEffect::Send(self.abort(alloc)?))
             }
         }
     }
@@ -498,10 +504,10 @@ impl<A: Allocator + Copy> Delivery<A> {
         released: bool,
         established: Established<A>,
         pdv: &Pdv<A>,
-    ) -> Result<Move<A>, SessionFault>
+    ) -> Result<DeliveryEffect<A>, SessionFault>
         requires roomy { 8 ≤ established.parameters.max }
-        ensures reaction { IfOk result (λ found. Assembles (delivery_view self.old) (established_view established) released (fed established.assembler.ids established.assembler.begun pdv.now) (move_reaction (delivery_view self.new) found)) }
-        ensures writable { IfOk result IsSendableMove }
+        ensures reaction { IfOk result (λ found. Assembles (delivery_view self.old) (established_view established) released (fed established.assembler.ids established.assembler.begun pdv.now) (delivery_reaction_of (delivery_view self.new) found)) }
+        ensures writable { IfOk result IsSendableDelivery }
         ensures roomy { IsRoomy self.new.association.established }
         ensures memory { IfErr result (λ e. e ≡ Memory) }
     {
@@ -509,11 +515,11 @@ impl<A: Allocator + Copy> Delivery<A> {
         let came = established.assembler.feed(pdv);
         self.association.established = Some(established);
         match came {
-            Ok(None) => Ok(Move::nothing(alloc)),
+            Ok(None) => Ok(DeliveryEffect::nothing(alloc)),
             Ok(Some(message)) => self.on_message(alloc, released, &message),
             Err(fault) => {
                 unless_memory(fault)?;
-                Ok(Move::Say(self.abort(alloc)?))
+                Ok(DeliveryEffect::Send(self.abort(alloc)?))
             }
         }
     }
@@ -521,38 +527,43 @@ impl<A: Allocator + Copy> Delivery<A> {
     /// Processes a PDV in a state in which messages are received.
     ///
     /// Errors: out of memory.
-    fn receive(&mut self, alloc: A, released: bool, pdv: &Pdv<A>) -> Result<Move<A>, SessionFault>
+    fn receive(
+        &mut self,
+        alloc: A,
+        released: bool,
+        pdv: &Pdv<A>,
+    ) -> Result<DeliveryEffect<A>, SessionFault>
         requires roomy { IsRoomy self.old.association.established }
-        ensures reaction { IfOk result (λ found. Receives (delivery_view self.old) (option_map established_view self.old.association.established) released pdv.now (move_reaction (delivery_view self.new) found)) }
-        ensures writable { IfOk result IsSendableMove }
+        ensures reaction { IfOk result (λ found. Receives (delivery_view self.old) (option_map established_view self.old.association.established) released pdv.now (delivery_reaction_of (delivery_view self.new) found)) }
+        ensures writable { IfOk result IsSendableDelivery }
         ensures roomy { OnOk result (IsRoomy self.new.association.established) }
         ensures memory { IfErr result (λ e. e ≡ Memory) }
     {
         match self.association.established.take() {
             Some(established) => self.assemble(alloc, released, established, pdv),
-            None => Ok(Move::nothing(alloc)),
+            None => Ok(DeliveryEffect::nothing(alloc)),
         }
     }
 
     /// Processes a PDV of a P-DATA-TF.
     ///
     /// Errors: out of memory.
-    pub fn on_fragment(&mut self, alloc: A, pdv: &Pdv<A>) -> Result<Move<A>, SessionFault>
+    pub fn on_fragment(&mut self, alloc: A, pdv: &Pdv<A>) -> Result<DeliveryEffect<A>, SessionFault>
         requires roomy { IsRoomy self.old.association.established }
-        ensures reaction { IfOk result (λ found. OnFragment (delivery_view self.old) pdv.now (next_of true true events.Data self.old.association.state) (move_reaction (delivery_view self.new) found)) }
-        ensures writable { IfOk result IsSendableMove }
+        ensures reaction { IfOk result (λ found. OnFragment (delivery_view self.old) pdv.now (next_of true true events.Data self.old.association.state) (delivery_reaction_of (delivery_view self.new) found)) }
+        ensures writable { IfOk result IsSendableDelivery }
         ensures roomy { OnOk result (IsRoomy self.new.association.established) }
         ensures memory { IfErr result (λ e. e ≡ Memory) }
     {
         let event = UlEvent::Data;
         let Some((action, state)) = next(self.association.state, event, REQUESTOR, true) else {
-            return Ok(Move::nothing(alloc));
+            return Ok(DeliveryEffect::nothing(alloc));
         };
         self.association.transition(event, action, state);
         match action {
             UlAction::Dt2 => self.receive(alloc, false, pdv),
             UlAction::Ar6 => self.receive(alloc, true, pdv),
-            _ => Ok(Move::Say(self.on_action(alloc, action)?)),
+            _ => Ok(DeliveryEffect::Send(self.on_action(alloc, action)?)),
         }
     }
 }

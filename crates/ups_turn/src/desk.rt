@@ -36,7 +36,7 @@ pub struct Desk<A: Allocator + Copy> {
     seats: u64,
     /// A pass draws its ticket with this lock held. So the turn is most often its own at once, and goes to whichever
     /// pass runs, not to one that sleeps. No contract rests on it.
-    door: Mutex<()>,
+    ticket_lock: Mutex<()>,
 }
 
 impl<A: Allocator + Copy> Model for Desk<A> {
@@ -189,7 +189,7 @@ impl<A: Allocator + Copy> Desk<A> {
                     Desk {
                         table,
                         seats: u64::from(seats),
-                        door: Mutex::new(()),
+                        ticket_lock: Mutex::new(()),
                     },
                     passes,
                 ))
@@ -225,7 +225,7 @@ impl<A: Allocator + Copy> Desk<A> {
         if pass.calls >= MOST_CALLS {
             return Reply::Status(lacking(&ask));
         }
-        let _door = self.door.lock(rt);
+        let _held = self.ticket_lock.lock(rt);
         let shelf = &self.table.shared;
         let mut manager = take(rt, shelf, &mut pass.place);
         let before = manager.history().len() as u64;

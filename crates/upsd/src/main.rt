@@ -39,7 +39,7 @@ use std::sync::Wait;
 use std::thread::Threads;
 use std::time::Clock;
 use ups_life::Peer;
-pub use ups_net::{Terms, work};
+pub use ups_net::{ServerOptions, work};
 use ups_pdu::Ae;
 pub use ups_session::{End, SessionFault, WatchedReader, WatchedWriter};
 

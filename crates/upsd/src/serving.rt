@@ -25,7 +25,7 @@ use std::{io, str};
 use ups_assoc::Config;
 use ups_life::{MAX_HISTORY, Peer};
 use ups_manager::Manager;
-use ups_net::{Door, Terms, Watcher, run};
+use ups_net::{Door, ServerOptions, Watcher, run};
 use ups_pdu::Ae;
 use ups_turn::Desk;
 
@@ -100,7 +100,7 @@ where
 }
 
 /// How the threads of a server work, as the command line asks.
-fn terms_of(alloc: Global, asked: ServeArguments<'_>) -> Terms
+fn options_of(alloc: Global, asked: ServeArguments<'_>) -> ServerOptions
     ensures ae { result.config.ae ≡ asked.entry.ae }
     ensures offset { result.config.offset ≡ asked.entry.offset }
     ensures turns { result.turns ≡ turns_limit }
@@ -118,7 +118,7 @@ fn terms_of(alloc: Global, asked: ServeArguments<'_>) -> Terms
         verbose,
         ..
     } = asked;
-    Terms {
+    ServerOptions {
         alloc,
         config: Config { ae, offset },
         turns: TURNS,
@@ -157,8 +157,8 @@ where
     let Ok((desk, passes)) = Desk::open(alloc, manager, asked.workers + 2) else {
         return Err(AllocError);
     };
-    let terms = terms_of(alloc, asked);
-    match run(rt, door, &desk, passes, &terms) {
+    let options = options_of(alloc, asked);
+    match run(rt, door, &desk, passes, &options) {
         (true, _) => Ok(Status::Done),
         (false, _) => Err(AllocError),
     }

@@ -1,7 +1,7 @@
 use Rattle.std.proofs.Common.{List, subst, refl}
 use Rattle.std.proofs.lemmas.Result.{err_from_is_err_and}
 use Rattle.ups_pdu.specs.declared.pdu.Pdu.{Pdu}
-use Rattle.ups_session.specs.declared.delivery.Wanted.TheVariants.{Pendings}
+use Rattle.ups_session.specs.declared.delivery.DeliveryCall.TheVariants.{Pendings}
 use Rattle.ups_session.specs.Deliveries.{delivery_view}
 use Rattle.ups_session.specs.Requestor.{requestor, saying, on_pendings}
 use Rattle.ups_session.specs.Visits.{SendsPdus}

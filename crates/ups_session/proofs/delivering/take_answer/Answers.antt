@@ -1,6 +1,6 @@
 use Rattle.std.proofs.lemmas.Result.{err_from_is_err_and}
 use Rattle.ups_session.specs.Fold.{Happens, confirmation}
-use Rattle.ups_session.specs.Deliveries.{delivery_view, move_reaction}
+use Rattle.ups_session.specs.Deliveries.{delivery_view, delivery_reaction_of}
 use Rattle.ups_session.specs.Requestor.{requestor}
 use Rattle.ups_session.proofs.Going.{goes_short}
 use Rattle.ups_session.proofs.Settling.{performed_settled}
@@ -13,4 +13,4 @@ returns-in_err-found-clause-performed g c = λ config.
 
 pub returns-clause-performed : goal.returns-clause-performed
 returns-clause-performed g c = λ config.
-    performed_settled (requestor config c.args.ae) (delivery_view c.args.delivery.now) (delivery_view c.carry_out.new.delivery) (confirmation c.args.answer.now) (move_reaction (delivery_view c.on_answer.new.self) c.in_ok-found.found) _ _ c.carry_out.result (c.in_ok-found.ensures.reaction) (c.carry_out.ensures.settled config)
+    performed_settled (requestor config c.args.ae) (delivery_view c.args.delivery.now) (delivery_view c.perform_delivery.new.delivery) (confirmation c.args.answer.now) (delivery_reaction_of (delivery_view c.on_answer.new.self) c.in_ok-found.found) _ _ c.perform_delivery.result (c.in_ok-found.ensures.reaction) (c.perform_delivery.ensures.settled config)

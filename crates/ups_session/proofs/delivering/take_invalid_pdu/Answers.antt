@@ -13,4 +13,4 @@ returns-in_err-said-clause-performed g c = λ config.
 
 pub returns-clause-performed : goal.returns-clause-performed
 returns-clause-performed g c = λ config.
-    performed_settled (requestor config c.args.ae) (delivery_view c.args.delivery.now) (delivery_view c.carry_out.new.delivery) (invalid c.args.fault) (saying (delivery_view c.on_invalid_pdu.new.self) c.in_ok-said.said.items) _ _ c.carry_out.result (c.in_ok-said.ensures.reaction) (c.carry_out.ensures.settled config)
+    performed_settled (requestor config c.args.ae) (delivery_view c.args.delivery.now) (delivery_view c.perform_delivery.new.delivery) (invalid c.args.fault) (saying (delivery_view c.on_invalid_pdu.new.self) c.in_ok-said.said.items) _ _ c.perform_delivery.result (c.in_ok-said.ensures.reaction) (c.perform_delivery.ensures.settled config)

@@ -1,6 +1,6 @@
 use denote.Param.Send.{sendable}
 use Rattle.ups_turn.proofs.Crosses.{desk_crosses}
-use Rattle.ups_net.proofs.Crosses.{door_lent, word_lent, terms_lent}
+use Rattle.ups_net.proofs.Crosses.{door_lent, word_lent, options_lent}
 use Rattle.std.proofs.Common.{rules, ◌≡◌, ◌+◌}
 use Rattle.std.proofs.lemmas.Grind.{elements}
 use Rattle.ups_net.proofs.workers.fn.run_threads.scope.Goals as goal
@@ -48,7 +48,7 @@ returns g c =
     record { all = search rules; stay = λ k d below. let h = c.join_all.ensures.stay c.captures.desk.now.table c.loop-pass.invariant.stay c.loop-pass.invariant.kept k d in grind (rules, elements) }
 
 pub spawn_with-requires-send-F : goal.spawn_with-requires-send-F
-spawn_with-requires-send-F g l κs within = search (terms_lent, word_lent, door_lent, desk_crosses, sendable) depth 40 fits 5000
+spawn_with-requires-send-F g l κs within = search (options_lent, word_lent, door_lent, desk_crosses, sendable) depth 40 fits 5000
 
 pub spawn_with-requires-send-T : goal.spawn_with-requires-send-T
 spawn_with-requires-send-T g l κs within = search (sendable, desk_crosses) depth 30

@@ -1,0 +1,136 @@
+#!/usr/bin/env python3
+"""Compares two builds of `upsd`, an older and a newer one, row by row over the same input; prints a table.
+
+The rows are those of bench/pipe.py and bench/script.py. A figure leaves out what the same input takes without the
+requests that a row is about. The two programs take turns, and the least of their runs counts, so that a machine that is
+busy for a while slows down both. With --instructions the processor's instructions are counted in place of the time, by
+valgrind (from Debian's package of that name): that is slow, but the same at each run, whatever else the machine does.
+"""
+
+import argparse
+import os
+import re
+import subprocess
+import sys
+import tempfile
+import time
+
+sys.path.insert(0, os.path.dirname(os.path.abspath(__file__)))
+import pipe
+import script
+
+PIPE = ["pipe", "--ae", "UPSD"]
+
+
+def echo_rows(few):
+    count = 1_000 if few else 10_000
+    opening = pipe.associate([(pipe.VERIFICATION, pipe.IMPLICIT)])
+    asked = b"".join(pipe.echo(i + 1) for i in range(count))
+    yield "C-ECHO", PIPE, opening + pipe.RELEASE, opening + asked + pipe.RELEASE, count
+
+
+def step_rows(few):
+    for name, syntax, explicit in (("Implicit", pipe.IMPLICIT, False), ("Explicit", pipe.EXPLICIT, True)):
+        opening = pipe.associate([(pipe.PUSH, syntax)])
+        made = b"".join(pipe.create(1, i + 1, b"1.2.3.%d" % (i + 1), pipe.step(explicit)) for i in range(200))
+        asked = b"".join(pipe.get(1, i + 1, b"1.2.3.%d" % (i + 1)) for i in range(200))
+        change = pipe.data(explicit, 0x0074, 0x1204, b"LO", b"MR READ ")
+        changes = b"".join(pipe.set_attributes(1, i + 1, b"1.2.3.%d" % (i + 1), change) for i in range(200))
+        yield f"N-CREATE of 20 attributes, {name}", PIPE, opening + pipe.RELEASE, opening + made + pipe.RELEASE, 200
+        yield f"N-GET of 20 attributes, {name}", PIPE, opening + made + pipe.RELEASE, opening + made + asked + pipe.RELEASE, 200
+        yield f"N-SET of an attribute, {name}", PIPE, opening + made + pipe.RELEASE, opening + made + changes + pipe.RELEASE, 200
+
+
+def find_rows(few):
+    opening = pipe.associate([(pipe.PUSH, pipe.EXPLICIT), (pipe.PULL, pipe.EXPLICIT)])
+    queries = 20 if few else 200
+    for count in (100, 1_000):
+        made = b""
+        for i in range(count):
+            more = {(0x0010, 0x0020): (b"LO", b"P%05d" % i), (0x0074, 0x1204): (b"LO", b"CT %d READ" % (i % 10) + b" ")}
+            made += pipe.create(1, i + 1, b"1.2.3.%d" % (i + 1), pipe.step(True, more))
+        for name, answers, texts in (
+            ("patient ID", 1, {(0x0010, 0x0020): (b"LO", b"P00042")}),
+            ("wild card", count // 10, {(0x0074, 0x1204): (b"LO", b"C?*7*READ ")}),
+        ):
+            asked = b"".join(pipe.find(3, i + 1, pipe.keys(texts)) for i in range(queries))
+            what = f"C-FIND by {name}, {count:,} steps, {answers} answered"
+            yield what, PIPE, opening + made + pipe.RELEASE, opening + made + asked + pipe.RELEASE, queries
+
+
+def large_rows(few):
+    for name, explicit, shape in (
+        ("one large value", True, lambda n: {(0x0074, 0x100A): (b"UN", bytes(n))}),
+        ("elements without value", False, lambda n: {(0x0009 + 2 * (i // 60000), 0x1001 + i % 60000): (b"UN", b"") for i in range(n // 8)}),
+        ("nested sequences", True, lambda n: {(0x0040, 0x4018): (b"SQ", pipe.nested(True, n))}),
+    ):
+        opening = pipe.associate([(pipe.PUSH, pipe.EXPLICIT if explicit else pipe.IMPLICIT)])
+        row = pipe.step(explicit, shape(1_000_000))
+        yield f"one data set of {len(row):,} bytes, {name}", PIPE, opening + pipe.RELEASE, opening + pipe.create(1, 1, b"1.2.3.1", row) + pipe.RELEASE, 1
+
+
+def script_rows(few):
+    made = b"".join(script.create(i) for i in range(100))
+    for count in (1_000,) if few else (1_000, 10_000):
+        creates = b"".join(script.create(i) for i in range(count))
+        yield f"script: create, {count:,} lines", ["script"], b"", creates, count
+        for name, line in (
+            ("get, over 100 steps", lambda i: b"0 P1 get 1.2.3.%d 00741000 00100020\n" % (i % 100)),
+            ("find by patient ID, over 100 steps", lambda i: b"0 P1 find 00080018= 00100020=P%05d\n" % (i % 100)),
+            ("find by wild card, 100 answers", lambda i: b"0 P1 find 00080018= 00741204=C*READ\n"),
+        ):
+            yield f"script: {name}, {count:,} lines", ["script"], made, made + b"".join(line(i) for i in range(count)), count
+
+
+def run(command, stdin):
+    """The seconds of one run, and what it wrote on standard error."""
+    with tempfile.TemporaryFile() as given:
+        given.write(stdin)
+        given.seek(0)
+        began = time.perf_counter()
+        done = subprocess.run(command, stdin=given, stdout=subprocess.DEVNULL, stderr=subprocess.PIPE, text=True)
+        took = time.perf_counter() - began
+    if done.returncode != 0:
+        sys.exit(f"{' '.join(command)}: status {done.returncode}, {done.stderr[-200:]}")
+    return took, done.stderr
+
+
+def instructions(command, stdin):
+    """The instructions of one run."""
+    _, told = run(["valgrind", "--tool=callgrind", "--callgrind-out-file=/dev/null", *command], stdin)
+    return int(re.search(r"Collected : (\d+)", told)[1])
+
+
+def compared(programs, words, base, whole, times, counts):
+    """What each program takes for the whole input beyond the base: the least of the runs, by turns."""
+    if counts:
+        return [instructions([it, *words], whole) - instructions([it, *words], base) for it in programs]
+    least = {}
+    for _ in range(times):
+        for place, program in enumerate(programs):
+            for stdin in (base, whole):
+                key = place, len(stdin)
+                least[key] = min(least.get(key, 1e9), run([program, *words], stdin)[0])
+    return [max(least[place, len(whole)] - least[place, len(base)], 1e-9) for place in range(len(programs))]
+
+
+def main():
+    about, _, more = __doc__.partition("\n\n")
+    asked = argparse.ArgumentParser(description=about, epilog=more)
+    asked.add_argument("before", help="the older program")
+    asked.add_argument("after", help="the newer program")
+    asked.add_argument("--instructions", action="store_true", help="count instructions by valgrind, over shorter inputs")
+    asked.add_argument("--times", type=int, default=15, help="how many runs each row has (15)")
+    given = asked.parse_args()
+    programs = [given.before, given.after]
+    unit, scale = ("instructions", 1) if given.instructions else ("us", 1e6)
+    print(f"| what | before, {unit} each | after, {unit} each | after / before |\n|---|---|---|---|")
+    for rows in (echo_rows, step_rows, find_rows, large_rows, script_rows):
+        for name, words, base, whole, count in rows(given.instructions):
+            before, after = compared(programs, words, base, whole, given.times, given.instructions)
+            cells = (f"{scale * it / count:,.{0 if given.instructions or scale * it / count > 100 else 2}f}" for it in (before, after))
+            print(f"| {name} | {' | '.join(cells)} | {after / before:.2f} |", flush=True)
+
+
+if __name__ == "__main__":
+    main()
