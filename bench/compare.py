@@ -3,8 +3,9 @@
 
 The rows are those of bench/pipe.py and bench/script.py. A figure leaves out what the same input takes without the
 requests that a row is about. The two programs take turns, and the least of their runs counts, so that a machine that is
-busy for a while slows down both. With --instructions the processor's instructions are counted in place of the time, by
-valgrind (from Debian's package of that name): that is slow, but the same at each run, whatever else the machine does.
+busy for a while slows down both. With --instructions or --allocations the processor's instructions, or the blocks of
+memory asked for, are counted in place of the time, by valgrind (from Debian's package of that name) and over shorter
+inputs: that is slow, but the same at each run, whatever else the machine does.
 """
 
 import argparse
@@ -101,10 +102,16 @@ def instructions(command, stdin):
     return int(re.search(r"Collected : (\d+)", told)[1])
 
 
-def compared(programs, words, base, whole, times, counts):
-    """What each program takes for the whole input beyond the base: the least of the runs, by turns."""
-    if counts:
-        return [instructions([it, *words], whole) - instructions([it, *words], base) for it in programs]
+def allocations(command, stdin):
+    """How many blocks of memory one run asks for."""
+    _, told = run(["valgrind", "--tool=memcheck", "--leak-check=no", *command], stdin)
+    return int(re.search(r"total heap usage: ([\d,]+) allocs", told)[1].replace(",", ""))
+
+
+def compared(programs, words, base, whole, times, count):
+    """What each program takes for the whole input beyond the base: by a count, or the least time of runs by turns."""
+    if count:
+        return [count([it, *words], whole) - count([it, *words], base) for it in programs]
     least = {}
     for _ in range(times):
         for place, program in enumerate(programs):
@@ -119,17 +126,20 @@ def main():
     asked = argparse.ArgumentParser(description=about, epilog=more)
     asked.add_argument("before", help="the older program")
     asked.add_argument("after", help="the newer program")
-    asked.add_argument("--instructions", action="store_true", help="count instructions by valgrind, over shorter inputs")
+    counts = asked.add_mutually_exclusive_group()
+    counts.add_argument("--instructions", action="store_const", const=instructions, dest="count", help="count instructions")
+    counts.add_argument("--allocations", action="store_const", const=allocations, dest="count", help="count blocks of memory")
     asked.add_argument("--times", type=int, default=15, help="how many runs each row has (15)")
     given = asked.parse_args()
     programs = [given.before, given.after]
-    unit, scale = ("instructions", 1) if given.instructions else ("us", 1e6)
+    unit, scale, digits = (given.count.__name__, 1, 1) if given.count else ("us", 1e6, 2)
     print(f"| what | before, {unit} each | after, {unit} each | after / before |\n|---|---|---|---|")
     for rows in (echo_rows, step_rows, find_rows, large_rows, script_rows):
-        for name, words, base, whole, count in rows(given.instructions):
-            before, after = compared(programs, words, base, whole, given.times, given.instructions)
-            cells = (f"{scale * it / count:,.{0 if given.instructions or scale * it / count > 100 else 2}f}" for it in (before, after))
-            print(f"| {name} | {' | '.join(cells)} | {after / before:.2f} |", flush=True)
+        for name, words, base, whole, count in rows(given.count):
+            before, after = compared(programs, words, base, whole, given.times, given.count)
+            cells = (f"{scale * it / count:,.{digits}f}" for it in (before, after))
+            ratio = f"{after / before:.2f}" if before else "-"
+            print(f"| {name} | {' | '.join(cells)} | {ratio} |", flush=True)
 
 
 if __name__ == "__main__":

@@ -1,8 +1,6 @@
 #!/usr/bin/env python3
 """Runs `upsd pipe` on mutated associations, and on requests of extreme form.
 
-Usage: bench/fuzz.py [PROGRAM [COUNT [SEED]]]     (crates/upsd/out/upsd, 10,000, 1)
-
 Each run has to end by itself within ten seconds, with status 0 or 2, and to write whole PDUs alone. It prints how
 often each status came, and the first input that did otherwise.
 """
@@ -14,7 +12,7 @@ import subprocess
 import sys
 
 sys.path.insert(0, __file__.rsplit("/", 1)[0])
-from pipe import EXPLICIT, IMPLICIT, PULL, PUSH, RELEASE, VERIFICATION, act, associate, create, data, echo, find, get, give_up, item, items, pdu, set_attributes, step
+from pipe import EXPLICIT, IMPLICIT, PULL, PUSH, RELEASE, VERIFICATION, act, arguments, associate, create, data, echo, find, get, give_up, item, items, pdu, set_attributes, step
 
 
 def life(explicit):
@@ -156,10 +154,10 @@ def padded(program):
 
 
 def main():
-    program = sys.argv[1] if len(sys.argv) > 1 else "crates/upsd/out/upsd"
-    largest(program)
-    padded(program)
-    fuzz(program, int(sys.argv[2]) if len(sys.argv) > 2 else 10_000, int(sys.argv[3]) if len(sys.argv) > 3 else 1)
+    given = arguments(__doc__, ("count", 10_000, "how many associations"), ("seed", 1, "the seed of chance"))
+    largest(given.program)
+    padded(given.program)
+    fuzz(given.program, given.count, given.seed)
 
 
 if __name__ == "__main__":

@@ -1,8 +1,6 @@
 #!/usr/bin/env python3
 """Runs `upsd script` on mutated scripts.
 
-Usage: bench/fuzz_script.py [PROGRAM [COUNT [SEED]]]     (crates/upsd/out/upsd, 5,000, 1)
-
 Each run has to end by itself within ten seconds: with status 0 and a reply for each line, or with status 2, where the
 last line of the output is `bad line N` and there are N - 1 replies before it. It prints how often each status came, and
 the first script that did otherwise.
@@ -16,6 +14,7 @@ import sys
 
 sys.path.insert(0, __file__.rsplit("/", 1)[0])
 from fuzz import mutated
+from pipe import arguments
 
 STEP = b"00404005=20240229120000 00404041=READY 00741000=SCHEDULED 00741200=MEDIUM 00741204=CT%20READ"
 SEED = b"\n".join((
@@ -62,9 +61,9 @@ def is_told(done, lines):
 
 
 def main():
-    program = sys.argv[1] if len(sys.argv) > 1 else "crates/upsd/out/upsd"
-    count = int(sys.argv[2]) if len(sys.argv) > 2 else 5_000
-    chance = random.Random(int(sys.argv[3]) if len(sys.argv) > 3 else 1)
+    wanted = arguments(__doc__, ("count", 5_000, "how many scripts"), ("seed", 1, "the seed of chance"))
+    program, count = wanted.program, wanted.count
+    chance = random.Random(wanted.seed)
     statuses = collections.Counter()
     for number in range(count):
         given = mutated(chance, SEED, spoil_lines)

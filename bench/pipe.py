@@ -1,9 +1,7 @@
 #!/usr/bin/env python3
-"""Measures `upsd pipe` over one association, in binary, and prints a table.
+"""Measures `upsd pipe` over one association, in binary, and prints a table."""
 
-Usage: bench/pipe.py [PROGRAM]        (crates/upsd/out/upsd, which `rt run` builds)
-"""
-
+import argparse
 import os
 import struct
 import subprocess
@@ -16,6 +14,16 @@ PULL = b"1.2.840.10008.5.1.4.34.6.3"
 VERIFICATION = b"1.2.840.10008.1.1"
 IMPLICIT = b"1.2.840.10008.1.2"
 EXPLICIT = b"1.2.840.10008.1.2.1"
+
+
+def arguments(about, *numbers):
+    """The program that the command line names, and its numbers, each given here with its default and what it is."""
+    parser = argparse.ArgumentParser(description=about, formatter_class=argparse.RawDescriptionHelpFormatter)
+    built = "crates/upsd/out/upsd"
+    parser.add_argument("program", nargs="?", default=built, help=f"the program ({built}, which `rt run` builds)")
+    for name, default, what in numbers:
+        parser.add_argument(name, nargs="?", type=int, default=default, help=f"{what} ({default:,})")
+    return parser.parse_args()
 
 
 def item(kind, content):
@@ -258,7 +266,7 @@ def large(program):
 
 
 def main():
-    program = sys.argv[1] if len(sys.argv) > 1 else "crates/upsd/out/upsd"
+    program = arguments(__doc__).program
     print("| what | rate | time | peak memory |\n|---|---|---|---|")
     echoes(program)
     steps(program)

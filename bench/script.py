@@ -1,8 +1,5 @@
 #!/usr/bin/env python3
-"""Measures `upsd script`: lines a second, and the memory of a long line; prints a table.
-
-Usage: bench/script.py [PROGRAM]        (crates/upsd/out/upsd, which `rt run` builds)
-"""
+"""Measures `upsd script`: lines a second, and the memory of a long line; prints a table."""
 
 import resource
 import subprocess
@@ -10,7 +7,7 @@ import sys
 import time
 
 sys.path.insert(0, __file__.rsplit("/", 1)[0])
-from pipe import timed
+from pipe import arguments, timed
 
 STEP = b"00404005=20240229120000 00404041=READY 00741000=SCHEDULED 00741200=MEDIUM 00741204=CT%20READ 00100020=P"
 
@@ -113,7 +110,7 @@ def long_lines(program):
 
 
 def main():
-    program = sys.argv[1] if len(sys.argv) > 1 else "crates/upsd/out/upsd"
+    program = arguments(__doc__).program
     print("| what | rate or time | peak memory |\n|---|---|---|")
     lines(program)
     watchers(program)
