@@ -21,8 +21,8 @@ use std::alloc::{AllocError, Allocator};
 use ups_dataset::DataSet;
 use ups_match::{Keys, Matcher, Probe};
 
-fn creates<A: Allocator + Copy>(uid: StepUid, request: &Request<A>) -> bool
-    ensures { result ≡ creates uid request.now }
+fn creates<A: Allocator + Copy>(uid: &StepUid, request: &Request<A>) -> bool
+    ensures { result ≡ creates uid.now request.now }
 {
     match request {
         Request::Create { step, .. } => step.as_bytes() == uid.as_bytes(),
@@ -31,8 +31,8 @@ fn creates<A: Allocator + Copy>(uid: StepUid, request: &Request<A>) -> bool
 }
 
 /// Whether a step with this UID was created before a request, or is by it.
-fn used_after<A: Allocator + Copy>(uid: StepUid, before: bool, request: &Request<A>) -> bool
-    ensures { result ≡ (creates uid request.now || before) }
+fn used_after<A: Allocator + Copy>(uid: &StepUid, before: bool, request: &Request<A>) -> bool
+    ensures { result ≡ (creates uid.now request.now || before) }
 {
     creates(uid, request) || before
 }
@@ -43,7 +43,7 @@ pub fn used<A: Allocator + Copy>(history: &[Entry<A>], uid: StepUid) -> bool
 {
     let mut found = false;
     for entry in history {
-        found = used_after(uid, found, &entry.request);
+        found = used_after(&uid, found, &entry.request);
     }
     found
 }

@@ -136,7 +136,7 @@ fn buffer<A: Allocator + Copy>(
     ensures len { IfOk result (λ v. length v.items ≡ 6 + len) }
     ensures memory { IfErr result (λ e. e ≡ Memory) }
 {
-    let mut bytes = Vec::new(alloc);
+    let mut bytes = Vec::with_capacity(alloc, HEADER_LENGTH + len)?;
     bytes.extend_from_slice(header)?;
     bytes.resize(HEADER_LENGTH + len, 0)?;
     Ok(bytes)
