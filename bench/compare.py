@@ -31,28 +31,28 @@ def echo_rows(few):
 
 
 def step_rows(few):
+    rounds = 1 if few else 20
     for name, syntax, explicit in (("Implicit", pipe.IMPLICIT, False), ("Explicit", pipe.EXPLICIT, True)):
         opening = pipe.associate([(pipe.PUSH, syntax)])
         made = b"".join(pipe.create(1, i + 1, b"1.2.3.%d" % (i + 1), pipe.step(explicit)) for i in range(200))
-        asked = b"".join(pipe.get(1, i + 1, b"1.2.3.%d" % (i + 1)) for i in range(200))
+        asked = b"".join(pipe.get(1, i + 1, b"1.2.3.%d" % (i + 1)) for i in range(200)) * rounds
         change = pipe.data(explicit, 0x0074, 0x1204, b"LO", b"MR READ ")
-        changes = b"".join(pipe.set_attributes(1, i + 1, b"1.2.3.%d" % (i + 1), change) for i in range(200))
+        changes = b"".join(pipe.set_attributes(1, i + 1, b"1.2.3.%d" % (i + 1), change) for i in range(200)) * rounds
         yield f"N-CREATE of 20 attributes, {name}", PIPE, opening + pipe.RELEASE, opening + made + pipe.RELEASE, 200
-        yield f"N-GET of 20 attributes, {name}", PIPE, opening + made + pipe.RELEASE, opening + made + asked + pipe.RELEASE, 200
-        yield f"N-SET of an attribute, {name}", PIPE, opening + made + pipe.RELEASE, opening + made + changes + pipe.RELEASE, 200
+        yield f"N-GET of 20 attributes, {name}", PIPE, opening + made + pipe.RELEASE, opening + made + asked + pipe.RELEASE, 200 * rounds
+        yield f"N-SET of an attribute, {name}", PIPE, opening + made + pipe.RELEASE, opening + made + changes + pipe.RELEASE, 200 * rounds
 
 
 def find_rows(few):
     opening = pipe.associate([(pipe.PUSH, pipe.EXPLICIT), (pipe.PULL, pipe.EXPLICIT)])
-    queries = 20 if few else 200
     for count in (100, 1_000):
         made = b""
         for i in range(count):
             more = {(0x0010, 0x0020): (b"LO", b"P%05d" % i), (0x0074, 0x1204): (b"LO", b"CT %d READ" % (i % 10) + b" ")}
             made += pipe.create(1, i + 1, b"1.2.3.%d" % (i + 1), pipe.step(True, more))
-        for name, answers, texts in (
-            ("patient ID", 1, {(0x0010, 0x0020): (b"LO", b"P00042")}),
-            ("wild card", count // 10, {(0x0074, 0x1204): (b"LO", b"C?*7*READ ")}),
+        for name, answers, texts, queries in (
+            ("patient ID", 1, {(0x0010, 0x0020): (b"LO", b"P00042")}, 20 if few else 1_000),
+            ("wild card", count // 10, {(0x0074, 0x1204): (b"LO", b"C?*7*READ ")}, 20 if few else 300),
         ):
             asked = b"".join(pipe.find(3, i + 1, pipe.keys(texts)) for i in range(queries))
             what = f"C-FIND by {name}, {count:,} steps, {answers} answered"
