@@ -1,9 +1,11 @@
 #!/usr/bin/env python3
-"""Has the prover refuse the further edits of crates, those in the folders `edits`, and lists any that it doesn't.
+"""Has the prover refuse the further edits of crates, those in the folders `edits`, and tells any that it doesn't.
 
-The gate tries the edits in `must-fail`. Those in `edits` are of functions that only wrap, lend, convert or hand on a
-value, and of private functions whose rule another edit shows: they are tried by this script, after a change of the crate.
-It works on a copy of the tree. An edit takes 10 to 60 seconds, and a crate's first one as long as its proof.
+The gate tries the edits in `must-fail`: those of named rules and of the headline's promises, in the lowest crate that can
+refuse them. All others stand in `edits`, and are tried by this script after a change of the crate. It works on a copy of
+the tree, in which they stand in the place of the gate's, and runs `rt ci` for the crates. What was proved on this machine
+is kept; each crate is proved once more, as what its edits are tried over, and an edit takes 10 to 70 seconds. As many run
+side by side as RT_JOBS says.
 """
 
 import argparse
@@ -25,38 +27,50 @@ def with_edits(root):
 
 
 def copied(root, to):
-    """Copies the tree, with what earlier checks kept, so that no library is proved again."""
+    """Copies the tree."""
     shutil.copytree(root, to, ignore=shutil.ignore_patterns(".git"), symlinks=True)
 
 
-def tried(root, name):
-    """Tries the further edits of a crate in place of the gate's, and returns whether each is refused."""
+def asked_of(words, found):
+    """The crates that words name, each with the edits of it that are tried: those named, or all."""
+    asked = {}
+    for word in words or found:
+        name, _, edit = word.partition("/")
+        if name not in found or edit and not os.path.exists(f"crates/{name}/edits/{edit}.edit"):
+            sys.exit(f"no such further edit: {word}")
+        asked.setdefault(name, []).append(edit)
+    return asked
+
+
+def put_in(root, name, edits):
+    """Puts further edits of a crate in the place of the gate's."""
     folder = f"{root}/crates/{name}"
     shutil.rmtree(f"{folder}/must-fail", ignore_errors=True)
     os.rename(f"{folder}/edits", f"{folder}/must-fail")
-    return subprocess.run(["rt", "must-fail", name], cwd=root).returncode == 0
+    for file in os.listdir(f"{folder}/must-fail"):
+        if "" not in edits and file.removesuffix(".edit") not in edits:
+            os.remove(f"{folder}/must-fail/{file}")
 
 
 def main():
     about, _, more = __doc__.partition("\n\n")
     asked = argparse.ArgumentParser(description=about, epilog=more)
-    asked.add_argument("crates", nargs="*", metavar="CRATE", help="the crates whose edits are tried (all that have some)")
+    asked.add_argument("crates", nargs="*", metavar="CRATE[/EDIT]", help="a crate whose edits are tried, or one of them (all that there are)")
     asked.add_argument("--list", action="store_true", help="only list the crates, each with the number of its edits")
     names = asked.parse_args()
     root = os.path.dirname(os.path.dirname(os.path.abspath(__file__)))
+    os.chdir(root)
     found = with_edits(root)
-    unknown = [it for it in names.crates if it not in found]
-    if unknown:
-        sys.exit(f"no further edits: {' '.join(unknown)}")
     if names.list:
         for name, count in found.items():
             print(f"{name} {count}")
         return
+    chosen = asked_of(names.crates, found)
     with tempfile.TemporaryDirectory(prefix="upsd-edits-") as room:
         copied(root, f"{room}/tree")
-        failed = [it for it in names.crates or found if not tried(f"{room}/tree", it)]
-    if failed:
-        sys.exit(f"not refused: {' '.join(failed)}")
+        for name, edits in chosen.items():
+            put_in(f"{room}/tree", name, edits)
+        sys.exit(subprocess.run(["rt", "ci", *chosen], cwd=f"{room}/tree").returncode)
 
 
 if __name__ == "__main__":
