@@ -32,19 +32,26 @@ const STEPS: &str = "PUSH_AND_PULL CREATE_OF FIRST STEP CREATE_OF SECOND SECOND_
 const ONE_EVENT: &str = "\
 PUSH_AND_WATCH GLOBAL_ACTION 0300 TO_WATCH CREATE STEP RELEASE";
 
-/// What is said to have it told also that the step is claimed.
+/// What is said to have it told of two steps.
 const TWO_EVENTS: &str = "\
-PUSH_AND_WATCH GLOBAL_ACTION 0300 TO_WATCH CREATE STEP RELEASE
-PUSH_AND_PULL ACTION 0100 TO_IN_PROGRESS RELEASE";
+PUSH_AND_PULL CREATE STEP CREATE_OF SECOND SECOND_STEP RELEASE
+PUSH_AND_WATCH GLOBAL_ACTION 0300 TO_WATCH RELEASE";
 
-/// What is said to have it told also of a request to cancel the step, of its progress, and of its station.
+/// What is said to have it told of a step, and then that it is claimed, which alone is pending, of a request to cancel it,
+/// of its progress, and of its station.
 const FIVE_EVENTS: &str = "\
 PUSH_AND_WATCH GLOBAL_ACTION 0300 TO_WATCH CREATE STEP RELEASE
 PUSH_AND_PULL ACTION 0100 TO_IN_PROGRESS ACTION_ON_1 0200 NOTHING_ON_1 SET PROGRESS RELEASE";
 
-/// What is said to have it told 17 times that the step is scheduled.
+/// What is said to have it told that a step is claimed, and of 16 requests to cancel it.
 const MANY_EVENTS: &str = "\
-PUSH_AND_WATCH GLOBAL_ACTION 0300 TO_WATCH CREATE STEP WATCH_AGAIN*16 RELEASE";
+PUSH_AND_WATCH GLOBAL_ACTION 0300 TO_WATCH CREATE STEP RELEASE
+PUSH_AND_PULL ACTION 0100 TO_IN_PROGRESS CANCEL_AGAIN*16 RELEASE";
+
+/// What is said to have it told of the steps that are called READS, and of one that an N-SET calls so, and gives progress.
+const A_FILTER: &str = "\
+PUSH_AND_WATCH FILTERED_ACTION 0300 TO_WATCH_READS CREATE STEP RELEASE
+PUSH_AND_PULL SET TO_READS RELEASE";
 
 /// How a session with a manager ends, in its local time: it may read `turns` PDUs. Where it `delivers`, this side asks W1
 /// for the association, and reports events over it.
@@ -181,6 +188,8 @@ fn before(heading: &str) -> &'static str {
         FIVE_EVENTS
     } else if heading.contains("(many events)") {
         MANY_EVENTS
+    } else if heading.contains("(a filter)") {
+        A_FILTER
     } else {
         ""
     }
@@ -188,7 +197,7 @@ fn before(heading: &str) -> &'static str {
 
 /// A manager with the peer W1, which may lock steps. It enters so many requests as `(history N)` says, its local time is
 /// that of `(offset N)`, and it may hold `(two steps)`, or one step of which W1 is to be told `(one event)`, `(two events)`,
-/// `(five events)` or `(many events)`.
+/// `(five events)` or `(many events)`, or that comes to match `(a filter)` of W1.
 fn manager_of<A: Allocator + Copy>(
     rt: &impl AllocGlobal,
     alloc: A,

@@ -1,15 +1,21 @@
 pub mod Accepted
 pub mod Cancels
+pub mod Current
+mod Filters
 pub mod HeldOnce
 pub mod Items
 pub mod Laying
 pub mod NewSets
+pub mod Newly
 pub mod OneHolder
 pub mod Past
+pub mod Receiving
+pub mod Queued
 mod Reports
 mod Retained
 pub mod Rows
 pub mod RowsTell
+mod Walked
 pub mod Tags
 pub mod Texts
 pub mod Untold

@@ -1,19 +1,28 @@
 -- What is told, one report and one entry after the other.
-use Rattle.std.proofs.Common.{◌≡◌, ℕ, suc, ◌+◌, ◌<◌, Bool, true, false, cond, List, [], ◌∷◌, ◌++◌, length, map, filter, take, get_or, Option, Some, refl, sym, ap, ◌∙◌, append_assoc, length-append, arith}
+use Rattle.std.proofs.Common.{◌≡◌, ℕ, suc, ◌+◌, ◌<◌, ◌≤◌, Bool, true, false, cond, ◌&&◌, List, [], ◌∷◌, ◌++◌, length, map, filter, take, drop, get_or, Option, Some, refl, sym, ap, ◌∙◌, append_assoc, append-nil, length-append, length-drop, arith, ◌-◌}
 use Rattle.std.specs.Prelude.{is_some}
-use Rattle.std.proofs.lemmas.List.{take_more, map-append}
+use Rattle.std.specs.List.{list_any}
+use Rattle.std.proofs.lemmas.List.{take_more, take_all, drop_more, drop_all, map-append}
 use Rattle.std.proofs.lemmas.List.Elements.{filter-append}
 use Rattle.ups_life.specs.declared.entry.Entry.{Entry}
 use Rattle.ups_life.specs.declared.event.Event.{Event}
 use Rattle.ups_life.specs.declared.event.Report.{Report}
 use Rattle.ups_life.specs.Settings.{Settings}
 use Rattle.ups_life.specs.Watching.{watch}
-use Rattle.ups_life.specs.Events.{only_if, if_watched, reports_of, numbered, events}
+use Rattle.ups_life.specs.Events.{as_it_is, only_if, if_watched, reports_of, numbered, is_state_report, is_report_of, current, events}
 
 -- ONE ENTRY
 
-pub watched_is : {A : Type 0} (s : Settings) (es : List (Entry A)) (w : List ℕ) (o : Option (List ℕ)) (u : List ℕ) (told : List ℕ → List Report) → o ≡ Some u → is_some (watch s es w u) ≡ true → told u ≡ if_watched s es w o told
-watched_is s es w o u told named is = sym (ap (λ p. if_watched s es w p told) named ∙ ap (λ b. cond b (told u) []) is)
+pub watched_is : {A : Type 0} (s : Settings) (es : List (Entry A)) (e : Entry A) (w : List ℕ) (o : Option (List ℕ)) (u : List ℕ) (told : List ℕ → List Report) → o ≡ Some u → is_some (watch s es w u) ≡ true
+    → told u ≡ if_watched s es e w o told
+watched_is s es e w o u told named is =
+    sym (ap (λ p. if_watched s es e w p told) named ∙ ap (λ b. cond b (told u) (only_if (is_some (watch s (e ∷ es) w u)) (as_it_is s (e ∷ es) u))) is)
+
+pub begun_is : {A : Type 0} (s : Settings) (es so_far : List (Entry A)) (e : Entry A) (w : List ℕ) (o : Option (List ℕ)) (u : List ℕ) (told : List ℕ → List Report) → o ≡ Some u → is_some (watch s es w u) ≡ false
+    → so_far ≡ e ∷ es → only_if (is_some (watch s so_far w u)) (as_it_is s so_far u) ≡ if_watched s es e w o told
+begun_is {A} s es so_far e w o u told named is more =
+    ap (λ (l : List (Entry A)). only_if (is_some (watch s l w u)) (as_it_is s l u)) more
+    ∙ sym (ap (λ p. if_watched s es e w p told) named ∙ ap (λ b. cond b (told u) (only_if (is_some (watch s (e ∷ es) w u)) (as_it_is s (e ∷ es) u))) is)
 
 -- ONE MORE STEP
 
@@ -56,6 +65,28 @@ numbered_step old before after place xs i n x low is was count step =
     ∙ append_assoc old (numbered (length old + 1) place front) (event (n + 1) place x ∷ [])
     ∙ ap (λ l. old ++ l) (sym (numbered-push (length old + 1) (n + 1) place front x number))
     ∙ ap (λ l. old ++ numbered (length old + 1) place l) (sym (take_more xs i x low ∙ ap (λ y. front ++ y ∷ []) (sym is)))
+
+-- ONE MORE EVENT LOOKED AT
+
+-- what is found and what is current of the events behind are what is current of all
+pub current_step : (xs : List Event) (i : ℕ) (x : Event) (before after : List Event) (superseded : Bool) → i < length xs → x ≡ get_or xs i x → before ++ current (drop i xs) ≡ current xs
+    → superseded ≡ (is_state_report x.kind && list_any (is_report_of x.step) (drop (i + 1) xs)) → after ≡ before ++ cond superseded [] (x ∷ []) → after ++ current (drop (i + 1) xs) ≡ current xs
+current_step xs i x before after superseded low is was so step =
+    ap (λ l. l ++ current (drop (i + 1) xs)) step
+    ∙ append_assoc before (cond superseded [] (x ∷ [])) (current (drop (i + 1) xs))
+    ∙ ap (λ l. before ++ l) (either superseded ∙ ap (λ b. cond b (current (drop (i + 1) xs)) (x ∷ current (drop (i + 1) xs))) so ∙ sym (ap current (drop_more xs i x low ∙ ap (λ y. y ∷ drop (i + 1) xs) (sym is))))
+    ∙ was
+  where
+    either : (b : Bool) → cond b [] (x ∷ []) ++ current (drop (i + 1) xs) ≡ cond b (current (drop (i + 1) xs)) (x ∷ current (drop (i + 1) xs))
+    either true = refl
+    either false = refl
+
+-- a slice that goes to the end
+pub to_the_end : (xs : List Event) (n : ℕ) → take (length xs - n) (drop n xs) ≡ drop n xs
+to_the_end xs n = take_all (length xs - n) (drop n xs) (omega (arith, length-drop n xs))
+
+pub current_end : (xs : List Event) (i : ℕ) (found : List Event) → length xs ≤ i → found ++ current (drop i xs) ≡ current xs → found ≡ current xs
+current_end xs i found all was = sym (append-nil found) ∙ ap (λ l. found ++ current l) (sym (drop_all i xs all)) ∙ was
 
 -- ONE MORE ENTRY
 

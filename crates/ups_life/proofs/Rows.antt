@@ -1,7 +1,7 @@
 -- What is held of a step, and what is answered of the steps, after one more entry.
 use Rattle.std.proofs.Common.{◌≡◌, ℕ, ◌<◌, ◌≤◌, ◌+◌, Bool, true, false, List, [], ◌∷◌, ◌++◌, length, take, get_or, map, filter, Option, None, Some, refl, sym, ap, ◌∙◌}
 use Rattle.std.specs.Prelude.{if◌then◌else◌}
-use Rattle.std.specs.Option.{option_or, option_map, unwrap_or}
+use Rattle.std.specs.Option.{option_or, option_map}
 use Rattle.std.proofs.lemmas.List.{take_more, take_all, map-append}
 use Rattle.std.proofs.lemmas.List.Elements.{filter-append}
 use Rattle.ups_dataset.specs.Data.{El, answer}
@@ -9,7 +9,7 @@ use Rattle.ups_match.specs.Matching.{KeySet, is_match}
 use Rattle.ups_life.specs.declared.entry.Entry.{Entry}
 use Rattle.ups_life.specs.declared.row.Row.{Row}
 use Rattle.ups_life.specs.Settings.{Settings}
-use Rattle.ups_life.specs.Steps.{Claim, past, is_on, taken, claim, row, row_of, row_after, nothing}
+use Rattle.ups_life.specs.Steps.{Claim, past, is_on, taken, claim, row, row_of, row_after}
 use Rattle.ups_life.specs.Watching.{held}
 use Rattle.ups_life.proofs.Past.{past-push}
 
@@ -38,20 +38,6 @@ row_step s history i e u before after low is was step =
     ∙ ap (λ r. if is_on u e.request then row_after s.offset e.moment r e.request else r) was
     ∙ sym (next_by s e (past (take i history)) u (is_on u e.request) refl)
     ∙ ap (λ es. row_of s es u) (sym (past_more history i e low is))
-
--- what a loop ends with, once it has gone through them all
-row_end : {A : Type 0} (s : Settings) (history : List (Entry A)) (i : ℕ) (u : List ℕ) (o last : Option (Row A)) → length history ≤ i → o ≡ last → unwrap_or o nothing ≡ row_of s (past (take i history)) u
-    → unwrap_or last nothing ≡ row_of s (past history) u
-row_end {A} s history i u o last all is was =
-    sym (ap (λ (x : Option (Row A)). unwrap_or x nothing) is) ∙ was ∙ ap (λ (l : List (Entry A)). row_of s (past l) u) (take_all i history all)
-
-pub row_found : {A : Type 0} (s : Settings) (history : List (Entry A)) (i : ℕ) (u : List ℕ) (o : Option (Row A)) (r : Row A) → length history ≤ i → o ≡ Some r → unwrap_or o nothing ≡ row_of s (past (take i history)) u
-    → r.attributes ≡ row s (past history) u
-row_found {A} s history i u o r all is was = ap (λ (x : Row A). x.attributes) (row_end s history i u o (Some r) all is was)
-
-pub row_empty : {A : Type 0} (s : Settings) (history : List (Entry A)) (i : ℕ) (u : List ℕ) (o : Option (Row A)) → length history ≤ i → o ≡ None → unwrap_or o nothing ≡ row_of s (past (take i history)) u
-    → [] ≡ row s (past history) u
-row_empty {A} s history i u o all is was = ap (λ (x : Row A). x.attributes) (row_end s history i u o None all is was)
 
 -- what these steps are answered, of which those that match are told
 abbrev pub answers : {A : Type 0} → Settings → List (Entry A) → KeySet → List (List ℕ) → List (List El)

@@ -26,7 +26,7 @@ use Rattle.ups_life.specs.Settings.{Settings}
 use Rattle.ups_life.specs.Readiness.{readiness_in, named_readiness, is_same_readiness}
 use Rattle.ups_life.specs.Steps.{canceled, state, row, state_element, progress_element, cancel_gives, without_transaction}
 use Rattle.ups_life.specs.Watching.{takes_in, is_at, cover, is_among, watch_after, watch, held, is_held, watched_step, watched}
-use Rattle.ups_life.specs.Events.{readiness, report, as_it_is, only_if, cancel_reports, has, set_reports, reports_of, numbered, events, Seen, shows, view, present}
+use Rattle.ups_life.specs.Events.{readiness, report, as_it_is, only_if, cancel_reports, has, set_reports, told_of, reports_of, numbered, events, Seen, shows, view, present}
 use Rattle.ups_life.proofs.Texts.{same_text, text_is_itself}
 use Rattle.ups_life.proofs.RowsTell.{held_before}
 
@@ -36,11 +36,11 @@ entry caller ae moment request = record { caller = caller; ae = ae; moment = mom
 
 -- A VIEW
 
-or_assoc : {X : Type 0} (p q r : Option X) → option_or (option_or p q) r ≡ option_or p (option_or q r)
+pub or_assoc : {X : Type 0} (p q r : Option X) → option_or (option_or p q) r ≡ option_or p (option_or q r)
 or_assoc (Some x) q r = refl
 or_assoc None q r = refl
 
-or_none : {X : Type 0} (p : Option X) → option_or p None ≡ p
+pub or_none : {X : Type 0} (p : Option X) → option_or p None ≡ p
 or_none (Some x) = refl
 or_none None = refl
 
@@ -48,7 +48,7 @@ or_before : {X : Type 0} (p q : Option X) (x : X) → p ≡ None → q ≡ Some 
 or_before p q x h k = rw h k
 
 -- what is learned from later events stands before what was learned earlier
-view-append : (xs ys : List Event) (u : List ℕ) → view (xs ++ ys) u ≡ option_or (view ys u) (view xs u)
+pub view-append : (xs ys : List Event) (u : List ℕ) → view (xs ++ ys) u ≡ option_or (view ys u) (view xs u)
 view-append [] ys u = sym (or_none (view ys u))
 view-append (x ∷ xs) ys u = ap (λ p. option_or p (shows u x)) (view-append xs ys u) ∙ or_assoc (view ys u) (view xs u) (shows u x)
 
@@ -67,10 +67,10 @@ unfolding About
 about_if v true x h = (h, tt)
 about_if v false x h = tt
 
-about_watched : (v : List ℕ) (b : Bool) (xs : List Report) → About v xs → About v (cond b xs [])
+about_either : (v : List ℕ) (b : Bool) (xs ys : List Report) → About v xs → About v ys → About v (cond b xs ys)
 unfolding About
-about_watched v true xs h = h
-about_watched v false xs h = tt
+about_either v true xs ys h k = h
+about_either v false xs ys h k = k
 
 about_one : (v : List ℕ) (x : Report) → x.step ≡ v → About v (x ∷ [])
 unfolding About
@@ -194,7 +194,7 @@ changed_self {A} s es w u k ae now t tx some n = at (is_some (watch s es w u)) s
     e : Entry A
     e = entry k ae now (Change (Some u) t tx)
 
-    at : (b : Bool) → b ≡ true → option_or (view (numbered n (length es) (cond b (as_it_is s (e ∷ es) u ∷ []) [])) u) (view (events s es w) u) ≡ Some (present s (e ∷ es) u)
+    at : (b : Bool) → b ≡ true → option_or (view (numbered n (length es) (cond b (as_it_is s (e ∷ es) u ∷ []) (only_if b (as_it_is s (e ∷ es) u)))) u) (view (events s es w) u) ≡ Some (present s (e ∷ es) u)
     at true g = state_told u n (length es) (state (e ∷ es) u) (readiness s (e ∷ es) u) (view (events s es w) u)
     at false g = absurd cc
 
@@ -202,7 +202,7 @@ changed_other : {A : Type 0} (s : Settings) (es : List (Entry A)) (w u : List �
     → is_held s es u ≡ true → is_some (watch s es w u) ≡ true → Then s es w u (entry k ae now (Change (Some v) t tx))
 unfolding Before
 changed_other s es w u k ae now v t tx other before is_in some n =
-    or_before _ _ _ (silent u v other (reports_of s es (entry k ae now (Change (Some v) t tx)) w (Change (Some v) t tx)) n (length es) (about_watched v (is_some (watch s es w v)) _ (about_one v _ refl)))
+    or_before _ _ _ (silent u v other (reports_of s es (entry k ae now (Change (Some v) t tx)) w (Change (Some v) t tx)) n (length es) (about_either v (is_some (watch s es w v)) _ _ (about_one v _ refl) (about_if v (is_some (watch s es w v)) _ refl)))
     (rw other (before is_in some))
 
 -- a cancel request leaves the readiness
@@ -230,7 +230,7 @@ asked_other : {A : Type 0} (s : Settings) (es : List (Entry A)) (w u : List ℕ)
     → is_held s es u ≡ true → is_some (watch s es w u) ≡ true → Then s es w u (entry k ae now (AskCancel (Some v) set))
 unfolding Before
 asked_other s es w u k ae now v set other before is_in some n =
-    or_before _ _ _ (silent u v other (reports_of s es (entry k ae now (AskCancel (Some v) set)) w (AskCancel (Some v) set)) n (length es) (about_watched v (is_some (watch s es w v)) _ (about_cancel v (state es v) _)))
+    or_before _ _ _ (silent u v other (reports_of s es (entry k ae now (AskCancel (Some v) set)) w (AskCancel (Some v) set)) n (length es) (about_either v (is_some (watch s es w v)) _ _ (about_cancel v (state es v) _) (about_if v (is_some (watch s es w v)) _ refl)))
     (rw other (before is_in some))
 
 -- what an N-SET tells of its step: where it makes no State Report, nothing has changed
@@ -253,12 +253,38 @@ set_self s es w u k ae now tx set before is_in some n =
     (has set PROCEDURE_STEP_PROGRESS_INFORMATION_SEQUENCE) (has set SCHEDULED_STATION_NAME_CODE_SEQUENCE || has set SCHEDULED_HUMAN_PERFORMERS_SEQUENCE)
     (before is_in some) (unreported set (row s es u)))
 
+-- who begins to watch the step by it is told that it is as it is
+set_newly : {A : Type 0} (s : Settings) (es : List (Entry A)) (w u : List ℕ) (k : ℕ) (ae : List ℕ) (now : ℕ) (tx : Transaction) (set : List El) → is_some (watch s es w u) ≡ false
+    → is_some (watch_after s es (entry k ae now (Set (Some u) tx set)) w u (watch s es w u) (Set (Some u) tx set)) ≡ true → Then s es w u (entry k ae now (Set (Some u) tx set))
+set_newly {A} s es w u k ae now tx set none some n = at (is_some (watch s es w u)) none (is_some (watch s (e ∷ es) w u)) some
+  where
+    e : Entry A
+    e = entry k ae now (Set (Some u) tx set)
+
+    at : (b : Bool) → b ≡ false → (c : Bool) → c ≡ true
+        → option_or (view (numbered n (length es) (cond b (told_of s es e u (Set (Some u) tx set)) (only_if c (as_it_is s (e ∷ es) u)))) u) (view (events s es w) u) ≡ Some (present s (e ∷ es) u)
+    at true h c g = absurd cc
+    at false h true g = state_told u n (length es) (state (e ∷ es) u) (readiness s (e ∷ es) u) (view (events s es w) u)
+    at false h false g = absurd cc
+
+set_either : {A : Type 0} (s : Settings) (es : List (Entry A)) (w u : List ℕ) (k : ℕ) (ae : List ℕ) (now : ℕ) (tx : Transaction) (set : List El) → Before s es w u → is_held s es u ≡ true
+    → is_some (watch_after s es (entry k ae now (Set (Some u) tx set)) w u (watch s es w u) (Set (Some u) tx set)) ≡ true → Then s es w u (entry k ae now (Set (Some u) tx set))
+set_either {A} s es w u k ae now tx set before is_in some = at (is_some (watch s es w u)) refl
+  where
+    at : (b : Bool) → is_some (watch s es w u) ≡ b → Then s es w u (entry k ae now (Set (Some u) tx set))
+    at true is = set_self s es w u k ae now tx set before is_in is
+    at false none = set_newly s es w u k ae now tx set none some
+
 set_other : {A : Type 0} (s : Settings) (es : List (Entry A)) (w u : List ℕ) (k : ℕ) (ae : List ℕ) (now : ℕ) (v : List ℕ) (tx : Transaction) (set : List El) → bytes_eq v u ≡ false → Before s es w u
-    → is_held s es u ≡ true → is_some (watch s es w u) ≡ true → Then s es w u (entry k ae now (Set (Some v) tx set))
+    → is_held s es u ≡ true → is_some (watch_after s es (entry k ae now (Set (Some v) tx set)) w u (watch s es w u) (Set (Some v) tx set)) ≡ true → Then s es w u (entry k ae now (Set (Some v) tx set))
 unfolding Before
-set_other s es w u k ae now v tx set other before is_in some n =
-    or_before _ _ _ (silent u v other (reports_of s es (entry k ae now (Set (Some v) tx set)) w (Set (Some v) tx set)) n (length es) (about_watched v (is_some (watch s es w v)) _ (about_set v (state es v) (readiness s es v) _ set)))
-    (rw other (before is_in some))
+set_other {A} s es w u k ae now v tx set other before is_in some n =
+    or_before _ _ _ (silent u v other (reports_of s es e w (Set (Some v) tx set)) n (length es)
+    (about_either v (is_some (watch s es w v)) _ _ (about_set v (state es v) (readiness s es v) _ set) (about_if v (is_some (watch s (e ∷ es) w v)) (as_it_is s (e ∷ es) v) refl)))
+    (rw other (before is_in (rw other at some)))
+  where
+    e : Entry A
+    e = entry k ae now (Set (Some v) tx set)
 
 -- a Subscribe: each held step that it takes in is reported
 there : {X : Type 0} (a b : Bool) (x : X) → b ≡ true → option_or (cond (a && b) (Some x) None) (Some x) ≡ cond (true && b) (Some x) None
@@ -321,7 +347,9 @@ step {A} s es w u k ae now (Set (Some v) tx set) before is_in some = at (bytes_e
   where
     at : (b : Bool) → bytes_eq v u ≡ b → Then s es w u (entry k ae now (Set (Some v) tx set))
     at false other = set_other s es w u k ae now v tx set other before is_in some
-    at true same = subst (λ x. Then s es w u (entry k ae now (Set (Some x) tx set))) (sym (same_text v u same)) (set_self s es w u k ae now tx set before is_in some)
+    at true same = let e = same_text v u same in
+        subst (λ x. Then s es w u (entry k ae now (Set (Some x) tx set))) (sym e)
+        (set_either s es w u k ae now tx set before is_in (subst (λ x. is_some (watch_after s es (entry k ae now (Set (Some x) tx set)) w u (watch s es w u) (Set (Some x) tx set)) ≡ true) e some))
 step s es w u k ae now (Subscribe target v lock) before is_in some = subscribe_step s es w u k ae now target v lock before is_in some
 step s es w u k ae now (Unsubscribe place v) before is_in some = λ n. before is_in (ended (bytes_eq v w && is_at place u) (watch s es w u) some)
   where

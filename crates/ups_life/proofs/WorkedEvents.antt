@@ -15,14 +15,14 @@ use Rattle.ups_life.specs.declared.readiness.InputReadiness.TheVariants.{Unavail
 use Rattle.ups_life.specs.declared.request.Request.TheVariants.{Create, Set, Subscribe, Unsubscribe, Suspend, Ack}
 use Rattle.ups_life.specs.declared.request.Reply.TheVariants.{Status as Answered, AckAhead, AckStale}
 use Rattle.ups_life.specs.declared.status.Status.TheVariants.{ResourceLimitation}
-use Rattle.ups_life.specs.declared.request.Transaction.TheVariants.{Proper}
+use Rattle.ups_life.specs.declared.request.Transaction.TheVariants.{Absent, Proper}
 use Rattle.ups_life.specs.declared.state.StepState.{StepState}
 use Rattle.ups_life.specs.declared.state.StepState.TheVariants.{Scheduled, InProgress, Canceled}
 use Rattle.ups_life.specs.declared.watching.Place.TheVariants.{At}
 use Rattle.ups_life.specs.declared.watching.Target.TheVariants.{Global}
 use Rattle.ups_life.specs.Steps.{cancellation}
 use Rattle.ups_life.specs.Events.{events, pending, view, Seen}
-use Rattle.ups_life.proofs.WorkedWatching.{w1, w2, room_for, site, Call, at, u1, u2, says, step, create, claim, cancel, subscribe, filtered, sweep, after_all, replies, done}
+use Rattle.ups_life.proofs.WorkedWatching.{w1, w2, room_for, site, Call, at, u1, u2, says, label, relabel, followed, step, create, claim, cancel, subscribe, filtered, sweep, after_all, replies, done}
 
 abbrev told : ℕ → ℕ → EventKind → List ℕ → StepState → InputReadiness → Event
 told number place kind u state readiness = record { number = number; entry = place; kind = kind; step = u; state = state; readiness = Some readiness }
@@ -107,10 +107,36 @@ acknowledged_in_turn : replies site (after_all site [] reported) (ack w1 2 ∷ a
 unfolding moment day_number days_of_month field is_date is_time date_number second_of_day microsecond_of offset_of signed_offset
 acknowledged_in_turn = refl
 
-what_is_not_acknowledged_is_pending : pending site (after_all site [] (reported ++ ack w1 2 ∷ [])) w1
-    ≡ told 3 3 StateReport u1 InProgress Unavailable ∷ told 4 4 ProgressReport u1 InProgress Unavailable ∷ told 5 5 StateReport u1 InProgress Ready ∷ []
+what_is_not_acknowledged_is_pending : pending site (after_all site [] (reported ++ ack w1 2 ∷ [])) w1 ≡ told 4 4 ProgressReport u1 InProgress Unavailable ∷ told 5 5 StateReport u1 InProgress Ready ∷ []
 unfolding moment day_number days_of_month field is_date is_time date_number second_of_day microsecond_of offset_of signed_offset
 what_is_not_acknowledged_is_pending = refl
+
+-- of a step the last State Report alone is pending, and what is no State Report stays
+the_last_state_report_is_pending : pending site (after_all site [] (create u1 ∷ subscribe u1 w1 false ∷ cancel 120 ∷ [])) w1 ≡ told 3 2 StateReport u1 Canceled Ready ∷ []
+unfolding moment day_number days_of_month field is_date is_time date_number second_of_day microsecond_of offset_of signed_offset cancellation stamp begun date_stamp time_stamp offset_stamp year_on month_on
+the_last_state_report_is_pending = refl
+
+a_cancel_request_stays_pending : pending site (after_all site [] (create u1 ∷ subscribe u1 w1 false ∷ claim u1 ∷ cancel 120 ∷ [])) w1 ≡ told 2 2 StateReport u1 InProgress Ready ∷ told 3 3 CancelRequested u1 InProgress Ready ∷ []
+unfolding moment day_number days_of_month field is_date is_time date_number second_of_day microsecond_of offset_of signed_offset cancellation stamp begun date_stamp time_stamp offset_stamp year_on month_on
+a_cancel_request_stays_pending = refl
+
+-- a number that is left out may be acknowledged
+abbrev left_out : List Call
+left_out = create u1 ∷ subscribe u1 w1 false ∷ ack w1 1 ∷ claim u1 ∷ cancel 120 ∷ set (ready (codes "UNAVAILABLE ") ∷ []) ∷ []
+
+what_is_left_out_may_be_acknowledged : replies site (after_all site [] left_out) (ack w1 2 ∷ ack w1 2 ∷ ack w1 5 ∷ ack w1 4 ∷ []) ≡ done ∷ AckStale ∷ AckAhead ∷ done ∷ []
+unfolding moment day_number days_of_month field is_date is_time date_number second_of_day microsecond_of offset_of signed_offset cancellation stamp begun date_stamp time_stamp offset_stamp year_on month_on
+what_is_left_out_may_be_acknowledged = refl
+
+numbers_keep_their_gaps : pending site (after_all site [] left_out) w1 ≡ told 3 4 CancelRequested u1 InProgress Ready ∷ told 4 5 StateReport u1 InProgress Unavailable ∷ []
+unfolding moment day_number days_of_month field is_date is_time date_number second_of_day microsecond_of offset_of signed_offset cancellation stamp begun date_stamp time_stamp offset_stamp year_on month_on
+numbers_keep_their_gaps = refl
+
+-- who begins to watch by an N-SET is told of the step as it is, and not of what else the N-SET gives
+who_begins_to_watch_is_told_once : events site (after_all site [] (followed ++ relabel (codes "REPROC") ∷ at 0 (Unsubscribe (At (Some u2)) w1) ∷ at 0 (Set (Some u2) Absent (station ∷ ready (codes "UNAVAILABLE ") ∷ label (codes "READS ") ∷ [])) ∷ [])) w1
+    ≡ told 1 1 StateReport u1 Scheduled Ready ∷ told 2 3 StateReport u2 Scheduled Ready ∷ told 3 6 StateReport u2 Scheduled Unavailable ∷ []
+unfolding moment day_number days_of_month field is_date is_time date_number second_of_day microsecond_of offset_of signed_offset matches vr_of
+who_begins_to_watch_is_told_once = refl
 
 -- a full history enters no acknowledgement, and still tells which of them are wrong
 a_full_history_takes_no_acknowledgement : replies (room_for 3) [] (create u1 ∷ subscribe u1 w1 false ∷ cancel 120 ∷ ack w1 9 ∷ ack w1 1 ∷ ack w1 0 ∷ []) ≡ done ∷ done ∷ done ∷ AckAhead ∷ Answered ResourceLimitation ∷ AckStale ∷ []

@@ -130,10 +130,30 @@ the_end_of_all_leaves_none : watched site (after_all site [] (create u1 ∷ at 0
 unfolding moment day_number days_of_month field is_date is_time date_number second_of_day microsecond_of offset_of signed_offset matches vr_of
 the_end_of_all_leaves_none = refl
 
--- keys are tried at creation, and not again
-a_filter_is_tried_once : watched site (after_all site [] (filtered (codes "READS ") false ∷ create u1 ∷ at 0 (Create u2 (step (codes "REPROC"))) ∷ at 0 (Set (Some u2) Absent (label (codes "READS ") ∷ [])) ∷ [])) w1 ≡ watched_as u1 Free ∷ []
+-- a filter is tried again at each N-SET, and a step that ceases to match stays watched
+abbrev pub relabel : List ℕ → Call
+relabel text = at 0 (Set (Some u2) Absent (label text ∷ []))
+
+abbrev pub followed : List Call
+followed = filtered (codes "READS ") false ∷ create u1 ∷ at 0 (Create u2 (step (codes "REPROC"))) ∷ relabel (codes "READS ") ∷ []
+
+a_filter_follows_changes : watched site (after_all site [] followed) w1 ≡ watched_as u1 Free ∷ watched_as u2 Free ∷ []
 unfolding moment day_number days_of_month field is_date is_time date_number second_of_day microsecond_of offset_of signed_offset matches vr_of
-a_filter_is_tried_once = refl
+a_filter_follows_changes = refl
+
+what_ceases_to_match_stays : watched site (after_all site [] (followed ++ relabel (codes "REPROC") ∷ [])) w1 ≡ watched_as u1 Free ∷ watched_as u2 Free ∷ []
+unfolding moment day_number days_of_month field is_date is_time date_number second_of_day microsecond_of offset_of signed_offset matches vr_of
+what_ceases_to_match_stays = refl
+
+-- who unsubscribed from a step that the filter takes in is subscribed again only where the step comes to match anew
+an_n_set_that_still_matches_subscribes_nobody : watched site (after_all site [] (followed ++ at 0 (Unsubscribe (At (Some u2)) w1) ∷ relabel (codes "READS ") ∷ [])) w1 ≡ watched_as u1 Free ∷ []
+unfolding moment day_number days_of_month field is_date is_time date_number second_of_day microsecond_of offset_of signed_offset matches vr_of
+an_n_set_that_still_matches_subscribes_nobody = refl
+
+-- a claim subscribes nobody, though the filter names the state that it makes
+a_claim_subscribes_nobody : watched site (after_all site [] (at 0 (Subscribe (Filtered (record { attributes = says PROCEDURE_STEP_STATE Cs (codes "IN PROGRESS ") ∷ []; offset = pos 0 })) w1 false) ∷ create u1 ∷ claim u1 ∷ [])) w1 ≡ []
+unfolding moment day_number days_of_month field is_date is_time date_number second_of_day microsecond_of offset_of signed_offset matches vr_of
+a_claim_subscribes_nobody = refl
 
 -- a lock keeps a step; a UID stays used after the removal of its step
 a_lock_keeps_a_step : replies site [] (create u1 ∷ subscribe u1 w1 true ∷ cancel 120 ∷ sweep 500 ∷ at 0 (Unsubscribe (At (Some u1)) w1) ∷ sweep 500 ∷ create u1 ∷ claim u1 ∷ [])

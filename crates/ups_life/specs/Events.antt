@@ -1,5 +1,6 @@
 -- What each watcher is told (PS3.4 CC.2.4). A history is looked at with its newest entry first.
-use Rattle.std.specs.Prelude.{ℕ, ◌+◌, Bool, true, false, not, ◌&&◌, ◌||◌, nat_lt, List, [], ◌∷◌, ◌++◌, length, map, filter, Option, None, Some, is_some, if◌then◌else◌}
+use Rattle.std.specs.Prelude.{ℕ, ◌+◌, Bool, true, false, not, ◌&&◌, ◌||◌, nat_lt, nat_le, List, [], ◌∷◌, ◌++◌, length, map, filter, Option, None, Some, is_some, if◌then◌else◌}
+use Rattle.std.specs.List.{list_any}
 use Rattle.std.specs.Option.{option_or}
 use Rattle.std.specs.Str.{bytes_eq}
 use Rattle.ups_dataset.specs.declared.dictionary.TheConstants.{INPUT_READINESS_STATE, PROCEDURE_STEP_PROGRESS_INFORMATION_SEQUENCE, SCHEDULED_STATION_NAME_CODE_SEQUENCE, SCHEDULED_HUMAN_PERFORMERS_SEQUENCE}
@@ -61,18 +62,19 @@ told_of s es e u (AskCancel step reasons) = cancel_reports u (state es u) (readi
 told_of s es e u (Set step transaction attributes) = set_reports u (state es u) (readiness s es u) (readiness s (e ∷ es) u) attributes
 told_of s es e u request = []
 
--- of the step of a request, where w watches it
-abbrev pub if_watched : {A : Type 0} → Settings → List (Entry A) → List ℕ → Option (List ℕ) → (List ℕ → List Report) → List Report
-if_watched s es w None told = []
-if_watched s es w (Some u) told = if is_some (watch s es w u) then told u else []
+-- of the step of a request: what is told of it, where w watches it (PS3.4 CC.2.4); where w watches it from then on, a State
+-- Report alone (the profile's)
+abbrev pub if_watched : {A : Type 0} → Settings → List (Entry A) → Entry A → List ℕ → Option (List ℕ) → (List ℕ → List Report) → List Report
+if_watched s es e w None told = []
+if_watched s es e w (Some u) told = if is_some (watch s es w u) then told u else only_if (is_some (watch s (e ∷ es) w u)) (as_it_is s (e ∷ es) u)
 
 -- What w is told of the entry e, of which `request` is the request: of a new step, where its global subscription takes
 -- it in; where it subscribes, of each step held that the subscription takes in, in order of creation; and of each
--- request on a step that it watches.
+-- request on a step that it watches, or by it begins to watch.
 abbrev pub reports_of : {A : Type 0} → Settings → List (Entry A) → Entry A → List ℕ → Request A → List Report
 reports_of s es e w (Create step attributes) = only_if (is_some (cover s.peers es w (row s (e ∷ es) step))) (as_it_is s (e ∷ es) step)
 reports_of s es e w (Subscribe target receiver lock) = if bytes_eq receiver w then map (as_it_is s es) (filter (λ u. takes_in target u (row s es u)) (held s es)) else []
-reports_of s es e w request = if_watched s es w (step_of request) (λ u. told_of s es e u request)
+reports_of s es e w request = if_watched s es e w (step_of request) (λ u. told_of s es e u request)
 
 -- THE EVENTS
 
@@ -98,9 +100,38 @@ abbrev pub acked : {A : Type 0} → List (Entry A) → List ℕ → ℕ
 acked [] w = 0
 acked (e ∷ es) w = acked_after w e.ae (acked es w) e.request
 
--- THE EVENTS THAT w HAS NOT ACKNOWLEDGED, oldest first
+abbrev pub is_state_report : EventKind → Bool
+is_state_report StateReport = true
+is_state_report kind = false
+
+-- a State Report of u (PS3.4 CC.2.4)
+abbrev pub is_report_of : List ℕ → Event → Bool
+is_report_of u x = bytes_eq x.step u && is_state_report x.kind
+
+-- events without each State Report that a later one of the same step supersedes (the profile's)
+abbrev pub current : List Event → List Event
+current [] = []
+current (x ∷ xs) = if is_state_report x.kind && list_any (is_report_of x.step) xs then current xs else x ∷ current xs
+
+-- THE EVENTS PENDING for w: those that it has not acknowledged, and that are not superseded, oldest first (the
+-- profile's: PS3.4 CC.2.4 knows no acknowledgement but the response to a report)
 abbrev pub pending : {A : Type 0} → Settings → List (Entry A) → List ℕ → List Event
-pending s es w = filter (λ (x : Event). nat_lt (acked es w) x.number) (events s es w)
+pending s es w = filter (λ (x : Event). nat_lt (acked es w) x.number) (current (events s es w))
+
+-- WHAT w HAS RECEIVED
+
+abbrev pub up_to : ℕ → List Event → List Event
+up_to n xs = filter (λ (x : Event). nat_le x.number n) xs
+
+-- what w has received after a request of ae, where it had received this before: with each acknowledgement what was
+-- pending up to its number (the profile's)
+abbrev pub received_after : {A : Type 0} → Settings → List (Entry A) → List ℕ → List ℕ → List Event → Request A → List Event
+received_after s es w ae before (Ack upto) = if bytes_eq ae w then before ++ up_to upto (pending s es w) else before
+received_after s es w ae before request = before
+
+abbrev pub received : {A : Type 0} → Settings → List (Entry A) → List ℕ → List Event
+received s [] w = []
+received s (e ∷ es) w = received_after s es w e.ae (received s es w) e.request
 
 -- THE VIEW
 
@@ -109,13 +140,9 @@ pub record Seen : Type 0 where
   pub state : StepState
   pub readiness : Option InputReadiness
 
-abbrev pub is_state_report : EventKind → Bool
-is_state_report StateReport = true
-is_state_report kind = false
-
 -- what an event shows of u
 abbrev pub shows : List ℕ → Event → Option Seen
-shows u x = if bytes_eq x.step u && is_state_report x.kind then Some (record { state = x.state; readiness = x.readiness }) else None
+shows u x = if is_report_of u x then Some (record { state = x.state; readiness = x.readiness }) else None
 
 -- THE VIEW of a watcher: what the last State Report of u shows
 abbrev pub view : List Event → List ℕ → Option Seen

@@ -4,6 +4,7 @@ pub mod Claims
 pub mod Deep
 pub mod Distinct
 pub mod Events
+pub mod Filters
 pub mod History
 pub mod Instances
 pub mod Limits

@@ -1,13 +1,14 @@
 -- Who watches which step, and which steps are held (PS3.4 CC.2.3). A history is looked at with its newest entry first.
-use Rattle.std.specs.Prelude.{ℕ, ◌+◌, Bool, true, false, not, ◌&&◌, nat_le, List, [], ◌∷◌, ◌++◌, filter, Option, None, Some, if◌then◌else◌}
+use Rattle.std.specs.Prelude.{ℕ, ◌+◌, Bool, true, false, not, ◌&&◌, nat_le, List, [], ◌∷◌, ◌++◌, filter, Option, None, Some, is_some, if◌then◌else◌}
 use Rattle.std.specs.List.{list_any, filter_map}
+use Rattle.std.specs.Option.{option_or}
 use Rattle.std.specs.Str.{bytes_eq}
 use Rattle.ups_dataset.specs.Data.{El}
 use Rattle.ups_match.specs.Matching.{is_match}
 use Rattle.ups_life.specs.declared.entry.Entry.{Entry}
 use Rattle.ups_life.specs.declared.entry.Peer.{Peer}
 use Rattle.ups_life.specs.declared.request.Request.{Request}
-use Rattle.ups_life.specs.declared.request.Request.TheVariants.{Create, Subscribe, Unsubscribe, Suspend, Sweep}
+use Rattle.ups_life.specs.declared.request.Request.TheVariants.{Create, Set, Subscribe, Unsubscribe, Suspend, Sweep}
 use Rattle.ups_life.specs.declared.row.Row.{Row}
 use Rattle.ups_life.specs.declared.watching.Subscription.{Subscription}
 use Rattle.ups_life.specs.declared.watching.Subscription.TheVariants.{Free, Locked}
@@ -16,6 +17,7 @@ use Rattle.ups_life.specs.declared.watching.Target.TheVariants.{Single, Global, 
 use Rattle.ups_life.specs.declared.watching.Place.{Place}
 use Rattle.ups_life.specs.declared.watching.Place.TheVariants.{At, Everywhere}
 use Rattle.ups_life.specs.declared.watching.Watched.{Watched}
+use Rattle.ups_life.specs.declared.watching.Watcher.{Watcher}
 use Rattle.ups_life.specs.Settings.{Settings}
 use Rattle.ups_life.specs.Steps.{is_step, row, row_of, final_at}
 
@@ -63,15 +65,23 @@ cover_after peers w attributes before (Unsubscribe place receiver) = if bytes_eq
 cover_after peers w attributes before (Suspend receiver) = if bytes_eq receiver w then None else before
 cover_after peers w attributes before request = before
 
--- how w's global subscription subscribes it to a step that is created with these attributes; None where it doesn't
+-- how w's global subscription subscribes it to a step with these attributes; None where it doesn't
 abbrev pub cover : {A : Type 0} → List Peer → List (Entry A) → List ℕ → List El → Option Subscription
 cover peers [] w attributes = None
 cover peers (e ∷ es) w attributes = cover_after peers w attributes (cover peers es w attributes) e.request
 
+-- how w's global subscription subscribes it to the step u that the entry e changes: it takes in the new attributes, and
+-- didn't take in the old ones, as only a filter may (PS3.4 CC.2.3 leaves open when keys are tried; this is the profile's)
+abbrev pub newly_covered : {A : Type 0} → Settings → List (Entry A) → Entry A → List ℕ → List ℕ → Option Subscription
+newly_covered s es e w u = if is_some (cover s.peers es w (row s es u)) then None else cover s.peers es w (row s (e ∷ es) u)
+
 -- How w is subscribed to u after an entry, where it was so before: what the global subscription says of u where it is
--- created, and from then on what is asked for. Keys are tried at these two moments alone.
+-- created, and from then on what is asked for. An N-SET subscribes also who isn't subscribed, where the global
+-- subscription takes the step in only by it. Keys are tried at these three moments alone (PS3.4 CC.2.3, and for the N-SET
+-- the profile).
 abbrev pub watch_after : {A : Type 0} → Settings → List (Entry A) → Entry A → List ℕ → List ℕ → Option Subscription → Request A → Option Subscription
 watch_after s es e w u before (Create step attributes) = if bytes_eq step u then cover s.peers es w (row s (e ∷ es) u) else before
+watch_after s es e w u before (Set step transaction attributes) = if is_step u step then option_or before (newly_covered s es e w u) else before
 watch_after s es e w u before (Subscribe target receiver lock) = if bytes_eq receiver w && takes_in target u (row s es u) then Some (granted s.peers w lock) else before
 watch_after s es e w u before (Unsubscribe place receiver) = if bytes_eq receiver w && is_at place u then None else before
 watch_after s es e w u before request = before
@@ -80,6 +90,15 @@ watch_after s es e w u before request = before
 abbrev pub watch : {A : Type 0} → Settings → List (Entry A) → List ℕ → List ℕ → Option Subscription
 watch s [] w u = None
 watch s (e ∷ es) w u = watch_after s es e w u (watch s es w u) e.request
+
+abbrev pub new_watcher : List ℕ → Option Subscription → Option Subscription → Option Watcher
+new_watcher w None (Some how) = Some (record { ae = w; subscription = how })
+new_watcher w before covered = None
+
+-- WHOM AN N-SET SUBSCRIBES NEWLY: the peers that weren't subscribed to its step u, which their filters take in only by it,
+-- the entry e, in the order of the peers (the profile's)
+abbrev pub newly : {A : Type 0} → Settings → List (Entry A) → Entry A → List ℕ → List Watcher
+newly s es e u = filter_map (λ (p : Peer). new_watcher p.ae (watch s es p.ae u) (newly_covered s es e p.ae u)) s.peers
 
 -- THE STEPS HELD
 

@@ -1,8 +1,9 @@
 //! What the life cycle of a step owes (PS3.4 CC.1.1), and which tables it stands on: laws, each the contract of a
 //! function that changes nothing.
 
-ghost use Rattle.std.specs.Prelude.{◌≡◌, ◌≤◌, ℕ, List, ◌∷◌, ◌++◌, length, is_some, true, false, None, Some};
-ghost use Rattle.std.specs.List.{AllByRecursion};
+ghost use Rattle.std.specs.Prelude.{◌≡◌, ◌≤◌, ℕ, List, [], ◌∷◌, ◌++◌, length, filter, is_some, true, false, None, Some};
+ghost use Rattle.std.specs.List.{list_any, AllByRecursion};
+ghost use Rattle.std.specs.Str.{bytes_eq};
 ghost use Rattle.ups_dataset.specs.declared.dictionary.TheConstants.{TRANSACTION_UID};
 ghost use Rattle.ups_dataset.specs.Data.{El, element_at, answer_to, without_value};
 ghost use Rattle.ups_life.specs.declared.entry.Entry.{Entry};
@@ -11,14 +12,16 @@ ghost use Rattle.ups_life.specs.declared.request.Transaction.{Transaction};
 ghost use Rattle.ups_life.specs.declared.request.Transaction.TheVariants.{Proper};
 ghost use Rattle.ups_life.specs.declared.state.StepState.{StepState};
 ghost use Rattle.ups_life.specs.declared.state.StepState.TheVariants.{InProgress};
+ghost use Rattle.ups_life.specs.declared.watching.Subscription.{Subscription};
 ghost use Rattle.ups_life.specs.declared.watching.Watched.{Watched};
+ghost use Rattle.ups_life.specs.declared.watching.Watcher.{Watcher};
 ghost use Rattle.ups_life.specs.CheckedAttributes.{checked_attributes};
 ghost use Rattle.ups_life.specs.Limits.{last_moment, row_limit, history_limit, peer_limit, least_offset, greatest_offset};
 ghost use Rattle.ups_life.specs.Settings.{Settings};
 ghost use Rattle.ups_life.specs.States.{is_final};
 ghost use Rattle.ups_life.specs.Steps.{Claim, past, used, state, claim, right, row, final_at};
-ghost use Rattle.ups_life.specs.Watching.{is_kept, has_passed, is_held, watch, watched};
-ghost use Rattle.ups_life.specs.Events.{events, view, present};
+ghost use Rattle.ups_life.specs.Watching.{is_peer, cover, newly, is_kept, has_passed, is_held, watch, watched};
+ghost use Rattle.ups_life.specs.Events.{as_it_is, reports_of, events, is_report_of, pending, received, view, present};
 ghost use Rattle.ups_life.specs.Telling.{EachRowTells};
 ghost use Rattle.ups_life.specs.Claims.{claims};
 ghost use Rattle.ups_life.specs.History.{legal};
@@ -107,4 +110,42 @@ pub fn an_unfinished_step_stays<A: Allocator + Copy>()
 pub fn a_view_shows_what_is_so<A: Allocator + Copy>()
     ensures one { (s : Settings) → (es : List (Entry A)) → (w u : List ℕ) → is_held s es u ≡ true → is_some (watch s es w u) ≡ true → view (events s es w) u ≡ Some (present s es u) }
     ensures each { (s : Settings) → (es : List (Entry A)) → (w : List ℕ) → AllByRecursion (λ (x : Watched). view (events s es w) x.step ≡ Some (present s es x.step)) (watched s es w) }
+{}
+
+/// An N-SET also subscribes who does not watch its step, and has a global subscription that takes the step in by it: a
+/// filter that it matches now, and did not match before. That watcher is told of the step as it is, and no more. Who
+/// watches the step stays subscribed as it was, also where a filter does not match it any longer; and who did not watch it
+/// although its global subscription took it in, having unsubscribed, is not subscribed again (PS3.4 CC.2.3).
+pub fn a_filter_follows_changes<A: Allocator + Copy>()
+    ensures subscribed { (s : Settings) → (e : Entry A) → (es : List (Entry A)) → (w u : List ℕ) → (t : Transaction) → (attributes : List El) → (how : Subscription)
+        → e.request ≡ Set (Some u) t attributes → watch s es w u ≡ None → cover s.peers es w (row s es u) ≡ None → cover s.peers es w (row s (e ∷ es) u) ≡ Some how
+        → watch s (e ∷ es) w u ≡ Some how }
+    ensures told { (s : Settings) → (e : Entry A) → (es : List (Entry A)) → (w u : List ℕ) → (t : Transaction) → (attributes : List El)
+        → e.request ≡ Set (Some u) t attributes → watch s es w u ≡ None → is_some (watch s (e ∷ es) w u) ≡ true
+        → reports_of s es e w e.request ≡ as_it_is s (e ∷ es) u ∷ [] }
+    ensures stays { (s : Settings) → (e : Entry A) → (es : List (Entry A)) → (w u : List ℕ) → (t : Transaction) → (attributes : List El) → (how : Subscription)
+        → e.request ≡ Set (Some u) t attributes → watch s es w u ≡ Some how → watch s (e ∷ es) w u ≡ Some how }
+    ensures not_again { (s : Settings) → (e : Entry A) → (es : List (Entry A)) → (w u : List ℕ) → (t : Transaction) → (attributes : List El)
+        → e.request ≡ Set (Some u) t attributes → is_some (cover s.peers es w (row s es u)) ≡ true → watch s (e ∷ es) w u ≡ watch s es w u }
+{}
+
+/// The watchers that an N-SET newly subscribes did not watch its step before it, and do so after it; and each peer of which
+/// that is so is one of them.
+pub fn newly_subscribed_is_who_begins_to_watch<A: Allocator + Copy>()
+    ensures each { (s : Settings) → (e : Entry A) → (es : List (Entry A)) → (u : List ℕ) → (t : Transaction) → (attributes : List El) → e.request ≡ Set (Some u) t attributes
+        → AllByRecursion (λ (x : Watcher). (watch s es x.ae u ≡ None) × (watch s (e ∷ es) x.ae u ≡ Some x.subscription)) (newly s es e u) }
+    ensures all { (s : Settings) → (e : Entry A) → (es : List (Entry A)) → (w u : List ℕ) → (t : Transaction) → (attributes : List El) → e.request ≡ Set (Some u) t attributes
+        → is_peer s.peers w ≡ true → watch s es w u ≡ None → is_some (watch s (e ∷ es) w u) ≡ true
+        → list_any (λ (x : Watcher). bytes_eq x.ae w) (newly s es e u) ≡ true }
+{}
+
+/// At most one State Report of each step is pending for a watcher.
+pub fn one_state_report_is_pending<A: Allocator + Copy>()
+    ensures { (s : Settings) → (es : List (Entry A)) → (w u : List ℕ) → length (filter (is_report_of u) (pending s es w)) ≤ 1 }
+{}
+
+/// Nothing is lost by what is left out: what a watcher has received, followed by what is pending for it, shows the same of
+/// each step as all its events (PS3.4 CC.2.4).
+pub fn what_is_received_and_pending_shows_all<A: Allocator + Copy>()
+    ensures { (s : Settings) → (es : List (Entry A)) → (w u : List ℕ) → legal s es ≡ true → view (received s es w ++ pending s es w) u ≡ view (events s es w) u }
 {}

@@ -52,4 +52,4 @@ pub use state::StepState;
 pub use status::Status;
 pub use step::StepUid;
 pub use walking::{is_due, is_peer, may_lock, plain_held, plain_watches, watched_among};
-pub use watching::{Filter, Place, Subscription, Target, Watched};
+pub use watching::{Filter, Place, Subscription, Target, Watched, Watcher};

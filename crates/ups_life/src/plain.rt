@@ -1,11 +1,10 @@
 //! The questions to a history, answered by walking it: plain and slow.
 
-ghost use Rattle.std.specs.Prelude.{◌≡◌, ◌||◌, ◌∷◌, ◌++◌, [], map, filter, All, IfOk, OnOk, if◌then◌else◌};
-ghost use Rattle.std.specs.Option.{unwrap_or};
+ghost use Rattle.std.specs.Prelude.{◌≡◌, ◌≤◌, ◌||◌, ◌∷◌, ◌++◌, [], length, take, map, filter, All, IfOk, OnOk, MatchResult, if◌then◌else◌};
 ghost use Rattle.ups_dataset.specs.Data.{answer};
 ghost use Rattle.ups_match.specs.Matching.{is_match};
 ghost use Rattle.ups_life.specs.Settings.{IsMoment, IsOffset};
-ghost use Rattle.ups_life.specs.Steps.{past, is_on, creates, used, row, row_after, nothing};
+ghost use Rattle.ups_life.specs.Steps.{past, is_on, creates, used, row, row_of, row_after, nothing};
 ghost use Rattle.ups_life.specs.History.{repeats};
 ghost use Rattle.ups_life.specs.Worklist.{worklist};
 
@@ -15,6 +14,7 @@ use crate::entry::Entry;
 use crate::request::Request;
 use crate::row::Row;
 use crate::sets::Sets;
+use crate::state::StepState;
 use crate::step::StepUid;
 use crate::walking::plain_held;
 use std::alloc::{AllocError, Allocator};
@@ -68,31 +68,79 @@ pub(crate) fn is_on<A: Allocator + Copy>(uid: StepUid, request: &Request<A>) -> 
     }
 }
 
-/// What is held of a step after an entry, which may be on another; None where there is nothing.
+/// What is held of a step after the first entries of a history, so many as are counted.
+#[derive(Drop)]
+pub(crate) struct RowWalk<A: Allocator + Copy> {
+    pub(crate) count: usize,
+    pub(crate) row: Row<A>,
+}
+
+/// What is held of a step after no entry.
+pub(crate) fn unwalked<A: Allocator + Copy>(alloc: A) -> RowWalk<A>
+    ensures count { result.count ≡ 0 }
+    ensures row { result.row ≡ nothing }
+{
+    let row = Row {
+        attributes: DataSet::new(alloc),
+        state: StepState::Scheduled,
+        transaction: None,
+        final_at: None,
+    };
+    RowWalk { count: 0, row }
+}
+
+/// Goes over to what is held of a step after an entry, which may be on another.
 ///
-/// Errors: those of `change`.
-fn after_entry<A: Allocator + Copy>(
+/// Errors: those of `change`; what is held is as it was.
+fn take_up<A: Allocator + Copy>(
     alloc: A,
     configuration: &Configuration<A>,
-    row: Option<Row<A>>,
+    row: &mut Row<A>,
     entry: &Entry<A>,
     step: StepUid,
-) -> Result<Option<Row<A>>, ChangeFault>
+) -> Result<(), ChangeFault>
     requires moment { IsMoment entry.now.moment }
     requires offset { IsOffset configuration.now.offset }
-    ensures { IfOk result (λ after. unwrap_or after nothing ≡ (if is_on step entry.now.request then row_after configuration.now.offset entry.now.moment (unwrap_or row nothing) entry.now.request else unwrap_or row nothing)) }
+    ensures { MatchResult result (λ done. row.new ≡ (if is_on step entry.now.request then row_after configuration.now.offset entry.now.moment row.old entry.now.request else row.old)) (λ fault. row.new ≡ row.old) }
 {
-    if !is_on(step, &entry.request) {
-        return Ok(row);
+    if is_on(step, &entry.request) {
+        let offset = configuration.offset();
+        let after = change(alloc, Some(&*row), &entry.request, entry.moment, offset)?;
+        *row = after;
     }
-    let offset = configuration.offset();
-    let after = change(alloc, row.as_ref(), &entry.request, entry.moment, offset)?;
-    Ok(Some(after))
+    Ok(())
+}
+
+/// Goes on to what is held of a step after so many of these entries, from what is held after the first of them.
+///
+/// Errors: TooDeep where an entry gives items that nest too deep, which no accepted request does; Memory.
+pub(crate) fn go_on<A: Allocator + Copy>(
+    alloc: A,
+    configuration: &Configuration<A>,
+    walk: &mut RowWalk<A>,
+    entries: &[Entry<A>],
+    count: usize,
+    step: StepUid,
+) -> Result<(), ChangeFault>
+    requires row { walk.old.row ≡ row_of configuration.now (past (take walk.old.count entries.now)) step }
+    requires earlier { walk.old.count ≤ count }
+    requires within { count ≤ length entries.now }
+    requires moments { All (λ e. IsMoment e.moment) entries.now }
+    requires offset { IsOffset configuration.now.offset }
+    ensures row { walk.new.row ≡ row_of configuration.now (past (take walk.new.count entries.now)) step }
+    ensures earlier { walk.new.count ≤ count }
+    ensures there { OnOk result (walk.new.count ≡ count) }
+{
+    for place in walk.count..count {
+        take_up(alloc, configuration, &mut walk.row, &entries[place], step)?;
+        walk.count = place + 1;
+    }
+    Ok(())
 }
 
 /// The attributes of a step, by each entry on it in turn.
 ///
-/// Errors: TooDeep where an entry gives items that nest too deep, which no accepted request does; Memory.
+/// Errors: those of `go_on`.
 pub(crate) fn row<A: Allocator + Copy>(
     alloc: A,
     configuration: &Configuration<A>,
@@ -103,14 +151,16 @@ pub(crate) fn row<A: Allocator + Copy>(
     requires offset { IsOffset configuration.now.offset }
     ensures { IfOk result (λ set. set ≡ row configuration.now (past entries.now) step) }
 {
-    let mut row: Option<Row<A>> = None;
-    for entry in entries {
-        row = after_entry(alloc, configuration, row, entry, step)?;
-    }
-    match row {
-        Some(row) => Ok(row.attributes),
-        None => Ok(DataSet::new(alloc)),
-    }
+    let mut walk = unwalked(alloc);
+    go_on(
+        alloc,
+        configuration,
+        &mut walk,
+        entries,
+        entries.len(),
+        step,
+    )?;
+    Ok(walk.row.attributes)
 }
 
 /// Adds what a row answers to keys, where it matches them.

@@ -1,12 +1,13 @@
 //! What watchers are told, by walking the history: plain and slow.
 
-ghost use Rattle.std.specs.Prelude.{◌≡◌, ◌∷◌, [], ◌++◌, ◌+◌, length, map, filter, take, nat_lt, is_some, All, IfOk, OnOk, if◌then◌else◌};
+ghost use Rattle.std.specs.Prelude.{◌≡◌, ◌∷◌, [], ◌++◌, ◌+◌, ◌&&◌, length, map, filter, take, nat_lt, is_some, All, IfOk, OnOk, if◌then◌else◌};
+ghost use Rattle.std.specs.List.{list_any};
 ghost use Rattle.std.specs.Str.{bytes_eq};
 ghost use Rattle.ups_life.specs.Settings.{IsMoment, IsOffset};
 ghost use Rattle.ups_life.specs.Readiness.{readiness_in, readiness_word, is_same_readiness};
 ghost use Rattle.ups_life.specs.Steps.{past, step_of, row, state};
-ghost use Rattle.ups_life.specs.Watching.{takes_in, cover, held};
-ghost use Rattle.ups_life.specs.Events.{readiness, report, as_it_is, only_if, cancel_reports, has, set_reports, told_of, if_watched, reports_of, numbered, events, acked_after, acked, pending};
+ghost use Rattle.ups_life.specs.Watching.{takes_in, cover, watch, held};
+ghost use Rattle.ups_life.specs.Events.{readiness, report, as_it_is, only_if, cancel_reports, has, set_reports, told_of, if_watched, reports_of, numbered, events, acked_after, acked, is_state_report, is_report_of, current, pending};
 ghost use Rattle.ups_life.specs.declared.event.Event.{Event};
 
 use crate::changing::ChangeFault;
@@ -19,8 +20,8 @@ use crate::readiness::InputReadiness;
 use crate::request::Request;
 use crate::state::StepState;
 use crate::step::StepUid;
-use crate::walking::{cover, plain_held, same_ae, state, takes_in, watch};
-use crate::watching::Target;
+use crate::walking::{cover, plain_held, same_ae, state, takes_in, watch_last};
+use crate::watching::{Subscription, Target};
 use std::alloc::{AllocError, Allocator};
 use ups_dataset::dictionary::{
     INPUT_READINESS_STATE, PROCEDURE_STEP_PROGRESS_INFORMATION_SEQUENCE,
@@ -330,8 +331,31 @@ fn subscribed<A: Allocator + Copy>(
     }
 }
 
-/// What a watcher is told of the request of an entry, where it watches the step of that: `earlier` are the entries
-/// before it, and `so_far` those with it.
+/// What is told of a step to who watches it only after the last of these entries, in this way or not at all: a State Report
+/// alone.
+///
+/// Errors: those of `row`.
+fn told_newly<A: Allocator + Copy>(
+    alloc: A,
+    configuration: &Configuration<A>,
+    entries: &[Entry<A>],
+    watching: Option<Subscription>,
+    step: StepUid,
+) -> Result<Vec<Report, A>, ChangeFault>
+    requires moments { All (λ e. IsMoment e.moment) entries.now }
+    requires offset { IsOffset configuration.now.offset }
+    ensures { IfOk result (λ v. v.items ≡ only_if (is_some watching) (as_it_is configuration.now (past entries.now) step)) }
+{
+    if watching.is_some() {
+        let report = as_it_is(alloc, configuration, entries, step)?;
+        Ok(alone(alloc, report)?)
+    } else {
+        Ok(Vec::new(alloc))
+    }
+}
+
+/// What a watcher is told of the request of an entry, where it watches the step of that, or begins to: `earlier` are the
+/// entries before it, and `so_far` those with it.
 ///
 /// Errors: those of `row`.
 fn told_if_watched<A: Allocator + Copy>(
@@ -346,15 +370,16 @@ fn told_if_watched<A: Allocator + Copy>(
     requires moments { All (λ e. IsMoment e.moment) so_far.now }
     requires earlier { All (λ e. IsMoment e.moment) earlier.now }
     requires offset { IsOffset configuration.now.offset }
-    ensures { IfOk result (λ v. v.items ≡ if_watched configuration.now (past earlier.now) ae (step_of entry.now.request) (λ u. told_of configuration.now (past earlier.now) entry.now u entry.now.request)) }
+    ensures { IfOk result (λ v. v.items ≡ if_watched configuration.now (past earlier.now) entry.now ae (step_of entry.now.request) (λ u. told_of configuration.now (past earlier.now) entry.now u entry.now.request)) }
 {
     let Some(step) = entry.request.step() else {
         return Ok(Vec::new(alloc));
     };
-    if watch(alloc, configuration, earlier, ae, step)?.is_some() {
+    let watching = watch_last(alloc, configuration, so_far, ae, step)?;
+    if watching.before.is_some() {
         told_of(alloc, configuration, earlier, so_far, entry, step)
     } else {
-        Ok(Vec::new(alloc))
+        told_newly(alloc, configuration, so_far, watching.after, step)
     }
 }
 
@@ -457,6 +482,68 @@ pub fn acked<A: Allocator + Copy>(entries: &[Entry<A>], ae: Ae) -> u64
     found
 }
 
+/// Whether a report is a State Report.
+fn is_state_report(kind: EventKind) -> bool
+    ensures { result ≡ is_state_report kind }
+{
+    match kind {
+        EventKind::StateReport => true,
+        _ => false,
+    }
+}
+
+/// Whether an event is a State Report of this step.
+fn is_report_of(step: StepUid, event: &Event) -> bool
+    ensures { result ≡ is_report_of step event.now }
+{
+    event.step.as_bytes() == step.as_bytes() && is_state_report(event.kind)
+}
+
+/// Whether one of these events is a State Report of this step.
+fn has_report_of(step: StepUid, events: &[Event]) -> bool
+    ensures { result ≡ list_any (is_report_of step) events.now }
+{
+    events.iter().any(|event| is_report_of(step, event))
+}
+
+/// Whether an event is a State Report, and there is one of the same step among these.
+fn is_superseded(event: &Event, later: &[Event]) -> bool
+    ensures { result ≡ (is_state_report event.now.kind && list_any (is_report_of event.now.step) later.now) }
+{
+    is_state_report(event.kind) && has_report_of(event.step, later)
+}
+
+/// Adds an event, unless it is superseded.
+///
+/// Errors: where memory runs out.
+fn add_current<A: Allocator + Copy>(
+    events: &mut Vec<Event, A>,
+    is_superseded: bool,
+    event: Event,
+) -> Result<(), AllocError>
+    ensures { OnOk result (events.new.items ≡ events.old.items ++ (if is_superseded then [] else event ∷ [])) }
+{
+    if !is_superseded {
+        events.push(event)?;
+    }
+    Ok(())
+}
+
+/// Events without each State Report that a later one of the same step supersedes. It is slow: for each State Report it
+/// looks at those behind it.
+///
+/// Errors: where memory runs out.
+fn current<A: Allocator + Copy>(alloc: A, events: &[Event]) -> Result<Vec<Event, A>, AllocError>
+    ensures { IfOk result (λ v. v.items ≡ current events.now) }
+{
+    let mut found = Vec::new(alloc);
+    for (place, event) in events.iter().enumerate() {
+        let superseded = is_superseded(event, &events[place + 1..]);
+        add_current(&mut found, superseded, *event)?;
+    }
+    Ok(found)
+}
+
 /// Adds an event, unless it is acknowledged.
 ///
 /// Errors: where memory runs out.
@@ -490,8 +577,8 @@ fn later<A: Allocator + Copy>(
     Ok(later)
 }
 
-/// The first `max` events that a watcher has not acknowledged, oldest first (PS3.4 CC.2.4). It is slow, as `plain_events`
-/// is.
+/// The first `max` events that a watcher has not acknowledged, oldest first, without each State Report that a later one of
+/// the same step supersedes (PS3.4 CC.2.4). It is slow, as `plain_events` is.
 ///
 /// # Errors
 ///
@@ -508,7 +595,8 @@ pub fn plain_pending<A: Allocator + Copy>(
     ensures { IfOk result (λ v. v ≡ take max (pending configuration.now (past entries.now) ae)) }
 {
     let events = plain_events(alloc, configuration, entries, ae)?;
-    let mut pending = later(alloc, acked(entries, ae), events.as_slice())?;
+    let current = current(alloc, events.as_slice())?;
+    let mut pending = later(alloc, acked(entries, ae), current.as_slice())?;
     pending.truncate(max as usize);
     Ok(Events::from_vec(pending))
 }

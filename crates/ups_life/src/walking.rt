@@ -1,21 +1,23 @@
 //! Who watches which steps, and which steps are held, by walking the history: plain and slow.
 
-ghost use Rattle.std.specs.Prelude.{◌≡◌, ◌∷◌, [], ◌++◌, ◌&&◌, not, filter, All, Some, None, IfOk, OnOk, if◌then◌else◌};
+ghost use Rattle.std.specs.Prelude.{◌≡◌, ◌<◌, ◌≤◌, ◌+◌, ◌-◌, ◌∷◌, [], ◌++◌, ◌&&◌, length, take, not, filter, is_some, All, Some, None, IfOk, OnOk, if◌then◌else◌};
 ghost use Rattle.std.specs.List.{filter_map};
 ghost use Rattle.std.specs.Str.{bytes_eq};
+ghost use Rattle.ups_match.specs.Matching.{is_match};
 ghost use Rattle.ups_life.specs.Settings.{IsMoment, IsOffset};
-ghost use Rattle.ups_life.specs.Steps.{past, row, is_on, state_then, state, finished, final_at};
-ghost use Rattle.std.specs.Option.{option_or};
+ghost use Rattle.ups_life.specs.Steps.{past, row, row_of, is_step, is_on, state_then, state, finished, final_at};
+ghost use Rattle.std.specs.Option.{option_copied, option_or};
+ghost use Rattle.ups_life.specs.Filters.{filter_after, filter_now};
 ghost use Rattle.ups_life.specs.Watching.{is_peer, may_lock, granted, takes_in, is_at, global_after, cover_after, cover, watch_after, watch, is_locked, is_kept, has_passed, is_due, held_after, held, watched_step, watched};
 
 use crate::changing::{ChangeFault, finished, state_then};
 use crate::configuration::Configuration;
 use crate::entry::{Entry, Peer};
-use crate::plain::{is_on, row};
+use crate::plain::{RowWalk, go_on, is_on, row, unwalked};
 use crate::request::Request;
 use crate::state::StepState;
 use crate::step::StepUid;
-use crate::watching::{Place, Subscription, Target, Watched};
+use crate::watching::{Filter, Place, Subscription, Target, Watched};
 use std::alloc::{AllocError, Allocator};
 use ups_dataset::DataSet;
 use ups_match::{Matcher, Probe};
@@ -60,7 +62,7 @@ pub(crate) fn takes_in<A: Allocator + Copy>(
         Target::Single(Some(single)) => single.as_bytes() == step.as_bytes(),
         Target::Single(None) => false,
         Target::Global => true,
-        Target::Filtered(filter) => Probe::new().matches(filter.keys(), attributes),
+        Target::Filtered(filter) => is_match(filter, attributes),
     }
 }
 
@@ -88,7 +90,7 @@ fn global_after<A: Allocator + Copy>(
         Target::Single(_) => before,
         Target::Global => Some(how),
         Target::Filtered(filter) => {
-            if Probe::new().matches(filter.keys(), attributes) {
+            if is_match(filter, attributes) {
                 Some(how)
             } else {
                 None
@@ -125,8 +127,8 @@ fn cover_after<A: Allocator + Copy>(
     }
 }
 
-/// How a watcher's global subscription subscribes it to a step that is created with these attributes; None where it does
-/// not (PS3.4 CC.2.3).
+/// How a watcher's global subscription subscribes it to a step with these attributes; None where it does not (PS3.4
+/// CC.2.3).
 pub(crate) fn cover<A: Allocator + Copy>(
     peers: &[Peer],
     entries: &[Entry<A>],
@@ -152,6 +154,43 @@ pub(crate) fn same_ae(ae: Ae, other: Ae) -> bool
     ensures { result ≡ bytes_eq ae other }
 {
     ae.as_bytes() == other.as_bytes()
+}
+
+/// The keys of a watcher's global subscription after a request, where they were so before; None where there is none, or it
+/// has no keys.
+fn filter_after<'a, A: Allocator + Copy>(
+    ae: Ae,
+    before: Option<&'a Filter<A>>,
+    request: &'a Request<A>,
+) -> Option<&'a Filter<A>>
+    ensures { option_copied result ≡ filter_after ae (option_copied before.entry) request.now }
+{
+    match request {
+        Request::Subscribe {
+            target: Target::Filtered(filter),
+            receiver,
+            ..
+        } if receiver.as_bytes() == ae.as_bytes() => { Some(filter) }
+        Request::Subscribe {
+            target: Target::Global,
+            receiver,
+            ..
+        }
+        | Request::Unsubscribe {
+            place: Place::Everywhere,
+            receiver,
+        }
+        | Request::Suspend { receiver }
+            if receiver.as_bytes() == ae.as_bytes() => { None }
+        _ => before,
+    }
+}
+
+/// Whether attributes match the keys of a filter.
+fn is_match<A: Allocator + Copy>(filter: &Filter<A>, attributes: &DataSet<A>) -> bool
+    ensures { result ≡ is_match filter.now attributes.now }
+{
+    Probe::new().matches(filter.keys(), attributes)
 }
 
 /// How a watcher is subscribed to a step which a subscription takes in or not, where it was so before.
@@ -188,6 +227,90 @@ fn created<A: Allocator + Copy>(
         Ok(cover(configuration.peers(), earlier, ae, &row))
     } else {
         Ok(before)
+    }
+}
+
+/// How a watcher's global subscription with these keys subscribes it to a step that the entry at this place changes: it
+/// takes in the new attributes, and did not take in those before.
+///
+/// Errors: those of `go_on`.
+fn newly_covered<A: Allocator + Copy>(
+    alloc: A,
+    configuration: &Configuration<A>,
+    entries: &[Entry<A>],
+    place: usize,
+    filter: &Filter<A>,
+    walk: &mut RowWalk<A>,
+    ae: Ae,
+    step: StepUid,
+) -> Result<Option<Subscription>, ChangeFault>
+    requires filter { filter_now (past (take place entries.now)) ae ≡ Some filter.now }
+    requires row { walk.old.row ≡ row_of configuration.now (past (take walk.old.count entries.now)) step }
+    requires earlier { walk.old.count ≤ place }
+    requires within { place < length entries.now }
+    requires moments { All (λ e. IsMoment e.moment) entries.now }
+    requires offset { IsOffset configuration.now.offset }
+    ensures newly { IfOk result (λ o. o ≡ (if is_some (cover configuration.now.peers (past (take place entries.now)) ae (row configuration.now (past (take place entries.now)) step)) then None else cover configuration.now.peers (past (take place entries.now)) ae (row configuration.now (past (take (place + 1) entries.now)) step))) }
+    ensures row { walk.new.row ≡ row_of configuration.now (past (take walk.new.count entries.now)) step }
+    ensures earlier { walk.new.count ≤ place + 1 }
+{
+    let earlier = &entries[..place];
+    go_on(alloc, configuration, walk, entries, place, step)?;
+    if is_match(filter, &walk.row.attributes) {
+        return Ok(None);
+    }
+    go_on(alloc, configuration, walk, entries, place + 1, step)?;
+    if !is_match(filter, &walk.row.attributes) {
+        return Ok(None);
+    }
+    Ok(cover(configuration.peers(), earlier, ae, &walk.row.attributes))
+}
+
+/// Whether this step is the one that a request names.
+fn is_step(step: StepUid, named: Option<StepUid>) -> bool
+    ensures { result ≡ is_step step named }
+{
+    match named {
+        Some(named) => same_step(named, step),
+        None => false,
+    }
+}
+
+/// How a watcher is subscribed to a step after an N-SET of the step that is named, the entry at this place, where it was so
+/// before: who is not subscribed to it may be so newly, by its global subscription after the entries before. `filter` are
+/// the keys of that; where it has none, no step is looked at.
+///
+/// Errors: those of `go_on`.
+fn set<A: Allocator + Copy>(
+    alloc: A,
+    configuration: &Configuration<A>,
+    entries: &[Entry<A>],
+    place: usize,
+    filter: Option<&Filter<A>>,
+    walk: &mut RowWalk<A>,
+    named: Option<StepUid>,
+    ae: Ae,
+    step: StepUid,
+    before: Option<Subscription>,
+) -> Result<Option<Subscription>, ChangeFault>
+    requires filter { option_copied filter ≡ filter_now (past (take place entries.now)) ae }
+    requires row { walk.old.row ≡ row_of configuration.now (past (take walk.old.count entries.now)) step }
+    requires earlier { walk.old.count ≤ place }
+    requires within { place < length entries.now }
+    requires moments { All (λ e. IsMoment e.moment) entries.now }
+    requires offset { IsOffset configuration.now.offset }
+    ensures after { IfOk result (λ o. o ≡ (if is_step step named then option_or before (if is_some (cover configuration.now.peers (past (take place entries.now)) ae (row configuration.now (past (take place entries.now)) step)) then None else cover configuration.now.peers (past (take place entries.now)) ae (row configuration.now (past (take (place + 1) entries.now)) step)) else before)) }
+    ensures row { walk.new.row ≡ row_of configuration.now (past (take walk.new.count entries.now)) step }
+    ensures earlier { walk.new.count ≤ place + 1 }
+{
+    let Some(filter) = filter else {
+        return Ok(before);
+    };
+    match before {
+        None if is_step(step, named) => {
+            newly_covered(alloc, configuration, entries, place, filter, walk, ae, step)
+        }
+        _ => Ok(before),
     }
 }
 
@@ -235,39 +358,59 @@ fn ended(
     }
 }
 
-/// How a watcher is subscribed to a step after an entry, where it was so before: `earlier` are the entries before it, and
-/// `so_far` those with it.
+/// How a watcher is subscribed to a step after the entry at this place, where it was so before; `filter` are the keys of
+/// the watcher's global subscription before it, and `walk` is what is held of the step after some of the entries before.
 ///
-/// Errors: those of `row`.
+/// Errors: those of `go_on`.
 fn watch_after<A: Allocator + Copy>(
     alloc: A,
     configuration: &Configuration<A>,
-    earlier: &[Entry<A>],
-    so_far: &[Entry<A>],
+    entries: &[Entry<A>],
+    place: usize,
+    filter: Option<&Filter<A>>,
+    walk: &mut RowWalk<A>,
     entry: &Entry<A>,
     ae: Ae,
     step: StepUid,
     before: Option<Subscription>,
 ) -> Result<Option<Subscription>, ChangeFault>
-    requires so_far { past so_far.now ≡ entry.now ∷ past earlier.now }
-    requires moments { All (λ e. IsMoment e.moment) so_far.now }
-    requires earlier { All (λ e. IsMoment e.moment) earlier.now }
+    requires entry { past (take (place + 1) entries.now) ≡ entry.now ∷ past (take place entries.now) }
+    requires filter { option_copied filter ≡ filter_now (past (take place entries.now)) ae }
+    requires row { walk.old.row ≡ row_of configuration.now (past (take walk.old.count entries.now)) step }
+    requires earlier { walk.old.count ≤ place }
+    requires within { place < length entries.now }
+    requires moments { All (λ e. IsMoment e.moment) entries.now }
     requires offset { IsOffset configuration.now.offset }
-    ensures { IfOk result (λ after. after ≡ watch_after configuration.now (past earlier.now) entry.now ae step before entry.now.request) }
+    ensures after { IfOk result (λ after. after ≡ watch_after configuration.now (past (take place entries.now)) entry.now ae step before entry.now.request) }
+    ensures row { walk.new.row ≡ row_of configuration.now (past (take walk.new.count entries.now)) step }
+    ensures earlier { walk.new.count ≤ place + 1 }
 {
+    let earlier = &entries[..place];
     match &entry.request {
         Request::Create { step: new, .. } => {
             created(
                 alloc,
                 configuration,
                 earlier,
-                so_far,
+                &entries[..place + 1],
                 *new,
                 ae,
                 step,
                 before,
             )
         }
+        Request::Set { step: named, .. } => set(
+            alloc,
+            configuration,
+            entries,
+            place,
+            filter,
+            walk,
+            *named,
+            ae,
+            step,
+            before,
+        ),
         Request::Subscribe {
             target,
             receiver,
@@ -290,11 +433,56 @@ fn watch_after<A: Allocator + Copy>(
         }
         Request::Change { .. }
         | Request::AskCancel { .. }
-        | Request::Set { .. }
         | Request::Suspend { .. }
         | Request::Ack { .. }
         | Request::Sweep => Ok(before),
     }
+}
+
+/// How a watcher is subscribed to a step before the last entry of a history, and after it.
+#[derive(Clone, Copy)]
+pub(crate) struct Watching {
+    pub(crate) before: Option<Subscription>,
+    pub(crate) after: Option<Subscription>,
+}
+
+/// How a watcher is subscribed to a step that is held (PS3.4 CC.2.3), before the last of these entries and after it; None
+/// where it is not.
+///
+/// Errors: those of `row`.
+pub(crate) fn watch_last<A: Allocator + Copy>(
+    alloc: A,
+    configuration: &Configuration<A>,
+    entries: &[Entry<A>],
+    ae: Ae,
+    step: StepUid,
+) -> Result<Watching, ChangeFault>
+    requires moments { All (λ e. IsMoment e.moment) entries.now }
+    requires offset { IsOffset configuration.now.offset }
+    ensures before { IfOk result (λ found. found.before ≡ watch configuration.now (past (take (length entries.now - 1) entries.now)) ae step) }
+    ensures after { IfOk result (λ found. found.after ≡ watch configuration.now (past entries.now) ae step) }
+{
+    let mut before = None;
+    let mut after = None;
+    let mut filter = None;
+    let mut walk = unwalked(alloc);
+    for (place, entry) in entries.iter().enumerate() {
+        before = after;
+        after = watch_after(
+            alloc,
+            configuration,
+            entries,
+            place,
+            filter,
+            &mut walk,
+            entry,
+            ae,
+            step,
+            before,
+        )?;
+        filter = filter_after(ae, filter, &entry.request);
+    }
+    Ok(Watching { before, after })
 }
 
 /// How a watcher is subscribed to a step that is held (PS3.4 CC.2.3); None where it is not.
@@ -311,22 +499,8 @@ pub(crate) fn watch<A: Allocator + Copy>(
     requires offset { IsOffset configuration.now.offset }
     ensures { IfOk result (λ found. found ≡ watch configuration.now (past entries.now) ae step) }
 {
-    let mut found = None;
-    for (place, entry) in entries.iter().enumerate() {
-        let earlier = &entries[..place];
-        let so_far = &entries[..place + 1];
-        found = watch_after(
-            alloc,
-            configuration,
-            earlier,
-            so_far,
-            entry,
-            ae,
-            step,
-            found,
-        )?;
-    }
-    Ok(found)
+    let found = watch_last(alloc, configuration, entries, ae, step)?;
+    Ok(found.after)
 }
 
 /// Whether a subscription has a deletion lock.

@@ -9,6 +9,7 @@ use std::alloc::Allocator;
 use std::marker::Model;
 use ups_dataset::DataSet;
 use ups_match::{Keys, Matcher, Probe};
+use ups_pdu::Ae;
 
 /// How a watcher is subscribed to a step (PS3.4 CC.2.3).
 #[derive(Clone, Copy, Debug, PartialEq, Eq)]
@@ -25,6 +26,15 @@ pub struct Watched {
     /// The instance UID of the step.
     pub step: StepUid,
     /// How the watcher is subscribed to it.
+    pub subscription: Subscription,
+}
+
+/// A watcher that is subscribed to a step.
+#[derive(Clone, Copy)]
+pub struct Watcher {
+    /// The title of the watcher.
+    pub ae: Ae,
+    /// How it is subscribed to the step.
     pub subscription: Subscription,
 }
 

@@ -2,6 +2,7 @@
 use Rattle.std.proofs.Common.{◌≡◌, ℕ, ◌+◌, Bool, true, false, cond, ◌&&◌, List, [], ◌∷◌, ◌++◌, length, Option, None, Some, refl, sym, ap, ◌∙◌}
 use Rattle.std.specs.Prelude.{is_some}
 use Rattle.std.specs.List.{filter_map}
+use Rattle.std.specs.Option.{option_or}
 use Rattle.std.specs.Str.{bytes_eq}
 use Rattle.ups_dataset.specs.Data.{El}
 use Rattle.ups_life.specs.declared.entry.Entry.{Entry}
@@ -12,8 +13,8 @@ use Rattle.ups_life.specs.declared.status.Status.{Status}
 use Rattle.ups_life.specs.declared.status.Status.TheVariants.{UnknownReceivingAe}
 use Rattle.ups_life.specs.declared.watching.Subscription.{Subscription}
 use Rattle.ups_life.specs.Settings.{Settings}
-use Rattle.ups_life.specs.Steps.{past, row}
-use Rattle.ups_life.specs.Watching.{is_peer, takes_in, is_at, granted, global_after, global_left, cover_after, cover, watch_after, watch, held, watched_step, watched}
+use Rattle.ups_life.specs.Steps.{past, is_step, row}
+use Rattle.ups_life.specs.Watching.{is_peer, takes_in, is_at, granted, global_after, global_left, cover_after, cover, newly_covered, watch_after, watch, held, watched_step, watched}
 use Rattle.ups_life.specs.Events.{only_if, as_it_is, told_of, reports_of, numbered, events}
 use Rattle.ups_life.specs.History.{is_done, of_peer, legal}
 use Rattle.ups_life.proofs.Texts.{same_text}
@@ -77,7 +78,14 @@ watch_stays s es w u caller ae moment (Create step attributes) out h before =
     (no_cover s es w (row s (entry caller ae moment (Create step attributes) ∷ es) u) out (legal_tail s (entry caller ae moment (Create step attributes)) es h)) before
 watch_stays s es w u caller ae moment (Change step state t) out h before = before
 watch_stays s es w u caller ae moment (AskCancel step reasons) out h before = before
-watch_stays s es w u caller ae moment (Set step t attributes) out h before = before
+watch_stays {A} s es w u caller ae moment (Set step t attributes) out h before =
+    either (is_step u step) (option_or (watch s es w u) (newly_covered s es e w u)) (watch s es w u) None (ap (λ o. option_or o (newly_covered s es e w u)) before ∙ nowhere) before
+  where
+    e : Entry A
+    e = entry caller ae moment (Set step t attributes)
+
+    nowhere : newly_covered s es e w u ≡ None
+    nowhere = either (is_some (cover s.peers es w (row s es u))) None (cover s.peers es w (row s (e ∷ es) u)) None refl (no_cover s es w (row s (e ∷ es) u) out (legal_tail s e es h))
 watch_stays s es w u caller ae moment (Subscribe target receiver lock) out h before =
     beside_peer s.peers receiver w (takes_in target u (row s es u)) (Some (granted s.peers w lock)) (watch s es w u) out
     (for_peer s.peers receiver _ (legal_head s (entry caller ae moment (Subscribe target receiver lock)) es h)) ∙ before
@@ -99,8 +107,12 @@ watches_nothing s history w h out = none_of (λ u. watch s (past history) w u) (
 
 -- NOTHING TOLD
 
-untold : {A : Type 0} {X : Type 0} (s : Settings) (es : List (Entry A)) (w u : List ℕ) (told : List X) → is_peer s.peers w ≡ false → legal s es ≡ true → cond (is_some (watch s es w u)) told [] ≡ []
-untold {A} {X} s es w u told out h = ap (λ (o : Option Subscription). cond {A = List X} (is_some o) told []) (no_watch s es w u out h)
+untold : {A : Type 0} {X : Type 0} (s : Settings) (es : List (Entry A)) (e : Entry A) (w u : List ℕ) (told : List X) (newly : Bool → List X) → is_peer s.peers w ≡ false → legal s (e ∷ es) ≡ true → newly false ≡ []
+    → cond (is_some (watch s es w u)) told (newly (is_some (watch s (e ∷ es) w u))) ≡ []
+untold {A} {X} s es e w u told newly out h none =
+    ap (λ (o : Option Subscription). cond {A = List X} (is_some o) told (newly (is_some (watch s (e ∷ es) w u)))) (no_watch s es w u out (legal_tail s e es h))
+    ∙ ap (λ (o : Option Subscription). newly (is_some o)) (no_watch s (e ∷ es) w u out h)
+    ∙ none
 
 no_reports : {A : Type 0} (s : Settings) (es : List (Entry A)) (w : List ℕ) (caller : ℕ) (ae : List ℕ) (moment : ℕ) (r : Request A) → is_peer s.peers w ≡ false
     → legal s (entry caller ae moment r ∷ es) ≡ true → legal s es ≡ true → reports_of s es (entry caller ae moment r) w r ≡ []
@@ -111,13 +123,13 @@ no_reports s es w caller ae moment (Subscribe target receiver lock) out h before
     beside s.peers receiver w _ [] out (for_peer s.peers receiver _ (legal_head s (entry caller ae moment (Subscribe target receiver lock)) es h))
 no_reports s es w caller ae moment (Change None state t) out h before = refl
 no_reports {A} s es w caller ae moment (Change (Some u) state t) out h before =
-    let r : Request A = Change (Some u) state t in untold s es w u (told_of s es (entry caller ae moment r) u r) out before
+    let r : Request A = Change (Some u) state t in let e : Entry A = entry caller ae moment r in untold s es e w u (told_of s es e u r) (λ b. only_if b (as_it_is s (e ∷ es) u)) out h refl
 no_reports s es w caller ae moment (AskCancel None reasons) out h before = refl
 no_reports {A} s es w caller ae moment (AskCancel (Some u) reasons) out h before =
-    let r : Request A = AskCancel (Some u) reasons in untold s es w u (told_of s es (entry caller ae moment r) u r) out before
+    let r : Request A = AskCancel (Some u) reasons in let e : Entry A = entry caller ae moment r in untold s es e w u (told_of s es e u r) (λ b. only_if b (as_it_is s (e ∷ es) u)) out h refl
 no_reports s es w caller ae moment (Set None t attributes) out h before = refl
 no_reports {A} s es w caller ae moment (Set (Some u) t attributes) out h before =
-    let r : Request A = Set (Some u) t attributes in untold s es w u (told_of s es (entry caller ae moment r) u r) out before
+    let r : Request A = Set (Some u) t attributes in let e : Entry A = entry caller ae moment r in untold s es e w u (told_of s es e u r) (λ b. only_if b (as_it_is s (e ∷ es) u)) out h refl
 no_reports s es w caller ae moment (Unsubscribe place receiver) out h before = refl
 no_reports s es w caller ae moment (Suspend receiver) out h before = refl
 no_reports s es w caller ae moment (Ack upto) out h before = refl

@@ -214,9 +214,9 @@ impl<A: Allocator + Copy> Manager<A> {
         }
     }
 
-    /// Of the events that a watcher has not acknowledged, the first `max`, oldest first, each with its Event Information
-    /// (PS3.4 CC.2.4); none for an application entity that is no peer. 0213 where memory runs out. It is slow: it walks
-    /// the history.
+    /// Of the events that a watcher has not acknowledged, without each State Report that a later one of the same step
+    /// supersedes, the first `max`, oldest first, each with its Event Information (PS3.4 CC.2.4); none for an application
+    /// entity that is no peer. 0213 where memory runs out. It is slow: it walks the history.
     pub fn pending(&self, ae: Ae, max: u64) -> Reply<A>
         ensures answer { OrLacking ResourceLimitation (Reports (reports_to self.now.settings self.now.history max ae)) result }
         ensures small { SmallReply result }

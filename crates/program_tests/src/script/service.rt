@@ -214,28 +214,89 @@ entries -> 2
 0 W1 watches -> 0000 1.2.3.1:free
 0 P1 unsubscribe global W1 -> 0000
 0 W1 watches -> 0000
-# A filter is tried when a step is created | 1000
-0 P1 subscribe filtered W1 TRUE 00741202=READS -> 0000
+# A filter is tried when a step is created and at each set | 1000
+0 P1 subscribe filtered W1 FALSE -> 0114
+0 P1 subscribe filtered W1 FALSE 00741202=READS -> 0000
 0 P1 create U1 B 00741202=READS -> 0000
 0 P1 create U2 B 00741202=REPROC -> 0000
 0 P1 set U2 - 00741202=READS -> 0000
+0 W1 watches -> 0000 1.2.3.1:free 1.2.3.2:free
+0 P1 set U2 - 00741202=READS -> 0000
+0 W1 pending 9 -> 0000 1:1:1.2.3.1:SCHEDULED:READY 2:1:1.2.3.2:SCHEDULED:READY
+0 P1 set U2 - 00741202=REPROC -> 0000
+0 W1 watches -> 0000 1.2.3.1:free 1.2.3.2:free
+0 P1 unsubscribe U2 W1 -> 0000
+0 P1 set U2 - 00741202=READS -> 0000
+0 W1 watches -> 0000 1.2.3.1:free 1.2.3.2:free
+0 W1 pending 9 -> 0000 1:1:1.2.3.1:SCHEDULED:READY 3:1:1.2.3.2:SCHEDULED:READY
+# A set that matches as before subscribes nobody again | 1000
+0 P1 subscribe filtered W1 TRUE 00741202=READS -> 0000
+0 P1 create U1 B 00741202=READS -> 0000
+0 P1 unsubscribe U1 W1 -> 0000
+0 P1 set U1 - 00741204=MR%20READ -> 0000
+0 P1 set U1 - 00741202=READS -> 0000
+0 W1 watches -> 0000
+0 P1 set U1 - 00741202=REPROC -> 0000
+0 W1 watches -> 0000
+0 P1 set U1 - 00741202=READS 00741002/00741004=50 -> 0000
 0 W1 watches -> 0000 1.2.3.1:locked
+0 W1 pending 9 -> 0000 2:1:1.2.3.1:SCHEDULED:READY
+# A change of state subscribes nobody | 1000
+0 P1 subscribe filtered W1 FALSE 00741000=IN%20PROGRESS -> 0000
+0 P1 create U1 B -> 0000
+0 P1 change U1 IP 2.1 -> 0000
+0 W1 watches -> 0000
+0 P1 set U1 2.1 00741202=READS -> 0000
+0 W1 watches -> 0000
 # Keys that are all universal are no filter | 1000
 0 P1 subscribe filtered W1 FALSE 00741202= -> 0114
 0 P1 subscribe filtered W1 FALSE 00741202=* -> 0114
 0 P1 subscribe filtered W1 FALSE 00741202=READS -> 0000
-# Events are pending until they are acknowledged | 1000
+# Events are pending until they are acknowledged or superseded | 1000
 0 P1 create U1 B -> 0000
 0 P1 subscribe U1 W1 FALSE -> 0000
 0 P1 subscribe U1 W2 FALSE -> 0000
 120 P1 cancel U1 -> 0000
-120 W1 pending 9 -> 0000 1:1:1.2.3.1:SCHEDULED:READY 2:1:1.2.3.1:IN%20PROGRESS:READY 3:1:1.2.3.1:CANCELED:READY
+120 W1 pending 9 -> 0000 3:1:1.2.3.1:CANCELED:READY
 0 W1 ack 2 -> 0000
 0 W1 ack 9 -> AckAhead
 0 W1 ack 2 -> AckStale
 0 W1 pending 9 -> 0000 3:1:1.2.3.1:CANCELED:READY
 0 P1 ack 1 -> AckAhead
-entries -> 5";
+entries -> 5
+# A request to cancel is told beside the last State Report | 1000
+0 P1 create U1 B -> 0000
+0 P1 subscribe U1 W1 FALSE -> 0000
+0 P1 change U1 IP 2.1 -> 0000
+0 P1 cancel U1 -> 0000
+0 W1 pending 9 -> 0000 2:1:1.2.3.1:IN%20PROGRESS:READY 3:2:1.2.3.1:IN%20PROGRESS:READY
+# What is no State Report is superseded by none | 1000
+0 P1 create U1 B -> 0000
+0 P1 subscribe U1 W1 FALSE -> 0000
+0 P1 change U1 IP 2.1 -> 0000
+0 P1 set U1 2.1 00404041=UNAVAILABLE -> 0000
+0 P1 set U1 2.1 00741002/00741004=50 -> 0000
+0 P1 set U1 2.1 00404041=READY -> 0000
+0 W1 ack 2 -> 0000
+0 W1 ack 9 -> AckAhead
+0 W1 ack 2 -> AckStale
+0 W1 pending 9 -> 0000 4:3:1.2.3.1:IN%20PROGRESS:UNAVAILABLE 5:1:1.2.3.1:IN%20PROGRESS:READY
+# A number that is left out may be acknowledged | 1000
+0 P1 create U1 B -> 0000
+0 P1 subscribe U1 W1 FALSE -> 0000
+0 W1 ack 1 -> 0000
+0 P1 change U1 IP 2.1 -> 0000
+0 P1 cancel U1 -> 0000
+0 P1 set U1 2.1 00404041=UNAVAILABLE -> 0000
+0 W1 pending 9 -> 0000 3:2:1.2.3.1:IN%20PROGRESS:READY 4:1:1.2.3.1:IN%20PROGRESS:UNAVAILABLE
+0 W1 pending 1 -> 0000 3:2:1.2.3.1:IN%20PROGRESS:READY
+0 W1 ack 2 -> 0000
+0 W1 ack 2 -> AckStale
+0 W1 ack 5 -> AckAhead
+0 W1 pending 9 -> 0000 3:2:1.2.3.1:IN%20PROGRESS:READY 4:1:1.2.3.1:IN%20PROGRESS:UNAVAILABLE
+0 W1 ack 4 -> 0000
+0 W1 pending 9 -> 0000
+entries -> 8";
 
 /// The steps that are held, and those that the peers watch.
 const LISTS: &str = "0 P1 held\n0 W1 watches\n0 W2 watches\n";

@@ -55,18 +55,18 @@ const WATCHING: &str = "\
 500 P1 held -> 0000
 500 P1 create U1 B -> 0111
 500 P1 get U1 -> C307
-# A filter is tried at creation alone (peers)
+# A filter is tried at creation and at each set, and what it subscribes to it locks (peers)
 0 W1 subscribe filtered W1 FALSE -> 0114
 0 W1 subscribe filtered W1 FALSE 00741202=* -> 0114
 0 W1 subscribe filtered W1 TRUE 00741202=READS -> 0000
 0 P1 create U1 B 00741202=READS -> 0000
 0 P1 create U2 B 00741202=REPROC -> 0000
 0 P1 set U2 - 00741202=READS -> 0000
-0 W1 watches -> 0000 1.2.3.1:locked
+0 W1 watches -> 0000 1.2.3.1:locked 1.2.3.2:locked
 0 P1 cancel U1 -> 0000
 0 P1 cancel U2 -> 0000
-60 P1 sweep -> 0000 1
-60 P1 held -> 0000 1.2.3.1
+60 P1 sweep -> 0000 0
+60 P1 held -> 0000 1.2.3.1 1.2.3.2
 # A suspension leaves what is subscribed to (peers)
 0 P1 create U1 B -> 0000
 0 W1 subscribe global W1 TRUE -> 0000
@@ -93,12 +93,12 @@ const WATCHING: &str = "\
 0 P1 create U1 B -> 0000
 0 W1 subscribe U1 NOBODY MAYBE 00741234=W1 00741230=FALSE -> 0000
 0 W1 subscribe U1 W1 FALSE 00741234/00100010=X -> 0115
-# A scheduled step that is canceled goes through IN PROGRESS, and both are reported (peers)
+# A scheduled step that is canceled goes through IN PROGRESS, and the last report is pending (peers)
 0 P1 create U1 B -> 0000
 0 W1 subscribe U1 W1 FALSE -> 0000
 120 P1 cancel U1 00741238=stop -> 0000
-120 W1 pending 9 -> 0000 1:1:1.2.3.1:SCHEDULED:READY 2:1:1.2.3.1:IN%20PROGRESS:READY 3:1:1.2.3.1:CANCELED:READY
-120 W1 pending 2 -> 0000 1:1:1.2.3.1:SCHEDULED:READY 2:1:1.2.3.1:IN%20PROGRESS:READY
+120 W1 pending 9 -> 0000 3:1:1.2.3.1:CANCELED:READY
+120 W1 pending 1 -> 0000 3:1:1.2.3.1:CANCELED:READY
 120 W1 pending 0 -> 0000
 120 W2 pending 9 -> 0000
 120 P1 pending 9 -> 0000
@@ -107,7 +107,7 @@ const WATCHING: &str = "\
 0 W1 subscribe U1 W1 FALSE -> 0000
 0 P1 change U1 IP 2.1 -> 0000
 0 P2 cancel U1 -> 0000
-0 W1 pending 9 -> 0000 1:1:1.2.3.1:SCHEDULED:READY 2:1:1.2.3.1:IN%20PROGRESS:READY 3:2:1.2.3.1:IN%20PROGRESS:READY
+0 W1 pending 9 -> 0000 2:1:1.2.3.1:IN%20PROGRESS:READY 3:2:1.2.3.1:IN%20PROGRESS:READY
 0 P1 get U1 00741000 -> 0000 00741000=IN%20PROGRESS
 # A global subscription reports each step that is held (peers)
 0 P1 create U1 B -> 0000
@@ -123,7 +123,7 @@ const WATCHING: &str = "\
 0 P1 create U1 B 00741202=READS -> 0000
 0 P1 create U2 B 00741202=REPROC -> 0000
 0 P1 set U2 - 00741202=READS -> 0000
-0 W1 watches -> 0000 1.2.3.1:free
+0 W1 watches -> 0000 1.2.3.1:free 1.2.3.2:free
 0 W1 subscribe U2 W1 TRUE -> 0000
 0 W1 watches -> 0000 1.2.3.1:free 1.2.3.2:locked
 0 W2 subscribe U2 W2 TRUE -> B301
@@ -141,7 +141,7 @@ const WATCHING: &str = "\
 0 W1 ack 2 -> 0000
 0 W1 ack 9 -> AckAhead
 0 W1 ack 2 -> AckStale
-0 W1 pending 9 -> 0000 3:1:1.2.3.1:IN%20PROGRESS:UNAVAILABLE 4:3:1.2.3.1:IN%20PROGRESS:UNAVAILABLE 5:1:1.2.3.1:IN%20PROGRESS:READY
+0 W1 pending 9 -> 0000 4:3:1.2.3.1:IN%20PROGRESS:UNAVAILABLE 5:1:1.2.3.1:IN%20PROGRESS:READY
 0 W1 ack 5 -> 0000
 0 W1 pending 9 -> 0000
 0 W2 ack 1 -> AckAhead

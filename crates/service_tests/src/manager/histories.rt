@@ -8,8 +8,8 @@ use std::alloc::Global;
 use std::process::Abort;
 use std::test::Fail;
 use ups_life::{
-    Ask, Entry, Event, EventReport, MAX_MOMENT, Peer, Place, Reply, Request, StepState, Target,
-    Watched, acked, plain_events, plain_held, plain_watches,
+    Ask, Entry, Event, EventKind, EventReport, MAX_MOMENT, Peer, Place, Reply, Request, StepState,
+    Target, Watched, acked, plain_events, plain_held, plain_watches,
 };
 use ups_manager::*;
 use ups_pdu::Ae;
@@ -122,16 +122,86 @@ P1
 1709208180
 1709208210";
 
-/// How many calls a history is made by.
-const LENGTH: u32 = 100;
+/// The same, of histories that are about filters: the sets change what the filters ask of, so that steps come to match
+/// them and cease to, and subscriptions end at one step and everywhere.
+const FILTERING: &str = r"CALL
+create |STEP| B |ROW|
+create |STEP| B |ROW|
+create |STEP| B |ROW|
+create |STEP| B |ROW|
+1 |STEP| 00741000=IN_PROGRESS 00081195=2.1
+1 |STEP| 00741000=COMPLETED 00081195=2.1
+set |STEP| |SET| 00081195=
+set |STEP| |SET| 00081195=
+set |STEP| |SET| 00081195=
+set |STEP| |SET| 00081195=
+set |STEP| |SET| 00081195=2.1
+set |STEP| |SET| 00081195=2.1
+3 |STEP| 00741234=|RECEIVER| 00741230=|LOCK|
+3 filtered 00741234=|RECEIVER| 00741230=|LOCK| |FILTER|
+3 filtered 00741234=|RECEIVER| 00741230=|LOCK| |FILTER|
+3 filtered 00741234=|RECEIVER| 00741230=|LOCK| |FILTER|
+4 |STEP| 00741234=|RECEIVER|
+4 |STEP| 00741234=|RECEIVER|
+4 global 00741234=|RECEIVER|
+5 global 00741234=|RECEIVER|
+ack |NUMBER|
+sweep
+# STEP
+1.2.3.1
+1.2.3.2
+1.2.3.3
+# ROW
+00741202=READS 00741216=[00404050=20240229120100,00404051=20240229120200]
+00741202=REPROC 00741216=[00404050=20240229120100,00404051=20240229120200]
+# SET
+00741202=READS
+00741202=REPROC
+00741200=LOW
+00741200=HIGH
+00404025=[00080100=CT1]
+00404025=[00080100=CT2]
+00404041=READY
+# FILTER
+00741202=READS
+00741202=*C
+00741200=LOW
+00404025=[00080100=CT1]
+00741202=READS 00741200=HIGH
+# RECEIVER
+W1
+W2
+# LOCK
+TRUE
+FALSE
+# NUMBER
+1
+4
+16
+# TITLE
+W1
+W2
+# MOMENT
+1709208000
+1709208030
+1709208060
+1709208090";
 
 /// How many histories a test makes.
 const HISTORIES: u32 = 200;
 
 /// What is counted: requests that are accepted, by their kinds, and then what is compared.
-const COUNTED: usize = 18;
+const COUNTED: usize = 19;
 
-/// How many there are at least: half of what is expected, or less.
+/// How histories are made, how often what is told is compared, and how many there is of what is counted at least.
+struct Kind {
+    words: &'static str,
+    calls: u32,
+    every: usize,
+    least: [(&'static str, u64); COUNTED],
+}
+
+/// Histories of all requests. The least is half of what is expected, or less.
 ///
 /// By 200 histories of 100 calls each line of the calls is asked for 1,000 times. What is for a watcher alone is accepted
 /// for three receivers of four. A step is created by one call of 75, so in a history 4.4 of the six are (200 times, 887),
@@ -140,26 +210,66 @@ const COUNTED: usize = 18;
 /// in each way. One that is canceled or finished is due at a third of the moments, where none of two peers locks it. A
 /// peer is subscribed to all steps before the half of every second history, and acknowledges 1 or 2 events in a quarter of
 /// them behind it. Nine histories of ten have twenty entries, with three steps held.
-const LEAST: [(&str, u64); COUNTED] = [
-    ("creations", 440),
-    ("claims", 160),
-    ("completions", 18),
-    ("discontinuations", 18),
-    ("cancel requests", 170),
-    ("sets", 140),
-    ("subscriptions to a step", 160),
-    ("global subscriptions", 375),
-    ("filtered subscriptions", 375),
-    ("ends at a step", 160),
-    ("ends everywhere", 375),
-    ("suspensions", 375),
-    ("acknowledgements", 30),
-    ("sweeps", 40),
-    ("steps held", 200),
-    ("steps found", 50),
-    ("steps watched", 180),
-    ("events pending", 100),
-];
+const ANY: Kind = Kind {
+    words: WORDS,
+    calls: 100,
+    every: 20,
+    least: [
+        ("creations", 440),
+        ("claims", 160),
+        ("completions", 18),
+        ("discontinuations", 18),
+        ("cancel requests", 170),
+        ("sets", 140),
+        ("subscriptions to a step", 160),
+        ("global subscriptions", 375),
+        ("filtered subscriptions", 375),
+        ("ends at a step", 160),
+        ("ends everywhere", 375),
+        ("suspensions", 375),
+        ("acknowledgements", 30),
+        ("sweeps", 40),
+        ("steps held", 200),
+        ("steps found", 50),
+        ("steps watched", 180),
+        ("events pending", 100),
+        ("new subscriptions by a set", 0),
+    ],
+};
+
+/// Histories about filters. The least is half of what is expected, or less.
+///
+/// By 200 histories of 40 calls each line of the calls is asked for 364 times. Each step is created by one call of 16, so
+/// it is there for two calls of three, and claimed by one call of 66. Half of the sets have the right UID for their step.
+/// Of those that are accepted one in eight makes a step match a filter; that filter is in force half of the time, for one
+/// of two watchers, half of which are subscribed to the step already. That is looked at behind each tenth entry, 400
+/// times, of which 120 are sets. No cancel request is made, and nobody subscribes to all without a filter.
+const FILTERED: Kind = Kind {
+    words: FILTERING,
+    calls: 40,
+    every: 10,
+    least: [
+        ("creations", 250),
+        ("claims", 60),
+        ("completions", 10),
+        ("discontinuations", 0),
+        ("cancel requests", 0),
+        ("sets", 300),
+        ("subscriptions to a step", 100),
+        ("global subscriptions", 0),
+        ("filtered subscriptions", 500),
+        ("ends at a step", 200),
+        ("ends everywhere", 180),
+        ("suspensions", 180),
+        ("acknowledgements", 10),
+        ("sweeps", 0),
+        ("steps held", 300),
+        ("steps found", 50),
+        ("steps watched", 150),
+        ("events pending", 80),
+        ("new subscriptions by a set", 3),
+    ],
+};
 
 /// A word, and what it may stand for.
 #[derive(Drop)]
@@ -338,6 +448,34 @@ fn watched_by_both(
     Ok(watched.len())
 }
 
+/// Returns how many steps more a peer watches after entries than after the earlier ones of them.
+fn gained(
+    rt: &impl AllocGlobal,
+    manager: &Manager<Global>,
+    earlier: &[Entry<Global>],
+    ae: Ae,
+) -> Result<usize, Fail> {
+    let settings = settings_of(rt.alloc(), manager)?;
+    let before = plain_watches(rt.alloc(), &settings, earlier, ae)?.len();
+    let after = plain_watches(rt.alloc(), &settings, manager.history(), ae)?.len();
+    Ok(after.checked_sub(before).ok_or("a subscription ended")?)
+}
+
+/// Returns how many subscriptions the last entry begins, where it is an N-SET, which ends none.
+fn begun_by_a_set(rt: &impl AllocGlobal, manager: &Manager<Global>) -> Result<usize, Fail> {
+    let Some((last, earlier)) = manager.history().split_last() else {
+        return Ok(0);
+    };
+    if !matches!(last.request, Request::Set { .. }) {
+        return Ok(0);
+    }
+    let mut begun = 0_usize;
+    for name in ["W1", "W2"] {
+        begun = begun.saturating_add(gained(rt, manager, earlier, title(name)?)?);
+    }
+    Ok(begun)
+}
+
 fn is_same_event(one: &Event, other: &Event) -> bool {
     one.number == other.number
         && one.entry == other.entry
@@ -347,13 +485,31 @@ fn is_same_event(one: &Event, other: &Event) -> bool {
         && one.readiness == other.readiness
 }
 
-/// Whether the events reported are those of others that come behind so many.
+/// Whether both are State Reports of one step.
+fn are_of_one_step(one: &Event, other: &Event) -> bool {
+    one.kind == EventKind::StateReport
+        && other.kind == EventKind::StateReport
+        && one.step == other.step
+}
+
+/// Whether the events reported are those of others that come behind so many, without each State Report that a later one
+/// of the same step supersedes.
 fn are_behind(reports: &[EventReport<Global>], all: &[Event], count: u64) -> bool {
-    let Some(rest) = all.get(count as usize..) else {
-        return false;
-    };
-    let mut pairs = reports.iter().zip(rest.iter());
-    reports.len() == rest.len() && pairs.all(|(one, other)| is_same_event(&one.event, other))
+    let mut rest = reports.iter();
+    for (place, event) in all.iter().enumerate() {
+        let is_left_out = event.number <= count
+            || all[place + 1..]
+                .iter()
+                .any(|later| are_of_one_step(event, later));
+        if is_left_out {
+            continue;
+        }
+        match rest.next() {
+            Some(report) if is_same_event(&report.event, event) => {}
+            _ => return false,
+        }
+    }
+    rest.next().is_none()
 }
 
 /// Returns how many events a peer has not acknowledged, by a manager and by the plain programs.
@@ -385,24 +541,37 @@ fn compare_watchers(
     Ok(())
 }
 
-/// Makes a history, and compares what is told after each twentieth entry.
+/// Compares all that is told.
+fn compare_all(
+    rt: &impl AllocGlobal,
+    chance: &mut Chance,
+    counts: &mut [u64; COUNTED],
+    manager: &Manager<Global>,
+) -> Result<(), Fail> {
+    add(counts, 14, held_by_both(rt, manager)?);
+    add(
+        counts,
+        15,
+        found_by_both(rt, manager, chance.dice.one_of(KEYS)?)?,
+    );
+    compare_watchers(rt, counts, manager)?;
+    let ae = title(chance.any("TITLE")?)?;
+    add(counts, 17, pending_by_both(rt, manager, ae)?);
+    add(counts, 18, begun_by_a_set(rt, manager)?);
+    Ok(())
+}
+
+/// Makes a history, and compares what is told behind every so many entries.
 fn compare_history(
     rt: &impl AllocGlobal,
+    kind: &Kind,
     chance: &mut Chance,
     counts: &mut [u64; COUNTED],
     manager: &mut Manager<Global>,
 ) -> Result<(), Fail> {
-    for _ in 0..LENGTH {
-        if is_entered(rt, chance, manager)? && manager.history().len() % 20 == 0 {
-            add(counts, 14, held_by_both(rt, manager)?);
-            add(
-                counts,
-                15,
-                found_by_both(rt, manager, chance.dice.one_of(KEYS)?)?,
-            );
-            compare_watchers(rt, counts, manager)?;
-            let ae = title(chance.any("TITLE")?)?;
-            add(counts, 17, pending_by_both(rt, manager, ae)?);
+    for _ in 0..kind.calls {
+        if is_entered(rt, chance, manager)? && manager.history().len() % kind.every == 0 {
+            compare_all(rt, chance, counts, manager)?;
         }
     }
     count_entries(counts, manager.history());
@@ -428,43 +597,69 @@ fn a_manager(alloc: Global) -> Result<Manager<Global>, Fail> {
     Ok(Manager::new(alloc, &peers, 60, 60, 1_000)?)
 }
 
-/// Makes histories by chance that begins with a state, and compares what is told of each.
-fn histories_are_told<R: Abort + AllocGlobal>(rt: &R, state: u64) -> Result<(), Fail> {
+/// Makes histories of a kind by chance that begins with a state, and compares what is told of each.
+fn histories_are_told<R: Abort + AllocGlobal>(rt: &R, kind: &Kind, state: u64) -> Result<(), Fail> {
     let mut chance = Chance {
         dice: Dice { state },
-        words: words_of(rt, WORDS)?,
+        words: words_of(rt, kind.words)?,
     };
     let mut counts = [0; COUNTED];
     for _ in 0..HISTORIES {
-        compare_history(rt, &mut chance, &mut counts, &mut a_manager(rt.alloc())?)?;
+        let mut manager = a_manager(rt.alloc())?;
+        compare_history(rt, kind, &mut chance, &mut counts, &mut manager)?;
     }
-    for ((name, least), count) in LEAST.iter().zip(counts.iter()) {
-        assert!(rt; count > least, "{name}: {count}");
+    for ((name, least), count) in kind.least.iter().zip(counts.iter()) {
+        assert!(rt; count >= least, "{name}: {count}");
     }
     Ok(())
 }
 
 #[test]
 fn histories_of_a_first_chance_are_told_plainly(rt: HostRuntime) -> Result<(), Fail> {
-    histories_are_told(&rt, 1)
+    histories_are_told(&rt, &ANY, 1)
 }
 
 #[test]
 fn histories_of_a_second_chance_are_told_plainly(rt: HostRuntime) -> Result<(), Fail> {
-    histories_are_told(&rt, 2)
+    histories_are_told(&rt, &ANY, 2)
 }
 
 #[test]
 fn histories_of_a_third_chance_are_told_plainly(rt: HostRuntime) -> Result<(), Fail> {
-    histories_are_told(&rt, 3)
+    histories_are_told(&rt, &ANY, 3)
 }
 
 #[test]
 fn histories_of_a_fourth_chance_are_told_plainly(rt: HostRuntime) -> Result<(), Fail> {
-    histories_are_told(&rt, 4)
+    histories_are_told(&rt, &ANY, 4)
 }
 
 #[test]
 fn histories_of_a_fifth_chance_are_told_plainly(rt: HostRuntime) -> Result<(), Fail> {
-    histories_are_told(&rt, 5)
+    histories_are_told(&rt, &ANY, 5)
+}
+
+#[test]
+fn filters_of_a_first_chance_are_told_plainly(rt: HostRuntime) -> Result<(), Fail> {
+    histories_are_told(&rt, &FILTERED, 1)
+}
+
+#[test]
+fn filters_of_a_second_chance_are_told_plainly(rt: HostRuntime) -> Result<(), Fail> {
+    histories_are_told(&rt, &FILTERED, 2)
+}
+
+#[test]
+fn filters_of_a_third_chance_are_told_plainly(rt: HostRuntime) -> Result<(), Fail> {
+    histories_are_told(&rt, &FILTERED, 3)
+}
+
+#[test]
+fn filters_of_a_fourth_chance_are_told_plainly(rt: HostRuntime) -> Result<(), Fail> {
+    histories_are_told(&rt, &FILTERED, 4)
+}
+
+#[test]
+fn filters_of_a_fifth_chance_are_told_plainly(rt: HostRuntime) -> Result<(), Fail> {
+    histories_are_told(&rt, &FILTERED, 5)
 }

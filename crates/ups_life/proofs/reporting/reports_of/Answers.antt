@@ -30,7 +30,7 @@ returns-in-Subscribe g c =
 of_its_step : {A : Type 0} (s : Settings) (es : List (Entry A)) (e : Entry A) (w : List ℕ) (request : Request A)
     → ((step : StepUid) → (attributes : DataSet A) → request ≡ Create step attributes → ⊥)
     → ((target : Target A) → (receiver : Ae) → (lock : Bool) → request ≡ Subscribe target receiver lock → ⊥)
-    → if_watched s es w (step_of request) (λ u. told_of s es e u request) ≡ reports_of s es e w request
+    → if_watched s es e w (step_of request) (λ u. told_of s es e u request) ≡ reports_of s es e w request
 of_its_step s es e w (Create step attributes) a b = absurd (a step attributes refl)
 of_its_step s es e w (Change step state transaction) a b = refl
 of_its_step s es e w (AskCancel step reasons) a b = refl
