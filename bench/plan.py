@@ -14,7 +14,7 @@ import argparse
 
 
 def read(file):
-    """The crates of a file of costs, the lowest first."""
+    """The crates of a file of costs."""
     crates = []
     with open(file, encoding="utf-8") as costs:
         for line in costs:
@@ -24,15 +24,19 @@ def read(file):
     return crates
 
 
+def below(name, direct):
+    """The crates below one, the lowest first."""
+    found = []
+    for it in direct[name]:
+        found += [one for one in [*below(it, direct), it] if one not in found]
+    return found
+
+
 def tasks_of(crates):
-    """The tasks: of each what it waits for, its weight in lines, and its seconds."""
-    tasks, all_below = {}, {}
-    for name, lines, load, proof, tests, edits, each, direct in crates:
-        below = []
-        for it in direct:
-            below += [one for one in [*all_below[it], it] if one not in below]
-        all_below[name] = below
-        waits = [(it, "proof") for it in below]
+    """The tasks: of each what it waits for, its weight in lines, and its seconds. What it waits for stands before it."""
+    tasks, direct = {}, {it[0]: it[7] for it in crates}
+    for name, lines, load, proof, tests, edits, each, _ in sorted(crates, key=lambda it: len(below(it[0], direct))):
+        waits = [(it, "proof") for it in below(name, direct)]
         own = [(name, "proof")]
         tasks[name, "proof"] = (waits, lines, proof)
         if tests:

@@ -5,8 +5,8 @@ use fixtures::{Refusing, bytes_of, title};
 use std::alloc::{Allocator, Global};
 use std::test::Fail;
 use ups_dataset::{DataSet, TransferSyntax, read_set, write_set};
-use ups_events::{payload, type_id};
 use ups_life::{Entry, Event, EventKind, InputReadiness, Request, StepState, Transaction};
+use ups_reports::{payload, type_id};
 
 /// The greatest number of growths that a test refuses in turn.
 const GROWTHS: u64 = 100;

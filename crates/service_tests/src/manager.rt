@@ -3,7 +3,7 @@
 
 ghost use Rattle.std.specs.Prelude.{[], ◌∷◌};
 ghost use Rattle.ups_life.specs.Settings.{IsMoment};
-ghost use Rattle.ups_manager.specs.Law.{Calls};
+ghost use Rattle.ups_service.specs.Law.{Calls};
 
 use crate::steps::{a_step, step_uid, transaction};
 use fixtures::{described, put_item, put_text, tag_of, title};

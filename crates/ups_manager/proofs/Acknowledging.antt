@@ -21,7 +21,7 @@ use Rattle.ups_manager.specs.declared.rows.HeldStep.{HeldStep}
 use Rattle.ups_manager.specs.Deciding.{kind_of, entry_of, after_effect, IsDecided, IsRefused}
 use Rattle.ups_manager.specs.Held.{held_steps, IsSmallStep}
 use Rattle.ups_life.specs.declared.request.Ask.TheVariants.{Do}
-use Rattle.ups_manager.specs.Law.{is_granted, OrLacking, Answers, SmallReply, entry}
+use Rattle.ups_service.specs.Law.{is_granted, OrLacking, Answers, SmallReply, entry}
 use Rattle.ups_manager.proofs.Entering.{refuses, lacks}
 use Rattle.ups_manager.proofs.Holding.{ack_leaves}
 

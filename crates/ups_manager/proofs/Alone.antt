@@ -5,7 +5,7 @@ use Rattle.ups_life.specs.declared.entry.Entry.{Entry}
 use Rattle.ups_life.specs.declared.request.Ask.{Ask}
 use Rattle.ups_life.specs.declared.request.Reply.{Reply}
 use Rattle.ups_life.specs.Settings.{Settings}
-use Rattle.ups_manager.specs.Law.{nobody, is_legal, Answers, entered, Serves}
+use Rattle.ups_service.specs.Law.{nobody, is_legal, Answers, entered, Serves}
 
 pub serves_alone : {A : Type 0} (s : Settings) (caller : ℕ) (before after : List (Entry A)) (ae : List ℕ) (moment : ℕ) (ask : Ask A) (reply : Reply A) → is_legal s before → Answers s before caller ae moment ask reply
     → after ≡ before ++ entered caller ae moment ask reply → Serves s nobody caller before ae moment ask reply after

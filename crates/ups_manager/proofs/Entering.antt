@@ -30,15 +30,12 @@ use Rattle.ups_manager.specs.Held.{held_steps, step_at, row_in, row_of_step, hol
 use Rattle.ups_manager.specs.declared.submitting.SubmitFault.{SubmitFault}
 use Rattle.ups_manager.specs.declared.submitting.SubmitFault.TheVariants.{Refused, Memory}
 use Rattle.ups_manager.specs.Faults.{status_of, RowFails, StepFails, RoomFails}
-use Rattle.ups_manager.specs.Law.{is_granted, OrLacking, Answers, SmallReply, is_legal, entry, entered}
+use Rattle.ups_service.specs.Law.{is_granted, OrLacking, Answers, SmallReply, is_legal, entry, entered}
+use Rattle.ups_service.proofs.Legality.{no_room}
 use Rattle.ups_manager.proofs.Holding.{row_in-held_steps, row_of_step-held_steps, held_steps-after}
 use Rattle.ups_manager.proofs.Small.{small_after, small_put}
 
 -- A REPLY
-
--- the reply of want of room
-abbrev pub no_room : {A : Type 0} → Reply A
-no_room = Answered ResourceLimitation
 
 -- what is refused is so whether there is room or not
 pub refuses : {A : Type 0} (s : Settings) (history : List (Entry A)) (call : Call A) (x : Reply A) → decided s (past history) (entry_of call) call.request ≡ x → accepts x ≡ false → x ≡ reply s (past history) (entry_of call)

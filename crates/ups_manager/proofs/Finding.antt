@@ -18,7 +18,7 @@ use Rattle.ups_life.specs.Watching.{known}
 use Rattle.ups_life.specs.History.{got, shown, shown_of}
 use Rattle.ups_manager.specs.declared.rows.HeldStep.{HeldStep}
 use Rattle.ups_manager.specs.Held.{held_steps, slack, IsSmallStep, step_at}
-use Rattle.ups_manager.specs.Law.{IsSmall, SmallReply, is_granted}
+use Rattle.ups_service.specs.Law.{IsSmall, SmallReply, is_granted}
 use Rattle.ups_manager.proofs.Holding.{row_in-held_steps}
 use Rattle.ups_manager.proofs.Small.{small_at}
 

@@ -21,7 +21,7 @@ use Rattle.ups_life.proofs.HeldOnce.{is_held_used, held_once}
 use Rattle.ups_manager.specs.declared.deciding.Kind.TheVariants.{OfWatcher, OfEvents, OfTime}
 use Rattle.ups_manager.specs.declared.rows.HeldStep.{HeldStep}
 use Rattle.ups_manager.specs.Deciding.{kind_of}
-use Rattle.ups_manager.specs.Law.{entry}
+use Rattle.ups_service.specs.Law.{entry}
 use Rattle.ups_manager.specs.Held.{held_step, held_steps, step_at, row_in, row_of_step, holder_in, holder_of, put_step}
 
 -- a step is found exactly where it is held

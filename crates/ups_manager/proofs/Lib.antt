@@ -1,12 +1,10 @@
 mod Acknowledging
 pub mod Alone
-pub mod Calling
 mod Entering
 mod Finding
 mod Fitting
 pub mod Holding
 mod Known
-pub mod Legality
 mod Matches
 mod Offsets
 mod Outsiders

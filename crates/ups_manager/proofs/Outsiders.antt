@@ -19,7 +19,7 @@ use Rattle.ups_life.specs.Events.{only_if, as_it_is, told_of, reports_of, number
 use Rattle.ups_life.specs.History.{is_done, of_peer, legal}
 use Rattle.ups_life.proofs.Texts.{same_text}
 use Rattle.ups_life.proofs.Accepted.{differ, legal_head, legal_tail}
-use Rattle.ups_manager.specs.Law.{is_legal, entry}
+use Rattle.ups_service.specs.Law.{is_legal, entry}
 
 -- what is accepted for a watcher is for a peer
 for_peer : (peers : List Peer) (receiver : List ℕ) (x : Status) → is_done (of_peer peers (Some receiver) x) ≡ true → is_peer peers receiver ≡ true

@@ -24,7 +24,7 @@ use Rattle.ups_manager.specs.declared.deciding.Kind.TheVariants.{OfWatcher, OfTi
 use Rattle.ups_manager.specs.declared.rows.HeldStep.{HeldStep}
 use Rattle.ups_manager.specs.Deciding.{kind_of}
 use Rattle.ups_manager.specs.Held.{held_step, held_steps, row_of_step}
-use Rattle.ups_manager.specs.Law.{entry}
+use Rattle.ups_service.specs.Law.{entry}
 use Rattle.ups_manager.proofs.Holding.{row_of_step-held_steps, sweep_leaves}
 
 -- A REQUEST FOR A WATCHER

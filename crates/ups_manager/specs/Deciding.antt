@@ -18,7 +18,7 @@ use Rattle.ups_manager.specs.declared.deciding.Kind.{Kind}
 use Rattle.ups_manager.specs.declared.deciding.Kind.TheVariants.{OfStep, OfWatcher, OfEvents, OfTime}
 use Rattle.ups_manager.specs.declared.rows.HeldStep.{HeldStep}
 use Rattle.ups_manager.specs.Held.{held_steps, put_step, IsSmallStep}
-use Rattle.ups_manager.specs.Law.{Answers, SmallReply, entry}
+use Rattle.ups_service.specs.Law.{Answers, SmallReply, entry}
 
 -- what a request is of
 abbrev pub kind_of : {A : Type 0} → Request A → Kind

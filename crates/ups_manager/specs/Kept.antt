@@ -7,7 +7,7 @@ use Rattle.ups_life.specs.Steps.{past}
 use Rattle.ups_manager.specs.declared.manager.Manager.TheInside.{Inside}
 use Rattle.ups_manager.specs.declared.rows.HeldStep.{HeldStep}
 use Rattle.ups_manager.specs.Held.{held_steps, IsSmallStep}
-use Rattle.ups_manager.specs.Law.{is_legal}
+use Rattle.ups_service.specs.Law.{is_legal}
 
 -- the history is legal, of moments that have a date, and the steps are those that it holds
 pub record Stands {A : Type 0} (s : Settings) (history : List (Entry A)) (hs : List (HeldStep A)) : Type 0 where

@@ -19,7 +19,7 @@ pub struct Call<A: Allocator + Copy> {
 
 impl<A: Allocator + Copy> Call<A> {
     ghost use Rattle.std.specs.Prelude.{◌≡◌};
-    ghost use Rattle.ups_manager.specs.Law.{entry};
+    ghost use Rattle.ups_service.specs.Law.{entry};
 
     /// The call as it is entered in the history.
     pub(crate) fn into_entry(self) -> Entry<A>

@@ -15,7 +15,7 @@ ghost use Rattle.ups_manager.specs.declared.deciding.Kind.TheVariants.{OfStep, O
 ghost use Rattle.ups_manager.specs.Deciding.{kind_of, after_effect, IsDecided, IsRefused};
 ghost use Rattle.ups_manager.specs.Held.{row_of_step};
 ghost use Rattle.ups_manager.specs.Kept.{Stands};
-ghost use Rattle.ups_manager.specs.Law.{OrLacking};
+ghost use Rattle.ups_service.specs.Law.{OrLacking};
 
 use crate::call::Call;
 use crate::rows::{HeldStep, find, put, row_of};

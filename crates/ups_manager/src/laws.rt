@@ -1,41 +1,16 @@
-//! What services that share a manager build on: laws, each the contract of a function that does nothing.
+//! What a manager's history says of its watchers and its steps: laws, each the contract of a function that does nothing.
 
-ghost use Rattle.std.specs.Prelude.{◌≡◌, ◌≤◌, ◌++◌, ℕ, true, false, List, [], length, is_some};
-ghost use Rattle.std.specs.List.{AllByRecursion};
+ghost use Rattle.std.specs.Prelude.{◌≡◌, ℕ, true, false, List, [], is_some};
 ghost use Rattle.ups_life.specs.declared.entry.Entry.{Entry};
-ghost use Rattle.ups_life.specs.declared.request.Ask.{Ask};
-ghost use Rattle.ups_life.specs.declared.request.Reply.{Reply};
-ghost use Rattle.ups_life.specs.declared.request.Reply.TheVariants.{Status as Answered};
 ghost use Rattle.ups_life.specs.Settings.{Settings};
 ghost use Rattle.ups_life.specs.Steps.{past};
 ghost use Rattle.ups_life.specs.Watching.{is_peer, is_held, watched};
 ghost use Rattle.ups_life.specs.Events.{readiness, events};
-ghost use Rattle.ups_manager.specs.Law.{is_legal, entered, lacking};
+ghost use Rattle.ups_service.specs.Law.{is_legal};
 
 use std::alloc::Allocator;
 use ups_life::Entry;
 use ups_life::laws::a_row_tells_its_state;
-
-/// A legal history has no more entries than its limit.
-pub fn a_legal_history_is_within_its_limit<A: Allocator + Copy>()
-    ensures { (s : Settings) → (history : List (Entry A)) → is_legal s history → length history ≤ s.limit }
-{}
-
-/// What a legal history begins with is legal.
-pub fn a_beginning_of_a_legal_history_is_legal<A: Allocator + Copy>()
-    ensures { (s : Settings) → (first rest : List (Entry A)) → is_legal s (first ++ rest) → is_legal s first }
-{}
-
-/// What a call enters has the number of its caller.
-pub fn an_entry_has_the_number_of_its_caller<A: Allocator + Copy>()
-    ensures { (caller : ℕ) → (ae : List ℕ) → (moment : ℕ) → (ask : Ask A) → (reply : Reply A)
-        → AllByRecursion (λ e. e.caller ≡ caller) (entered caller ae moment ask reply) }
-{}
-
-/// Where memory ran out nothing is entered.
-pub fn want_of_memory_enters_nothing<A: Allocator + Copy>()
-    ensures { (caller : ℕ) → (ae : List ℕ) → (moment : ℕ) → (ask : Ask A) → entered caller ae moment ask (Answered (lacking ask)) ≡ [] }
-{}
 
 /// An application entity that is no peer watches no step, and no event was made for it (PS3.4 CC.2.3).
 pub fn who_is_no_peer_watches_nothing<A: Allocator + Copy>()

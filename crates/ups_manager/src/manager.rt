@@ -19,9 +19,9 @@ ghost use Rattle.ups_life.specs.Worklist.{rows, worklist};
 ghost use Rattle.ups_manager.specs.declared.fault.ManagerFault.TheVariants.{Memory};
 ghost use Rattle.ups_manager.specs.Finding.{IsFind};
 ghost use Rattle.ups_manager.specs.Held.{holder_of};
-ghost use Rattle.ups_manager.specs.Law.{OrLacking, Answers, SmallReply, entered, is_legal};
+ghost use Rattle.ups_service.specs.Law.{OrLacking, Answers, SmallReply, entered, is_legal};
 ghost use Rattle.ups_manager.specs.Refusal.{refusal};
-ghost use Rattle.ups_manager.specs.Reporting.{reports_to};
+ghost use Rattle.ups_service.specs.Reporting.{reports_to};
 
 use crate::call::Call;
 use crate::deciding::decide;

@@ -1,12 +1,12 @@
 //! What a watcher is told of its events.
 
 ghost use Rattle.std.specs.Prelude.{◌≡◌, map, IfOk};
-ghost use Rattle.ups_manager.specs.Reporting.{information_of, reported};
+ghost use Rattle.ups_service.specs.Reporting.{information_of, reported};
 
 use std::alloc::{AllocError, Allocator};
 use ups_dataset::DataSet;
-use ups_events::payload;
 use ups_life::{Entry, Event, EventReport, EventReports};
+use ups_reports::payload;
 
 /// What is told of an event, by the entry that made it.
 ///

@@ -6,7 +6,7 @@ use Rattle.std.specs.List.{flat_map}
 use Rattle.ups_pdu.specs.Padding.{without_padding}
 use Rattle.ups_dataset.specs.declared.tag.Tag.{Tag}
 use Rattle.ups_dataset.specs.Data.{Data, bytes, items, Items, no_items, item, Elements, no_elements, element, El, elements_of}
-use Rattle.ups_events.specs.Payloads.{type_id}
+use Rattle.ups_reports.specs.Payloads.{type_id}
 use Rattle.ups_life.specs.declared.event.Event.{Event}
 use Rattle.ups_life.specs.declared.event_reports.EventReport.{EventReport}
 use Rattle.ups_life.specs.declared.request.Reply.{Reply}

@@ -15,7 +15,7 @@ use Rattle.ups_life.specs.Settings.{Settings}
 use Rattle.ups_life.specs.Steps.{past}
 use Rattle.ups_life.specs.Watching.{held, watched}
 use Rattle.ups_manager.specs.Held.{holder_of}
-use Rattle.ups_manager.specs.Law.{nobody, Serves}
+use Rattle.ups_service.specs.Law.{nobody, Serves}
 use Rattle.ups_script.specs.declared.asking.Asked.{Asked}
 use Rattle.ups_script.specs.declared.asking.Question.{Question}
 use Rattle.ups_script.specs.declared.asking.Question.TheVariants as questions

@@ -10,8 +10,9 @@ use std::alloc::{AllocError, Allocator};
 use ups_dataset::{SetFault, TransferSyntax, read_set};
 use ups_dimse::Operation;
 use ups_life::{Ask, Reply, Request, Status, StepUid, Watched, read_request};
-use ups_manager::{Manager, Service};
+use ups_manager::Manager;
 use ups_pdu::{Ae, Uid};
+use ups_service::Service;
 
 /// What a question is told.
 #[derive(Drop)]

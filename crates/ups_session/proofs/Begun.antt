@@ -6,7 +6,7 @@ use Rattle.ups_pdu.specs.declared.pdu.Pdu.TheVariants.{AssociateRq}
 use Rattle.ups_assoc.specs.declared.negotiating.Config.{Config}
 use Rattle.ups_life.specs.Settings.{Settings}
 use Rattle.ups_life.specs.declared.entry.Entry.{Entry}
-use Rattle.ups_manager.specs.Law.{Others}
+use Rattle.ups_service.specs.Law.{Others}
 use Rattle.ups_session.specs.declared.fault.End.TheVariants.{Closed}
 use Rattle.ups_session.specs.declared.fault.SessionFault.{SessionFault}
 use Rattle.ups_session.specs.Delivery.{DeliveryView}

@@ -7,7 +7,7 @@ use Rattle.ups_assoc.specs.declared.negotiating.Config.{Config}
 use Rattle.ups_life.specs.Settings.{Settings}
 use Rattle.ups_life.specs.declared.entry.Entry.{Entry}
 use Rattle.ups_life.specs.declared.request.Reply.{Reply}
-use Rattle.ups_manager.specs.Law.{Others, Serves}
+use Rattle.ups_service.specs.Law.{Others, Serves}
 use Rattle.ups_session.specs.Association.{AssociationView}
 use Rattle.ups_session.specs.Dispatch.{AwaitedRequestView}
 use Rattle.ups_session.specs.declared.fault.SessionFault.{SessionFault}

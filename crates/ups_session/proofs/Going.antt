@@ -11,7 +11,7 @@ use Rattle.ups_pdu.specs.declared.pdu.Pdu.{Pdu}
 use Rattle.ups_session.specs.Tells.{Tells}
 use Rattle.ups_session.specs.Visits.{calls_of, moments_of, pdus_of, Sends}
 use Rattle.ups_session.specs.Fold.{Asked, Exchange, silence, joined_exchanges, Chain}
-use Rattle.ups_manager.specs.Law.{Others}
+use Rattle.ups_service.specs.Law.{Others}
 use Rattle.ups_session.specs.World.{World, ServesAll, IsDone, Performed}
 use Rattle.ups_session.proofs.Chains.{chain_on, chain_none}
 use Rattle.ups_session.proofs.Spoken.{prefix_after, prefix_of, prefix_trans, calls-append, moments-append, pdus-append, sends_on}

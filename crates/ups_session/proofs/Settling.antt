@@ -4,7 +4,7 @@ use Rattle.ups_pdu.specs.declared.pdu.Pdu.{Pdu}
 use Rattle.ups_life.specs.Settings.{Settings}
 use Rattle.ups_life.specs.declared.entry.Entry.{Entry}
 use Rattle.ups_life.specs.declared.request.Reply.{Reply}
-use Rattle.ups_manager.specs.Law.{Others, Serves}
+use Rattle.ups_service.specs.Law.{Others, Serves}
 use Rattle.ups_session.specs.declared.fault.SessionFault.{SessionFault}
 use Rattle.ups_session.specs.declared.gate.GateCall.TheVariants.{Moment}
 use Rattle.ups_session.specs.Fold.{Asked, Indication, Exchange, Reaction, Side, Happens, Settles}

@@ -10,7 +10,7 @@ use Rattle.ups_dimse.specs.declared.command.Operation.TheVariants as operations
 use Rattle.ups_dimse.specs.declared.command.RequestCommand.{RequestCommand}
 use Rattle.ups_dimse.specs.Written as commands
 use Rattle.ups_assoc.specs.Cutting.{pieces}
-use Rattle.ups_events.specs.Payloads.{type_id}
+use Rattle.ups_reports.specs.Payloads.{type_id}
 use Rattle.ups_life.specs.declared.event.Event.{Event}
 use Rattle.ups_life.specs.declared.event_reports.EventReport.{EventReport}
 use Rattle.ups_session.specs.declared.delivery.Route.{Route}

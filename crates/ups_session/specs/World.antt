@@ -4,7 +4,7 @@ use Rattle.std.specs.Io.KnownBytes.{Appends}
 use Rattle.ups_life.specs.Settings.{Settings}
 use Rattle.ups_life.specs.declared.entry.Entry.{Entry}
 use Rattle.ups_life.specs.declared.request.Reply.{Reply}
-use Rattle.ups_manager.specs.Law.{Others, Serves}
+use Rattle.ups_service.specs.Law.{Others, Serves}
 use Rattle.ups_session.specs.declared.fault.SessionFault.{SessionFault}
 use Rattle.ups_session.specs.Tells.{Told, Tells}
 use Rattle.ups_session.specs.WatchedIo.{Output}

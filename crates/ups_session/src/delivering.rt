@@ -6,7 +6,7 @@ ghost use Rattle.ups_ulstate.specs.declared.state.UlEvent.TheVariants.{Associate
 ghost use Rattle.ups_assoc.specs.declared.negotiating.Config.{Config};
 ghost use Rattle.ups_life.specs.Settings.{Settings};
 ghost use Rattle.ups_life.specs.declared.entry.Entry.{Entry};
-ghost use Rattle.ups_manager.specs.Law.{Others};
+ghost use Rattle.ups_service.specs.Law.{Others};
 ghost use Rattle.ups_session.specs.declared.delivery.DeliveryCall.TheVariants.{Pendings, Acknowledgement};
 ghost use Rattle.ups_session.specs.Fold.{event as happened, request as requested, confirmation as agreed, presentation_data as delivered, invalid as arrived, indications, Happens};
 ghost use Rattle.ups_session.specs.Requestor.{awaiting, requestor, unconnected, proposed};
@@ -28,8 +28,8 @@ use std::alloc::Allocator;
 use std::io::{Read, Write};
 use ups_assoc::Config;
 use ups_life::{Ask, Request};
-use ups_manager::Service;
 use ups_pdu::{Ae, AssociateAc, AssociateRq, Pdu, PduFault, Pdv};
+use ups_service::Service;
 use ups_ulstate::UlEvent;
 
 /// How many events are asked for at a time.

@@ -12,9 +12,9 @@ use crate::response::pieces;
 use std::alloc::{AllocError, Allocator};
 use ups_dataset::write_set;
 use ups_dimse::{Command, Operation, RequestCommand, write_command};
-use ups_events::type_id;
 use ups_life::{Event, EventReport};
 use ups_pdu::{Pdu, RegisteredUid};
+use ups_reports::type_id;
 
 /// Encodes the command set of a report.
 ///

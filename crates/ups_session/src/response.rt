@@ -10,7 +10,7 @@ ghost use Rattle.ups_life.specs.Statuses.{code};
 ghost use Rattle.ups_session.specs.declared.fault.SessionFault.TheVariants.{Memory};
 ghost use Rattle.ups_session.specs.Responses.{response_bytes, bare_response, set_response, response};
 ghost use Rattle.ups_life.specs.declared.status.Status.TheVariants.{Pending};
-ghost use Rattle.ups_manager.specs.Law.{SmallReply};
+ghost use Rattle.ups_service.specs.Law.{SmallReply};
 ghost use Rattle.ups_session.specs.Visits.{SendsPdus};
 
 use crate::fault::SessionFault;

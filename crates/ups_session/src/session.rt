@@ -23,8 +23,8 @@ use crate::watched_io::{WatchedReader, WatchedWriter};
 use std::alloc::Allocator;
 use std::io::{Read, Write};
 use ups_assoc::Config;
-use ups_manager::Service;
 use ups_pdu::{AssociateAc, AssociateRq, Pdu, PduFault, Pdv};
+use ups_service::Service;
 use ups_ulstate::UlEvent;
 
 /// Calls the service with what a request asks, and sends its reply.

@@ -10,8 +10,8 @@ use Rattle.atomic_table.specs.Table.{Allows, Splits, Joins, Step, keeps}
 use Rattle.atomic_table.proofs.Lists.{at_set, at_snoc}
 use Rattle.ups_life.specs.declared.entry.Entry.{Entry}
 use Rattle.ups_manager.specs.State.{State}
-use Rattle.ups_manager.specs.Law.{is_legal}
-use Rattle.ups_manager.proofs.Legality.{legal_within}
+use Rattle.ups_service.specs.Law.{is_legal}
+use Rattle.ups_service.proofs.Legality.{legal_within}
 use Rattle.ups_turn.specs.declared.view.Part.{Part}
 use Rattle.ups_turn.specs.declared.view.View.{View}
 use Rattle.ups_turn.specs.declared.view.Opening.{Opening}

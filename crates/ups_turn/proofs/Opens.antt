@@ -12,7 +12,7 @@ use Rattle.atomic_table.specs.Table.{opening}
 use Rattle.atomic_table.specs.Seated.{TableId}
 use Rattle.ups_life.specs.declared.entry.Entry.{Entry}
 use Rattle.ups_manager.specs.State.{State}
-use Rattle.ups_manager.specs.Law.{is_legal}
+use Rattle.ups_service.specs.Law.{is_legal}
 use Rattle.ups_turn.specs.declared.view.Part.{Part}
 use Rattle.ups_turn.specs.declared.view.View.{View}
 use Rattle.ups_turn.specs.declared.view.Opening.{Opening}

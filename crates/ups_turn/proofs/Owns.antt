@@ -7,8 +7,8 @@ use Rattle.std.proofs.lemmas.List.Elements.{All-head, All-tail, All-from_recursi
 use Rattle.ups_life.specs.declared.entry.Entry.{Entry}
 use Rattle.ups_life.specs.declared.request.Ask.{Ask}
 use Rattle.ups_life.specs.declared.request.Reply.{Reply}
-use Rattle.ups_manager.specs.Law.{entered}
-use Rattle.ups_manager.proofs.Legality.{entered_numbered, lacking_enters_nothing}
+use Rattle.ups_service.specs.Law.{entered}
+use Rattle.ups_service.proofs.Legality.{entered_numbered, lacking_enters_nothing}
 use Rattle.ups_turn.specs.Own.{own, AddsOwn, HasOwn}
 use Rattle.ups_turn.specs.Pass.{Standing, most_calls, part_of, IsServed, IsSpent, IsCall, Learns, EndsFor}
 use Rattle.ups_turn.specs.Rule.{Behind}

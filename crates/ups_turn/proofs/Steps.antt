@@ -13,8 +13,8 @@ use lib.ListN.{get_elem?}
 use Rattle.atomic_table.specs.Table.{State as Table, Allows, Step, Act, Valid, carried_after, keeps, takes, gives, stepped, put_back, rest}
 use Rattle.ups_life.specs.declared.entry.Entry.{Entry}
 use Rattle.ups_manager.specs.State.{State}
-use Rattle.ups_manager.specs.Law.{is_legal}
-use Rattle.ups_manager.proofs.Legality.{legal_within}
+use Rattle.ups_service.specs.Law.{is_legal}
+use Rattle.ups_service.proofs.Legality.{legal_within}
 use Rattle.ups_turn.specs.declared.view.Part.{Part}
 use Rattle.ups_turn.specs.declared.view.View.{View}
 use Rattle.ups_turn.specs.declared.view.Opening.{Opening}

@@ -10,8 +10,8 @@ use Rattle.ups_life.specs.declared.request.Ask.{Ask}
 use Rattle.ups_life.specs.declared.request.Reply.{Reply}
 use Rattle.ups_life.specs.Settings.{Settings}
 use Rattle.ups_manager.specs.State.{State}
-use Rattle.ups_manager.specs.Law.{callers, Serves as Law, Answers, entered, is_legal}
-use Rattle.ups_manager.proofs.Legality.{entered_numbered, lacking_enters_nothing}
+use Rattle.ups_service.specs.Law.{callers, Serves as Law, Answers, entered, is_legal}
+use Rattle.ups_service.proofs.Legality.{entered_numbered, lacking_enters_nothing}
 use Rattle.ups_turn.specs.Rule.{Behind, manager_state}
 use Rattle.ups_turn.specs.Plays.{Knows, with_ticket, at_turn, served, TakesTurn, Took, MayGive, MayDecide, MayServe, seeing, history_in}
 use Rattle.ups_turn.specs.Pass.{Standing, resting, most_calls, IsServed, IsSpent, IsCall}

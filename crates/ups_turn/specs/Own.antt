@@ -3,7 +3,7 @@ use Rattle.std.specs.Prelude.{◌≡◌, ℕ, ◌==◌, List, ◌++◌, filter}
 use Rattle.ups_life.specs.declared.entry.Entry.{Entry}
 use Rattle.ups_life.specs.declared.request.Ask.{Ask}
 use Rattle.ups_life.specs.declared.request.Reply.{Reply}
-use Rattle.ups_manager.specs.Law.{entered}
+use Rattle.ups_service.specs.Law.{entered}
 use Rattle.ups_turn.specs.Pass.{Standing}
 
 -- the requests of a history that have the caller's number, in order

@@ -7,7 +7,7 @@ use Rattle.ups_life.specs.declared.request.Reply.{Reply}
 use Rattle.ups_life.specs.declared.request.Reply.TheVariants.{Status as Answered}
 use Rattle.ups_life.specs.Settings.{Settings}
 use Rattle.ups_manager.specs.State.{State}
-use Rattle.ups_manager.specs.Law.{is_legal, Answers, entered, lacking}
+use Rattle.ups_service.specs.Law.{is_legal, Answers, entered, lacking}
 use Rattle.ups_turn.specs.declared.fault.OpenFault.{OpenFault}
 use Rattle.ups_turn.specs.declared.fault.OpenFault.TheVariants.{BadSeats, Memory}
 use Rattle.ups_turn.specs.declared.view.Part.{Part}

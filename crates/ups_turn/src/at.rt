@@ -2,7 +2,7 @@
 ghost use Rattle.std.specs.Prelude.{◌≡◌, ℕ, true, is_some};
 ghost use Rattle.std.specs.Option.{IfSome};
 ghost use Rattle.ups_life.specs.Settings.{IsMoment};
-ghost use Rattle.ups_manager.specs.Law.{Others, callers, Serves, SmallReply};
+ghost use Rattle.ups_service.specs.Law.{Others, callers, Serves, SmallReply};
 ghost use Rattle.ups_turn.specs.Pass.{IsCall};
 
 use crate::desk::Desk;
@@ -10,8 +10,8 @@ use crate::pass::Pass;
 use std::alloc::Allocator;
 use std::sync::Wait;
 use ups_life::{Ask, Reply};
-use ups_manager::Service;
 use ups_pdu::Ae;
+use ups_service::Service;
 
 /// A pass at its desk: the service that a session of this pass asks. Other passes enter requests between two of its
 /// calls. A pass that has made 2^40 calls refuses each later one: with 0213, or with A700 where it is a query.

@@ -2,7 +2,7 @@
 ghost use Rattle.std.specs.Prelude.{◌≡◌, ◌≢◌, ℕ, ◌≤◌, ◌<◌, [], ◌∷◌, All, length, map, true, false, Some, None, vec_capacity, IfOk, IfErr, OnOk};
 ghost use Rattle.ups_life.specs.Settings.{IsMoment};
 ghost use Rattle.ups_manager.specs.State.{State};
-ghost use Rattle.ups_manager.specs.Law.{SmallReply, is_legal};
+ghost use Rattle.ups_service.specs.Law.{SmallReply, is_legal};
 ghost use Rattle.ups_turn.specs.Pass.{IsCall, Learns, SamePass, IsShelf, EndsFor, HaveNumbers, are_seats, most_seats, open_fault, passes_from, part_of};
 ghost use Rattle.ups_turn.specs.Rule.{Behind, EnteredByPasses, opening_view};
 
@@ -123,7 +123,7 @@ fn deal_out<A: Allocator + Copy>(
 // What a pass that has made all its calls tells: the status of each kind of ask that says that there is no more to
 // be had (PS3.7 annex C, PS3.4 section C.4.1.1.4).
 fn lacking<A: Allocator + Copy>(ask: &Ask<A>) -> Status
-    ensures { result ≡ Rattle.ups_manager.specs.Law.lacking ask.now }
+    ensures { result ≡ Rattle.ups_service.specs.Law.lacking ask.now }
 {
     match ask {
         Ask::Find(_) => Status::OutOfResources,

@@ -19,7 +19,7 @@ pub struct Pass<A: Allocator + Copy> {
 
 impl<A: Allocator + Copy> Model for Pass<A> {
     ghost use Rattle.std.specs.Prelude.{◌≡◌, ◌≤◌, [], length};
-    ghost use Rattle.ups_manager.specs.Law.{is_legal};
+    ghost use Rattle.ups_service.specs.Law.{is_legal};
     ghost use Rattle.ups_turn.specs.Pass.{Standing, resting, seen_in, most_calls};
 
     ghost Value = { Standing A };

@@ -9,7 +9,7 @@ use Rattle.ups_session.specs.Fold.{Side, Happens}
 use Rattle.ups_session.specs.Session.{IsUnbegun, IsBroken, IsSession}
 use Rattle.ups_session.specs.Tells.{Told}
 use Rattle.ups_session.specs.WatchedIo.{Input, Output}
-use Rattle.ups_manager.specs.Law.{Others}
+use Rattle.ups_service.specs.Law.{Others}
 use Rattle.ups_session.specs.World.{World, world}
 use Rattle.ups_session.proofs.Going.{goes_short}
 

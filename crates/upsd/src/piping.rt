@@ -3,7 +3,7 @@
 ghost use Rattle.std.specs.Prelude.{◌≡◌, ◌≤◌, ℕ, List, [], length, None, false, true};
 ghost use Rattle.std.specs.Io.KnownBytes.{Consumes};
 ghost use Rattle.ups_life.specs.declared.entry.Entry.{Entry};
-ghost use Rattle.ups_manager.specs.Law.{nobody};
+ghost use Rattle.ups_service.specs.Law.{nobody};
 ghost use Rattle.ups_manager.specs.Refusal.{refusal};
 ghost use Rattle.ups_session.specs.Acceptor.{acceptor, opened};
 ghost use Rattle.ups_session.specs.Session.{IsSession};

@@ -140,7 +140,7 @@ fn told_over(
     };
     let mut reader = BufReader::new(rt.alloc(), Interrupted::new(slow, devices == "reads"))?;
     let mut writer = Interrupted::new(narrow, devices == "writes");
-    let ended = run_at(rt.alloc(), &mut reader, &mut writer, 0)?;
+    let ended = run(rt.alloc(), &mut reader, &mut writer, &[], 60, 0);
     let Narrow {
         output,
         flushes,
@@ -219,7 +219,7 @@ fn without_growth(rt: &impl AllocGlobal, script: &str, growth: u64) -> Result<St
     heap.refuse(growth);
     let mut reader = script.as_bytes();
     let mut output = Vec::new(rt.alloc());
-    let ended = run_at(&heap, &mut reader, &mut output, 0)?;
+    let ended = run(&heap, &mut reader, &mut output, &[], 60, 0);
     let told = text_of(rt, &Told { ended, output })?;
     let front = if heap.is_armed() { "all: " } else { "" };
     Ok(format!(in rt.alloc(); "{front}{told}")?)

@@ -221,7 +221,7 @@ fn fate_without<R: Abort + AllocGlobal>(
 fn each_refused_growth_is_memory_or_ends_the_reports(rt: HostRuntime) -> Result<(), Fail> {
     let input = said(&rt, TAKEN)?;
     let expected = course_of(&rt, TWO, &input)?;
-    for growth in 1..500 {
+    for growth in 1..5000 {
         if fate_without(&rt, &input, expected.as_str(), growth)? == "all" {
             return Ok(());
         }

@@ -193,11 +193,10 @@ const HISTORIES: u32 = 200;
 /// What is counted: requests that are accepted, by their kinds, and then what is compared.
 const COUNTED: usize = 19;
 
-/// How histories are made, how often what is told is compared, and how many there is of what is counted at least.
+/// How histories are made, and how many there are at least of what is counted.
 struct Kind {
     words: &'static str,
     calls: u32,
-    every: usize,
     least: [(&'static str, u64); COUNTED],
 }
 
@@ -213,7 +212,6 @@ struct Kind {
 const ANY: Kind = Kind {
     words: WORDS,
     calls: 100,
-    every: 20,
     least: [
         ("creations", 440),
         ("claims", 160),
@@ -247,7 +245,6 @@ const ANY: Kind = Kind {
 const FILTERED: Kind = Kind {
     words: FILTERING,
     calls: 40,
-    every: 10,
     least: [
         ("creations", 250),
         ("claims", 60),
@@ -448,32 +445,27 @@ fn watched_by_both(
     Ok(watched.len())
 }
 
-/// Returns how many steps more a peer watches after entries than after the earlier ones of them.
-fn gained(
-    rt: &impl AllocGlobal,
-    manager: &Manager<Global>,
-    earlier: &[Entry<Global>],
-    ae: Ae,
-) -> Result<usize, Fail> {
-    let settings = settings_of(rt.alloc(), manager)?;
-    let before = plain_watches(rt.alloc(), &settings, earlier, ae)?.len();
-    let after = plain_watches(rt.alloc(), &settings, manager.history(), ae)?.len();
-    Ok(after.checked_sub(before).ok_or("a subscription ended")?)
+/// Returns how many subscriptions to steps the peers W1 and W2 have.
+fn subscriptions(manager: &Manager<Global>) -> Result<usize, Fail> {
+    let mut count = 0_usize;
+    for name in ["W1", "W2"] {
+        let watched = manager.watches(title(name)?)?;
+        count = count.saturating_add(watched.len());
+    }
+    Ok(count)
 }
 
-/// Returns how many subscriptions the last entry begins, where it is an N-SET, which ends none.
-fn begun_by_a_set(rt: &impl AllocGlobal, manager: &Manager<Global>) -> Result<usize, Fail> {
-    let Some((last, earlier)) = manager.history().split_last() else {
+/// Returns how many subscriptions the last entry has begun, where it is an N-SET, which ends none; before it there were
+/// so many.
+fn begun_by_a_set(manager: &Manager<Global>, before: usize) -> Result<usize, Fail> {
+    let Some(entry) = manager.history().last() else {
         return Ok(0);
     };
-    if !matches!(last.request, Request::Set { .. }) {
+    if !matches!(entry.request, Request::Set { .. }) {
         return Ok(0);
     }
-    let mut begun = 0_usize;
-    for name in ["W1", "W2"] {
-        begun = begun.saturating_add(gained(rt, manager, earlier, title(name)?)?);
-    }
-    Ok(begun)
+    let after = subscriptions(manager)?;
+    Ok(after.checked_sub(before).ok_or("a subscription ended")?)
 }
 
 fn is_same_event(one: &Event, other: &Event) -> bool {
@@ -541,12 +533,13 @@ fn compare_watchers(
     Ok(())
 }
 
-/// Compares all that is told.
+/// Compares all that is told after an entry, before which W1 and W2 had so many subscriptions.
 fn compare_all(
     rt: &impl AllocGlobal,
     chance: &mut Chance,
     counts: &mut [u64; COUNTED],
     manager: &Manager<Global>,
+    before: usize,
 ) -> Result<(), Fail> {
     add(counts, 14, held_by_both(rt, manager)?);
     add(
@@ -557,11 +550,11 @@ fn compare_all(
     compare_watchers(rt, counts, manager)?;
     let ae = title(chance.any("TITLE")?)?;
     add(counts, 17, pending_by_both(rt, manager, ae)?);
-    add(counts, 18, begun_by_a_set(rt, manager)?);
+    add(counts, 18, begun_by_a_set(manager, before)?);
     Ok(())
 }
 
-/// Makes a history, and compares what is told behind every so many entries.
+/// Makes a history, and compares what is told after each tenth entry.
 fn compare_history(
     rt: &impl AllocGlobal,
     kind: &Kind,
@@ -570,8 +563,9 @@ fn compare_history(
     manager: &mut Manager<Global>,
 ) -> Result<(), Fail> {
     for _ in 0..kind.calls {
-        if is_entered(rt, chance, manager)? && manager.history().len() % kind.every == 0 {
-            compare_all(rt, chance, counts, manager)?;
+        let before = subscriptions(manager)?;
+        if is_entered(rt, chance, manager)? && manager.history().len() % 10 == 0 {
+            compare_all(rt, chance, counts, manager, before)?;
         }
     }
     count_entries(counts, manager.history());

@@ -1,5 +1,5 @@
 use Rattle.std.proofs.Common.{◌≡◌, map, take}
-use Rattle.ups_manager.specs.Reporting.{reported}
+use Rattle.ups_service.specs.Reporting.{reported}
 use Rattle.ups_manager.proofs.reporting.reports_of.Given as goal
 
 abbrev pub invariant-loop-event : goal.invariant-loop-event

@@ -4,7 +4,7 @@ use Rattle.std.proofs.KnownBytes.{Consumes-nil}
 use Rattle.ups_session.specs.declared.watched_io.LastRead.TheVariants.{Gave}
 use Rattle.ups_session.specs.Acceptor.{acceptor, opened}
 use Rattle.ups_session.specs.WatchedIo.{Input}
-use Rattle.ups_manager.specs.Law.{nobody}
+use Rattle.ups_service.specs.Law.{nobody}
 use Rattle.ups_session.specs.World.{world}
 use Rattle.upsd.specs.Hexing.{bytes_left}
 use Rattle.upsd.specs.Piping.{config, epoch, settings, unwritten}

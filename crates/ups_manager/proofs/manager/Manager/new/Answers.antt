@@ -7,7 +7,7 @@ use Rattle.ups_life.specs.Settings.{Settings, IsOffset}
 use Rattle.ups_life.specs.Steps.{past}
 use Rattle.ups_manager.specs.declared.rows.HeldStep.{HeldStep}
 use Rattle.ups_manager.specs.Held.{held_steps, IsSmallStep}
-use Rattle.ups_manager.specs.Law.{is_legal}
+use Rattle.ups_service.specs.Law.{is_legal}
 use Rattle.ups_manager.specs.Refusal.{refusal}
 use Rattle.ups_manager.proofs.Entering.{HaveDates, no_moments}
 use Rattle.ups_manager.proofs.Offsets.{good_offset}

@@ -3,7 +3,7 @@ use Rattle.ups_life.specs.declared.entry.Entry.{Entry}
 use Rattle.ups_life.specs.declared.request.Reply.TheVariants.{Reports}
 use Rattle.ups_life.specs.Steps.{past}
 use Rattle.ups_life.specs.Events.{pending}
-use Rattle.ups_manager.specs.Reporting.{reported}
+use Rattle.ups_service.specs.Reporting.{reported}
 use Rattle.ups_manager.proofs.manager.Manager.pending.Goals as goal
 
 pub returns-in-Ok-reports_of-clause-answer : goal.returns-in-Ok-reports_of-clause-answer

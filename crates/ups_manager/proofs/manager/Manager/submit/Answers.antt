@@ -10,7 +10,7 @@ use Rattle.ups_manager.specs.Deciding.{entry_of, after_effect, IsDecided}
 use Rattle.ups_manager.specs.Faults.{status_of}
 use Rattle.ups_manager.specs.Held.{held_steps, IsSmallStep}
 use Rattle.ups_manager.specs.Kept.{Stands}
-use Rattle.ups_manager.specs.Law.{Answers, entry}
+use Rattle.ups_service.specs.Law.{Answers, entry}
 use Rattle.ups_manager.specs.State.{State}
 use Rattle.ups_life.specs.declared.request.Ask.TheVariants.{Do}
 use Rattle.ups_manager.proofs.Entering.{of_slices, answers_full, none_entered, one_entered, room_not_done, small_done, succeeds, legal_after, HaveDates, moments_after}

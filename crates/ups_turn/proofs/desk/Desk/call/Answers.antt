@@ -1,7 +1,7 @@
 use Rattle.std.proofs.Common.{◌≡◌, ◌∙◌, ◌+◌, length, true, nat_lt, refl, ap, arith}
 use Rattle.std.proofs.lemmas.Bool.Decides.{nat_tests}
 use Rattle.std.proofs.lemmas.List.{length-append}
-use Rattle.ups_manager.specs.Law.{entered}
+use Rattle.ups_service.specs.Law.{entered}
 use Rattle.ups_turn.specs.Pass.{most_calls}
 use Rattle.ups_turn.proofs.Turns.{may_give, rests_again, legal_again, answered}
 use Rattle.ups_turn.proofs.desk.Desk.call.Goals as goal

@@ -1,6 +1,6 @@
 use Rattle.std.proofs.Common.{◌∙◌, ◌<◌, ◌≤◌, ◌^◌, [], ◌∷◌, ◌++◌, length, ap, sym, subst, arith, Some}
 use Rattle.ups_manager.specs.State.{State}
-use Rattle.ups_manager.specs.Law.{is_legal}
+use Rattle.ups_service.specs.Law.{is_legal}
 use Rattle.ups_turn.proofs.Opens.{begins}
 use Rattle.ups_turn.proofs.desk.Desk.with_seats.Goals as goal
 

@@ -1,5 +1,0 @@
-use Rattle.ups_manager.proofs.Legality.{legal_within}
-use Rattle.ups_manager.proofs.laws.a_legal_history_is_within_its_limit.Goals as goal
-
-pub returns : goal.returns
-returns g c = legal_within

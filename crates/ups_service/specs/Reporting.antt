@@ -1,0 +1,23 @@
+-- What a watcher is told of the events that it has not acknowledged (PS3.4 CC.2.4). Histories stand here as they are
+-- shown, oldest first.
+use Rattle.std.specs.Prelude.{ℕ, List, [], map, take, slice_get}
+use Rattle.std.specs.Option.{option_map, unwrap_or}
+use Rattle.ups_dataset.specs.Data.{El}
+use Rattle.ups_reports.specs.Payloads.{payload}
+use Rattle.ups_life.specs.declared.entry.Entry.{Entry}
+use Rattle.ups_life.specs.declared.event.Event.{Event}
+use Rattle.ups_life.specs.declared.event_reports.EventReport.{EventReport}
+use Rattle.ups_life.specs.Settings.{Settings}
+use Rattle.ups_life.specs.Steps.{past}
+use Rattle.ups_life.specs.Events.{pending}
+
+-- the Event Information of an event, by the entry that made it
+abbrev pub information_of : {A : Type 0} → List (Entry A) → Event → List El
+information_of history x = unwrap_or (option_map (payload x) (slice_get history x.entry)) []
+
+abbrev pub reported : {A : Type 0} → List (Entry A) → Event → EventReport A
+reported history x = record { event = x; information = information_of history x }
+
+-- at most so many of those that w has not acknowledged, oldest first
+abbrev pub reports_to : {A : Type 0} → Settings → List (Entry A) → ℕ → List ℕ → List (EventReport A)
+reports_to settings history max w = map (reported history) (take max (pending settings (past history) w))

@@ -1,0 +1,44 @@
+//! What answers a session.
+
+use std::alloc::Allocator;
+use ups_life::{Ask, Reply};
+use ups_pdu::Ae;
+
+/// What answers a session: a manager, or a pass to one that others share. It has what was fixed at the start,
+/// the number of the caller that it stands for, and the history that it has seen.
+pub trait Service<A: Allocator + Copy> {
+    ghost use Rattle.std.specs.Prelude.{◌≡◌, ℕ, List, true, is_some};
+    ghost use Rattle.std.specs.Option.{IfSome};
+    ghost use Rattle.ups_life.specs.declared.entry.Entry.{Entry};
+    ghost use Rattle.ups_life.specs.Settings.{Settings, IsMoment};
+    ghost use Rattle.ups_service.specs.Law.{Others, Serves, SmallReply};
+
+    ghost settings: { Self → Settings };
+
+    /// Who else enters requests between two calls.
+    ghost others: { Self → Others };
+
+    ghost caller: { Self → ℕ };
+
+    ghost seen: { Self → List (Entry A) };
+
+    /// Takes an ask from its place and answers it, as `call` does. The ask is not passed by value, since the
+    /// toolchain proves no impl yet whose method takes a value that is generic in its allocator.
+    fn answer(&mut self, ae: Ae, moment: u64, ask: &mut Option<Ask<A>>) -> Reply<A>
+        requires given { is_some ask.old ≡ true }
+        requires moment { IsMoment moment }
+        ensures same { (settings self.new ≡ settings self.old) × (others self.new ≡ others self.old) × (caller self.new ≡ caller self.old) }
+        ensures serves { IfSome ask.old (λ asked. Serves (settings self.old) (others self.old) (caller self.old) (seen self.old) ae moment asked result (seen self.new)) }
+        ensures small { SmallReply result };
+
+    /// Answers what an application entity asks, and enters it where it is a request that is accepted. `moment`
+    /// is in seconds since 1970-01-01 UTC.
+    final fn call(&mut self, ae: Ae, moment: u64, ask: Ask<A>) -> Reply<A>
+        requires moment { IsMoment moment }
+        ensures same { (settings self.new ≡ settings self.old) × (others self.new ≡ others self.old) × (caller self.new ≡ caller self.old) }
+        ensures serves { Serves (settings self.old) (others self.old) (caller self.old) (seen self.old) ae moment ask result (seen self.new) }
+        ensures small { SmallReply result }
+    {
+        self.answer(ae, moment, &mut Some(ask))
+    }
+}
