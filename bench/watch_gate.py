@@ -66,7 +66,8 @@ class Check:
     def __init__(self, words, folder, start, seconds):
         self.crate = words[words.index("--crate-name") + 1]
         self.folder, self.start, self.seconds = folder, int(start), seconds
-        self.is_proof, self.is_tests = words[1] == "build", "--test" in words
+        # edits, and what they are tried over, are checked in folders of their own
+        self.is_edit, self.is_tests = os.path.basename(folder).startswith("rt-edit-"), "--test" in words
 
 
 def checks_of(seen):
@@ -83,9 +84,9 @@ class Costs:
     """What a crate took, in processor seconds: its proof, its tests, and what its edits are tried over (the seed)."""
 
     def __init__(self, checks):
-        self.proof = sum(it.seconds for it in checks if it.is_proof and not it.is_tests)
-        self.tests = sum(it.seconds for it in checks if it.is_proof and it.is_tests)
-        tried = [it for it in checks if not it.is_proof]
+        self.proof = sum(it.seconds for it in checks if not it.is_edit and not it.is_tests)
+        self.tests = sum(it.seconds for it in checks if not it.is_edit and it.is_tests)
+        tried = [it for it in checks if it.is_edit]
         over = [it for it in tried if it.folder == tried[0].folder]
         self.seed = over[0].seconds if over else 0
         # the seed is looked at again when all edits were tried, with nothing to prove
