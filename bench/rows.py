@@ -1,8 +1,8 @@
 #!/usr/bin/env python3
-"""Runs the scripts of rows over the built program, and lists each whose replies differ.
+"""Runs the scripts of rows and the examples over the built program, and lists each whose replies differ.
 
-    bench/rows.py rows/*.rows                  runs them over crates/upsd/out/upsd, which rt ci proves and builds
-    bench/rows.py --self-test rows/*.rows      spoils one reply of each script, and sees that this is found
+    bench/rows.py rows/*.rows examples              runs them over crates/upsd/out/upsd, which rt ci proves and builds
+    bench/rows.py --self-test rows/*.rows examples  spoils one reply of each script, and sees that this is found
 
 A file of rows has sections. The first line of a section is `# ` and a heading. Each other line is a line of a script, ` -> `
 and its reply; or a line without a reply; or `! ` and what the program says on standard error where the script ends early.
@@ -11,7 +11,10 @@ and its reply; or a line without a reply; or `! ` and what the program says on s
 In a line U1 to U3 stand for three steps, B for the attributes of a new one, IP for the state in progress, `=x*N` for a value
 of N letters x, and `\\r` for a carriage return.
 
-The last line is `N passed, M failed`, by sections. The status is 1 where one failed.
+A folder has examples: a script in NAME, the words of the command line in NAME.args, a line each, and what the program
+writes in NAME.stdout.
+
+The last line is `N passed, M failed`, by sections and examples. The status is 1 where one failed.
 """
 
 import argparse
@@ -73,13 +76,29 @@ class Section:
 
 def sections_of(file):
     """The sections of a file, which begins with one."""
-    with open(file, encoding="utf-8", newline="\n") as text:
-        before, *parts = re.split(r"(?m)^# ", text.read())
+    before, *parts = re.split(r"(?m)^# ", content(file))
     if before or not parts:
         sys.exit(f"{file}: no section at its beginning")
     for part in parts:
         heading, _, rows = part.partition("\n")
         yield Section(heading, rows.removesuffix("\n").split("\n") if rows else [])
+
+
+def examples_of(folder):
+    """The examples of a folder."""
+    for name in sorted(os.listdir(folder)):
+        if name.endswith(".args"):
+            path = f"{folder}/{name.removesuffix('.args')}"
+            section = Section(path, [])
+            section.words = content(f"{path}.args").splitlines()
+            section.script, section.replies = content(path), content(f"{path}.stdout")
+            yield section
+
+
+def content(file):
+    """The text of a file."""
+    with open(file, encoding="utf-8", newline="\n") as text:
+        return text.read()
 
 
 def difference(program, section):
@@ -103,14 +122,14 @@ def difference(program, section):
 def main():
     about, _, more = __doc__.partition("\n\n")
     asked = argparse.ArgumentParser(description=about, epilog=more, formatter_class=argparse.RawDescriptionHelpFormatter)
-    asked.add_argument("files", nargs="+", metavar="FILE", help="a file of rows")
+    asked.add_argument("files", nargs="+", metavar="FILE", help="a file of rows, or a folder of examples")
     asked.add_argument("--program", default="crates/upsd/out/upsd", help="the program (default: %(default)s)")
     asked.add_argument("--self-test", action="store_true", help="spoil a reply of each section: it has to fail")
     given = asked.parse_args()
     program = os.path.abspath(given.program)
     passed, failed = 0, 0
     for file in given.files:
-        for section in sections_of(file):
+        for section in examples_of(file) if os.path.isdir(file) else sections_of(file):
             if given.self_test:
                 why = None if difference(program, section.spoiled()) else "a wrong reply is not found"
             else:
