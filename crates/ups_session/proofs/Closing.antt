@@ -8,13 +8,12 @@ use Rattle.ups_assoc.specs.declared.negotiating.Config.{Config}
 use Rattle.ups_life.specs.declared.request.Reply.{Reply}
 use Rattle.ups_pdu.specs.declared.pdu.Pdu.{Pdu}
 use Rattle.ups_session.specs.Association.{AssociationView}
-use Rattle.ups_session.specs.Fold.{Indication, event, Asked, Reaction, Side, Arrival, pdu, bad, closed, brings, Exchange, Chain, Happens, Settles, IsOpen}
+use Rattle.ups_session.specs.Fold.{Asked, Reaction, Side, Settles, IsOpen}
+use Rattle.ups_session.specs.Party.{IsOver}
 use Rattle.ups_session.specs.Acceptor.{acceptor}
 use Rattle.ups_session.specs.Sides.{ReactionOf, unexpected, on_event}
 use Rattle.ups_session.specs.Delivery.{DeliveryView}
 use Rattle.ups_session.specs.Requestor.{DeliveryReaction, requestor}
-use Rattle.ups_session.specs.Session.{NoEnd, okay}
-use Rattle.ups_session.specs.World.{World, Performed}
 
 closing : {A : Type 0} (requestor : Bool) (association : AssociationView A) (s : UlState) → association.state ≡ s → IsOpen (on_event requestor unexpected association TransportClosed (next_of requestor true TransportClosed s)).association.state → ⊥
 closing requestor association Sta1 is open_ = open_.connected is
@@ -54,10 +53,6 @@ settled side reaction (reply ∷ replies) said asks after silent (waiting, next,
     clash : Some waiting ≡ None → ⊥
     clash e = cc
 
--- once the transport connection is closed, a side is no longer open
-abbrev pub IsOver : {A L W : Type 0} → Side A L W → Type 0
-IsOver {A} {L} side = (association after : L) (exchange : Exchange A) → Happens side association (event TransportClosed) exchange after → IsOpen (side.state after) → ⊥
-
 pub acceptor_over : {A : Type 0} (config : Config) → IsOver (acceptor {A = A} config)
 acceptor_over {A} config association after exchange (reaction, reacts, settles) open_ =
     let silent = ap (λ (t : ReactionOf A). t.waiting) reacts ∙ asks_nothing false association association.state in
@@ -69,12 +64,3 @@ requestor_over {A} config ae d after exchange (reaction, reacts, settles) open_ 
     let silent : reaction.waiting ≡ None = ap (λ (t : DeliveryReaction A). t.waiting) reacts in
     let same = settled (requestor config ae) reaction exchange.replies exchange.said exchange.asks after silent settles ∙ ap (λ (t : DeliveryReaction A). t.association) reacts in
     closing true d.association d.association.state refl (subst (λ (l : DeliveryView A). IsOpen l.association.state) same open_)
-
--- what leaves the association open is not the end of the input
-pub no_end_here : {A L W : Type 0} (side : Side A L W) → IsOver side → (a : Arrival A) (association after : L) (u v : World A) → Performed (Happens side) (brings a) association after u v okay → IsOpen (side.state after) → NoEnd (a ∷ [])
-no_end_here side over (pdu p) association after u v g open_ = tt
-no_end_here side over (bad f) association after u v g open_ = tt
-no_end_here {A} {L} side over closed association after u v g open_ =
-    let ran : Chain (Happens side) (event TransportClosed ∷ []) association g.exchange g.end = subst (λ (hs : List (Indication A)). Chain (Happens side) hs association g.exchange g.end) g.did.1 g.ran in
-    let (mid, first, then, step, (silent, same), is) = ran in
-    over association mid first step (subst (λ (l : L). IsOpen (side.state l)) (sym g.did.0 ∙ same) open_)

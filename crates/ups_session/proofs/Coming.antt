@@ -62,9 +62,6 @@ taken_whole {A} {L} side a association after u v open_ g =
 pub came_begun : {A L W : Type 0} (side : Side A L W) (start begun : L) (u v : World A) → Performed (Happens side) side.first start begun u v okay → Progress side start begun [] [] [] u v
 came_begun side start begun u v begins = record { whole = []; parts = refl; spells = refl; begun = begun; between = v; begins = begins; performed = goes_nowhere (Processes side) begun v tt }
 
-pub came_first : {A L W : Type 0} (side : Side A L W) (start : L) (u : World A) → Performed (Happens side) side.first start start u u okay → Progress side start start [] [] [] u u
-came_first side start u begins = came_begun side start start u u begins
-
 pub came_on : {A L W : Type 0} (side : Side A L W) (start mid after : L) (input more : List ℕ) (arrivals : List (Arrival A)) (a : Arrival A) (u v w : World A)
     → Progress side start mid input [] arrivals u v → IsOpen (side.state mid) → Spells more a → Performed (Happens side) (brings a) mid after v w okay → Progress side start after (input ++ more) [] (arrivals ++ a ∷ []) u w
 came_on side start mid after input more arrivals a u v w c open_ s g =
@@ -153,6 +150,12 @@ turned_part side association after now input a u v Turns s end g = absurd (no_tu
     no_turns : FallsShort Turns v.output.failed (pdu_bytes (pdus_of g.visits)) g.sent → ⊥
     no_turns (inl (e, really, part)) = cc
     no_turns (inr (e, part)) = cc
+
+-- something came, and what it brings happened, or a beginning of it
+pub turned : {A L W : Type 0} (side : Side A L W) (association after : L) (now : Input) (input : List ℕ) (a : Arrival A) (u v : World A) (r : Result (Unit {0}) SessionFault) → Spells input a → AtEnd now (a ∷ []) → Performed (Happens side) (brings a) association after u v r
+    → IsTurn side association after now input u v r
+turned side association after now input a u v (Ok done) s end g = (a, s, end, g)
+turned side association after now input a u v (Err fault) s end g = turned_part side association after now input a u v fault s end g
 
 pub got_pdu : (A : Type 0) (now : Input) (input : List ℕ) (x : PduRead A) (p : Pdu A) → x ≡ reads.Pdu p → reading.IsRead now input (got A x) → SpellsPdu input p
 got_pdu A now input x p is t = subst (λ (y : PduRead A). reading.IsRead now input (got A y)) is t

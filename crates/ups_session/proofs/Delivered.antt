@@ -2,12 +2,11 @@
 use Rattle.std.proofs.Common.{◌≡◌, true, false, cond, Bool, List, [], ◌∷◌, length, ap, sym, ◌∙◌, subst, refl, inr, Option, Some, None}
 use Rattle.std.specs.Prelude.{ℕ, ◌≢◌, ◌==◌}
 use Rattle.ups_ulstate.specs.declared.state.UlState.{UlState}
-use Rattle.ups_ulstate.specs.Table.{next_of}
-use Rattle.ups_ulstate.specs.declared.state.UlEvent.{UlEvent}
 use Rattle.ups_ulstate.specs.declared.state.UlEvent.TheVariants as events
 use Rattle.ups_ulstate.specs.declared.state.UlAction.{UlAction}
 use Rattle.ups_ulstate.specs.declared.state.UlAction.TheVariants.{Ae3, Ar6, Dt2}
 use Rattle.ups_pdu.specs.declared.associate.AssociateAc.{AssociateAc}
+use Rattle.ups_pdu.specs.declared.pdu.Pdu.{Pdu}
 use Rattle.ups_pdu.specs.declared.pdv.Pdv.{Pdv}
 use Rattle.ups_dimse.specs.declared.command.Command.{Command}
 use Rattle.ups_dimse.specs.declared.fault.DimseFault.{DimseFault}
@@ -19,7 +18,6 @@ use Rattle.ups_assoc.specs.declared.fault.AssocFault.{AssocFault}
 use Rattle.ups_assoc.specs.declared.fault.AssocFault.TheVariants as faults
 use Rattle.ups_assoc.specs.declared.message.RawMessage.{RawMessage}
 use Rattle.ups_assoc.specs.Feeding.{Fed, more, whole, fault, Feeds}
-use Rattle.ups_assoc.specs.declared.negotiating.Config.{Config}
 use Rattle.ups_life.specs.declared.event_reports.EventReport.{EventReport}
 use Rattle.ups_life.specs.declared.request.Reply.{Reply}
 use Rattle.ups_life.specs.declared.request.Reply.TheVariants.{Status as Told, Reports}
@@ -29,10 +27,9 @@ use Rattle.ups_session.specs.declared.delivery.DeliveryCall.{DeliveryCall}
 use Rattle.ups_session.specs.declared.delivery.DeliveryCall.TheVariants.{Pendings}
 use Rattle.ups_session.specs.Association.{AssociationView, EstablishedView}
 use Rattle.ups_session.specs.Delivery.{DeliveryView}
-use Rattle.ups_session.specs.Sides.{transition, on_action, on_event, unexpected, aborting, with_begun}
-use Rattle.ups_session.specs.Requestor.{DeliveryReaction, with_association, along, releasing, reporting, reporting_next, most_messages, proceeding, with_ahead, on_pendings, on_acknowledged, Understands, Assembles, OnFragment, on_answer, Delivers}
+use Rattle.ups_session.specs.Sides.{transition, on_action, unexpected, aborting}
+use Rattle.ups_session.specs.Requestor.{DeliveryReaction, saying, with_association, along, releasing, reporting, reporting_next, most_messages, proceeding, with_ahead, on_pendings, on_acknowledged, Understands, Assembles, OnFragment, on_answer}
 use Rattle.ups_session.specs.Reports.{route_of}
-use Rattle.ups_session.specs.Fold.{event}
 use Rattle.ups_session.proofs.Receiving.{after, after_is, fed_on, fed_not}
 
 -- a message whose command can't be read
@@ -43,6 +40,13 @@ not_understood d released message bytes why reaction is only other e = inr ((λ 
 -- with another assembler
 abbrev pub assembling : {A : Type 0} → DeliveryView A → EstablishedView A → Assembly A → DeliveryView A
 assembling d established assembly = with_association d (after d.association established assembly)
+
+-- a message goes on
+pub more_came : {A : Type 0} (d : DeliveryView A) (established : EstablishedView A) (released : Bool) (f : Fed A) (new : Assembly A) (said : List (Pdu A)) → new.ids ≡ established.assembler.ids → Feeds f new.begun (fed_on None) → said ≡ []
+    → Assembles d established released f (saying (assembling d established new) said)
+more_came d established released (more b) new said e is none = λ i. saying (with_association d (after_is d.association established new b e is i)) (none i)
+more_came d established released (whole m) new said e is none = absurd is
+more_came d established released (fault why) new said e is none = absurd is
 
 came : {A : Type 0} (d : DeliveryView A) (established : EstablishedView A) (released : Bool) (f : Fed A) (new : Assembly A) (message : RawMessage A) (reaction : DeliveryReaction A) → new.ids ≡ established.assembler.ids
     → Feeds f new.begun (fed_on (Some message)) → Understands (assembling d established new) released message reaction → Assembles d established released f reaction
@@ -137,9 +141,3 @@ pub events_told : {A : Type 0} (d : DeliveryView A) (reply : Reply A) (reports i
     → reaction ≡ proceeding (with_ahead d reports) → reaction ≡ on_pendings d reply
 events_told {A} d reply reports items b reaction is same test no_test e =
     e ∙ told_of d reports (λ none. apart (sym no_test ∙ test ∙ ap (λ (l : List (EventReport A)). length l == 0) (same ∙ none))) ∙ ap (on_pendings d) (sym is)
-
--- an event that is not the transport connection's confirmation
-pub plain_event : {A : Type 0} (config : Config) (ae : List ℕ) (d : DeliveryView A) (e : UlEvent) (reaction : DeliveryReaction A) → e ≢ events.TransportConfirmed
-    → reaction ≡ along d (on_event true unexpected d.association e (next_of true true e d.association.state)) → Delivers config ae d (event e) reaction
-plain_event config ae d events.TransportConfirmed reaction other is = absurd (other refl)
-plain_event config ae d e reaction other is = is

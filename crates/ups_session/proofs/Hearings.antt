@@ -11,12 +11,13 @@ use Rattle.ups_dimse.specs.Faults.{FirstFails, IsCommandFault}
 use Rattle.ups_dimse.specs.Commands.{SpellsCommand}
 use Rattle.ups_assoc.specs.declared.message.RawMessage.{RawMessage}
 use Rattle.ups_session.specs.Association.{ParametersView}
+use Rattle.ups_session.specs.declared.effect.AwaitedRequest.{AwaitedRequest}
 use Rattle.ups_session.specs.declared.effect.Effect.{Effect}
 use Rattle.ups_session.specs.declared.fault.SessionFault.{SessionFault}
 use Rattle.ups_session.specs.Acceptor.{OnMessage}
 use Rattle.ups_session.specs.Effects.{message_effect}
 
-pub not_understood : {A : Type 0} (r : Result (Option (Effect A)) SessionFault) (offset : ℤ) (parameters : ParametersView) (message : RawMessage A) (bytes : List ℕ) (fault : DimseFault) → bytes ≡ message.command
+pub not_understood : {A : Type 0} (r : Result (Option (Effect A (AwaitedRequest A))) SessionFault) (offset : ℤ) (parameters : ParametersView) (message : RawMessage A) (bytes : List ℕ) (fault : DimseFault) → bytes ≡ message.command
     → ((command : Command A) → SpellsCommand bytes command → fault ≡ Memory) → IfOk r (λ found. (found ≡ None) × (fault ≢ Memory)) → IfOk r (λ found. OnMessage offset parameters message (message_effect found))
 not_understood {A} (Ok found) offset parameters message bytes fault is only (none, other) =
     rw none (inr ((λ command s. other (only command (subst (λ (l : List ℕ). SpellsCommand l command) (sym is) s))), refl))

@@ -1,5 +1,5 @@
 -- What a fragment makes of an association.
-use Rattle.std.proofs.Common.{◌≡◌, false, ℤ, [], subst, ap, ◌∙◌, Option, None, Some, Result, Ok, Err, IfOk}
+use Rattle.std.proofs.Common.{◌≡◌, false, ℤ, [], refl, sym, subst, ap, ◌∙◌, Option, None, Some, Result, Ok, Err, IfOk}
 use Rattle.std.specs.Prelude.{◌≢◌}
 use Rattle.ups_assoc.specs.Assembly.{Assembly}
 use Rattle.ups_assoc.specs.declared.assembling.Begun.{Begun}
@@ -9,11 +9,18 @@ use Rattle.ups_assoc.specs.declared.fault.AssocFault.TheVariants as faults
 use Rattle.ups_assoc.specs.declared.message.RawMessage.{RawMessage}
 use Rattle.ups_assoc.specs.Feeding.{Fed, more, whole, fault, Feeds}
 use Rattle.ups_session.specs.Association.{AssociationView, EstablishedView}
+use Rattle.ups_session.specs.declared.effect.AwaitedRequest.{AwaitedRequest}
 use Rattle.ups_session.specs.declared.effect.Effect.{Effect}
 use Rattle.ups_session.specs.declared.fault.SessionFault.{SessionFault}
-use Rattle.ups_session.specs.Acceptor.{on_message_effect, OnMessage, Continues}
-use Rattle.ups_session.specs.Sides.{sending, aborting, with_begun}
-use Rattle.ups_session.specs.Effects.{said_by, awaited_by, message_effect}
+use Rattle.ups_ulstate.specs.declared.state.UlState.{UlState}
+use Rattle.ups_ulstate.specs.declared.state.UlEvent.TheVariants as events
+use Rattle.ups_ulstate.specs.declared.state.UlAction.{UlAction}
+use Rattle.ups_ulstate.specs.declared.state.UlAction.TheVariants.{Dt2}
+use Rattle.ups_pdu.specs.declared.pdv.Pdv.{Pdv}
+use Rattle.ups_session.specs.Acceptor.{on_message_effect, OnMessage, Continues, Indicated}
+use Rattle.ups_session.specs.Sides.{ReactionOf, sending, transition, on_action, unexpected, aborting, with_begun}
+use Rattle.ups_session.specs.Party.{said_by, awaited_by}
+use Rattle.ups_session.specs.Effects.{awaited_view, message_effect}
 use Rattle.ups_session.proofs.Parts.{if_ok}
 
 -- with another assembler
@@ -23,7 +30,7 @@ after association established assembly = record { state = association.state; est
 pub after_is : {A : Type 0} (association : AssociationView A) (established : EstablishedView A) (new : Assembly A) (begun : Begun A) → new.ids ≡ established.assembler.ids → new.begun ≡ begun → after association established new ≡ with_begun association established begun
 after_is association established new begun e f = λ i. record { state = association.state; established = Some (record { parameters = established.parameters; assembler = record { ids = e i; begun = f i } }); ending = association.ending }
 
-says_nothing : {A : Type 0} (association : AssociationView A) (effect : Effect A) → said_by effect ≡ [] → awaited_by effect ≡ None → on_message_effect false association (message_effect (Some effect)) ≡ sending association []
+says_nothing : {A : Type 0} (association : AssociationView A) (effect : Effect A (AwaitedRequest A)) → said_by effect ≡ [] → awaited_by awaited_view effect ≡ None → on_message_effect false association (message_effect (Some effect)) ≡ sending association []
 says_nothing association effect p q = λ i. record { association = association; send = p i; waiting = q i }
 
 abbrev pub fed_on : {A : Type 0} → Option (RawMessage A) → Result (Option (RawMessage A)) AssocFault
@@ -32,24 +39,24 @@ fed_on found = Ok found
 abbrev pub fed_not : {A : Type 0} → AssocFault → Result (Option (RawMessage A)) AssocFault
 fed_not e = Err e
 
-pub more_came : {A : Type 0} (offset : ℤ) (association : AssociationView A) (established : EstablishedView A) (f : Fed A) (new : Assembly A) (effect : Effect A) → new.ids ≡ established.assembler.ids → Feeds f new.begun (fed_on None) → said_by effect ≡ [] → awaited_by effect ≡ None
+pub more_came : {A : Type 0} (offset : ℤ) (association : AssociationView A) (established : EstablishedView A) (f : Fed A) (new : Assembly A) (effect : Effect A (AwaitedRequest A)) → new.ids ≡ established.assembler.ids → Feeds f new.begun (fed_on None) → said_by effect ≡ [] → awaited_by awaited_view effect ≡ None
     → Continues false offset association established f (on_message_effect false (after association established new) (message_effect (Some effect)))
 more_came offset association established (more b) new effect e is p q = says_nothing (after association established new) effect p q ∙ ap (λ l. sending l []) (after_is association established new b e is)
 more_came offset association established (whole m) new effect e is p q = absurd is
 more_came offset association established (fault why) new effect e is p q = absurd is
 
 -- what a message comes to, where one has come
-abbrev pub OnReply : {A : Type 0} → ℤ → AssociationView A → EstablishedView A → Fed A → Assembly A → Option (Effect A) → Type 0
+abbrev pub OnReply : {A : Type 0} → ℤ → AssociationView A → EstablishedView A → Fed A → Assembly A → Option (Effect A (AwaitedRequest A)) → Type 0
 OnReply offset association established f new found = Continues false offset association established f (on_message_effect false (after association established new) (message_effect found))
 
-understood : {A : Type 0} (offset : ℤ) (association : AssociationView A) (established : EstablishedView A) (f : Fed A) (new : Assembly A) (message : RawMessage A) (found : Option (Effect A)) → new.ids ≡ established.assembler.ids
+understood : {A : Type 0} (offset : ℤ) (association : AssociationView A) (established : EstablishedView A) (f : Fed A) (new : Assembly A) (message : RawMessage A) (found : Option (Effect A (AwaitedRequest A))) → new.ids ≡ established.assembler.ids
     → Feeds f new.begun (fed_on (Some message)) → OnMessage offset established.parameters message (message_effect found) → OnReply offset association established f new found
 understood offset association established (more b) new message found e is u = absurd is
 understood {A} offset association established (whole m) new message found e is u =
     (message_effect found, subst (λ (x : RawMessage A). OnMessage offset established.parameters x (message_effect found)) is.0 u, ap (λ l. on_message_effect false l (message_effect found)) (after_is association established new Nothing e is.1))
 understood offset association established (fault why) new message found e is u = absurd is
 
-pub whole_came : {A : Type 0} (offset : ℤ) (established : EstablishedView A) (f : Fed A) (new : Assembly A) (progress : Option (RawMessage A)) (message : RawMessage A) (r : Result (Option (Effect A)) SessionFault) → progress ≡ Some message → new.ids ≡ established.assembler.ids
+pub whole_came : {A : Type 0} (offset : ℤ) (established : EstablishedView A) (f : Fed A) (new : Assembly A) (progress : Option (RawMessage A)) (message : RawMessage A) (r : Result (Option (Effect A (AwaitedRequest A))) SessionFault) → progress ≡ Some message → new.ids ≡ established.assembler.ids
     → Feeds f new.begun (fed_on progress) → IfOk r (λ found. OnMessage offset established.parameters message (message_effect found)) → IfOk r (λ found. (association : AssociationView A) → OnReply offset association established f new found)
 whole_came {A} offset established f new progress message r one e is u =
     let now : Feeds f new.begun (fed_on (Some message)) = subst (λ (o : Option (RawMessage A)). Feeds f new.begun (fed_on o)) one is in
@@ -71,3 +78,15 @@ pub not_faulty : {A : Type 0} (f : Fed A) (begun : Begun A) (message : RawMessag
 not_faulty (more b) begun message is other e = absurd is
 not_faulty (whole m) begun message is other e = absurd cc
 not_faulty (fault f) begun message is other e = absurd is
+
+other_action : {A : Type 0} (offset : ℤ) (association : AssociationView A) (pdv : Pdv A) (action : UlAction) (state : UlState) (reaction : ReactionOf A) → action ≢ Dt2
+    → reaction ≡ on_action false unexpected (transition association events.Data action state) action → Indicated false offset association pdv (Some (action, state)) reaction
+other_action offset association pdv Dt2 state reaction unlike e = absurd (unlike refl)
+other_action offset association pdv action state reaction unlike e = e
+
+-- a fragment in a state in which no message is received
+pub not_received : {A : Type 0} (offset : ℤ) (association : AssociationView A) (pdv : Pdv A) (cell : Option (UlAction × UlState)) (action : UlAction) (state : UlState) (mid : AssociationView A) (reaction : ReactionOf A) → cell ≡ Some (action, state) → action ≢ Dt2
+    → mid ≡ transition association events.Data action state → reaction ≡ on_action false unexpected mid action → Indicated false offset association pdv cell reaction
+not_received {A} offset association pdv cell action state mid reaction is unlike same e =
+    subst (λ (o : Option (UlAction × UlState)). Indicated false offset association pdv o reaction) (sym is)
+    (other_action offset association pdv action state reaction unlike (e ∙ ap (λ (a : AssociationView A). on_action false unexpected a action) same))

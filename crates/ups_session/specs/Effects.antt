@@ -1,8 +1,6 @@
 -- How the program's types are seen: an association, an effect, the outcome of a request.
-use Rattle.std.specs.Prelude.{◌≤◌, List, [], Option, None, Some}
-use Rattle.std.specs.List.{AllByRecursion}
+use Rattle.std.specs.Prelude.{◌≤◌, Option, None, Some}
 use Rattle.std.specs.Option.{option_map}
-use Rattle.ups_pdu.specs.declared.pdu.Pdu.{Pdu}
 use Rattle.ups_pdu.specs.declared.pdu.Pdu.TheVariants.{AssociateAc}
 use Rattle.ups_pdu.specs.Fits.{Fits}
 use Rattle.ups_assoc.specs.declared.negotiating.Outcome.{Outcome}
@@ -10,7 +8,6 @@ use Rattle.ups_assoc.specs.declared.negotiating.Outcome.TheVariants.{Accept, Rej
 use Rattle.ups_session.specs.declared.dispatch.Dispatch.{Dispatch}
 use Rattle.ups_session.specs.declared.dispatch.Dispatch.TheVariants.{Answer, Question}
 use Rattle.ups_session.specs.declared.effect.Effect.{Effect}
-use Rattle.ups_session.specs.declared.effect.Effect.TheVariants.{Send, Call}
 use Rattle.ups_session.specs.declared.effect.AwaitedRequest.{AwaitedRequest}
 use Rattle.ups_session.specs.declared.association.Established.{Established}
 use Rattle.ups_session.specs.declared.association.Association.{Association}
@@ -18,6 +15,7 @@ use Rattle.ups_session.specs.declared.association.Parameters.{Parameters}
 use Rattle.ups_session.specs.Association.{ParametersView, EstablishedView, AssociationView}
 use Rattle.ups_session.specs.Dispatch.{DispatchView, answered_at_once, asking, AwaitedRequestView}
 use Rattle.ups_session.specs.Acceptor.{MessageEffect}
+use Rattle.ups_session.specs.Party.{said_by, awaited_by, reaction_with, CanSend}
 use Rattle.ups_session.specs.Sides.{ReactionOf}
 
 -- the negotiated parameters, the established association, and the association
@@ -39,30 +37,24 @@ dispatch_view (Question ask) = asking ask
 abbrev pub awaited_view : {A : Type 0} → AwaitedRequest A → AwaitedRequestView A
 awaited_view w = record { ae = w.ae; ask = w.ask; max = w.max; context = w.context; command = w.command }
 
--- the PDUs that it sends, and the request whose reply it awaits
-abbrev pub said_by : {A : Type 0} → Effect A → List (Pdu A)
-said_by (Send said) = said.items
-said_by (Call waiting) = []
-
-abbrev pub awaited_by : {A : Type 0} → Effect A → Option (AwaitedRequestView A)
-awaited_by (Send said) = None
-awaited_by (Call waiting) = Some (awaited_view waiting)
-
 -- the reaction of a session with this effect
-abbrev pub reaction_of : {A : Type 0} → AssociationView A → Effect A → ReactionOf A
-reaction_of association effect = record { association = association; send = said_by effect; waiting = awaited_by effect }
+abbrev pub reaction_of : {A : Type 0} → AssociationView A → Effect A (AwaitedRequest A) → ReactionOf A
+reaction_of association effect = reaction_with awaited_view association effect
 
 -- the effect of a message
-abbrev pub message_effect : {A : Type 0} → Option (Effect A) → MessageEffect A
+abbrev pub message_effect : {A : Type 0} → Option (Effect A (AwaitedRequest A)) → MessageEffect A
 message_effect None = None
-message_effect (Some effect) = Some (said_by effect, awaited_by effect)
+message_effect (Some effect) = Some (said_by effect, awaited_by awaited_view effect)
+
+-- the response to a request can be written
+abbrev pub HasRoom : {A : Type 0} → AwaitedRequest A → Type 0
+HasRoom waiting = 8 ≤ waiting.max
 
 -- each PDU that it sends, or will send, can be written
-abbrev pub IsSendable : {A : Type 0} → Effect A → Type 0
-IsSendable (Send said) = AllByRecursion (λ p. Fits p) said.items
-IsSendable (Call waiting) = 8 ≤ waiting.max
+abbrev pub IsSendable : {A : Type 0} → Effect A (AwaitedRequest A) → Type 0
+IsSendable effect = CanSend HasRoom effect
 
-abbrev pub AreSendable : {A : Type 0} → Option (Effect A) → Type 0
+abbrev pub AreSendable : {A : Type 0} → Option (Effect A (AwaitedRequest A)) → Type 0
 AreSendable None = Unit {0}
 AreSendable (Some effect) = IsSendable effect
 

@@ -41,7 +41,7 @@ use Rattle.ups_session.specs.Fold.{Indication, event, request, confirmation, pre
 use Rattle.ups_session.specs.Proposing.{association_request, agreement, accepted_event_context}
 use Rattle.ups_session.specs.Reports.{route_of, report_pdus}
 use Rattle.ups_session.specs.Responses.{bare_response}
-use Rattle.ups_session.specs.Sides.{ReactionOf, sending, transition, on_action, on_event, unexpected, reason_of, ids, aborting, with_begun}
+use Rattle.ups_session.specs.Sides.{ReactionOf, transition, on_action, on_event, unexpected, reason_of, ids, aborting, with_begun}
 
 abbrev pub DeliveryReaction : Type 0 → Type 0
 DeliveryReaction A = Reaction A (DeliveryView A) DeliveryCall

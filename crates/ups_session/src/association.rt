@@ -1,6 +1,7 @@
 //! An association, as its sides keep it.
 
 ghost use Rattle.std.specs.Prelude.{◌≡◌, ◌≢◌, ◌≤◌, Bool, [], ◌∷◌, ℕ, List, Option, None, Some, MatchOption, IfOk, IfErr, OnErr, OnOk, true, false};
+ghost use Rattle.std.specs.List.{AllByRecursion};
 ghost use Rattle.std.specs.Option.{option_map, unwrap_or};
 ghost use Rattle.ups_ulstate.specs.Table.{next_of};
 ghost use Rattle.ups_ulstate.specs.declared.state.UlEvent.TheVariants as events;
@@ -17,12 +18,12 @@ ghost use Rattle.ups_assoc.specs.Feeding.{fed, fault as faulty};
 ghost use Rattle.ups_session.specs.declared.fault.SessionFault.TheVariants.{Memory};
 ghost use Rattle.ups_session.specs.Association.{AssociationView};
 ghost use Rattle.ups_session.specs.Acceptor.{is_acceptable, rejecting, answers, requested, on_message_effect, Continues, Received, Indicated, opened};
-ghost use Rattle.ups_session.specs.Sides.{end_after, on_local_event, releases, on_action, on_event, reason_of, aborting};
+ghost use Rattle.ups_session.specs.Sides.{sending, end_after, on_local_event, releases, on_action, on_event, reason_of, aborting};
 ghost use Rattle.ups_session.specs.Fold.{IsOpen};
-ghost use Rattle.ups_session.specs.Effects.{established_view, association_view, awaited_by, reaction_of, message_effect, IsSendable, AreSendable, IsRoomy, IsAccepting};
+ghost use Rattle.ups_session.specs.Effects.{established_view, association_view, reaction_of, message_effect, IsSendable, AreSendable, IsRoomy, IsAccepting};
 
 use crate::dispatch::on_message;
-use crate::effect::Effect;
+use crate::effect::{AwaitedRequest, Effect};
 use crate::fault::{End, SessionFault};
 use std::alloc::Allocator;
 use ups_assoc::{
@@ -80,7 +81,7 @@ fn on_pdv<A: Allocator + Copy>(
     config: &Config,
     established: &mut Established<A>,
     pdv: &Pdv<A>,
-) -> Result<Option<Effect<A>>, SessionFault>
+) -> Result<Option<Effect<A, AwaitedRequest<A>>>, SessionFault>
     requires roomy { 8 ≤ established.old.parameters.max }
     ensures effect { IfOk result (λ found. (association : AssociationView A) → Continues false config.now.offset association (established_view established.old) (fed established.old.assembler.ids established.old.assembler.begun pdv.now) (on_message_effect false (record { state = association.state; established = Some (established_view established.new); ending = association.ending }) (message_effect found))) }
     ensures writable { IfOk result AreSendable }
@@ -89,7 +90,7 @@ fn on_pdv<A: Allocator + Copy>(
     ensures faultless { OnErr result ((why : AssocFault) → fed established.old.assembler.ids established.old.assembler.begun pdv.now ≡ faulty why → why ≡ NoMemory) }
 {
     match established.assembler.feed(pdv) {
-        Ok(None) => Ok(Some(Effect::nothing(alloc))),
+        Ok(None) => Ok(Some(Effect::Send(Vec::new(alloc)))),
         Ok(Some(message)) => on_message(alloc, config, &established.parameters, message),
         Err(fault) => {
             unless_memory(fault)?;
@@ -144,6 +145,18 @@ fn is_acceptable<A: Allocator + Copy>(outcome: &Outcome<A>) -> bool
     }
 }
 
+/// Makes a list of one PDU.
+///
+/// Errors: out of memory.
+fn single<A: Allocator + Copy>(alloc: A, pdu: Pdu<A>) -> Result<Vec<Pdu<A>, A>, SessionFault>
+    ensures said { IfOk result (λ said. said.items ≡ pdu ∷ []) }
+    ensures memory { IfErr result (λ e. e ≡ Memory) }
+{
+    let mut said = Vec::new(alloc);
+    said.push(pdu)?;
+    Ok(said)
+}
+
 /// What an action sends to the peer.
 ///
 /// Errors: out of memory.
@@ -151,23 +164,22 @@ fn sent<A: Allocator + Copy>(
     alloc: A,
     reason: u8,
     action: UlAction,
-) -> Result<Effect<A>, SessionFault>
-    ensures said { (requestor : Bool) → (association : AssociationView A) → action ≢ Ar2 → action ≢ Ar8 → action ≢ Ar10 → IfOk result (λ effect. reaction_of association effect ≡ on_action requestor reason association action) }
-    ensures quiet { IfOk result (λ effect. awaited_by effect ≡ None) }
-    ensures writable { IfOk result IsSendable }
+) -> Result<Vec<Pdu<A>, A>, SessionFault>
+    ensures said { (requestor : Bool) → (association : AssociationView A) → action ≢ Ar2 → action ≢ Ar8 → action ≢ Ar10 → IfOk result (λ said. sending association said.items ≡ on_action requestor reason association action) }
+    ensures writable { IfOk result (λ said. AllByRecursion (λ p. Fits p) said.items) }
     ensures memory { IfErr result (λ e. e ≡ Memory) }
 {
     match action {
-        UlAction::Ar1 => Effect::send(alloc, Pdu::ReleaseRq),
-        UlAction::Aa1 => Effect::send(
+        UlAction::Ar1 => single(alloc, Pdu::ReleaseRq),
+        UlAction::Aa1 => single(
             alloc,
             Pdu::Abort {
                 source: 0,
                 reason: 0,
             },
         ),
-        UlAction::Aa7 | UlAction::Aa8 => Effect::send(alloc, Pdu::Abort { source: 2, reason }),
-        _ => Ok(Effect::nothing(alloc)),
+        UlAction::Aa7 | UlAction::Aa8 => single(alloc, Pdu::Abort { source: 2, reason }),
+        _ => Ok(Vec::new(alloc)),
     }
 }
 
@@ -217,19 +229,18 @@ impl<A: Allocator + Copy> Association<A> {
     /// Responds to a release request, if the state machine has a transition for it (PS3.8 section 7.2).
     ///
     /// Errors: out of memory.
-    fn release(&mut self, alloc: A, requestor: bool) -> Result<Effect<A>, SessionFault>
-        ensures reaction { IfOk result (λ effect. reaction_of (association_view self.new) effect ≡ releases (association_view self.old) (next_of requestor true events.ReleaseResponse self.old.state)) }
-        ensures quiet { IfOk result (λ effect. awaited_by effect ≡ None) }
-        ensures writable { IfOk result IsSendable }
+    fn release(&mut self, alloc: A, requestor: bool) -> Result<Vec<Pdu<A>, A>, SessionFault>
+        ensures reaction { IfOk result (λ said. sending (association_view self.new) said.items ≡ releases (association_view self.old) (next_of requestor true events.ReleaseResponse self.old.state)) }
+        ensures writable { IfOk result (λ said. AllByRecursion (λ p. Fits p) said.items) }
         ensures established { self.new.established ≡ self.old.established }
         ensures memory { IfErr result (λ e. e ≡ Memory) }
     {
         let event = UlEvent::ReleaseResponse;
         let Some((action, state)) = next(self.state, event, requestor, true) else {
-            return Ok(Effect::nothing(alloc));
+            return Ok(Vec::new(alloc));
         };
         self.transition(event, action, state);
-        Effect::send(alloc, Pdu::ReleaseRp)
+        single(alloc, Pdu::ReleaseRp)
     }
 
     /// Performs an action that needs no data of the event.
@@ -241,10 +252,9 @@ impl<A: Allocator + Copy> Association<A> {
         requestor: bool,
         reason: u8,
         action: UlAction,
-    ) -> Result<Effect<A>, SessionFault>
-        ensures reaction { IfOk result (λ effect. reaction_of (association_view self.new) effect ≡ on_action requestor reason (association_view self.old) action) }
-        ensures quiet { IfOk result (λ effect. awaited_by effect ≡ None) }
-        ensures writable { IfOk result IsSendable }
+    ) -> Result<Vec<Pdu<A>, A>, SessionFault>
+        ensures reaction { IfOk result (λ said. sending (association_view self.new) said.items ≡ on_action requestor reason (association_view self.old) action) }
+        ensures writable { IfOk result (λ said. AllByRecursion (λ p. Fits p) said.items) }
         ensures established { self.new.established ≡ self.old.established }
         ensures memory { IfErr result (λ e. e ≡ Memory) }
     {
@@ -263,46 +273,31 @@ impl<A: Allocator + Copy> Association<A> {
         requestor: bool,
         reason: u8,
         event: UlEvent,
-    ) -> Result<Effect<A>, SessionFault>
-        ensures reaction { IfOk result (λ effect. reaction_of (association_view self.new) effect ≡ on_event requestor reason (association_view self.old) event (next_of requestor true event self.old.state)) }
-        ensures quiet { IfOk result (λ effect. awaited_by effect ≡ None) }
-        ensures writable { IfOk result IsSendable }
+    ) -> Result<Vec<Pdu<A>, A>, SessionFault>
+        ensures reaction { IfOk result (λ said. sending (association_view self.new) said.items ≡ on_event requestor reason (association_view self.old) event (next_of requestor true event self.old.state)) }
+        ensures writable { IfOk result (λ said. AllByRecursion (λ p. Fits p) said.items) }
         ensures established { self.new.established ≡ self.old.established }
         ensures memory { IfErr result (λ e. e ≡ Memory) }
     {
         let Some((action, state)) = next(self.state, event, requestor, true) else {
-            return Ok(Effect::nothing(alloc));
+            return Ok(Vec::new(alloc));
         };
         self.transition(event, action, state);
         self.on_action(alloc, requestor, reason, action)
     }
 
-    /// Processes bytes that are not a PDU.
-    ///
-    /// Errors: out of memory.
-    pub fn on_invalid_pdu(
-        &mut self,
-        alloc: A,
-        requestor: bool,
-        fault: PduFault,
-    ) -> Result<Effect<A>, SessionFault>
-        ensures reaction { IfOk result (λ effect. reaction_of (association_view self.new) effect ≡ on_event requestor (reason_of fault) (association_view self.old) events.Invalid (next_of requestor true events.Invalid self.old.state)) }
-        ensures quiet { IfOk result (λ effect. awaited_by effect ≡ None) }
-        ensures writable { IfOk result IsSendable }
-        ensures established { self.new.established ≡ self.old.established }
-        ensures memory { IfErr result (λ e. e ≡ Memory) }
-    {
-        self.on_event(alloc, requestor, reason_of(fault), UlEvent::Invalid)
-    }
-
     /// Accepts an association request.
     ///
     /// Errors: out of memory.
-    fn accept(&mut self, alloc: A, acceptance: Acceptance<A>) -> Result<Effect<A>, SessionFault>
+    fn accept(
+        &mut self,
+        alloc: A,
+        acceptance: Acceptance<A>,
+    ) -> Result<Vec<Pdu<A>, A>, SessionFault>
         requires roomy { 8 ≤ acceptance.max }
         requires writable { Fits (pdus.AssociateAc acceptance.ac) }
-        ensures reaction { IfOk result (λ effect. reaction_of (association_view self.new) effect ≡ answers false (association_view self.old) (Accept acceptance)) }
-        ensures writable { IfOk result IsSendable }
+        ensures reaction { IfOk result (λ said. sending (association_view self.new) said.items ≡ answers false (association_view self.old) (Accept acceptance)) }
+        ensures writable { IfOk result (λ said. AllByRecursion (λ p. Fits p) said.items) }
         ensures roomy { IsRoomy self.old.established → IsRoomy self.new.established }
         ensures memory { IfErr result (λ e. e ≡ Memory) }
     {
@@ -321,15 +316,15 @@ impl<A: Allocator + Copy> Association<A> {
             parameters,
             assembler,
         });
-        Effect::send(alloc, Pdu::AssociateAc(ac))
+        single(alloc, Pdu::AssociateAc(ac))
     }
 
     /// Rejects an association request, as the service user or as the service provider.
     ///
     /// Errors: out of memory.
-    fn reject(&mut self, alloc: A, rejection: Rejection) -> Result<Effect<A>, SessionFault>
-        ensures reaction { IfOk result (λ effect. reaction_of (association_view self.new) effect ≡ answers false (association_view self.old) (Reject rejection)) }
-        ensures writable { IfOk result IsSendable }
+    fn reject(&mut self, alloc: A, rejection: Rejection) -> Result<Vec<Pdu<A>, A>, SessionFault>
+        ensures reaction { IfOk result (λ said. sending (association_view self.new) said.items ≡ answers false (association_view self.old) (Reject rejection)) }
+        ensures writable { IfOk result (λ said. AllByRecursion (λ p. Fits p) said.items) }
         ensures established { self.new.established ≡ self.old.established }
         ensures memory { IfErr result (λ e. e ≡ Memory) }
     {
@@ -338,23 +333,25 @@ impl<A: Allocator + Copy> Association<A> {
         } else {
             self.on_local_event(ACCEPTOR, UlEvent::LocalReject);
         }
-        Effect::send(
-            alloc,
-            Pdu::AssociateRj {
-                result: rejection.result(),
-                source: rejection.source(),
-                reason: rejection.reason(),
-            },
-        )
+        let pdu = Pdu::AssociateRj {
+            result: rejection.result(),
+            source: rejection.source(),
+            reason: rejection.reason(),
+        };
+        single(alloc, pdu)
     }
 
     /// Accepts or rejects an association request.
     ///
     /// Errors: out of memory.
-    fn answer_request(&mut self, alloc: A, outcome: Outcome<A>) -> Result<Effect<A>, SessionFault>
+    fn answer_request(
+        &mut self,
+        alloc: A,
+        outcome: Outcome<A>,
+    ) -> Result<Vec<Pdu<A>, A>, SessionFault>
         requires accepting { IsAccepting outcome }
-        ensures reaction { IfOk result (λ effect. reaction_of (association_view self.new) effect ≡ answers false (association_view self.old) outcome) }
-        ensures writable { IfOk result IsSendable }
+        ensures reaction { IfOk result (λ said. sending (association_view self.new) said.items ≡ answers false (association_view self.old) outcome) }
+        ensures writable { IfOk result (λ said. AllByRecursion (λ p. Fits p) said.items) }
         ensures roomy { IsRoomy self.old.established → IsRoomy self.new.established }
         ensures memory { IfErr result (λ e. e ≡ Memory) }
     {
@@ -372,10 +369,10 @@ impl<A: Allocator + Copy> Association<A> {
         alloc: A,
         config: &Config,
         request: &AssociateRq<A>,
-    ) -> Result<Effect<A>, SessionFault>
+    ) -> Result<Vec<Pdu<A>, A>, SessionFault>
         requires spelled { (bytes : List ℕ) × SpellsPdu bytes (pdus.AssociateRq request.now) }
-        ensures reaction { IfOk result (λ effect. reaction_of (association_view self.new) effect ≡ requested false (association_view self.old) (outcome config.now.ae request.now)) }
-        ensures writable { IfOk result IsSendable }
+        ensures reaction { IfOk result (λ said. sending (association_view self.new) said.items ≡ requested false (association_view self.old) (outcome config.now.ae request.now)) }
+        ensures writable { IfOk result (λ said. AllByRecursion (λ p. Fits p) said.items) }
         ensures roomy { IsRoomy self.old.established → IsRoomy self.new.established }
         ensures memory { IfErr result (λ e. e ≡ Memory) }
     {
@@ -385,7 +382,7 @@ impl<A: Allocator + Copy> Association<A> {
         let acceptable = is_acceptable(&outcome);
         let Some((action, state)) = next(self.state, UlEvent::AssociateRq, ACCEPTOR, acceptable)
         else {
-            return Ok(Effect::nothing(alloc));
+            return Ok(Vec::new(alloc));
         };
         self.transition(UlEvent::AssociateRq, action, state);
         match action {
@@ -397,15 +394,14 @@ impl<A: Allocator + Copy> Association<A> {
     /// Aborts the association (PS3.8 section 7.3).
     ///
     /// Errors: out of memory.
-    pub fn abort(&mut self, alloc: A, requestor: bool) -> Result<Effect<A>, SessionFault>
-        ensures reaction { IfOk result (λ effect. reaction_of (association_view self.new) effect ≡ aborting requestor (association_view self.old)) }
-        ensures quiet { IfOk result (λ effect. awaited_by effect ≡ None) }
-        ensures writable { IfOk result IsSendable }
+    pub fn abort(&mut self, alloc: A, requestor: bool) -> Result<Vec<Pdu<A>, A>, SessionFault>
+        ensures reaction { IfOk result (λ said. sending (association_view self.new) said.items ≡ aborting requestor (association_view self.old)) }
+        ensures writable { IfOk result (λ said. AllByRecursion (λ p. Fits p) said.items) }
         ensures established { self.new.established ≡ self.old.established }
         ensures memory { IfErr result (λ e. e ≡ Memory) }
     {
         self.on_local_event(requestor, UlEvent::AbortRequest);
-        Effect::send(
+        single(
             alloc,
             Pdu::Abort {
                 source: 0,
@@ -421,8 +417,8 @@ impl<A: Allocator + Copy> Association<A> {
         &mut self,
         alloc: A,
         established: Established<A>,
-        found: Option<Effect<A>>,
-    ) -> Result<Effect<A>, SessionFault>
+        found: Option<Effect<A, AwaitedRequest<A>>>,
+    ) -> Result<Effect<A, AwaitedRequest<A>>, SessionFault>
         requires roomy { 8 ≤ established.parameters.max }
         requires writable { AreSendable found }
         ensures reaction { IfOk result (λ effect. reaction_of (association_view self.new) effect ≡ on_message_effect false (record { state = self.old.state; established = Some (established_view established); ending = self.old.ending }) (message_effect found)) }
@@ -433,7 +429,7 @@ impl<A: Allocator + Copy> Association<A> {
         self.established = Some(established);
         match found {
             Some(effect) => Ok(effect),
-            None => self.abort(alloc, ACCEPTOR),
+            None => Ok(Effect::Send(self.abort(alloc, ACCEPTOR)?)),
         }
     }
 
@@ -446,7 +442,7 @@ impl<A: Allocator + Copy> Association<A> {
         config: &Config,
         established: Established<A>,
         pdv: &Pdv<A>,
-    ) -> Result<Effect<A>, SessionFault>
+    ) -> Result<Effect<A, AwaitedRequest<A>>, SessionFault>
         requires roomy { 8 ≤ established.parameters.max }
         ensures reaction { IfOk result (λ effect. Continues false config.now.offset (association_view self.old) (established_view established) (fed established.assembler.ids established.assembler.begun pdv.now) (reaction_of (association_view self.new) effect)) }
         ensures writable { IfOk result IsSendable }
@@ -466,7 +462,7 @@ impl<A: Allocator + Copy> Association<A> {
         alloc: A,
         config: &Config,
         pdv: &Pdv<A>,
-    ) -> Result<Effect<A>, SessionFault>
+    ) -> Result<Effect<A, AwaitedRequest<A>>, SessionFault>
         requires roomy { IsRoomy self.old.established }
         ensures reaction { IfOk result (λ effect. Received false config.now.offset (association_view self.old) (option_map established_view self.old.established) pdv.now (reaction_of (association_view self.new) effect)) }
         ensures writable { IfOk result IsSendable }
@@ -475,7 +471,7 @@ impl<A: Allocator + Copy> Association<A> {
     {
         match self.established.take() {
             Some(established) => self.assemble(alloc, config, established, pdv),
-            None => Ok(Effect::nothing(alloc)),
+            None => Ok(Effect::Send(Vec::new(alloc))),
         }
     }
 
@@ -487,7 +483,7 @@ impl<A: Allocator + Copy> Association<A> {
         alloc: A,
         config: &Config,
         pdv: &Pdv<A>,
-    ) -> Result<Effect<A>, SessionFault>
+    ) -> Result<Effect<A, AwaitedRequest<A>>, SessionFault>
         requires roomy { IsRoomy self.old.established }
         ensures reaction { IfOk result (λ effect. Indicated false config.now.offset (association_view self.old) pdv.now (next_of false true events.Data self.old.state) (reaction_of (association_view self.new) effect)) }
         ensures writable { IfOk result IsSendable }
@@ -495,12 +491,12 @@ impl<A: Allocator + Copy> Association<A> {
         ensures memory { IfErr result (λ e. e ≡ Memory) }
     {
         let Some((action, state)) = next(self.state, UlEvent::Data, ACCEPTOR, true) else {
-            return Ok(Effect::nothing(alloc));
+            return Ok(Effect::Send(Vec::new(alloc)));
         };
         self.transition(UlEvent::Data, action, state);
         match action {
             UlAction::Dt2 => self.on_data(alloc, config, pdv),
-            _ => self.on_action(alloc, ACCEPTOR, UNEXPECTED, action),
+            _ => Ok(Effect::Send(self.on_action(alloc, ACCEPTOR, UNEXPECTED, action)?)),
         }
     }
 }

@@ -9,17 +9,14 @@ ghost use Rattle.ups_pdu.specs.Fits.{Fits};
 ghost use Rattle.ups_assoc.specs.Feeding.{fed};
 ghost use Rattle.ups_dimse.specs.declared.fault.DimseFault.TheVariants.{Memory as NoRoomForCommand};
 ghost use Rattle.ups_session.specs.declared.fault.SessionFault.TheVariants.{Memory};
-ghost use Rattle.ups_session.specs.Effects.{established_view, association_view, said_by, awaited_by, IsRoomy};
-ghost use Rattle.ups_session.specs.Sides.{aborting, on_action, on_event, reason_of, unexpected};
+ghost use Rattle.ups_session.specs.Effects.{established_view, association_view, IsRoomy};
+ghost use Rattle.ups_session.specs.Sides.{aborting, on_action, on_event, unexpected};
 ghost use Rattle.ups_session.specs.Reports.{route_of};
 ghost use Rattle.ups_session.specs.Proposing.{agreement};
-ghost use Rattle.ups_session.specs.Delivery.{DeliveryView};
 ghost use Rattle.ups_session.specs.Deliveries.{delivery_view, delivery_reaction_of, IsSendableDelivery};
-ghost use Rattle.ups_session.specs.Requestor.{proposed, saying, with_association, along, releasing, reporting, reporting_next, proceeding, on_pendings, on_acknowledged, event_answered, on_response, refusing, on_command, Understands, Assembles, Receives, OnFragment, established_by, on_agreement, on_answer};
+ghost use Rattle.ups_session.specs.Requestor.{unconnected, proposed, saying, with_association, along, releasing, reporting, reporting_next, proceeding, on_pendings, on_acknowledged, event_answered, on_response, refusing, on_command, Understands, Assembles, Receives, OnFragment, established_by, on_agreement, on_answer};
 
-use crate::association::{
-    Association, Established, Parameters, UNEXPECTED, reason_of, unless_memory,
-};
+use crate::association::{Association, Established, Parameters, UNEXPECTED, unless_memory};
 use crate::dispatch::context_at;
 use crate::effect::Effect;
 use crate::fault::{End, SessionFault};
@@ -33,7 +30,7 @@ use ups_dimse::{
     Command, DimseFault, OperationResult, RequestCommand, ResponseCommand, read_command,
 };
 use ups_life::{EventReport, EventReports, Reply, Status};
-use ups_pdu::{Ae, AssociateAc, Pdu, PduFault, Pdv};
+use ups_pdu::{Ae, AssociateAc, Pdu, Pdv};
 use ups_ulstate::{UlAction, UlEvent, UlState, next};
 
 /// This side is the association requestor.
@@ -64,15 +61,6 @@ pub(crate) struct Route {
     pub context: AcceptedContext,
     /// The longest P-DATA-TF that the peer receives, in bytes.
     pub max: u32,
-}
-
-/// What a delivery does next.
-#[derive(Drop)]
-pub(crate) enum DeliveryEffect<A: Allocator + Copy> {
-    /// Sends these PDUs.
-    Send(Vec<Pdu<A>, A>),
-    /// Asks the service.
-    Call(DeliveryCall),
 }
 
 /// The state of a delivery.
@@ -144,25 +132,15 @@ fn established_by<A: Allocator + Copy>(
     })
 }
 
-impl<A: Allocator + Copy> DeliveryEffect<A> {
-    /// Sends nothing.
-    fn nothing(alloc: A) -> DeliveryEffect<A>
-        ensures silent { (d : DeliveryView A) → delivery_reaction_of d result ≡ saying d [] }
-        ensures writable { IsSendableDelivery result }
-    {
-        DeliveryEffect::Send(Vec::new(alloc))
-    }
-}
-
 impl<A: Allocator + Copy> Delivery<A> {
-    /// Starts with an open transport connection, on which an A-ASSOCIATE-RQ is sent.
-    pub fn proposed(alloc: A) -> Delivery<A>
-        ensures proposed { delivery_view result ≡ proposed }
+    /// Starts without a transport connection.
+    pub fn unconnected(alloc: A) -> Delivery<A>
+        ensures unconnected { delivery_view result ≡ unconnected }
         ensures roomy { IsRoomy result.association.established }
     {
         Delivery {
             association: Association {
-                state: UlState::Sta5,
+                state: UlState::Sta1,
                 established: None,
                 ending: End::Closed,
             },
@@ -171,6 +149,15 @@ impl<A: Allocator + Copy> Delivery<A> {
             in_flight: None,
             sent: 0,
         }
+    }
+
+    /// Takes up that the transport connection stands, on which the A-ASSOCIATE-RQ is sent (PS3.8 table 9-6, AE-2).
+    pub fn on_connected(&mut self)
+        requires { delivery_view self.old ≡ unconnected }
+        ensures proposed { delivery_view self.new ≡ proposed }
+        ensures established { self.new.association.established ≡ self.old.association.established }
+    {
+        self.association.state = UlState::Sta5;
     }
 
     /// Where reports go, once the association is established.
@@ -205,8 +192,7 @@ impl<A: Allocator + Copy> Delivery<A> {
         ensures established { self.new.association.established ≡ self.old.association.established }
         ensures memory { IfErr result (λ e. e ≡ Memory) }
     {
-        let effect = self.association.on_event(alloc, REQUESTOR, reason, event)?;
-        Ok(effect.into_said())
+        self.association.on_event(alloc, REQUESTOR, reason, event)
     }
 
     /// Performs an action of the state machine that needs no data of the event.
@@ -218,10 +204,8 @@ impl<A: Allocator + Copy> Delivery<A> {
         ensures established { self.new.association.established ≡ self.old.association.established }
         ensures memory { IfErr result (λ e. e ≡ Memory) }
     {
-        let effect = self
-            .association
-            .on_action(alloc, REQUESTOR, UNEXPECTED, action)?;
-        Ok(effect.into_said())
+        self.association
+            .on_action(alloc, REQUESTOR, UNEXPECTED, action)
     }
 
     /// Aborts the association (PS3.8 section 7.3).
@@ -233,24 +217,7 @@ impl<A: Allocator + Copy> Delivery<A> {
         ensures established { self.new.association.established ≡ self.old.association.established }
         ensures memory { IfErr result (λ e. e ≡ Memory) }
     {
-        let effect = self.association.abort(alloc, REQUESTOR)?;
-        Ok(effect.into_said())
-    }
-
-    /// Processes bytes that are not a PDU.
-    ///
-    /// Errors: out of memory.
-    pub fn on_invalid_pdu(
-        &mut self,
-        alloc: A,
-        fault: PduFault,
-    ) -> Result<Vec<Pdu<A>, A>, SessionFault>
-        ensures reaction { IfOk result (λ said. saying (delivery_view self.new) said.items ≡ along (delivery_view self.old) (on_event true (reason_of fault) (association_view self.old.association) events.Invalid (next_of true true events.Invalid self.old.association.state))) }
-        ensures writable { IfOk result (λ said. AllByRecursion (λ p. Fits p) said.items) }
-        ensures established { self.new.association.established ≡ self.old.association.established }
-        ensures memory { IfErr result (λ e. e ≡ Memory) }
-    {
-        self.on_event(alloc, reason_of(fault), UlEvent::Invalid)
+        self.association.abort(alloc, REQUESTOR)
     }
 
     /// Releases the association (PS3.8 section 7.2).
@@ -268,7 +235,7 @@ impl<A: Allocator + Copy> Delivery<A> {
     /// Sends a report of those that the service told of.
     ///
     /// Errors: out of memory.
-    fn report(&mut self, alloc: A) -> Result<DeliveryEffect<A>, SessionFault>
+    fn report(&mut self, alloc: A) -> Result<Effect<A, DeliveryCall>, SessionFault>
         requires roomy { IsRoomy self.old.association.established }
         requires more { self.old.sent < 65535 }
         ensures reaction { IfOk result (λ found. delivery_reaction_of (delivery_view self.new) found ≡ reporting_next (delivery_view self.old) (delivery_view self.old).ahead) }
@@ -278,10 +245,10 @@ impl<A: Allocator + Copy> Delivery<A> {
         ensures lost { OnErr result ((reporting_next (delivery_view self.old) (delivery_view self.old).ahead).waiting ≡ None) }
     {
         let Some(report) = self.reports.as_slice().get(self.taken) else {
-            return Ok(DeliveryEffect::Call(DeliveryCall::Pendings));
+            return Ok(Effect::Call(DeliveryCall::Pendings));
         };
         let Some(route) = self.route() else {
-            return Ok(DeliveryEffect::Send(self.release(alloc)?));
+            return Ok(Effect::Send(self.release(alloc)?));
         };
         let message = self.sent + 1;
         let event = report.event.number;
@@ -289,14 +256,14 @@ impl<A: Allocator + Copy> Delivery<A> {
         self.taken += 1;
         self.in_flight = Some(ReportInFlight { message, event });
         self.sent = message;
-        Ok(DeliveryEffect::Send(said))
+        Ok(Effect::Send(said))
     }
 
     /// Goes on with the next report, or asks again for those that are pending; after 65,535 reports it releases the
     /// association.
     ///
     /// Errors: out of memory.
-    fn go_on(&mut self, alloc: A) -> Result<DeliveryEffect<A>, SessionFault>
+    fn go_on(&mut self, alloc: A) -> Result<Effect<A, DeliveryCall>, SessionFault>
         requires roomy { IsRoomy self.old.association.established }
         ensures reaction { IfOk result (λ found. delivery_reaction_of (delivery_view self.new) found ≡ proceeding (delivery_view self.old)) }
         ensures writable { IfOk result IsSendableDelivery }
@@ -305,7 +272,7 @@ impl<A: Allocator + Copy> Delivery<A> {
         ensures lost { OnErr result ((proceeding (delivery_view self.old)).waiting ≡ None) }
     {
         if self.sent == u16::MAX {
-            return Ok(DeliveryEffect::Send(self.release(alloc)?));
+            return Ok(Effect::Send(self.release(alloc)?));
         }
         self.report(alloc)
     }
@@ -330,8 +297,8 @@ impl<A: Allocator + Copy> Delivery<A> {
         self.reports = reports;
         self.taken = 0;
         match self.go_on(alloc)? {
-            DeliveryEffect::Send(said) => Ok(said),
-            DeliveryEffect::Call(_) => unreachable!(),
+            Effect::Send(said) => Ok(said),
+            Effect::Call(_) => unreachable!(),
         }
     }
 
@@ -342,7 +309,7 @@ impl<A: Allocator + Copy> Delivery<A> {
         &mut self,
         alloc: A,
         reply: &Reply<A>,
-    ) -> Result<DeliveryEffect<A>, SessionFault>
+    ) -> Result<Effect<A, DeliveryCall>, SessionFault>
         requires roomy { IsRoomy self.old.association.established }
         ensures reaction { IfOk result (λ found. delivery_reaction_of (delivery_view self.new) found ≡ on_acknowledged (delivery_view self.old) reply.now) }
         ensures writable { IfOk result IsSendableDelivery }
@@ -351,9 +318,7 @@ impl<A: Allocator + Copy> Delivery<A> {
         ensures lost { OnErr result ((on_acknowledged (delivery_view self.old) reply.now).waiting ≡ None) }
     {
         match reply {
-            Reply::Status(Status::ResourceLimitation) => Ok(DeliveryEffect::Send(self.release(
-                alloc,
-            )?)),
+            Reply::Status(Status::ResourceLimitation) => Ok(Effect::Send(self.release(alloc)?)),
             _ => self.go_on(alloc),
         }
     }
@@ -366,18 +331,18 @@ impl<A: Allocator + Copy> Delivery<A> {
         alloc: A,
         ae: Ae,
         answer: &AssociateAc<A>,
-    ) -> Result<DeliveryEffect<A>, SessionFault>
+    ) -> Result<Effect<A, DeliveryCall>, SessionFault>
         ensures reaction { IfOk result (λ found. delivery_reaction_of (delivery_view self.new) found ≡ on_agreement ae (delivery_view self.old) answer.now (agreement answer.now)) }
         ensures writable { IfOk result IsSendableDelivery }
         ensures roomy { IsRoomy self.old.association.established → OnOk result (IsRoomy self.new.association.established) }
         ensures memory { IfErr result (λ e. e ≡ Memory) }
     {
         let Some(syntax) = agreement(answer) else {
-            return Ok(DeliveryEffect::Send(self.release(alloc)?));
+            return Ok(Effect::Send(self.release(alloc)?));
         };
         let max = counted(answer.user_information.maximum_length);
         self.association.established = Some(established_by(alloc, ae, max, syntax)?);
-        Ok(DeliveryEffect::Call(DeliveryCall::Pendings))
+        Ok(Effect::Call(DeliveryCall::Pendings))
     }
 
     /// Processes an A-ASSOCIATE-AC.
@@ -388,7 +353,7 @@ impl<A: Allocator + Copy> Delivery<A> {
         alloc: A,
         ae: Ae,
         answer: &AssociateAc<A>,
-    ) -> Result<DeliveryEffect<A>, SessionFault>
+    ) -> Result<Effect<A, DeliveryCall>, SessionFault>
         ensures reaction { IfOk result (λ found. delivery_reaction_of (delivery_view self.new) found ≡ on_answer ae (delivery_view self.old) answer.now (next_of true true events.AssociateAc self.old.association.state)) }
         ensures writable { IfOk result IsSendableDelivery }
         ensures roomy { IsRoomy self.old.association.established → OnOk result (IsRoomy self.new.association.established) }
@@ -396,12 +361,12 @@ impl<A: Allocator + Copy> Delivery<A> {
     {
         let event = UlEvent::AssociateAc;
         let Some((action, state)) = next(self.association.state, event, REQUESTOR, true) else {
-            return Ok(DeliveryEffect::nothing(alloc));
+            return Ok(Effect::Send(Vec::new(alloc)));
         };
         self.association.transition(event, action, state);
         match action {
             UlAction::Ae3 => self.establish(alloc, ae, answer),
-            _ => Ok(DeliveryEffect::Send(self.on_action(alloc, action)?)),
+            _ => Ok(Effect::Send(self.on_action(alloc, action)?)),
         }
     }
 
@@ -432,7 +397,7 @@ impl<A: Allocator + Copy> Delivery<A> {
     }
 
     /// Processes a response: one to the report in flight is told to the service, and any other taken.
-    fn on_response(&mut self, alloc: A, response: &ResponseCommand) -> DeliveryEffect<A>
+    fn on_response(&mut self, alloc: A, response: &ResponseCommand) -> Effect<A, DeliveryCall>
         ensures reaction { delivery_reaction_of (delivery_view self.new) result ≡ on_response (delivery_view self.old) (event_answered self.old.in_flight response.now) }
         ensures writable { IsSendableDelivery result }
         ensures established { self.new.association.established ≡ self.old.association.established }
@@ -440,9 +405,9 @@ impl<A: Allocator + Copy> Delivery<A> {
         match event_answered(self.in_flight, response) {
             Some(event) => {
                 self.in_flight = None;
-                DeliveryEffect::Call(DeliveryCall::Acknowledgement(event))
+                Effect::Call(DeliveryCall::Acknowledgement(event))
             }
-            None => DeliveryEffect::nothing(alloc),
+            None => Effect::Send(Vec::new(alloc)),
         }
     }
 
@@ -454,7 +419,7 @@ impl<A: Allocator + Copy> Delivery<A> {
         alloc: A,
         released: bool,
         command: &Command<A>,
-    ) -> Result<DeliveryEffect<A>, SessionFault>
+    ) -> Result<Effect<A, DeliveryCall>, SessionFault>
         requires roomy { IsRoomy self.old.association.established }
         ensures reaction { IfOk result (λ found. delivery_reaction_of (delivery_view self.new) found ≡ on_command (delivery_view self.old) released command.now) }
         ensures writable { IfOk result IsSendableDelivery }
@@ -462,12 +427,12 @@ impl<A: Allocator + Copy> Delivery<A> {
         ensures memory { IfErr result (λ e. e ≡ Memory) }
     {
         if released {
-            return Ok(DeliveryEffect::nothing(alloc));
+            return Ok(Effect::Send(Vec::new(alloc)));
         }
         match command {
             Command::Response(response) => Ok(self.on_response(alloc, response)),
-            Command::Cancel(_) => Ok(DeliveryEffect::nothing(alloc)),
-            Command::Request(request) => Ok(DeliveryEffect::Send(self.refuse(alloc, request)?)),
+            Command::Cancel(_) => Ok(Effect::Send(Vec::new(alloc))),
+            Command::Request(request) => Ok(Effect::Send(self.refuse(alloc, request)?)),
         }
     }
 
@@ -479,7 +444,7 @@ impl<A: Allocator + Copy> Delivery<A> {
         alloc: A,
         released: bool,
         message: &RawMessage<A>,
-    ) -> Result<DeliveryEffect<A>, SessionFault>
+    ) -> Result<Effect<A, DeliveryCall>, SessionFault>
         requires roomy { IsRoomy self.old.association.established }
         ensures reaction { IfOk result (λ found. Understands (delivery_view self.old) released message.now (delivery_reaction_of (delivery_view self.new) found)) }
         ensures writable { IfOk result IsSendableDelivery }
@@ -490,7 +455,7 @@ impl<A: Allocator + Copy> Delivery<A> {
             Ok(command) => self.on_command(alloc, released, &command),
             Err(fault) => {
                 unless_no_room(fault)?;
-                Ok(DeliveryEffect::Send(self.abort(alloc)?))
+                Ok(Effect::Send(self.abort(alloc)?))
             }
         }
     }
@@ -504,7 +469,7 @@ impl<A: Allocator + Copy> Delivery<A> {
         released: bool,
         established: Established<A>,
         pdv: &Pdv<A>,
-    ) -> Result<DeliveryEffect<A>, SessionFault>
+    ) -> Result<Effect<A, DeliveryCall>, SessionFault>
         requires roomy { 8 ≤ established.parameters.max }
         ensures reaction { IfOk result (λ found. Assembles (delivery_view self.old) (established_view established) released (fed established.assembler.ids established.assembler.begun pdv.now) (delivery_reaction_of (delivery_view self.new) found)) }
         ensures writable { IfOk result IsSendableDelivery }
@@ -515,11 +480,11 @@ impl<A: Allocator + Copy> Delivery<A> {
         let came = established.assembler.feed(pdv);
         self.association.established = Some(established);
         match came {
-            Ok(None) => Ok(DeliveryEffect::nothing(alloc)),
+            Ok(None) => Ok(Effect::Send(Vec::new(alloc))),
             Ok(Some(message)) => self.on_message(alloc, released, &message),
             Err(fault) => {
                 unless_memory(fault)?;
-                Ok(DeliveryEffect::Send(self.abort(alloc)?))
+                Ok(Effect::Send(self.abort(alloc)?))
             }
         }
     }
@@ -532,7 +497,7 @@ impl<A: Allocator + Copy> Delivery<A> {
         alloc: A,
         released: bool,
         pdv: &Pdv<A>,
-    ) -> Result<DeliveryEffect<A>, SessionFault>
+    ) -> Result<Effect<A, DeliveryCall>, SessionFault>
         requires roomy { IsRoomy self.old.association.established }
         ensures reaction { IfOk result (λ found. Receives (delivery_view self.old) (option_map established_view self.old.association.established) released pdv.now (delivery_reaction_of (delivery_view self.new) found)) }
         ensures writable { IfOk result IsSendableDelivery }
@@ -541,14 +506,18 @@ impl<A: Allocator + Copy> Delivery<A> {
     {
         match self.association.established.take() {
             Some(established) => self.assemble(alloc, released, established, pdv),
-            None => Ok(DeliveryEffect::nothing(alloc)),
+            None => Ok(Effect::Send(Vec::new(alloc))),
         }
     }
 
     /// Processes a PDV of a P-DATA-TF.
     ///
     /// Errors: out of memory.
-    pub fn on_fragment(&mut self, alloc: A, pdv: &Pdv<A>) -> Result<DeliveryEffect<A>, SessionFault>
+    pub fn on_fragment(
+        &mut self,
+        alloc: A,
+        pdv: &Pdv<A>,
+    ) -> Result<Effect<A, DeliveryCall>, SessionFault>
         requires roomy { IsRoomy self.old.association.established }
         ensures reaction { IfOk result (λ found. OnFragment (delivery_view self.old) pdv.now (next_of true true events.Data self.old.association.state) (delivery_reaction_of (delivery_view self.new) found)) }
         ensures writable { IfOk result IsSendableDelivery }
@@ -557,13 +526,13 @@ impl<A: Allocator + Copy> Delivery<A> {
     {
         let event = UlEvent::Data;
         let Some((action, state)) = next(self.association.state, event, REQUESTOR, true) else {
-            return Ok(DeliveryEffect::nothing(alloc));
+            return Ok(Effect::Send(Vec::new(alloc)));
         };
         self.association.transition(event, action, state);
         match action {
             UlAction::Dt2 => self.receive(alloc, false, pdv),
             UlAction::Ar6 => self.receive(alloc, true, pdv),
-            _ => Ok(DeliveryEffect::Send(self.on_action(alloc, action)?)),
+            _ => Ok(Effect::Send(self.on_action(alloc, action)?)),
         }
     }
 }

@@ -216,7 +216,7 @@ fn effect_of<A: Allocator + Copy>(
     context: AcceptedContext,
     command: RequestCommand<A>,
     dispatch: Dispatch<A>,
-) -> Result<Effect<A>, SessionFault>
+) -> Result<Effect<A, AwaitedRequest<A>>, SessionFault>
     requires { 8 ≤ parameters.now.max }
     ensures effect { IfOk result (λ effect. message_effect (Some effect) ≡ message_effect_of (parameters_view parameters.now) context command (dispatch_view dispatch)) }
     ensures writable { IfOk result IsSendable }
@@ -250,7 +250,7 @@ fn on_request_message<A: Allocator + Copy>(
     id: u8,
     command: RequestCommand<A>,
     body: Option<&[u8]>,
-) -> Result<Option<Effect<A>>, SessionFault>
+) -> Result<Option<Effect<A, AwaitedRequest<A>>>, SessionFault>
     requires { 8 ≤ parameters.now.max }
     ensures effect { IfOk result (λ found. OnCommand config.now.offset (parameters_view parameters.now) (context_at id parameters.now.contexts) (option_copied body.entry) (Request command) (message_effect found)) }
     ensures writable { IfOk result AreSendable }
@@ -272,7 +272,7 @@ pub(crate) fn on_message<A: Allocator + Copy>(
     config: &Config,
     parameters: &Parameters<A>,
     message: RawMessage<A>,
-) -> Result<Option<Effect<A>>, SessionFault>
+) -> Result<Option<Effect<A, AwaitedRequest<A>>>, SessionFault>
     requires { 8 ≤ parameters.now.max }
     ensures effect { IfOk result (λ found. OnMessage config.now.offset (parameters_view parameters.now) message (message_effect found)) }
     ensures writable { IfOk result AreSendable }
@@ -284,9 +284,9 @@ pub(crate) fn on_message<A: Allocator + Copy>(
             let body = message.body.as_ref().map(|body| body.as_slice());
             on_request_message(alloc, config, parameters, message.context, command, body)
         }
-        Ok(Command::Response(_)) => Ok(Some(Effect::nothing(alloc))),
+        Ok(Command::Response(_)) => Ok(Some(Effect::Send(Vec::new(alloc)))),
         // the query that it names was answered whole before this was read
-        Ok(Command::Cancel(_)) => Ok(Some(Effect::nothing(alloc))),
+        Ok(Command::Cancel(_)) => Ok(Some(Effect::Send(Vec::new(alloc)))),
         Err(fault) => on_unreadable_command(fault),
     }
 }
@@ -296,7 +296,7 @@ pub(crate) fn on_message<A: Allocator + Copy>(
 /// Errors: out of memory.
 fn on_unreadable_command<A: Allocator + Copy>(
     fault: DimseFault,
-) -> Result<Option<Effect<A>>, SessionFault>
+) -> Result<Option<Effect<A, AwaitedRequest<A>>>, SessionFault>
     ensures none { IfOk result (λ found. (found ≡ None) × (fault ≢ NoRoomForCommand)) }
     ensures lost { OnErr result (fault ≡ NoRoomForCommand) }
     ensures memory { IfErr result (λ e. e ≡ Memory) }

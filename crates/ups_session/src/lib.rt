@@ -4,24 +4,27 @@
 //! PDUs are read from any reader and written to any writer (PS3.8 section 9).
 #![tactic(auto)]
 
+mod acceptor;
 mod association;
-mod delivering;
 mod delivery;
 mod devices;
 mod dispatch;
+mod driver;
 mod effect;
 mod fault;
 mod gate;
+mod indication;
+mod party;
 mod pdu_io;
 mod proposing;
 mod reports;
+mod requestor;
 mod response;
-mod session;
 mod watched_io;
 
-pub use delivering::deliver;
+pub use acceptor::serve;
 pub use devices::{CutReader, CutWriter, ListGate};
 pub use fault::{End, SessionFault};
 pub use gate::{Gate, GateCall};
-pub use session::serve;
+pub use requestor::deliver;
 pub use watched_io::{LastRead, WatchedReader, WatchedWriter};

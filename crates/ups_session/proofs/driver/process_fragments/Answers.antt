@@ -1,0 +1,50 @@
+use Rattle.std.proofs.Common.{rules, refl, [], ◌∷◌, ◌∙◌, List, map, subst}
+use Rattle.std.proofs.lemmas.List.{take_all}
+use Rattle.std.proofs.lemmas.Result.{err_from_is_err_and}
+use Rattle.ups_pdu.specs.declared.pdv.Pdv.{Pdv}
+use Rattle.ups_session.specs.Fold.{presentation_data, Happens}
+use Rattle.ups_session.specs.Session.{okay, failing}
+use Rattle.ups_session.specs.World.{world, Performed}
+use Rattle.ups_session.proofs.Going.{goes_nowhere}
+use Rattle.ups_session.proofs.Carrying.{fragments_on, fragments_cut}
+use Rattle.ups_session.proofs.driver.process_fragments.Goals as goal
+
+pub loop-pdv-init : goal.loop-pdv-init
+loop-pdv-init g c = (c.requires.ready, refl, goes_nowhere (Happens (g.P.Party.side (g.P.Party.setup c.args.party.now))) (g.P.Party.view c.args.party.now) _ tt)
+
+pub process-requires-clause-ready : goal.process-requires-clause-ready
+process-requires-clause-ready g c = c.loop-pdv.invariant.0
+
+pub returns-in_err-process-clause-performed : goal.returns-in_err-process-clause-performed
+returns-in_err-process-clause-performed g c =
+    let p = err_from_is_err_and c.from_residual.result c.from_residual.ensures.1 in
+    let e = c.in_err-process.field-0.0 in
+    let (ready, same, so_far) = c.loop-pdv.invariant in
+    rw (p.1, p.2)
+    (fragments_cut (g.P.Party.side (g.P.Party.setup c.args.party.now)) c.loop-pdv.pdv-index c.args.pdvs.now c.pdv-item.result (g.P.Party.view c.args.party.now) (g.P.Party.view c.loop-pdv.party) (g.P.Party.view c.process.new.party) _ _ _ e c.loop-pdv-test.true c.pdv-item.is so_far
+    (subst (λ (s : g.P.Party.Setup). Performed (Happens (g.P.Party.side s)) (presentation_data c.pdv-item.result ∷ []) (g.P.Party.view c.loop-pdv.party) (g.P.Party.view c.process.new.party)
+    (world c.loop-pdv.writer (g.G.Gate.told c.loop-pdv.gate) (g.S.Service.settings c.loop-pdv.service) (g.S.Service.others c.loop-pdv.service) (g.S.Service.caller c.loop-pdv.service) (g.S.Service.seen c.loop-pdv.service))
+    (world c.process.new.writer (g.G.Gate.told c.process.new.gate) (g.S.Service.settings c.process.new.service) (g.S.Service.others c.process.new.service) (g.S.Service.caller c.process.new.service) (g.S.Service.seen c.process.new.service)) (failing e))
+    same c.in_err-process.ensures.performed))
+
+pub returns-in_err-process-clause-setup : goal.returns-in_err-process-clause-setup
+returns-in_err-process-clause-setup g c = c.in_err-process.ensures.setup ∙ c.loop-pdv.invariant.1
+
+pub loop-pdv-preserved : goal.loop-pdv-preserved
+loop-pdv-preserved g c =
+    let (ready, same, so_far) = c.loop-pdv.invariant in (
+      c.in_ok-process.ensures.ready,
+      c.in_ok-process.ensures.setup ∙ same,
+      fragments_on (g.P.Party.side (g.P.Party.setup c.args.party.now)) c.loop-pdv.pdv-index c.args.pdvs.now c.pdv-item.result (g.P.Party.view c.args.party.now) (g.P.Party.view c.loop-pdv.party) (g.P.Party.view c.process.new.party) _ _ _ c.loop-pdv-test.true c.pdv-item.is so_far
+          (subst (λ (s : g.P.Party.Setup). Performed (Happens (g.P.Party.side s)) (presentation_data c.pdv-item.result ∷ []) (g.P.Party.view c.loop-pdv.party) (g.P.Party.view c.process.new.party)
+          (world c.loop-pdv.writer (g.G.Gate.told c.loop-pdv.gate) (g.S.Service.settings c.loop-pdv.service) (g.S.Service.others c.loop-pdv.service) (g.S.Service.caller c.loop-pdv.service) (g.S.Service.seen c.loop-pdv.service))
+          (world c.process.new.writer (g.G.Gate.told c.process.new.gate) (g.S.Service.settings c.process.new.service) (g.S.Service.others c.process.new.service) (g.S.Service.caller c.process.new.service) (g.S.Service.seen c.process.new.service)) okay)
+          same c.in_ok-process.ensures.performed),
+    )
+
+pub returns-clause-performed : goal.returns-clause-performed
+returns-clause-performed g c =
+    subst (λ (l : List (Pdv g.row.A.Denot)). Performed (Happens (g.P.Party.side (g.P.Party.setup c.args.party.now))) (map presentation_data l) (g.P.Party.view c.args.party.now) (g.P.Party.view c.loop-pdv.party)
+    (world c.args.writer.now (g.G.Gate.told c.args.gate.now) (g.S.Service.settings c.args.service.now) (g.S.Service.others c.args.service.now) (g.S.Service.caller c.args.service.now) (g.S.Service.seen c.args.service.now))
+    (world c.loop-pdv.writer (g.G.Gate.told c.loop-pdv.gate) (g.S.Service.settings c.loop-pdv.service) (g.S.Service.others c.loop-pdv.service) (g.S.Service.caller c.loop-pdv.service) (g.S.Service.seen c.loop-pdv.service)) okay)
+    (take_all c.loop-pdv.pdv-index c.args.pdvs.now (search rules)) c.loop-pdv.invariant.2

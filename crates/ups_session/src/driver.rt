@@ -1,0 +1,179 @@
+//! The driver of a session, for either party: it reads PDUs from a reader, and writes what the party sends to a writer.
+
+ghost use Rattle.std.specs.Prelude.{◌≡◌, [], ◌∷◌, ℕ, List, OnOk, map};
+ghost use Rattle.std.specs.Io.KnownBytes.{Consumes};
+ghost use Rattle.ups_pdu.specs.Spelling.{SpellsPdu};
+ghost use Rattle.ups_session.specs.Fold.{presentation_data, indications, Happens};
+ghost use Rattle.ups_session.specs.Party.{indication_of, Comes};
+ghost use Rattle.ups_session.specs.Session.{IsSession};
+ghost use Rattle.ups_session.specs.Turn.{IsTurn};
+ghost use Rattle.ups_session.specs.World.{world, Performed};
+
+use crate::effect::Effect;
+use crate::fault::{End, SessionFault};
+use crate::gate::Gate;
+use crate::indication::UlIndication;
+use crate::party::Party;
+use crate::pdu_io::{PduRead, read_one, send_pdus};
+use crate::watched_io::{WatchedReader, WatchedWriter};
+use std::alloc::Allocator;
+use std::io::{Read, Write};
+use ups_pdu::{Pdu, Pdv};
+use ups_service::Service;
+use ups_ulstate::UlEvent;
+
+/// Processes an indication: the party reacts, and what it sends is written, or the call that it makes is settled.
+///
+/// Errors: a failed write; out of memory.
+fn process<A: Allocator + Copy, W: Write, S: Service<A>, G: Gate, P: Party<A>>(
+    alloc: A,
+    party: &mut P,
+    writer: &mut WatchedWriter<W>,
+    service: &mut S,
+    gate: &mut G,
+    indication: &UlIndication<A>,
+) -> Result<(), SessionFault>
+    requires ready { P.is_ready party.old }
+    requires comes { Comes (indication_of indication.now) }
+    ensures performed { Performed (Happens (P.side (P.setup party.old))) (indication_of indication.now ∷ []) (P.view party.old) (P.view party.new)
+        (world writer.old (G.told gate.old) (S.settings service.old) (S.others service.old) (S.caller service.old) (S.seen service.old))
+        (world writer.new (G.told gate.new) (S.settings service.new) (S.others service.new) (S.caller service.new) (S.seen service.new)) result }
+    ensures ready { OnOk result (P.is_ready party.new) }
+    ensures setup { P.setup party.new ≡ P.setup party.old }
+{
+    match party.react(alloc, indication)? {
+        Effect::Send(said) => send_pdus(alloc, writer, gate, said.as_slice()),
+        Effect::Call(call) => party.settle(alloc, writer, service, gate, &mut Some(call)),
+    }
+}
+
+/// Processes the PDVs of a P-DATA-TF, in order (PS3.8 section 9.3.5).
+///
+/// Errors: a failed write; out of memory.
+fn process_fragments<A: Allocator + Copy, W: Write, S: Service<A>, G: Gate, P: Party<A>>(
+    alloc: A,
+    party: &mut P,
+    writer: &mut WatchedWriter<W>,
+    service: &mut S,
+    gate: &mut G,
+    pdvs: &[Pdv<A>],
+) -> Result<(), SessionFault>
+    requires ready { P.is_ready party.old }
+    ensures performed { Performed (Happens (P.side (P.setup party.old))) (map presentation_data pdvs.now) (P.view party.old) (P.view party.new)
+        (world writer.old (G.told gate.old) (S.settings service.old) (S.others service.old) (S.caller service.old) (S.seen service.old))
+        (world writer.new (G.told gate.new) (S.settings service.new) (S.others service.new) (S.caller service.new) (S.seen service.new)) result }
+    ensures ready { OnOk result (P.is_ready party.new) }
+    ensures setup { P.setup party.new ≡ P.setup party.old }
+{
+    for pdv in pdvs {
+        let indication = UlIndication::Pdv(pdv);
+        process(alloc, party, writer, service, gate, &indication)?;
+    }
+    Ok(())
+}
+
+/// Processes a PDU.
+///
+/// Errors: a failed write; out of memory.
+fn process_pdu<A: Allocator + Copy, W: Write, S: Service<A>, G: Gate, P: Party<A>>(
+    alloc: A,
+    party: &mut P,
+    writer: &mut WatchedWriter<W>,
+    service: &mut S,
+    gate: &mut G,
+    pdu: &Pdu<A>,
+) -> Result<(), SessionFault>
+    requires ready { P.is_ready party.old }
+    requires spelled { (bytes : List ℕ) × SpellsPdu bytes pdu.now }
+    ensures performed { Performed (Happens (P.side (P.setup party.old))) (indications pdu.now) (P.view party.old) (P.view party.new)
+        (world writer.old (G.told gate.old) (S.settings service.old) (S.others service.old) (S.caller service.old) (S.seen service.old))
+        (world writer.new (G.told gate.new) (S.settings service.new) (S.others service.new) (S.caller service.new) (S.seen service.new)) result }
+    ensures ready { OnOk result (P.is_ready party.new) }
+    ensures setup { P.setup party.new ≡ P.setup party.old }
+{
+    let event = match pdu {
+        Pdu::Data(pdvs) => {
+            return process_fragments(alloc, party, writer, service, gate, pdvs.as_slice());
+        }
+        Pdu::AssociateRq(request) => {
+            let indication = UlIndication::AssociateRq(request);
+            return process(alloc, party, writer, service, gate, &indication);
+        }
+        Pdu::AssociateAc(accept) => {
+            let indication = UlIndication::AssociateAc(accept);
+            return process(alloc, party, writer, service, gate, &indication);
+        }
+        Pdu::AssociateRj { .. } => UlEvent::AssociateRj,
+        Pdu::ReleaseRq => UlEvent::ReleaseRq,
+        Pdu::ReleaseRp => UlEvent::ReleaseRp,
+        Pdu::Abort { .. } => UlEvent::Abort,
+    };
+    let indication = UlIndication::Event(event);
+    process(alloc, party, writer, service, gate, &indication)
+}
+
+/// Reads the next PDU, or the end of the input, and processes it.
+///
+/// Errors: Read if a read failed or the input ended inside a PDU; a failed write; out of memory.
+fn process_next<A: Allocator + Copy, R: Read, W: Write, S: Service<A>, G: Gate, P: Party<A>>(
+    alloc: A,
+    party: &mut P,
+    reader: &mut WatchedReader<R>,
+    writer: &mut WatchedWriter<W>,
+    service: &mut S,
+    gate: &mut G,
+) -> Result<(), SessionFault>
+    requires ready { P.is_ready party.old }
+    ensures one_turn { (input : List ℕ) × Consumes reader.old.left reader.new.left input
+        × IsTurn (P.side (P.setup party.old)) (P.view party.old) (P.view party.new) reader.new input
+        (world writer.old (G.told gate.old) (S.settings service.old) (S.others service.old) (S.caller service.old) (S.seen service.old))
+        (world writer.new (G.told gate.new) (S.settings service.new) (S.others service.new) (S.caller service.new) (S.seen service.new)) result }
+    ensures ready { OnOk result (P.is_ready party.new) }
+    ensures setup { P.setup party.new ≡ P.setup party.old }
+{
+    match read_one(alloc, reader)? {
+        PduRead::Pdu(pdu) => process_pdu(alloc, party, writer, service, gate, &pdu),
+        PduRead::Bad(fault) => {
+            let indication = UlIndication::InvalidPdu(fault);
+            process(alloc, party, writer, service, gate, &indication)
+        }
+        PduRead::Closed => {
+            let indication = UlIndication::Event(UlEvent::TransportClosed);
+            process(alloc, party, writer, service, gate, &indication)
+        }
+        PduRead::Cut | PduRead::Failed => Err(SessionFault::Read),
+    }
+}
+
+/// Drives a party over an open transport connection (PS3.8 section 9.2), until the association has ended or `turns` PDUs
+/// were read.
+///
+/// Errors: Read if a read failed or the input ended inside a PDU; Write if a write failed; Turns if `turns` PDUs were read
+/// and the association has not ended; Memory if memory ran out.
+pub(crate) fn drive<A: Allocator + Copy, R: Read, W: Write, S: Service<A>, G: Gate, P: Party<A>>(
+    alloc: A,
+    party: &mut P,
+    reader: &mut WatchedReader<R>,
+    writer: &mut WatchedWriter<W>,
+    service: &mut S,
+    gate: &mut G,
+    turns: u64,
+) -> Result<End, SessionFault>
+    requires start { P.view party.old ≡ P.start }
+    requires ready { P.is_ready party.old }
+    ensures session { (input : List ℕ) × Consumes reader.old.left reader.new.left input
+        × IsSession (P.side (P.setup party.old)) P.ending P.start turns reader.new input
+        (world writer.old (G.told gate.old) (S.settings service.old) (S.others service.old) (S.caller service.old) (S.seen service.old))
+        (world writer.new (G.told gate.new) (S.settings service.new) (S.others service.new) (S.caller service.new) (S.seen service.new)) result }
+{
+    party.begin(alloc, writer, gate)?;
+    let mut left = turns;
+    while left > 0 {
+        process_next(alloc, party, reader, writer, service, gate)?;
+        if let Some(end) = party.end() {
+            return Ok(end);
+        }
+        left -= 1;
+    }
+    Err(SessionFault::Turns)
+}

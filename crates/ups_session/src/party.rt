@@ -1,0 +1,122 @@
+//! A party of an association: its requestor or its acceptor.
+
+ghost use Rattle.std.specs.Prelude.{◌≡◌, ◌∷◌, [], true, is_some, ℕ, List, IfOk, IfErr, OnOk, MatchOption};
+
+use crate::effect::Effect;
+use crate::fault::{End, SessionFault};
+use crate::gate::Gate;
+use crate::indication::UlIndication;
+use crate::watched_io::WatchedWriter;
+use std::alloc::Allocator;
+use std::io::Write;
+use ups_service::Service;
+
+/// A party of an association (PS3.8 section 7.1): its requestor or its acceptor.
+pub(crate) trait Party<A: Allocator + Copy> {
+    ghost use Rattle.std.specs.Option.{IfSome};
+    ghost use Rattle.ups_life.specs.Settings.{Settings};
+    ghost use Rattle.ups_life.specs.declared.entry.Entry.{Entry};
+    ghost use Rattle.ups_service.specs.Law.{Others};
+    ghost use Rattle.ups_session.specs.declared.fault.End.{End};
+    ghost use Rattle.ups_session.specs.declared.fault.SessionFault.TheVariants.{Memory};
+    ghost use Rattle.ups_session.specs.Fold.{Side, Happens, IsOpen};
+    ghost use Rattle.ups_session.specs.Party.{indication_of, Comes, awaiting_reply, reaction_with, CanSend, IsOver};
+    ghost use Rattle.ups_session.specs.Settled.{IsSettled};
+    ghost use Rattle.ups_session.specs.World.{world, Performed};
+
+    /// What it calls the service for.
+    type Call: Drop;
+
+    /// What is set up before the association: titles, and the offset of the local time.
+    ghost Setup: { Type 0 };
+
+    /// How the definitions see a party.
+    ghost View: { Type 0 };
+
+    /// How the definitions see a call.
+    ghost CallView: { Type 0 };
+
+    /// The side of the association that a party is, by its setup.
+    ghost side: { Setup → Side A View CallView };
+
+    /// A party before anything happens.
+    ghost start: { View };
+
+    /// How the association ends by what has happened.
+    ghost ending: { View → End };
+
+    /// The setup of a party.
+    ghost setup: { Self → Setup };
+
+    /// The view of a party.
+    ghost view: { Self → View };
+
+    /// The view of a call.
+    ghost call_view: { Self.Call → CallView };
+
+    /// Whether a party can send what it may have to.
+    ghost is_ready: { Self → Type 0 };
+
+    /// Whether a party can send the reply to a call.
+    ghost is_roomy: { Self.Call → Type 0 };
+
+    /// Begins: the requestor sends its A-ASSOCIATE-RQ, and the acceptor awaits one.
+    ///
+    /// Errors: a failed write; out of memory.
+    fn begin<W: Write, G: Gate>(
+        &mut self,
+        alloc: A,
+        writer: &mut WatchedWriter<W>,
+        gate: &mut G,
+    ) -> Result<(), SessionFault>
+        requires start { view self.old ≡ start }
+        requires ready { is_ready self.old }
+        ensures begins { (settings : Settings) → (others : Others) → (caller : ℕ) → (seen : List (Entry A)) → Performed (Happens (side (setup self.old))) (side (setup self.old)).first start (view self.new)
+            (world writer.old (G.told gate.old) settings others caller seen) (world writer.new (G.told gate.new) settings others caller seen) result }
+        ensures open { OnOk result (IsOpen ((side (setup self.old)).state (view self.new))) }
+        ensures ready { OnOk result (is_ready self.new) }
+        ensures setup { setup self.new ≡ setup self.old };
+
+    /// Reacts to an indication, by the state transition table (PS3.8 section 9.2).
+    ///
+    /// Errors: out of memory.
+    fn react(
+        &mut self,
+        alloc: A,
+        indication: &UlIndication<A>,
+    ) -> Result<Effect<A, Self::Call>, SessionFault>
+        requires ready { is_ready self.old }
+        requires comes { Comes (indication_of indication.now) }
+        ensures reacts { IfOk result (λ effect. (side (setup self.old)).Reacts (view self.old) (indication_of indication.now) (reaction_with call_view (view self.new) effect)) }
+        ensures sendable { IfOk result (CanSend is_roomy) }
+        ensures ready { OnOk result (is_ready self.new) }
+        ensures setup { setup self.new ≡ setup self.old }
+        ensures memory { IfErr result (λ e. e ≡ Memory) };
+
+    /// Makes a call of the service, and sends what its reply leads to. The call is taken from its
+    /// place, as `Service::answer` takes an ask.
+    ///
+    /// Errors: a failed write; out of memory. What the service accepted stays accepted.
+    fn settle<W: Write, S: Service<A>, G: Gate>(
+        &mut self,
+        alloc: A,
+        writer: &mut WatchedWriter<W>,
+        service: &mut S,
+        gate: &mut G,
+        call: &mut Option<Self::Call>,
+    ) -> Result<(), SessionFault>
+        requires ready { is_ready self.old }
+        requires given { is_some call.old ≡ true }
+        requires roomy { IfSome call.old is_roomy }
+        ensures settled { IfSome call.old (λ c. IsSettled (side (setup self.old)) (awaiting_reply (view self.old) (call_view c)) (view self.new)
+            (world writer.old (G.told gate.old) (S.settings service.old) (S.others service.old) (S.caller service.old) (S.seen service.old))
+            (world writer.new (G.told gate.new) (S.settings service.new) (S.others service.new) (S.caller service.new) (S.seen service.new)) result) }
+        ensures ready { OnOk result (is_ready self.new) }
+        ensures setup { setup self.new ≡ setup self.old };
+
+    /// Returns how the association ended, or None while it goes on. Once the transport connection is closed, the
+    /// association has ended.
+    fn end(&self) -> Option<End>
+        ensures ended { MatchOption result (IsOpen ((side (setup self.now)).state (view self.now))) (λ end. (IsOpen ((side (setup self.now)).state (view self.now)) → ⊥) × (ending (view self.now) ≡ end)) }
+        ensures over { IsOver (side (setup self.now)) };
+}
