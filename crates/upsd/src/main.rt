@@ -17,8 +17,6 @@ mod limits;
 mod piping;
 mod scripting;
 mod serving;
-#[cfg(test)]
-mod tests;
 
 use crate::arguments::{ArgumentFault, ae_of, command, peers_of};
 use crate::limits::TURNS;
