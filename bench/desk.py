@@ -20,7 +20,7 @@ import sys
 import tempfile
 
 NAME = "desk_bench"
-USES = "ups_pdu ups_dataset ups_dimse ups_match ups_life ups_reports ups_manager ups_turn atomic_table std_heap"
+USES = "ups_pdu ups_dataset ups_dimse ups_match ups_cycle ups_life ups_reports ups_service ups_manager ups_turn atomic_table std_heap"
 
 # what is asked, and how many calls a run makes in all
 ASKED = (("get", 240_000), ("find", 24_000))

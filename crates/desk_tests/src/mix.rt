@@ -4,10 +4,11 @@ use crate::calls::{
     Answer, Claim, STEPS, creation, put_item, request_of, set_of, step_of, transaction_of,
 };
 use std::alloc::Global;
+use ups_cycle::StepState;
 use ups_dataset::DataSet;
 use ups_dataset::dictionary::*;
 use ups_dimse::Tags;
-use ups_life::{Ask, Request, StepState, StepUid, Target};
+use ups_life::{Ask, Request, StepUid, Target};
 use ups_match::Keys;
 use ups_pdu::Ae;
 

@@ -4,8 +4,10 @@ use crate::steps::step_uid;
 use fixtures::{Refusing, bytes_of, title};
 use std::alloc::{Allocator, Global};
 use std::test::Fail;
-use ups_dataset::{DataSet, TransferSyntax, read_set, write_set};
-use ups_life::{Entry, Event, EventKind, InputReadiness, Request, StepState, Transaction};
+use ups_cycle::StepState;
+use ups_dataset::{DataSet, read_set, write_set};
+use ups_life::{Entry, Event, EventKind, InputReadiness, Request, Transaction};
+use ups_pdu::TransferSyntax;
 use ups_reports::{payload, type_id};
 
 /// The greatest number of growths that a test refuses in turn.

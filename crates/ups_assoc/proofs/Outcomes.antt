@@ -16,8 +16,8 @@ use Rattle.ups_pdu.specs.Context.{SpellsProposedContext, first_byte, are_differe
 use Rattle.ups_pdu.specs.Spelling.{SpellsPdu}
 use Rattle.ups_pdu.specs.Written.{associate_head, associate_items, user_content, answered_content, written_item, syntax_of as written_syntax}
 use Rattle.ups_pdu.specs.Fits.{Fits, FitsAnswer, FitsUser}
-use Rattle.ups_dataset.specs.declared.syntax.TransferSyntax.{TransferSyntax}
-use Rattle.ups_dataset.specs.declared.syntax.TransferSyntax.TheVariants.{Implicit, Explicit}
+use Rattle.ups_pdu.specs.declared.syntax.TransferSyntax.{TransferSyntax}
+use Rattle.ups_pdu.specs.declared.syntax.TransferSyntax.TheVariants.{Implicit, Explicit}
 use Rattle.ups_assoc.specs.declared.sop_class.SopClass.{SopClass}
 use Rattle.ups_assoc.specs.declared.negotiating.Acceptance.{Acceptance}
 use Rattle.ups_assoc.specs.declared.negotiating.Outcome.TheVariants.{Accept}

@@ -6,8 +6,8 @@ use Rattle.ups_pdu.specs.declared.associate.ContextAnswer.{ContextAnswer}
 use Rattle.ups_pdu.specs.declared.associate.ContextAnswer.TheVariants.{Accepted, Refused}
 use Rattle.ups_pdu.specs.declared.registered.RegisteredUid.TheVariants.{ImplicitVrLittleEndian, ExplicitVrLittleEndian}
 use Rattle.ups_pdu.specs.Registered.{text_of}
-use Rattle.ups_dataset.specs.declared.syntax.TransferSyntax.{TransferSyntax}
-use Rattle.ups_dataset.specs.declared.syntax.TransferSyntax.TheVariants.{Implicit, Explicit}
+use Rattle.ups_pdu.specs.declared.syntax.TransferSyntax.{TransferSyntax}
+use Rattle.ups_pdu.specs.declared.syntax.TransferSyntax.TheVariants.{Implicit, Explicit}
 use Rattle.ups_assoc.specs.declared.sop_class.SopClass.{SopClass}
 use Rattle.ups_assoc.specs.declared.negotiating.AcceptedContext.{AcceptedContext}
 use Rattle.ups_assoc.specs.Same.{is_same}

@@ -14,10 +14,9 @@ use crate::fault::AssocFault;
 use crate::sop_class::SopClass;
 use std::alloc::{AllocError, Allocator};
 use std::marker::Model;
-use ups_dataset::TransferSyntax;
 use ups_pdu::{
     Ae, AnsweredContext, AnsweredContexts, AssociateAc, AssociateRq, Bytes, ContextAnswer,
-    MAX_DATA_LENGTH, ProposedContext, RegisteredUid, Roles, Uid, UserInformation,
+    MAX_DATA_LENGTH, ProposedContext, RegisteredUid, Roles, TransferSyntax, Uid, UserInformation,
 };
 
 /// The result for a context whose abstract syntax isn't supported (PS3.8 section 9.3.3.2).

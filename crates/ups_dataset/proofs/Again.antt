@@ -5,8 +5,8 @@ use Rattle.ups_dataset.specs.declared.tag.Tag.{Tag}
 use Rattle.ups_dataset.specs.Limits.{max_depth, max_short_length, undefined_length}
 use Rattle.ups_dataset.specs.declared.vr.Vr.{Vr}
 use Rattle.ups_dataset.specs.declared.vr.Vr.TheVariants.{Sq, Un}
-use Rattle.ups_dataset.specs.declared.syntax.TransferSyntax.{TransferSyntax}
-use Rattle.ups_dataset.specs.declared.syntax.TransferSyntax.TheVariants.{Implicit, Explicit}
+use Rattle.ups_pdu.specs.declared.syntax.TransferSyntax.{TransferSyntax}
+use Rattle.ups_pdu.specs.declared.syntax.TransferSyntax.TheVariants.{Implicit, Explicit}
 use Rattle.ups_dataset.specs.declared.head.Reach.TheVariants.{Filled}
 use Rattle.ups_dataset.specs.declared.head.Head.TheVariants.{Known}
 use Rattle.ups_dataset.specs.Tag.{IsTag, number, tag_bytes, is_mark}

@@ -4,8 +4,8 @@ use Rattle.ups_dataset.specs.declared.tag.Tag.{Tag}
 use Rattle.ups_dataset.specs.Limits.{max_depth, max_short_length, undefined_length}
 use Rattle.ups_dataset.specs.declared.vr.Vr.{Vr}
 use Rattle.ups_dataset.specs.declared.vr.Vr.TheVariants.{Sq, Un}
-use Rattle.ups_dataset.specs.declared.syntax.TransferSyntax.{TransferSyntax}
-use Rattle.ups_dataset.specs.declared.syntax.TransferSyntax.TheVariants.{Implicit, Explicit}
+use Rattle.ups_pdu.specs.declared.syntax.TransferSyntax.{TransferSyntax}
+use Rattle.ups_pdu.specs.declared.syntax.TransferSyntax.TheVariants.{Implicit, Explicit}
 use Rattle.ups_dataset.specs.declared.head.Reach.{Reach}
 use Rattle.ups_dataset.specs.declared.head.Head.TheVariants.{Known}
 use Rattle.ups_dataset.specs.Tag.{IsTag, number, is_mark, is_group_length}

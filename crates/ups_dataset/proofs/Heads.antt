@@ -4,8 +4,8 @@ use Rattle.std.specs.Int.{w16, w32, to_le_bytes}
 use Rattle.ups_dataset.specs.declared.tag.Tag.{Tag}
 use Rattle.ups_dataset.specs.declared.vr.Vr.{Vr}
 use Rattle.ups_dataset.specs.declared.vr.Vr.TheVariants.{Un}
-use Rattle.ups_dataset.specs.declared.syntax.TransferSyntax.{TransferSyntax}
-use Rattle.ups_dataset.specs.declared.syntax.TransferSyntax.TheVariants.{Implicit, Explicit}
+use Rattle.ups_pdu.specs.declared.syntax.TransferSyntax.{TransferSyntax}
+use Rattle.ups_pdu.specs.declared.syntax.TransferSyntax.TheVariants.{Implicit, Explicit}
 use Rattle.ups_dataset.specs.declared.head.Head.{Head}
 use Rattle.ups_dataset.specs.declared.head.Head.TheVariants.{Known, Strange, Mark}
 use Rattle.ups_dataset.specs.Tag.{IsTag, tag_bytes, is_mark}

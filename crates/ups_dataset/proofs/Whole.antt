@@ -1,6 +1,6 @@
 -- From the readers to the public call.
 use Rattle.std.proofs.Common.{◌≡◌, ℕ, List, [], refl, sym, ap, subst, ◌∙◌}
-use Rattle.ups_dataset.specs.declared.syntax.TransferSyntax.{TransferSyntax}
+use Rattle.ups_pdu.specs.declared.syntax.TransferSyntax.{TransferSyntax}
 use Rattle.ups_dataset.specs.declared.head.Reach.TheVariants.{Filled}
 use Rattle.ups_dataset.specs.declared.fault.SetFault.{SetFault}
 use Rattle.ups_dataset.specs.declared.fault.SetFault.TheVariants.{Short, TagOrder, BadVr, OddLength, Depth, BadItem, Memory}

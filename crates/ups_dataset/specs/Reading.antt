@@ -1,6 +1,6 @@
 -- What a reading that fails says.
 use Rattle.std.specs.Prelude.{ℕ, List}
-use Rattle.ups_dataset.specs.declared.syntax.TransferSyntax.{TransferSyntax}
+use Rattle.ups_pdu.specs.declared.syntax.TransferSyntax.{TransferSyntax}
 use Rattle.ups_dataset.specs.declared.head.Reach.TheVariants.{Filled}
 use Rattle.ups_dataset.specs.declared.fault.SetFault.{SetFault}
 use Rattle.ups_dataset.specs.declared.fault.SetFault.TheVariants.{Memory}

@@ -3,8 +3,8 @@ use Rattle.std.specs.Prelude.{◌≡◌, ℕ, Bool, true, false, List, [], ◌++
 use Rattle.std.specs.Int.{w16, w32, to_le_bytes}
 use Rattle.ups_dataset.specs.declared.tag.Tag.{Tag}
 use Rattle.ups_dataset.specs.declared.vr.Vr.{Vr}
-use Rattle.ups_dataset.specs.declared.syntax.TransferSyntax.{TransferSyntax}
-use Rattle.ups_dataset.specs.declared.syntax.TransferSyntax.TheVariants.{Implicit, Explicit}
+use Rattle.ups_pdu.specs.declared.syntax.TransferSyntax.{TransferSyntax}
+use Rattle.ups_pdu.specs.declared.syntax.TransferSyntax.TheVariants.{Implicit, Explicit}
 use Rattle.ups_dataset.specs.Tag.{tag_bytes, item_tag}
 use Rattle.ups_dataset.specs.Vr.{letters, is_long}
 use Rattle.ups_dataset.specs.Data.{Data, bytes, items, Items, no_items, item, Elements, no_elements, element, El, elements_of}

@@ -13,12 +13,11 @@ use crate::head::{Reach, end_at, is_sequence, item_at, known_at};
 use crate::limits::{MAX_DEPTH, UNDEFINED_LENGTH};
 use crate::passing::{inside, opened, rest_behind};
 use crate::set::{DataSet, Element, Value};
-use crate::syntax::TransferSyntax;
 use crate::tag::{ITEM_DELIMITATION, SEQUENCE_DELIMITATION, Tag};
 use crate::trimming::trim;
 use crate::vr::Vr;
 use std::alloc::Allocator;
-use ups_pdu::Bytes;
+use ups_pdu::{Bytes, TransferSyntax};
 
 /// The value behind a header, the representation that it is kept under, and what follows.
 #[cycle(building)]

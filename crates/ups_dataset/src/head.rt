@@ -4,16 +4,15 @@ ghost use Rattle.std.specs.Prelude.{◌≡◌, ◌<◌, ◌∷◌, ◌++◌, ℕ
 ghost use Rattle.std.specs.Int.{w16, to_le_bytes};
 ghost use Rattle.ups_dataset.specs.declared.tag.Tag.{Tag};
 ghost use Rattle.ups_dataset.specs.declared.head.Head.TheVariants.{Known, Strange};
-ghost use Rattle.ups_dataset.specs.declared.syntax.TransferSyntax.TheVariants.{Explicit};
+ghost use Rattle.ups_pdu.specs.declared.syntax.TransferSyntax.TheVariants.{Explicit};
 ghost use Rattle.ups_dataset.specs.Head.{implicit_vr, is_sequence, head_fault, item_fault, length_fault, IsMark, IsShortHead, IsLongHead, IsStrange, IsHead, HeadFails, IsKnown, ItemHeadFails, IsSequenceItem, Ends, Opens};
 
 use crate::dictionary::vr_of;
 use crate::fault::SetFault;
 use crate::limits::{MAX_DEPTH, MAX_SHORT_LENGTH, UNDEFINED_LENGTH};
-use crate::syntax::TransferSyntax;
 use crate::tag::{ITEM, Tag};
 use crate::vr::Vr;
-use ups_pdu::{le_u16_at, le_u32_at};
+use ups_pdu::{TransferSyntax, le_u16_at, le_u32_at};
 
 /// How far a set, or the items of a sequence, go: they fill their bytes, or a mark stands at their end.
 #[derive(Clone, Copy, Debug, PartialEq, Eq)]

@@ -3,7 +3,7 @@
 ghost use Rattle.std.specs.Prelude.{◌≡◌, ℕ, List, if◌then◌else◌, Some};
 ghost use Rattle.ups_dataset.specs.declared.fault.SetFault.{SetFault};
 ghost use Rattle.ups_dataset.specs.declared.fault.SetFault.TheVariants.{Memory};
-ghost use Rattle.ups_dataset.specs.declared.syntax.TransferSyntax.{TransferSyntax};
+ghost use Rattle.ups_pdu.specs.declared.syntax.TransferSyntax.{TransferSyntax};
 ghost use Rattle.ups_dataset.specs.declared.tag.Tag.{Tag};
 ghost use Rattle.ups_dataset.specs.Tag.{is_tag};
 ghost use Rattle.ups_dataset.specs.Data.{El, element_at, put, laid_over, first_of_two};

@@ -15,7 +15,6 @@ mod passing;
 mod putting;
 mod reading;
 mod set;
-mod syntax;
 mod tag;
 mod trimming;
 mod vr;
@@ -26,7 +25,6 @@ pub use fault::SetFault;
 pub use limits::{MAX_DEPTH, MAX_SHORT_LENGTH, UNDEFINED_LENGTH, limits_are_those_of_the_profile};
 pub use reading::read_set;
 pub use set::{DataSet, Element, Value};
-pub use syntax::TransferSyntax;
 pub use tag::{
     ITEM, ITEM_DELIMITATION, SEQUENCE_DELIMITATION, Tag, the_marks_are_those_of_the_standard,
 };

@@ -10,9 +10,9 @@ ghost use Rattle.ups_dataset.specs.Limits.{max_depth, undefined_length};
 use crate::fault::SetFault;
 use crate::head::{Reach, end_at, is_sequence, item_at, known_at};
 use crate::limits::{MAX_DEPTH, UNDEFINED_LENGTH};
-use crate::syntax::TransferSyntax;
 use crate::tag::{ITEM_DELIMITATION, SEQUENCE_DELIMITATION};
 use crate::vr::Vr;
+use ups_pdu::TransferSyntax;
 
 /// The syntax of the items behind a header.
 pub(crate) fn inside(syntax: TransferSyntax, vr: Vr) -> TransferSyntax

@@ -11,8 +11,8 @@ use crate::fault::SetFault;
 use crate::head::Reach;
 use crate::passing::elements_end;
 use crate::set::DataSet;
-use crate::syntax::TransferSyntax;
 use std::alloc::Allocator;
+use ups_pdu::TransferSyntax;
 
 /// The set that the bytes spell (PS3.5 section 7). Group lengths are read and not kept.
 ///

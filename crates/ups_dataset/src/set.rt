@@ -5,13 +5,12 @@ use crate::listing::{is_listed, sorted_numbers};
 use crate::measuring::value_depth;
 use crate::merging::merged;
 use crate::putting::{place_of, put, stands_at};
-use crate::syntax::TransferSyntax;
 use crate::tag::Tag;
 use crate::vr::Vr;
 use crate::writing::set_size;
 use std::alloc::{AllocError, Allocator};
 use std::marker::Model;
-use ups_pdu::Bytes;
+use ups_pdu::{Bytes, TransferSyntax};
 
 /// What an element holds: bytes, or the items of a sequence (PS3.5 section 7.5).
 #[derive(Drop)]
@@ -72,7 +71,7 @@ impl<A: Allocator + Copy> Model for DataSet<A> {
 impl<A: Allocator + Copy> DataSet<A> {
     ghost use Rattle.std.specs.Prelude.{◌≡◌, [], map, filter, length, min, None, Some, MatchOption, IfOk, OnOk, OnErr, not};
     ghost use Rattle.ups_dataset.specs.Tag.{is_tag};
-    ghost use Rattle.ups_dataset.specs.declared.syntax.TransferSyntax.TheVariants.{Explicit};
+    ghost use Rattle.ups_pdu.specs.declared.syntax.TransferSyntax.TheVariants.{Explicit};
     ghost use Rattle.ups_dataset.specs.View.{element_view};
     ghost use Rattle.ups_dataset.specs.Data.{element_at, put, laid_over, is_listed, answer_to, answer};
     ghost use Rattle.ups_dataset.specs.Valid.{IsDataSet, IsElement};

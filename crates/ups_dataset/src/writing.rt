@@ -1,7 +1,7 @@
 //! Writing data sets, with lengths that are given (PS3.5 sections 7.1 and 7.5).
 
 ghost use Rattle.std.specs.Prelude.{◌≡◌, ◌<◌, ◌^◌, ◌++◌, length, min, OnOk, IfOk};
-ghost use Rattle.ups_dataset.specs.declared.syntax.TransferSyntax.TheVariants.{Explicit};
+ghost use Rattle.ups_pdu.specs.declared.syntax.TransferSyntax.TheVariants.{Explicit};
 ghost use Rattle.ups_dataset.specs.View.{value_view, element_view};
 ghost use Rattle.ups_dataset.specs.Written.{written, written_length, written_head, written_data, written_element, sequence_item, KeepsVrs};
 ghost use Rattle.ups_dataset.specs.Vr.{is_long};
@@ -9,10 +9,10 @@ ghost use Rattle.ups_dataset.specs.Spelling.{SpellsSet};
 ghost use Rattle.ups_dataset.specs.Tag.{item_tag};
 
 use crate::set::{DataSet, Element, Value};
-use crate::syntax::TransferSyntax;
 use crate::tag::{ITEM, Tag};
 use crate::vr::Vr;
 use std::alloc::{AllocError, Allocator};
+use ups_pdu::TransferSyntax;
 
 /// How long a header is.
 fn head_size(syntax: TransferSyntax, vr: Vr) -> u64

@@ -9,13 +9,15 @@ use Rattle.ups_life.specs.declared.request.Request.TheVariants.{Create, Change, 
 use Rattle.ups_life.specs.declared.request.Reply.{Reply}
 use Rattle.ups_life.specs.declared.request.Reply.TheVariants.{Status as Answered}
 use Rattle.ups_life.specs.declared.row.Row.{Row}
-use Rattle.ups_life.specs.declared.status.Status.{Status}
-use Rattle.ups_life.specs.declared.status.Status.TheVariants.{Success, DuplicateSopInstance, ResourceLimitation, UnknownReceivingAe}
+use Rattle.ups_cycle.specs.declared.status.Status.{Status}
+use Rattle.ups_cycle.specs.declared.status.Status.TheVariants.{Success, DuplicateSopInstance, ResourceLimitation, UnknownReceivingAe}
 use Rattle.ups_life.specs.Settings.{Settings}
-use Rattle.ups_life.specs.Verdict.{verdict, if_held, create_status, change_status, cancel_status, update_status}
+use Rattle.ups_life.specs.Verdict.{verdict, if_held, create_status, change_status, update_status}
+use Rattle.ups_cycle.specs.Cycle.{cancel_status}
 use Rattle.ups_life.specs.Steps.{named_step, is_on, creates, used, row_of}
 use Rattle.ups_life.specs.Watching.{is_peer, is_held, known}
-use Rattle.ups_life.specs.History.{is_done, accepts, fits, is_sized, sized, repeats, row_then, receiver_of, of_peer, of_lock, status, decided, reply, legal}
+use Rattle.ups_life.specs.History.{accepts, fits, is_sized, sized, repeats, row_then, receiver_of, of_peer, of_lock, status, decided, reply, legal}
+use Rattle.ups_cycle.specs.Statuses.{is_done}
 use Rattle.ups_life.proofs.Texts.{same_text}
 use Rattle.ups_life.proofs.Verdicts.{done_is_success, verdict_grants_all}
 

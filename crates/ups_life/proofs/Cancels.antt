@@ -16,7 +16,7 @@ use Rattle.ups_dataset.specs.View.{element_view}
 use Rattle.ups_dataset.proofs.Places.{filtered}
 use Rattle.ups_match.specs.Moments.{stamp}
 use Rattle.ups_life.specs.declared.changing.ChangeFault.TheVariants.{TooDeep}
-use Rattle.ups_life.specs.declared.state.StepState.TheVariants.{Scheduled}
+use Rattle.ups_cycle.specs.declared.state.StepState.TheVariants.{Scheduled}
 use Rattle.ups_life.specs.Values.{text_value}
 use Rattle.ups_life.specs.Instances.{IsStepUid}
 use Rattle.ups_life.specs.Steps.{REASONS, cancellation, progress_element, cancel_gives, new_row, without_transaction}

@@ -7,16 +7,17 @@ use Rattle.ups_life.specs.declared.request.Request.{Request}
 use Rattle.ups_life.specs.declared.request.Request.TheVariants.{Create, Change, AskCancel, Set}
 use Rattle.ups_life.specs.declared.request.Transaction.{Transaction}
 use Rattle.ups_life.specs.declared.request.Transaction.TheVariants.{Absent, Malformed, Proper}
-use Rattle.ups_life.specs.declared.state.StepState.{StepState}
-use Rattle.ups_life.specs.declared.state.StepState.TheVariants.{Scheduled, InProgress, Completed, Canceled}
+use Rattle.ups_cycle.specs.declared.state.StepState.{StepState}
+use Rattle.ups_cycle.specs.declared.state.StepState.TheVariants.{Scheduled, InProgress, Completed, Canceled}
 use Rattle.ups_life.specs.declared.row.Row.{Row}
 use Rattle.ups_life.specs.declared.entry.Entry.{Entry}
-use Rattle.ups_life.specs.declared.status.Status.{Status}
-use Rattle.ups_life.specs.declared.status.Status.TheVariants.{Success, ScheduledByCreateAlone}
+use Rattle.ups_cycle.specs.declared.status.Status.{Status}
+use Rattle.ups_cycle.specs.declared.status.Status.TheVariants.{Success, ScheduledByCreateAlone}
 use Rattle.ups_life.specs.Settings.{Settings}
-use Rattle.ups_life.specs.States.{is_final}
+use Rattle.ups_cycle.specs.States.{is_final}
 use Rattle.ups_life.specs.Values.{unless_fault}
-use Rattle.ups_life.specs.Verdict.{is_right, is_given, is_proper, claim_status, complete_status, discontinue_status, wrong_status, set_status, set_attributes_status, change_status, update_status, is_performed, is_discontinued}
+use Rattle.ups_life.specs.Verdict.{is_right, is_given, is_proper, set_attributes_status, change_status, update_status, is_performed, is_discontinued}
+use Rattle.ups_cycle.specs.Cycle.{claim_status, complete_status, discontinue_status, wrong_status, set_status}
 use Rattle.ups_life.specs.Steps.{Claim, is_on, creates, used, canceled, state, state_then, taken, claimed, claim, right, row_of}
 use Rattle.ups_life.specs.Watching.{is_held}
 use Rattle.ups_life.specs.History.{legal}

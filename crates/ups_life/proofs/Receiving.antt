@@ -11,7 +11,7 @@ use Rattle.ups_life.specs.declared.event.Report.{Report}
 use Rattle.ups_life.specs.declared.request.Request.{Request}
 use Rattle.ups_life.specs.declared.request.Request.TheVariants.{Ack}
 use Rattle.ups_life.specs.declared.request.Reply.TheVariants.{Status as Answered, AckAhead, AckStale}
-use Rattle.ups_life.specs.declared.status.Status.TheVariants.{Success}
+use Rattle.ups_cycle.specs.declared.status.Status.TheVariants.{Success}
 use Rattle.ups_life.specs.Settings.{Settings}
 use Rattle.ups_life.specs.Events.{reports_of, numbered, events, acked_after, acked, current, pending, up_to, received_after, received, view}
 use Rattle.ups_life.specs.History.{accepts, acknowledged, decided, legal}

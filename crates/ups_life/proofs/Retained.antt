@@ -6,7 +6,7 @@ use Rattle.std.proofs.lemmas.List.Folds.{list_any-append}
 use Rattle.ups_life.specs.declared.entry.Entry.{Entry}
 use Rattle.ups_life.specs.declared.request.Request.{Request}
 use Rattle.ups_life.specs.declared.request.Request.TheVariants.{Create, Sweep}
-use Rattle.ups_life.specs.declared.status.Status.TheVariants.{Success}
+use Rattle.ups_cycle.specs.declared.status.Status.TheVariants.{Success}
 use Rattle.ups_life.specs.Settings.{Settings}
 use Rattle.ups_life.specs.Steps.{used, creates, final_at}
 use Rattle.ups_life.specs.Watching.{is_among, is_kept, has_passed, is_due, held_after, held, is_held}

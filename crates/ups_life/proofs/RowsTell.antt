@@ -16,14 +16,14 @@ use Rattle.ups_dataset.proofs.Laying.{element_at-put, element_at-laid_over}
 use Rattle.ups_dataset.proofs.Places.{filtered}
 use Rattle.ups_life.specs.declared.request.Request.{Request}
 use Rattle.ups_life.specs.declared.request.Request.TheVariants.{Create, Change, AskCancel, Set, Sweep}
-use Rattle.ups_life.specs.declared.state.StepState.{StepState}
-use Rattle.ups_life.specs.declared.state.StepState.TheVariants.{Scheduled, InProgress, Completed, Canceled}
+use Rattle.ups_cycle.specs.declared.state.StepState.{StepState}
+use Rattle.ups_cycle.specs.declared.state.StepState.TheVariants.{Scheduled, InProgress, Completed, Canceled}
 use Rattle.ups_life.specs.declared.entry.Entry.{Entry}
-use Rattle.ups_life.specs.declared.status.Status.{Status}
-use Rattle.ups_life.specs.declared.status.Status.TheVariants.{Success, DuplicateSopInstance, NotScheduled, InvalidAttributeValue}
+use Rattle.ups_cycle.specs.declared.status.Status.{Status}
+use Rattle.ups_cycle.specs.declared.status.Status.TheVariants.{Success, DuplicateSopInstance, NotScheduled, InvalidAttributeValue}
 use Rattle.ups_life.specs.declared.checks.ValueRule.TheVariants.{Readiness}
 use Rattle.ups_life.specs.Settings.{Settings}
-use Rattle.ups_life.specs.States.{state_text}
+use Rattle.ups_cycle.specs.States.{state_text}
 use Rattle.ups_life.specs.Values.{READINESS_STATES, says, is_text, is_blank, allows, text_status, value_status, element_status, given_status, unless_fault, first_fault, first_given_fault}
 use Rattle.ups_life.specs.CheckedAttributes.{checked_attributes}
 use Rattle.ups_life.specs.Instances.{IsStepUid}

@@ -9,19 +9,20 @@ use Rattle.ups_life.specs.declared.request.Request.{Request}
 use Rattle.ups_life.specs.declared.request.Request.TheVariants.{Create, Change, AskCancel, Set, Subscribe, Unsubscribe, Suspend, Ack, Sweep}
 use Rattle.ups_life.specs.declared.request.Transaction.{Transaction}
 use Rattle.ups_life.specs.declared.row.Row.{Row}
-use Rattle.ups_life.specs.declared.state.StepState.{StepState}
-use Rattle.ups_life.specs.declared.state.StepState.TheVariants.{Scheduled, InProgress, Completed, Canceled}
-use Rattle.ups_life.specs.declared.status.Status.{Status}
-use Rattle.ups_life.specs.declared.status.Status.TheVariants.{Success, InvalidAttributeValue, DuplicateSopInstance, DeletionLockNotGranted, WrongTransactionUid, NotInProgress, NotScheduled, FinalStateNotMet}
+use Rattle.ups_cycle.specs.declared.state.StepState.{StepState}
+use Rattle.ups_cycle.specs.declared.state.StepState.TheVariants.{Scheduled, InProgress, Completed, Canceled}
+use Rattle.ups_cycle.specs.declared.status.Status.{Status}
+use Rattle.ups_cycle.specs.declared.status.Status.TheVariants.{Success, InvalidAttributeValue, DuplicateSopInstance, DeletionLockNotGranted, WrongTransactionUid, NotInProgress, NotScheduled, FinalStateNotMet}
 use Rattle.ups_life.specs.declared.watching.Target.{Target}
 use Rattle.ups_life.specs.declared.watching.Target.TheVariants.{Single, Global, Filtered}
 use Rattle.ups_life.specs.declared.watching.Place.{Place}
 use Rattle.ups_life.specs.declared.watching.Place.TheVariants.{At, Everywhere}
 use Rattle.ups_life.specs.CheckedAttributes.{checked_attributes}
 use Rattle.ups_life.specs.Values.{allows, says, is_blank, text_status, value_status, element_status, given_status, first_fault, first_given_fault, unless_fault}
-use Rattle.ups_life.specs.States.{state_text}
-use Rattle.ups_life.specs.Verdict.{create_status, claim_status, complete_status, discontinue_status, wrong_status, cancel_status, set_status, is_proper, is_given, is_right, is_performed, is_discontinued, change_status, gives_fixed, set_attributes_status, update_status, if_held, target_status, place_status, verdict}
-use Rattle.ups_life.specs.History.{is_done}
+use Rattle.ups_cycle.specs.States.{state_text}
+use Rattle.ups_life.specs.Verdict.{create_status, is_proper, is_given, is_right, is_performed, is_discontinued, change_status, gives_fixed, set_attributes_status, update_status, if_held, target_status, place_status, verdict}
+use Rattle.ups_cycle.specs.Cycle.{claim_status, complete_status, discontinue_status, wrong_status, cancel_status, set_status}
+use Rattle.ups_cycle.specs.Statuses.{is_done}
 
 abbrev pub is_without_lock : Status → Bool
 is_without_lock DeletionLockNotGranted = true

@@ -17,8 +17,8 @@ use Rattle.ups_life.specs.declared.readiness.InputReadiness.TheVariants.{Incompl
 use Rattle.ups_life.specs.declared.request.Request.{Request}
 use Rattle.ups_life.specs.declared.request.Request.TheVariants.{Create, Change, AskCancel, Set, Subscribe, Unsubscribe, Suspend, Ack, Sweep}
 use Rattle.ups_life.specs.declared.request.Transaction.{Transaction}
-use Rattle.ups_life.specs.declared.state.StepState.{StepState}
-use Rattle.ups_life.specs.declared.state.StepState.TheVariants.{Scheduled, InProgress, Completed, Canceled}
+use Rattle.ups_cycle.specs.declared.state.StepState.{StepState}
+use Rattle.ups_cycle.specs.declared.state.StepState.TheVariants.{Scheduled, InProgress, Completed, Canceled}
 use Rattle.ups_life.specs.declared.watching.Subscription.{Subscription}
 use Rattle.ups_life.specs.declared.watching.Target.{Target}
 use Rattle.ups_life.specs.declared.watching.Watched.{Watched}

@@ -6,7 +6,7 @@ use Rattle.std.specs.List.{list_any, filter_map}
 use Rattle.std.proofs.lemmas.List.{take_all, take_more, drop_more, drop_all}
 use Rattle.std.proofs.lemmas.List.Elements.{filter-append, filter_map-append}
 use Rattle.ups_life.specs.declared.entry.Entry.{Entry}
-use Rattle.ups_life.specs.declared.state.StepState.{StepState}
+use Rattle.ups_cycle.specs.declared.state.StepState.{StepState}
 use Rattle.ups_life.specs.Steps.{past, is_on, state, state_then, finished, final_at}
 use Rattle.ups_life.proofs.Rows.{past_more}
 

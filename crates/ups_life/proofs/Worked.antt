@@ -14,11 +14,11 @@ use Rattle.ups_life.specs.declared.request.Transaction.TheVariants.{Absent, Malf
 use Rattle.ups_life.specs.declared.request.Ask.TheVariants.{Do}
 use Rattle.ups_life.specs.declared.request.Reply.{Reply}
 use Rattle.ups_life.specs.declared.request.Reply.TheVariants.{Status as Answered, Set as Shown}
-use Rattle.ups_life.specs.declared.state.StepState.{StepState}
-use Rattle.ups_life.specs.declared.state.StepState.TheVariants.{Scheduled, InProgress, Completed, Canceled}
+use Rattle.ups_cycle.specs.declared.state.StepState.{StepState}
+use Rattle.ups_cycle.specs.declared.state.StepState.TheVariants.{Scheduled, InProgress, Completed, Canceled}
 use Rattle.ups_life.specs.declared.entry.Entry.{Entry}
-use Rattle.ups_life.specs.declared.status.Status.{Status}
-use Rattle.ups_life.specs.declared.status.Status.TheVariants.{Success, AttributesNotSupported, InvalidAttributeValue, DuplicateSopInstance, InvalidArgumentValue, InvalidObjectInstance, MissingAttribute, MissingAttributeValue, NoSuchActionType, ResourceLimitation, AlreadyCanceled, AlreadyCompleted, NoLongerUpdatable, WrongTransactionUid, AlreadyInProgress, ScheduledByCreateAlone, FinalStateNotMet, UnknownInstance, NotScheduled, NotInProgress, TooLateToCancel, ActionNotAppropriate}
+use Rattle.ups_cycle.specs.declared.status.Status.{Status}
+use Rattle.ups_cycle.specs.declared.status.Status.TheVariants.{Success, AttributesNotSupported, InvalidAttributeValue, DuplicateSopInstance, InvalidArgumentValue, InvalidObjectInstance, MissingAttribute, MissingAttributeValue, NoSuchActionType, ResourceLimitation, AlreadyCanceled, AlreadyCompleted, NoLongerUpdatable, WrongTransactionUid, AlreadyInProgress, ScheduledByCreateAlone, FinalStateNotMet, UnknownInstance, NotScheduled, NotInProgress, TooLateToCancel, ActionNotAppropriate}
 use Rattle.ups_dimse.specs.declared.command.Operation.TheVariants as operations
 use Rattle.ups_life.specs.Settings.{Settings}
 use Rattle.ups_life.specs.Asking.{asked}

@@ -14,10 +14,10 @@ use Rattle.ups_life.specs.declared.readiness.InputReadiness.{InputReadiness}
 use Rattle.ups_life.specs.declared.readiness.InputReadiness.TheVariants.{Unavailable, Ready}
 use Rattle.ups_life.specs.declared.request.Request.TheVariants.{Create, Set, Subscribe, Unsubscribe, Suspend, Ack}
 use Rattle.ups_life.specs.declared.request.Reply.TheVariants.{Status as Answered, AckAhead, AckStale}
-use Rattle.ups_life.specs.declared.status.Status.TheVariants.{ResourceLimitation}
+use Rattle.ups_cycle.specs.declared.status.Status.TheVariants.{ResourceLimitation}
 use Rattle.ups_life.specs.declared.request.Transaction.TheVariants.{Absent, Proper}
-use Rattle.ups_life.specs.declared.state.StepState.{StepState}
-use Rattle.ups_life.specs.declared.state.StepState.TheVariants.{Scheduled, InProgress, Canceled}
+use Rattle.ups_cycle.specs.declared.state.StepState.{StepState}
+use Rattle.ups_cycle.specs.declared.state.StepState.TheVariants.{Scheduled, InProgress, Canceled}
 use Rattle.ups_life.specs.declared.watching.Place.TheVariants.{At}
 use Rattle.ups_life.specs.declared.watching.Target.TheVariants.{Global}
 use Rattle.ups_life.specs.Steps.{cancellation}

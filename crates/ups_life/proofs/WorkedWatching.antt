@@ -15,8 +15,8 @@ use Rattle.ups_life.specs.declared.request.Request.TheVariants.{Create, Change, 
 use Rattle.ups_life.specs.declared.request.Transaction.TheVariants.{Absent, Proper}
 use Rattle.ups_life.specs.declared.request.Reply.{Reply}
 use Rattle.ups_life.specs.declared.request.Reply.TheVariants.{Status as Answered, Swept}
-use Rattle.ups_life.specs.declared.state.StepState.TheVariants.{InProgress}
-use Rattle.ups_life.specs.declared.status.Status.TheVariants.{Success, DuplicateSopInstance, ResourceLimitation, DeletionLockNotGranted, UnknownInstance, UnknownReceivingAe}
+use Rattle.ups_cycle.specs.declared.state.StepState.TheVariants.{InProgress}
+use Rattle.ups_cycle.specs.declared.status.Status.TheVariants.{Success, DuplicateSopInstance, ResourceLimitation, DeletionLockNotGranted, UnknownInstance, UnknownReceivingAe}
 use Rattle.ups_life.specs.declared.watching.Place.TheVariants.{At, Everywhere}
 use Rattle.ups_life.specs.declared.watching.Subscription.{Subscription}
 use Rattle.ups_life.specs.declared.watching.Subscription.TheVariants.{Free, Locked}

@@ -12,7 +12,7 @@ use Rattle.ups_match.specs.Matching.{fault_of, matches}
 use Rattle.ups_match.specs.Moments.{moment, day_number, days_of_month, field, is_date, is_time, date_number, second_of_day, microsecond_of, offset_of, signed_offset}
 use Rattle.ups_life.specs.declared.entry.Entry.{Entry}
 use Rattle.ups_life.specs.declared.request.Request.TheVariants.{Create}
-use Rattle.ups_life.specs.declared.status.Status.TheVariants.{IdentifierMismatch}
+use Rattle.ups_cycle.specs.declared.status.Status.TheVariants.{IdentifierMismatch}
 use Rattle.ups_life.specs.Settings.{Settings}
 use Rattle.ups_life.specs.Asking.{asked}
 use Rattle.ups_life.specs.Worklist.{worklist}

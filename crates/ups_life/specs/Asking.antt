@@ -9,15 +9,15 @@ use Rattle.ups_dimse.specs.declared.command.Operation.{Operation}
 use Rattle.ups_dimse.specs.declared.command.Operation.TheVariants as operations
 use Rattle.ups_match.specs.declared.fault.KeyFault.{KeyFault}
 use Rattle.ups_match.specs.Matching.{fault_of}
-use Rattle.ups_life.specs.declared.state.StepState.{StepState}
+use Rattle.ups_cycle.specs.declared.state.StepState.{StepState}
 use Rattle.ups_life.specs.declared.request.Transaction.{Transaction}
 use Rattle.ups_life.specs.declared.request.Transaction.TheVariants.{Absent, Malformed, Proper}
 use Rattle.ups_life.specs.declared.request.Request.TheVariants.{Create, Change, AskCancel, Set}
 use Rattle.ups_life.specs.declared.request.Ask.{Ask}
 use Rattle.ups_life.specs.declared.request.Ask.TheVariants.{Do, Get, Find}
-use Rattle.ups_life.specs.declared.status.Status.{Status}
-use Rattle.ups_life.specs.declared.status.Status.TheVariants.{InvalidArgumentValue, InvalidObjectInstance, NoSuchActionType, UnrecognizedOperation, IdentifierMismatch, ActionNotAppropriate}
-use Rattle.ups_life.specs.States.{state_of}
+use Rattle.ups_cycle.specs.declared.status.Status.{Status}
+use Rattle.ups_cycle.specs.declared.status.Status.TheVariants.{InvalidArgumentValue, InvalidObjectInstance, NoSuchActionType, UnrecognizedOperation, IdentifierMismatch, ActionNotAppropriate}
+use Rattle.ups_cycle.specs.States.{state_of}
 use Rattle.ups_life.specs.Instances.{is_subscription, step_in}
 use Rattle.ups_life.specs.Subscribing.{subscribed, unsubscribed, suspended}
 

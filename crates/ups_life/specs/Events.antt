@@ -14,8 +14,8 @@ use Rattle.ups_life.specs.declared.event.Event.{Event}
 use Rattle.ups_life.specs.declared.readiness.InputReadiness.{InputReadiness}
 use Rattle.ups_life.specs.declared.request.Request.{Request}
 use Rattle.ups_life.specs.declared.request.Request.TheVariants.{Create, Change, AskCancel, Set, Subscribe, Ack}
-use Rattle.ups_life.specs.declared.state.StepState.{StepState}
-use Rattle.ups_life.specs.declared.state.StepState.TheVariants.{Scheduled, InProgress, Canceled}
+use Rattle.ups_cycle.specs.declared.state.StepState.{StepState}
+use Rattle.ups_cycle.specs.declared.state.StepState.TheVariants.{Scheduled, InProgress, Canceled}
 use Rattle.ups_life.specs.Settings.{Settings}
 use Rattle.ups_life.specs.Readiness.{readiness_in, is_same_readiness}
 use Rattle.ups_life.specs.Steps.{step_of, state, row}

@@ -3,7 +3,7 @@ use Rattle.std.specs.Prelude.{ℕ, Bool, true, false, not, ◌&&◌, nat_lt, nat
 use Rattle.std.specs.List.{list_all}
 use Rattle.std.specs.Option.{unwrap_or}
 use Rattle.ups_dataset.specs.declared.tag.Tag.{Tag}
-use Rattle.ups_dataset.specs.declared.syntax.TransferSyntax.TheVariants.{Explicit}
+use Rattle.ups_pdu.specs.declared.syntax.TransferSyntax.TheVariants.{Explicit}
 use Rattle.ups_dataset.specs.Limits.{max_depth}
 use Rattle.ups_dataset.specs.Data.{El, element_at, elements_of, is_listed}
 use Rattle.ups_dataset.specs.Valid.{depth_elements}
@@ -15,20 +15,14 @@ use Rattle.ups_life.specs.declared.request.Reply.TheVariants.{Status as Answered
 use Rattle.ups_life.specs.declared.entry.Entry.{Entry}
 use Rattle.ups_life.specs.declared.entry.Peer.{Peer}
 use Rattle.ups_life.specs.declared.row.Row.{Row}
-use Rattle.ups_life.specs.declared.status.Status.{Status}
-use Rattle.ups_life.specs.declared.status.Status.TheVariants.{Success, AttributesNotSupported, ResourceLimitation, DeletionLockNotGranted, UnknownInstance, UnknownReceivingAe}
+use Rattle.ups_cycle.specs.declared.status.Status.{Status}
+use Rattle.ups_cycle.specs.declared.status.Status.TheVariants.{Success, AttributesNotSupported, ResourceLimitation, DeletionLockNotGranted, UnknownInstance, UnknownReceivingAe}
 use Rattle.ups_life.specs.Limits.{row_limit}
 use Rattle.ups_life.specs.Settings.{Settings}
 use Rattle.ups_life.specs.Verdict.{verdict}
 use Rattle.ups_life.specs.Steps.{used, step_of, named_step, row_after, nothing}
 use Rattle.ups_life.specs.Watching.{is_peer, may_lock, known, removed}
 use Rattle.ups_life.specs.Events.{acked, events}
-
--- the request is done, if perhaps without the deletion lock that it asks for
-abbrev pub is_done : Status → Bool
-is_done Success = true
-is_done DeletionLockNotGranted = true
-is_done status = false
 
 -- only what is done is accepted: what is shown, found or told changes nothing, nor does a sweep that removes no step
 abbrev pub accepts : {A : Type 0} → Reply A → Bool

@@ -11,8 +11,6 @@ pub mod Limits
 pub mod Readiness
 pub mod SetsCode
 pub mod Settings
-pub mod States
-pub mod Statuses
 pub mod Steps
 pub mod Subscribing
 pub mod Telling

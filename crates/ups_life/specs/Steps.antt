@@ -18,13 +18,13 @@ use Rattle.ups_life.specs.declared.watching.Target.TheVariants.{Single}
 use Rattle.ups_life.specs.declared.watching.Place.{Place}
 use Rattle.ups_life.specs.declared.watching.Place.TheVariants.{At}
 use Rattle.ups_life.specs.declared.request.Transaction.TheVariants.{Proper}
-use Rattle.ups_life.specs.declared.state.StepState.{StepState}
-use Rattle.ups_life.specs.declared.state.StepState.TheVariants.{Scheduled, InProgress, Canceled}
+use Rattle.ups_cycle.specs.declared.state.StepState.{StepState}
+use Rattle.ups_cycle.specs.declared.state.StepState.TheVariants.{Scheduled, InProgress, Canceled}
 use Rattle.ups_life.specs.declared.row.Row.{Row}
 use Rattle.ups_life.specs.declared.row.Holder.{Holder}
 use Rattle.ups_life.specs.declared.entry.Entry.{Entry}
 use Rattle.ups_life.specs.Settings.{Settings}
-use Rattle.ups_life.specs.States.{is_final, state_text}
+use Rattle.ups_cycle.specs.States.{is_final, state_text}
 use Rattle.ups_life.specs.Values.{uid_value, text_value}
 
 -- a history as it is kept, oldest first, with its newest entry first

@@ -15,8 +15,8 @@ use Rattle.ups_match.specs.Matching.{KeySet, fault_of, is_match}
 use Rattle.ups_life.specs.declared.request.Request.TheVariants.{Subscribe, Unsubscribe, Suspend}
 use Rattle.ups_life.specs.declared.request.Ask.{Ask}
 use Rattle.ups_life.specs.declared.request.Ask.TheVariants.{Do}
-use Rattle.ups_life.specs.declared.status.Status.{Status}
-use Rattle.ups_life.specs.declared.status.Status.TheVariants.{NoSuchArgument, InvalidArgumentValue, ActionNotAppropriate}
+use Rattle.ups_cycle.specs.declared.status.Status.{Status}
+use Rattle.ups_cycle.specs.declared.status.Status.TheVariants.{NoSuchArgument, InvalidArgumentValue, ActionNotAppropriate}
 use Rattle.ups_life.specs.declared.watching.Target.{Target}
 use Rattle.ups_life.specs.declared.watching.Target.TheVariants.{Single, Global, Filtered}
 use Rattle.ups_life.specs.declared.watching.Place.{Place}

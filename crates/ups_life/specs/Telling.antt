@@ -11,9 +11,9 @@ use Rattle.ups_life.specs.declared.request.Request.TheVariants.{Create, AskCance
 use Rattle.ups_life.specs.declared.watching.Target.{Target}
 use Rattle.ups_life.specs.declared.watching.Target.TheVariants.{Filtered}
 use Rattle.ups_life.specs.declared.entry.Entry.{Entry}
-use Rattle.ups_life.specs.declared.state.StepState.{StepState}
+use Rattle.ups_cycle.specs.declared.state.StepState.{StepState}
 use Rattle.ups_life.specs.Settings.{Settings}
-use Rattle.ups_life.specs.States.{state_text}
+use Rattle.ups_cycle.specs.States.{state_text}
 use Rattle.ups_life.specs.Values.{READINESS_STATES, says}
 use Rattle.ups_life.specs.Instances.{IsStepUid, IsFilter}
 use Rattle.ups_life.specs.Steps.{state, row}

@@ -7,8 +7,8 @@ use Rattle.ups_dataset.specs.declared.tag.Tag.{Tag}
 use Rattle.ups_dataset.specs.Tag.{is_tag}
 use Rattle.ups_dataset.specs.Data.{Data, bytes, items, no_items, item, Elements, no_elements, element, El, element_at}
 use Rattle.ups_match.specs.Moments.{moment}
-use Rattle.ups_life.specs.declared.status.Status.{Status}
-use Rattle.ups_life.specs.declared.status.Status.TheVariants.{Success, InvalidAttributeValue, MissingAttribute, MissingAttributeValue}
+use Rattle.ups_cycle.specs.declared.status.Status.{Status}
+use Rattle.ups_cycle.specs.declared.status.Status.TheVariants.{Success, InvalidAttributeValue, MissingAttribute, MissingAttributeValue}
 use Rattle.ups_life.specs.declared.checks.ValueRule.{ValueRule}
 use Rattle.ups_life.specs.declared.checks.ValueRule.TheVariants.{AnyText, DateTime, Readiness, Priority}
 use Rattle.ups_life.specs.declared.checks.Checked.{Checked}

@@ -4,10 +4,10 @@ use Rattle.std.specs.Prelude.{Bool, true, false, ◌||◌, List, [], ◌∷◌, 
 use Rattle.std.specs.Str.{bytes_eq}
 use Rattle.ups_dataset.specs.Data.{El, element_at}
 use Rattle.ups_dataset.specs.declared.dictionary.TheConstants.{SOP_CLASS_UID, SOP_INSTANCE_UID, PROCEDURE_STEP_STATE, TRANSACTION_UID, UNIFIED_PROCEDURE_STEP_PERFORMED_PROCEDURE_SEQUENCE, PROCEDURE_STEP_PROGRESS_INFORMATION_SEQUENCE, PERFORMED_PROCEDURE_STEP_START_DATE_TIME, PERFORMED_PROCEDURE_STEP_END_DATE_TIME, PROCEDURE_STEP_CANCELLATION_DATE_TIME}
-use Rattle.ups_life.specs.declared.status.Status.{Status}
-use Rattle.ups_life.specs.declared.status.Status.TheVariants.{Success, InvalidAttributeValue, DuplicateSopInstance, UnknownInstance, NotScheduled, NoLongerUpdatable, WrongTransactionUid, AlreadyInProgress, ScheduledByCreateAlone, FinalStateNotMet, NotInProgress, TooLateToCancel, AlreadyCanceled, AlreadyCompleted}
-use Rattle.ups_life.specs.declared.state.StepState.{StepState}
-use Rattle.ups_life.specs.declared.state.StepState.TheVariants.{Scheduled, InProgress, Completed, Canceled}
+use Rattle.ups_cycle.specs.declared.status.Status.{Status}
+use Rattle.ups_cycle.specs.declared.status.Status.TheVariants.{Success, InvalidAttributeValue, DuplicateSopInstance, UnknownInstance, NotScheduled, NoLongerUpdatable, WrongTransactionUid, AlreadyInProgress, ScheduledByCreateAlone, FinalStateNotMet, NotInProgress, TooLateToCancel, AlreadyCanceled, AlreadyCompleted}
+use Rattle.ups_cycle.specs.declared.state.StepState.{StepState}
+use Rattle.ups_cycle.specs.declared.state.StepState.TheVariants.{Scheduled, InProgress, Completed, Canceled}
 use Rattle.ups_life.specs.declared.request.Transaction.{Transaction}
 use Rattle.ups_life.specs.declared.request.Transaction.TheVariants.{Absent, Malformed, Proper}
 use Rattle.ups_life.specs.declared.request.Request.{Request}
@@ -18,6 +18,7 @@ use Rattle.ups_life.specs.declared.watching.Place.{Place}
 use Rattle.ups_life.specs.declared.watching.Place.TheVariants.{At}
 use Rattle.ups_life.specs.declared.row.Row.{Row}
 use Rattle.ups_life.specs.CheckedAttributes.{checked_attributes}
+use Rattle.ups_cycle.specs.Cycle.{claim_status, complete_status, discontinue_status, wrong_status, cancel_status, set_status}
 use Rattle.ups_life.specs.Values.{says, is_blank, first_fault, first_given_fault, unless_fault, has_item_with}
 
 -- the attributes of a new step: SCHEDULED, without a Transaction UID, then the checked attributes by rising tag
@@ -26,51 +27,6 @@ abbrev pub create_status : List El → Status
 create_status set =
     if says (codes "SCHEDULED") (element_at PROCEDURE_STEP_STATE set) then (
     if is_blank (element_at TRANSACTION_UID set) then first_fault checked_attributes set else InvalidAttributeValue) else NotScheduled
-
--- THE LIFE CYCLE (PS3.4 CC.1.1, CC.2.1, CC.2.2): each function is a row of its table, each line a cell.
-
--- to IN PROGRESS, with a proper Transaction UID
-abbrev pub claim_status : StepState → Status
-claim_status Scheduled = Success
-claim_status InProgress = AlreadyInProgress
-claim_status Completed = NoLongerUpdatable
-claim_status Canceled = NoLongerUpdatable
-
--- to COMPLETED, with the right Transaction UID; `met`: what COMPLETED needs is there. No UID is right for a step that
--- is SCHEDULED.
-abbrev pub complete_status : Bool → StepState → Status
-complete_status met Scheduled = NotInProgress
-complete_status met InProgress = if met then Success else FinalStateNotMet
-complete_status met Completed = AlreadyCompleted
-complete_status met Canceled = NoLongerUpdatable
-
--- to CANCELED, with the right Transaction UID; `met`: what CANCELED needs is there
-abbrev pub discontinue_status : Bool → StepState → Status
-discontinue_status met Scheduled = NotInProgress
-discontinue_status met InProgress = if met then Success else FinalStateNotMet
-discontinue_status met Completed = NoLongerUpdatable
-discontinue_status met Canceled = AlreadyCanceled
-
--- to a final state, with another Transaction UID or none; `proper`: it is a UID
-abbrev pub wrong_status : Bool → StepState → Status
-wrong_status proper Scheduled = if proper then NotInProgress else WrongTransactionUid
-wrong_status proper InProgress = WrongTransactionUid
-wrong_status proper Completed = WrongTransactionUid
-wrong_status proper Canceled = WrongTransactionUid
-
--- a request to cancel
-abbrev pub cancel_status : StepState → Status
-cancel_status Scheduled = Success
-cancel_status InProgress = Success
-cancel_status Completed = TooLateToCancel
-cancel_status Canceled = AlreadyCanceled
-
--- an N-SET, by its Transaction UID; `right`: it is that of the claim, `given`: there is one
-abbrev pub set_status : Bool → Bool → StepState → Status
-set_status right given Scheduled = if given then NotInProgress else Success
-set_status right given InProgress = if right then Success else WrongTransactionUid
-set_status right given Completed = NoLongerUpdatable
-set_status right given Canceled = NoLongerUpdatable
 
 abbrev pub is_proper : Transaction → Bool
 is_proper Absent = false

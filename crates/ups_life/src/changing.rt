@@ -9,18 +9,18 @@ ghost use Rattle.ups_dataset.specs.Valid.{IsElement};
 ghost use Rattle.ups_dataset.specs.View.{element_view};
 ghost use Rattle.ups_life.specs.Settings.{IsMoment, IsOffset};
 ghost use Rattle.ups_life.specs.declared.changing.ChangeFault.TheVariants.{Memory};
-ghost use Rattle.ups_life.specs.declared.state.StepState.TheVariants.{Scheduled};
+ghost use Rattle.ups_cycle.specs.declared.state.StepState.TheVariants.{Scheduled};
 ghost use Rattle.ups_life.specs.Deep.{IsShallow, ChangeFails, nest_too_deep, is_deep_reason};
-ghost use Rattle.ups_life.specs.States.{is_final};
+ghost use Rattle.ups_cycle.specs.States.{is_final};
 ghost use Rattle.ups_life.specs.Values.{padded, uid_value, text_value};
 ghost use Rattle.ups_life.specs.Steps.{new_row, state_element, cancellation, progress_element, cancel_gives, given, state_then, taken, nothing, row_after};
 
 use crate::request::{Request, Transaction};
 use crate::row::Row;
-use crate::state::StepState;
 use crate::step::StepUid;
 use std::alloc::{AllocError, Allocator};
 use thiserror::Error;
+use ups_cycle::StepState;
 use ups_dataset::dictionary::{
     PROCEDURE_STEP_CANCELLATION_DATE_TIME, PROCEDURE_STEP_DISCONTINUATION_REASON_CODE_SEQUENCE,
     PROCEDURE_STEP_PROGRESS_INFORMATION_SEQUENCE, PROCEDURE_STEP_STATE, REASON_FOR_CANCELLATION,

@@ -5,8 +5,8 @@ ghost use Rattle.ups_life.specs.Values.{allows, text_status, value_status, attri
 ghost use Rattle.ups_dataset.specs.Data.{element_at};
 ghost use Rattle.ups_dataset.specs.View.{value_view};
 
-use crate::status::Status;
 use std::alloc::Allocator;
+use ups_cycle::Status;
 use ups_dataset::dictionary::{
     INPUT_READINESS_STATE, PROCEDURE_STEP_LABEL, SCHEDULED_PROCEDURE_STEP_PRIORITY,
     SCHEDULED_PROCEDURE_STEP_START_DATE_TIME,

@@ -5,17 +5,19 @@ ghost use Rattle.std.specs.Option.{option_copied};
 ghost use Rattle.ups_dataset.specs.Data.{element_at};
 ghost use Rattle.ups_dataset.specs.View.{value_view};
 ghost use Rattle.ups_life.specs.Values.{is_text, is_blank_value, says, is_blank};
-ghost use Rattle.ups_life.specs.Verdict.{create_status, claim_status, complete_status, discontinue_status, wrong_status, cancel_status, set_status, is_proper, is_given, is_right, change_status, gives_fixed, set_attributes_status, update_status, if_held, verdict};
-ghost use Rattle.ups_life.specs.declared.status.Status.TheVariants.{Success};
+ghost use Rattle.ups_life.specs.Verdict.{create_status, is_proper, is_given, is_right, change_status, gives_fixed, set_attributes_status, update_status, if_held, verdict};
+ghost use Rattle.ups_cycle.specs.declared.status.Status.TheVariants.{Success};
 
 use crate::checks::{CHECKED, first_fault, first_given_fault};
 use crate::request::{Request, Transaction};
 use crate::row::Row;
-use crate::state::StepState;
-use crate::status::Status;
 use crate::values::{is_discontinued, is_performed};
 use crate::watching::{Place, Target};
 use std::alloc::Allocator;
+use ups_cycle::{
+    Status, StepState, cancel_status, claim_status, complete_status, discontinue_status,
+    set_status, wrong_status,
+};
 use ups_dataset::dictionary::{
     PROCEDURE_STEP_STATE, SOP_CLASS_UID, SOP_INSTANCE_UID, TRANSACTION_UID,
 };
@@ -60,85 +62,6 @@ fn create_status<A: Allocator + Copy>(attributes: &DataSet<A>) -> Status
         return Status::InvalidAttributeValue;
     }
     first_fault(&CHECKED, attributes)
-}
-
-// THE LIFE CYCLE (PS3.4 CC.1.1, CC.2.1, CC.2.2): each function is a row of its table, each arm a cell.
-
-/// To IN PROGRESS, with a proper Transaction UID.
-fn claim_status(state: StepState) -> Status
-    ensures { result ≡ claim_status state }
-{
-    match state {
-        StepState::Scheduled => Status::Success,
-        StepState::InProgress => Status::AlreadyInProgress,
-        StepState::Completed => Status::NoLongerUpdatable,
-        StepState::Canceled => Status::NoLongerUpdatable,
-    }
-}
-
-/// To COMPLETED, with the right Transaction UID; `met`: what COMPLETED needs is there.
-fn complete_status(met: bool, state: StepState) -> Status
-    ensures { result ≡ complete_status met state }
-{
-    match state {
-        StepState::Scheduled => Status::NotInProgress,
-        StepState::InProgress if met => Status::Success,
-        StepState::InProgress => Status::FinalStateNotMet,
-        StepState::Completed => Status::AlreadyCompleted,
-        StepState::Canceled => Status::NoLongerUpdatable,
-    }
-}
-
-/// To CANCELED, with the right Transaction UID; `met`: what CANCELED needs is there.
-fn discontinue_status(met: bool, state: StepState) -> Status
-    ensures { result ≡ discontinue_status met state }
-{
-    match state {
-        StepState::Scheduled => Status::NotInProgress,
-        StepState::InProgress if met => Status::Success,
-        StepState::InProgress => Status::FinalStateNotMet,
-        StepState::Completed => Status::NoLongerUpdatable,
-        StepState::Canceled => Status::AlreadyCanceled,
-    }
-}
-
-/// To a final state, with another Transaction UID or none; `proper`: it is a UID.
-fn wrong_status(proper: bool, state: StepState) -> Status
-    ensures { result ≡ wrong_status proper state }
-{
-    match state {
-        StepState::Scheduled if proper => Status::NotInProgress,
-        StepState::Scheduled => Status::WrongTransactionUid,
-        StepState::InProgress => Status::WrongTransactionUid,
-        StepState::Completed => Status::WrongTransactionUid,
-        StepState::Canceled => Status::WrongTransactionUid,
-    }
-}
-
-/// A request to cancel.
-fn cancel_status(state: StepState) -> Status
-    ensures { result ≡ cancel_status state }
-{
-    match state {
-        StepState::Scheduled => Status::Success,
-        StepState::InProgress => Status::Success,
-        StepState::Completed => Status::TooLateToCancel,
-        StepState::Canceled => Status::AlreadyCanceled,
-    }
-}
-
-/// An N-SET, by its Transaction UID: whether it is that of the claim, and whether there is one.
-fn set_status(right: bool, given: bool, state: StepState) -> Status
-    ensures { result ≡ set_status right given state }
-{
-    match state {
-        StepState::Scheduled if given => Status::NotInProgress,
-        StepState::Scheduled => Status::Success,
-        StepState::InProgress if right => Status::Success,
-        StepState::InProgress => Status::WrongTransactionUid,
-        StepState::Completed => Status::NoLongerUpdatable,
-        StepState::Canceled => Status::NoLongerUpdatable,
-    }
 }
 
 impl Transaction {

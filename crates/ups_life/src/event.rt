@@ -1,8 +1,8 @@
 //! What watchers are told.
 
 use crate::readiness::InputReadiness;
-use crate::state::StepState;
 use crate::step::StepUid;
+use ups_cycle::StepState;
 
 /// What an event is about (PS3.4 CC.2.4).
 #[derive(Clone, Copy, Debug, PartialEq, Eq)]

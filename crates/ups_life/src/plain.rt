@@ -14,10 +14,10 @@ use crate::entry::Entry;
 use crate::request::Request;
 use crate::row::Row;
 use crate::sets::Sets;
-use crate::state::StepState;
 use crate::step::StepUid;
 use crate::walking::plain_held;
 use std::alloc::{AllocError, Allocator};
+use ups_cycle::StepState;
 use ups_dataset::DataSet;
 use ups_match::{Keys, Matcher, Probe};
 

@@ -7,15 +7,14 @@ ghost use Rattle.ups_dimse.specs.declared.command.Operation.{Operation};
 ghost use Rattle.ups_match.specs.Matching.{fault_of};
 ghost use Rattle.ups_life.specs.declared.request.Ask.{Ask};
 ghost use Rattle.ups_life.specs.Asking.{transaction_value, transaction_of, named_state, changed, asked_cancel, acted, finds, asked};
-ghost use Rattle.ups_life.specs.declared.status.Status.TheVariants.{ResourceLimitation};
+ghost use Rattle.ups_cycle.specs.declared.status.Status.TheVariants.{ResourceLimitation};
 
 use crate::actions::{CHANGE_STATE, REQUEST_CANCEL, SUBSCRIBE, SUSPEND, UNSUBSCRIBE};
 use crate::instances::{is_subscription, step_in};
 use crate::request::{Ask, Request, Transaction};
-use crate::state::StepState;
-use crate::status::Status;
 use crate::subscribing::{subscribed, suspended, unsubscribed};
 use std::alloc::Allocator;
+use ups_cycle::{Status, StepState};
 use ups_dataset::dictionary::{PROCEDURE_STEP_STATE, TRANSACTION_UID};
 use ups_dataset::{DataSet, Value};
 use ups_dimse::{Operation, Tags};

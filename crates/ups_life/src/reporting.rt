@@ -18,11 +18,11 @@ use crate::events::Events;
 use crate::plain::row;
 use crate::readiness::InputReadiness;
 use crate::request::Request;
-use crate::state::StepState;
 use crate::step::StepUid;
 use crate::walking::{cover, plain_held, same_ae, state, takes_in, watch_last};
 use crate::watching::{Subscription, Target};
 use std::alloc::{AllocError, Allocator};
+use ups_cycle::StepState;
 use ups_dataset::dictionary::{
     INPUT_READINESS_STATE, PROCEDURE_STEP_PROGRESS_INFORMATION_SEQUENCE,
     SCHEDULED_HUMAN_PERFORMERS_SEQUENCE, SCHEDULED_STATION_NAME_CODE_SEQUENCE,

@@ -2,11 +2,10 @@
 
 use crate::event_reports::EventReports;
 use crate::sets::Sets;
-use crate::state::StepState;
-use crate::status::Status;
 use crate::step::StepUid;
 use crate::watching::{Place, Target};
 use std::alloc::Allocator;
+use ups_cycle::{Status, StepState};
 use ups_dataset::DataSet;
 use ups_dimse::Tags;
 use ups_match::Keys;

@@ -1,7 +1,7 @@
 //! What is held of a step.
 
-use crate::state::StepState;
 use std::alloc::Allocator;
+use ups_cycle::StepState;
 use ups_dataset::DataSet;
 use ups_pdu::{Ae, Uid};
 

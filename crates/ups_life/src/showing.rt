@@ -4,8 +4,8 @@ ghost use Rattle.std.specs.Prelude.{◌≡◌, IfOk};
 ghost use Rattle.ups_life.specs.History.{has_all, shown};
 
 use crate::request::Reply;
-use crate::status::Status;
 use std::alloc::{AllocError, Allocator};
+use ups_cycle::Status;
 use ups_dataset::{DataSet, Tag};
 
 /// Whether a set has an element for each of these tags.

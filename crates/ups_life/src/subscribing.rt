@@ -7,9 +7,9 @@ ghost use Rattle.ups_life.specs.Subscribing.{title_value, named_receiver, lock_i
 
 use crate::instances::{is_instance, is_subscription, step_in};
 use crate::request::{Ask, Request};
-use crate::status::Status;
 use crate::watching::{Filter, Place, Target};
 use std::alloc::Allocator;
+use ups_cycle::Status;
 use ups_dataset::dictionary::{DELETION_LOCK, RECEIVING_AE};
 use ups_dataset::{DataSet, Value};
 use ups_match::Keys;

@@ -7,7 +7,7 @@ use Rattle.ups_life.specs.declared.request.Request.{Request}
 use Rattle.ups_life.specs.declared.request.Request.TheVariants.{Ack}
 use Rattle.ups_life.specs.declared.request.Reply.{Reply}
 use Rattle.ups_life.specs.declared.request.Reply.TheVariants.{Status as Answered, AckAhead, AckStale}
-use Rattle.ups_life.specs.declared.status.Status.TheVariants.{Success, ResourceLimitation}
+use Rattle.ups_cycle.specs.declared.status.Status.TheVariants.{Success, ResourceLimitation}
 use Rattle.ups_life.specs.Settings.{Settings}
 use Rattle.ups_life.specs.Steps.{past}
 use Rattle.ups_life.specs.Events.{acked, events}

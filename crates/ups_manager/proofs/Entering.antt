@@ -13,13 +13,14 @@ use Rattle.ups_life.specs.declared.request.Ask.TheVariants.{Do}
 use Rattle.ups_life.specs.declared.request.Reply.{Reply}
 use Rattle.ups_life.specs.declared.request.Reply.TheVariants.{Status as Answered, Swept}
 use Rattle.ups_life.specs.declared.row.Row.{Row}
-use Rattle.ups_life.specs.declared.status.Status.{Status}
-use Rattle.ups_life.specs.declared.status.Status.TheVariants.{Success, ResourceLimitation, UnknownInstance}
+use Rattle.ups_cycle.specs.declared.status.Status.{Status}
+use Rattle.ups_cycle.specs.declared.status.Status.TheVariants.{Success, ResourceLimitation, UnknownInstance}
 use Rattle.ups_life.specs.Settings.{Settings, IsMoment}
 use Rattle.ups_life.specs.Steps.{past, step_of, row_after, nothing}
 use Rattle.ups_life.specs.Watching.{known}
 use Rattle.ups_life.specs.Verdict.{verdict}
-use Rattle.ups_life.specs.History.{is_done, accepts, legal, reply, sized, in_room, is_sized, fits, repeats, row_then, decided}
+use Rattle.ups_life.specs.History.{accepts, legal, reply, sized, in_room, is_sized, fits, repeats, row_then, decided}
+use Rattle.ups_cycle.specs.Statuses.{is_done}
 use Rattle.ups_life.proofs.Past.{past-push, length-past}
 use Rattle.ups_manager.specs.declared.call.Call.{Call}
 use Rattle.ups_manager.specs.declared.deciding.Decision.{Decision}

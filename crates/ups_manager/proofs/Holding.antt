@@ -8,7 +8,7 @@ use Rattle.ups_life.specs.declared.request.Request.TheVariants.{Create, Change, 
 use Rattle.ups_life.specs.declared.entry.Entry.{Entry}
 use Rattle.ups_life.specs.declared.row.Row.{Row}
 use Rattle.ups_life.specs.declared.row.Holder.{Holder}
-use Rattle.ups_life.specs.declared.status.Status.TheVariants.{Success}
+use Rattle.ups_cycle.specs.declared.status.Status.TheVariants.{Success}
 use Rattle.ups_life.specs.Settings.{Settings}
 use Rattle.ups_life.specs.Distinct.{Distinct}
 use Rattle.ups_life.specs.Verdict.{verdict}

@@ -6,7 +6,7 @@ use Rattle.std.specs.Str.{bytes_eq}
 use Rattle.std.specs.List.{AllByRecursion}
 use Rattle.std.proofs.lemmas.Bool.Decides.{nat_tests}
 use Rattle.std.proofs.lemmas.List.{length-append}
-use Rattle.ups_dataset.specs.declared.syntax.TransferSyntax.TheVariants.{Explicit}
+use Rattle.ups_pdu.specs.declared.syntax.TransferSyntax.TheVariants.{Explicit}
 use Rattle.ups_dataset.specs.Limits.{max_depth}
 use Rattle.ups_dataset.specs.Tag.{number, is_tag}
 use Rattle.ups_dataset.specs.Data.{El, put, elements_of}
@@ -16,13 +16,14 @@ use Rattle.ups_life.specs.declared.request.Request.{Request}
 use Rattle.ups_life.specs.declared.request.Request.TheVariants.{Create, Change, AskCancel, Set}
 use Rattle.ups_life.specs.declared.request.Transaction.{Transaction}
 use Rattle.ups_life.specs.declared.row.Row.{Row}
-use Rattle.ups_life.specs.declared.state.StepState.{StepState}
-use Rattle.ups_life.specs.declared.state.StepState.TheVariants.{Scheduled, InProgress, Completed, Canceled}
-use Rattle.ups_life.specs.declared.status.Status.{Status}
-use Rattle.ups_life.specs.declared.status.Status.TheVariants.{Success, WrongTransactionUid}
+use Rattle.ups_cycle.specs.declared.state.StepState.{StepState}
+use Rattle.ups_cycle.specs.declared.state.StepState.TheVariants.{Scheduled, InProgress, Completed, Canceled}
+use Rattle.ups_cycle.specs.declared.status.Status.{Status}
+use Rattle.ups_cycle.specs.declared.status.Status.TheVariants.{Success, WrongTransactionUid}
 use Rattle.ups_life.specs.Settings.{Settings}
 use Rattle.ups_life.specs.Steps.{step_of, state_element, row_after, nothing}
-use Rattle.ups_life.specs.Verdict.{verdict, if_held, change_status, claim_status, complete_status, discontinue_status, wrong_status, is_proper, is_right, is_performed, is_discontinued}
+use Rattle.ups_life.specs.Verdict.{verdict, if_held, change_status, is_proper, is_right, is_performed, is_discontinued}
+use Rattle.ups_cycle.specs.Cycle.{claim_status, complete_status, discontinue_status, wrong_status}
 use Rattle.ups_life.specs.Limits.{row_limit}
 use Rattle.ups_life.specs.History.{fits, is_sized}
 use Rattle.ups_manager.specs.declared.rows.HeldStep.{HeldStep}

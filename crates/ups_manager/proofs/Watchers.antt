@@ -12,13 +12,14 @@ use Rattle.ups_life.specs.declared.request.Request.TheVariants.{Subscribe, Unsub
 use Rattle.ups_life.specs.declared.request.Reply.{Reply}
 use Rattle.ups_life.specs.declared.request.Reply.TheVariants.{Status as Answered, Swept}
 use Rattle.ups_life.specs.declared.row.Row.{Row}
-use Rattle.ups_life.specs.declared.status.Status.{Status}
-use Rattle.ups_life.specs.declared.status.Status.TheVariants.{ResourceLimitation}
+use Rattle.ups_cycle.specs.declared.status.Status.{Status}
+use Rattle.ups_cycle.specs.declared.status.Status.TheVariants.{ResourceLimitation}
 use Rattle.ups_life.specs.Settings.{Settings}
 use Rattle.ups_life.specs.Steps.{named_step}
 use Rattle.ups_life.specs.Verdict.{verdict}
 use Rattle.ups_life.specs.Watching.{is_due, is_among, held, known, removed}
-use Rattle.ups_life.specs.History.{is_done, fits, receiver_of, of_peer, of_lock, row_then, decided}
+use Rattle.ups_life.specs.History.{fits, receiver_of, of_peer, of_lock, row_then, decided}
+use Rattle.ups_cycle.specs.Statuses.{is_done}
 use Rattle.ups_life.proofs.Texts.{same_text, text_is_itself}
 use Rattle.ups_manager.specs.declared.deciding.Kind.TheVariants.{OfWatcher, OfTime}
 use Rattle.ups_manager.specs.declared.rows.HeldStep.{HeldStep}

@@ -7,11 +7,12 @@ use Rattle.ups_dataset.specs.Valid.{depth_elements}
 use Rattle.ups_life.specs.declared.entry.Entry.{Entry}
 use Rattle.ups_life.specs.declared.request.Request.{Request}
 use Rattle.ups_life.specs.declared.row.Row.{Row}
-use Rattle.ups_life.specs.declared.status.Status.{Status}
-use Rattle.ups_life.specs.declared.status.Status.TheVariants.{Success, ResourceLimitation}
+use Rattle.ups_cycle.specs.declared.status.Status.{Status}
+use Rattle.ups_cycle.specs.declared.status.Status.TheVariants.{Success, ResourceLimitation}
 use Rattle.ups_life.specs.Steps.{given, nothing, row_after}
 use Rattle.ups_life.specs.Verdict.{verdict}
-use Rattle.ups_life.specs.History.{is_done, fits, is_sized}
+use Rattle.ups_life.specs.History.{fits, is_sized}
+use Rattle.ups_cycle.specs.Statuses.{is_done}
 use Rattle.ups_manager.specs.declared.submitting.SubmitFault.{SubmitFault}
 use Rattle.ups_manager.specs.declared.submitting.SubmitFault.TheVariants.{Refused, Memory}
 

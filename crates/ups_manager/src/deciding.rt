@@ -2,8 +2,8 @@
 
 ghost use Rattle.std.specs.Prelude.{◌≡◌, ◌<◌, Option, not, ◌&&◌, filter, map, length, true, false, MatchResult, IfOk, OnOk, All, ◌∷◌, ◌++◌, [], if◌then◌else◌, vec_len, vec_capacity};
 ghost use Rattle.std.specs.Option.{option_copied};
-ghost use Rattle.ups_life.specs.declared.status.Status.{Status};
-ghost use Rattle.ups_life.specs.declared.status.Status.TheVariants.{ResourceLimitation};
+ghost use Rattle.ups_cycle.specs.declared.status.Status.{Status};
+ghost use Rattle.ups_cycle.specs.declared.status.Status.TheVariants.{ResourceLimitation};
 ghost use Rattle.ups_life.specs.Settings.{IsMoment, IsOffset};
 ghost use Rattle.ups_life.specs.Steps.{past};
 ghost use Rattle.ups_life.specs.Verdict.{verdict};
@@ -21,9 +21,10 @@ use crate::call::Call;
 use crate::rows::{HeldStep, find, put, row_of};
 use crate::submitting::step_for;
 use std::alloc::{AllocError, Allocator};
+use ups_cycle::Status;
 use ups_life::{
-    ChangeFault, Configuration, Entry, Peer, Reply, Request, Row, Status, StepUid, acked, is_due,
-    is_peer, may_lock, plain_events, verdict,
+    ChangeFault, Configuration, Entry, Peer, Reply, Request, Row, StepUid, acked, is_due, is_peer,
+    may_lock, plain_events, verdict,
 };
 use ups_pdu::Ae;
 

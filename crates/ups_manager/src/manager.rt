@@ -7,7 +7,7 @@ ghost use Rattle.ups_dataset.specs.Data.{El};
 ghost use Rattle.ups_match.specs.Matching.{is_match};
 ghost use Rattle.ups_life.specs.declared.request.Ask.TheVariants.{Do};
 ghost use Rattle.ups_life.specs.declared.request.Reply.TheVariants.{Sets as Found, Reports};
-ghost use Rattle.ups_life.specs.declared.status.Status.TheVariants.{ResourceLimitation, OutOfResources};
+ghost use Rattle.ups_cycle.specs.declared.status.Status.TheVariants.{ResourceLimitation, OutOfResources};
 ghost use Rattle.ups_life.specs.Limits.{peer_limit};
 ghost use Rattle.ups_life.specs.Settings.{IsMoment, IsOffset};
 ghost use Rattle.ups_life.specs.Steps.{past};
@@ -33,9 +33,10 @@ use crate::submitting::make_room;
 use crate::worklist::matches_among;
 use std::alloc::{AllocError, Allocator};
 use std::marker::Model;
+use ups_cycle::Status;
 use ups_dataset::Tag;
 use ups_life::{
-    Ask, Configuration, Entry, Holder, Peer, Reply, Status, StepUid, Watched, plain_pending, shown,
+    Ask, Configuration, Entry, Holder, Peer, Reply, StepUid, Watched, plain_pending, shown,
     watched_among,
 };
 use ups_match::{Keys, Matcher, Probe};

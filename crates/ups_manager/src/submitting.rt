@@ -2,11 +2,12 @@
 
 ghost use Rattle.std.specs.Prelude.{◌≡◌, ◌<◌, Some, true, false, length, IfOk, IfErr, OnOk, vec_len, vec_capacity};
 ghost use Rattle.std.specs.Option.{unwrap_or, option_or, option_copied};
-ghost use Rattle.ups_life.specs.declared.status.Status.TheVariants.{Success};
+ghost use Rattle.ups_cycle.specs.declared.status.Status.TheVariants.{Success};
 ghost use Rattle.ups_life.specs.Settings.{IsMoment, IsOffset};
 ghost use Rattle.ups_life.specs.Steps.{past, step_of, row_after, nothing};
 ghost use Rattle.ups_life.specs.Verdict.{verdict};
-ghost use Rattle.ups_life.specs.History.{is_done, is_sized, fits, repeats};
+ghost use Rattle.ups_life.specs.History.{is_sized, fits, repeats};
+ghost use Rattle.ups_cycle.specs.Statuses.{is_done};
 ghost use Rattle.ups_manager.specs.declared.submitting.SubmitFault.TheVariants.{Refused};
 ghost use Rattle.ups_manager.specs.declared.deciding.Kind.TheVariants.{OfStep};
 ghost use Rattle.ups_manager.specs.Deciding.{kind_of};
@@ -16,9 +17,9 @@ ghost use Rattle.ups_manager.specs.Held.{step_at, row_in, row_of_step, holder_in
 use crate::call::Call;
 use crate::rows::{HeldStep, find, row_of};
 use std::alloc::Allocator;
+use ups_cycle::{Status, StepState};
 use ups_life::{
-    ChangeFault, Entry, Holder, MAX_ROW_BYTES, Request, Row, Status, StepState, Transaction,
-    change, repeats, verdict,
+    ChangeFault, Entry, Holder, MAX_ROW_BYTES, Request, Row, Transaction, change, repeats, verdict,
 };
 
 /// Why a request is not entered.

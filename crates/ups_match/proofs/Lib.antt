@@ -2,6 +2,7 @@ mod Worked
 mod WorkedMatches
 pub mod Begun
 pub mod Calendar
+pub mod Class
 pub mod Combining
 pub mod Days
 pub mod Existing

@@ -1,3 +1,4 @@
+pub mod Class
 pub mod KeyCode
 pub mod Lanes
 pub mod Likeness

@@ -2,6 +2,7 @@
 
 use crate::fault::KeyFault;
 use crate::faults::keys_fault;
+use crate::first::{First, first_among};
 use crate::matching::all_match;
 use crate::meeting::meets_all;
 use crate::prepared::Prepared;
@@ -36,6 +37,7 @@ impl<A: Allocator + Copy> Model for Keys<A> {
 
 impl<A: Allocator + Copy> Keys<A> {
     ghost use Rattle.std.specs.Prelude.{◌≡◌, None, Some, IfOk, MatchResult};
+    ghost use Rattle.ups_match.specs.Class.{first_key, first_view};
     ghost use Rattle.ups_match.specs.Matching.{fault_of, is_match};
 
     /// The keys of a data set; `offset` is that of a DT which says none, in minutes east of UTC. It takes memory to prepare
@@ -104,5 +106,16 @@ impl<A: Allocator + Copy> Keys<A> {
         ensures { result ≡ self.now.offset }
     {
         self.offset
+    }
+
+    /// The first of the keys by which steps are looked up, for a service that reads DTs by `offset`, in minutes east of
+    /// UTC: the patient ID, the worklist label, the code value of the station name, the state or the priority, where it
+    /// is one value that isn't empty and has no wild cards; or else the range of the start, where the keys have that
+    /// offset. It takes no memory.
+    #[tactic(auto, unfolding(crate::specs::Class::first_key))]
+    pub fn first(&self, offset: i16) -> First<'_>
+        ensures { first_view result ≡ first_key offset self.now }
+    {
+        first_among(&self.attributes, self.offset, offset)
     }
 }

@@ -5,6 +5,7 @@
 mod digits;
 mod fault;
 mod faults;
+mod first;
 mod keys;
 mod lanes;
 mod likeness;
@@ -24,6 +25,7 @@ mod uids;
 mod universal;
 
 pub use fault::KeyFault;
+pub use first::First;
 pub use keys::Keys;
 pub use likeness::likes;
 pub use matcher::{Matcher, Probe};

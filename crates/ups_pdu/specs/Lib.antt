@@ -1,4 +1,5 @@
 pub mod Association
+pub mod Beginning
 pub mod Context
 pub mod Each
 pub mod Fits

@@ -5,6 +5,7 @@
 mod ae;
 mod associate;
 mod association;
+mod beginning;
 mod bytes;
 mod context;
 mod fault;
@@ -21,6 +22,7 @@ mod put;
 mod reading;
 mod registered;
 mod role;
+mod syntax;
 mod text;
 mod uid;
 mod user;
@@ -31,6 +33,7 @@ pub use associate::{
     AnsweredContext, AssociateAc, AssociateRq, AsynchronousWindow, ContextAnswer, ProposedContext,
     Role, UserInformation,
 };
+pub use beginning::calling_title;
 pub use bytes::Bytes;
 pub use fault::PduFault;
 pub use kind::{PduKind, body_len};
@@ -41,6 +44,7 @@ pub use pdu::Pdu;
 pub use pdv::{Pdv, Pdvs};
 pub use reading::read_pdu;
 pub use registered::RegisteredUid;
+pub use syntax::TransferSyntax;
 pub use text::{is_padding, without_padding};
 pub use uid::Uid;
 pub use writing::{fits_where_spelled, pdu_is_unique, short_is_writable, write_pdu};

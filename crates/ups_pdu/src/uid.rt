@@ -5,6 +5,7 @@ ghost use Rattle.std.specs.List.{list_all, slice_split};
 ghost use Rattle.ups_pdu.specs.Identifier.{is_digit, is_dot, is_component, IsUid, SpellsUid};
 
 use crate::text::without_padding;
+use std::hash::{Hash, Hasher};
 use std::marker::Model;
 
 /// A unique identifier (PS3.5 section 9): 1 to 64 bytes, digits and dots. It holds its bytes in place, so
@@ -109,4 +110,18 @@ impl Eq for Uid {
     ghost use Rattle.std.specs.Cmp.Lexicographic.{nat_list_eq_equiv};
 
     ghost laws = { nat_list_eq_equiv };
+}
+
+impl Hash for Uid {
+    ghost use Rattle.std.specs.Hash as fed;
+    ghost use Rattle.std.proofs.Common.{rules};
+    ghost use Rattle.std.specs.Cmp.Rules.{hashing};
+
+    ghost hash_input = { λ u. fed.slice fed.u8 u };
+
+    ghost respects_eq = { Prim.search (hashing, rules) };
+
+    fn hash<H: Hasher>(&self, state: &mut H) {
+        self.as_bytes().hash(state);
+    }
 }

@@ -4,7 +4,7 @@ use Rattle.std.specs.Prelude.{nat_lt}
 use Rattle.std.specs.Option.{unwrap_or}
 use Rattle.std.proofs.lemmas.List.{length-append}
 use Rattle.ups_dataset.specs.declared.dictionary.TheConstants.{HUMAN_PERFORMER_CODE_SEQUENCE, SCHEDULED_STATION_NAME_CODE_SEQUENCE, SCHEDULED_HUMAN_PERFORMERS_SEQUENCE, HUMAN_PERFORMER_ORGANIZATION, INPUT_READINESS_STATE, PROCEDURE_STEP_STATE, PROCEDURE_STEP_PROGRESS_INFORMATION_SEQUENCE, REQUESTING_AE}
-use Rattle.ups_dataset.specs.declared.syntax.TransferSyntax.TheVariants.{Explicit}
+use Rattle.ups_pdu.specs.declared.syntax.TransferSyntax.TheVariants.{Explicit}
 use Rattle.ups_dataset.specs.declared.tag.Tag.{Tag}
 use Rattle.ups_dataset.specs.declared.vr.Vr.TheVariants.{Ae, Cs, Lo, Sq}
 use Rattle.ups_dataset.specs.Code.{list_of}
@@ -19,10 +19,10 @@ use Rattle.ups_life.specs.declared.readiness.InputReadiness.{InputReadiness}
 use Rattle.ups_life.specs.declared.readiness.InputReadiness.TheVariants.{Incomplete, Unavailable, Ready}
 use Rattle.ups_life.specs.declared.request.Request.{Request}
 use Rattle.ups_life.specs.declared.request.Request.TheVariants.{AskCancel, Set}
-use Rattle.ups_life.specs.declared.state.StepState.{StepState}
-use Rattle.ups_life.specs.declared.state.StepState.TheVariants.{Scheduled, InProgress, Completed, Canceled}
+use Rattle.ups_cycle.specs.declared.state.StepState.{StepState}
+use Rattle.ups_cycle.specs.declared.state.StepState.TheVariants.{Scheduled, InProgress, Completed, Canceled}
 use Rattle.ups_life.specs.Readiness.{readiness_word}
-use Rattle.ups_life.specs.States.{state_text}
+use Rattle.ups_cycle.specs.States.{state_text}
 use Rattle.ups_life.specs.Steps.{REASONS}
 use Rattle.ups_reports.specs.Payloads.{text_element, given_of, sent_to_cancel, sent_to_set, sent, reason_told, state_report, CANCEL_ATTRIBUTES, cancel_requested, NO_PERFORMER, first_item, performer, assignment, payload_of, payload}
 

@@ -1,7 +1,7 @@
 -- Worked rows: what events say, computed by the check.
 use Rattle.std.proofs.Common.{◌≡◌, ℕ, List, [], ◌∷◌, ◌++◌, refl}
 use Rattle.std.specs.Prelude.{None, Some, codes}
-use Rattle.ups_dataset.specs.declared.syntax.TransferSyntax.TheVariants.{Explicit}
+use Rattle.ups_pdu.specs.declared.syntax.TransferSyntax.TheVariants.{Explicit}
 use Rattle.ups_dataset.specs.declared.tag.Tag.{Tag}
 use Rattle.ups_dataset.specs.declared.vr.Vr.{Vr}
 use Rattle.ups_dataset.specs.declared.vr.Vr.TheVariants.{Ae, Cs, Ds, Lo, Lt, Pn, Sh, Sq, Ur}
@@ -18,8 +18,8 @@ use Rattle.ups_life.specs.declared.readiness.InputReadiness.TheVariants.{Incompl
 use Rattle.ups_life.specs.declared.request.Request.{Request}
 use Rattle.ups_life.specs.declared.request.Request.TheVariants.{Create, Change, AskCancel, Set, Sweep}
 use Rattle.ups_life.specs.declared.request.Transaction.TheVariants.{Proper}
-use Rattle.ups_life.specs.declared.state.StepState.{StepState}
-use Rattle.ups_life.specs.declared.state.StepState.TheVariants.{Scheduled, InProgress, Canceled}
+use Rattle.ups_cycle.specs.declared.state.StepState.{StepState}
+use Rattle.ups_cycle.specs.declared.state.StepState.TheVariants.{Scheduled, InProgress, Canceled}
 use Rattle.ups_reports.specs.Payloads.{type_id, payload, NO_PERFORMER}
 
 -- no allocator is looked at

@@ -12,10 +12,10 @@ use Rattle.ups_life.specs.declared.event.EventKind.{EventKind}
 use Rattle.ups_life.specs.declared.event.EventKind.TheVariants.{StateReport, CancelRequested, ProgressReport, Assigned}
 use Rattle.ups_life.specs.declared.request.Request.{Request}
 use Rattle.ups_life.specs.declared.request.Request.TheVariants.{AskCancel, Set}
-use Rattle.ups_life.specs.declared.state.StepState.{StepState}
-use Rattle.ups_life.specs.declared.state.StepState.TheVariants.{Canceled}
+use Rattle.ups_cycle.specs.declared.state.StepState.{StepState}
+use Rattle.ups_cycle.specs.declared.state.StepState.TheVariants.{Canceled}
 use Rattle.ups_life.specs.Readiness.{readiness_word}
-use Rattle.ups_life.specs.States.{state_text}
+use Rattle.ups_cycle.specs.States.{state_text}
 use Rattle.ups_life.specs.Steps.{REASONS}
 use Rattle.ups_life.specs.Values.{text_value}
 

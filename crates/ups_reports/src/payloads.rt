@@ -10,6 +10,7 @@ ghost use Rattle.ups_life.specs.Values.{text_value};
 ghost use Rattle.ups_reports.specs.Payloads.{text_element, reason_told, state_report, cancel_requested, NO_PERFORMER, first_item, performer, assignment, sent_to_set, given_of, payload};
 
 use std::alloc::{AllocError, Allocator};
+use ups_cycle::StepState;
 use ups_dataset::dictionary::{
     CONTACT_DISPLAY_NAME, CONTACT_URI, HUMAN_PERFORMER_CODE_SEQUENCE, HUMAN_PERFORMER_ORGANIZATION,
     INPUT_READINESS_STATE, PROCEDURE_STEP_DISCONTINUATION_REASON_CODE_SEQUENCE,
@@ -17,7 +18,7 @@ use ups_dataset::dictionary::{
     REQUESTING_AE, SCHEDULED_HUMAN_PERFORMERS_SEQUENCE, SCHEDULED_STATION_NAME_CODE_SEQUENCE,
 };
 use ups_dataset::{DataSet, Element, Tag, Value, Vr};
-use ups_life::{Entry, Event, EventKind, InputReadiness, Request, StepState};
+use ups_life::{Entry, Event, EventKind, InputReadiness, Request};
 use ups_pdu::Bytes;
 
 /// The reason of a cancel request, as a code and as a text (PS3.4 CC.2.2).

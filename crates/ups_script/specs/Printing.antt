@@ -11,13 +11,13 @@ use Rattle.ups_life.specs.declared.event.Event.{Event}
 use Rattle.ups_life.specs.declared.event_reports.EventReport.{EventReport}
 use Rattle.ups_life.specs.declared.request.Reply.{Reply}
 use Rattle.ups_life.specs.declared.request.Reply.TheVariants.{Status as Answered, Set as Shown, Sets as Found, Swept, AckAhead, AckStale, Reports}
-use Rattle.ups_life.specs.declared.status.Status.TheVariants.{Success}
+use Rattle.ups_cycle.specs.declared.status.Status.TheVariants.{Success}
 use Rattle.ups_life.specs.declared.watching.Subscription.{Subscription}
 use Rattle.ups_life.specs.declared.watching.Subscription.TheVariants.{Free, Locked}
 use Rattle.ups_life.specs.declared.watching.Watched.{Watched as WatchedStep}
 use Rattle.ups_life.specs.Readiness.{readiness_word}
-use Rattle.ups_life.specs.States.{state_text}
-use Rattle.ups_life.specs.Statuses.{code}
+use Rattle.ups_cycle.specs.States.{state_text}
+use Rattle.ups_cycle.specs.Statuses.{code}
 use Rattle.ups_script.specs.declared.telling.Told.{Told}
 use Rattle.ups_script.specs.declared.telling.Told.TheVariants.{Replied, Steps, Watched, Holder}
 

@@ -9,7 +9,7 @@ use Rattle.ups_life.specs.declared.request.Reply.{Reply}
 use Rattle.ups_life.specs.declared.request.Reply.TheVariants.{Status as Answered}
 use Rattle.ups_life.specs.declared.request.Request.TheVariants.{Ack, Sweep}
 use Rattle.ups_life.specs.declared.row.Holder.{Holder}
-use Rattle.ups_life.specs.declared.status.Status.{Status}
+use Rattle.ups_cycle.specs.declared.status.Status.{Status}
 use Rattle.ups_life.specs.Instances.{step_in}
 use Rattle.ups_life.specs.Settings.{Settings}
 use Rattle.ups_life.specs.Steps.{past}

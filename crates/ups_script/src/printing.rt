@@ -8,7 +8,7 @@ ghost use Rattle.std.specs.Option.{option_copied};
 ghost use Rattle.ups_dataset.specs.View.{value_view, element_view};
 ghost use Rattle.ups_reports.specs.Payloads.{type_id};
 ghost use Rattle.ups_life.specs.Readiness.{readiness_word};
-ghost use Rattle.ups_life.specs.Statuses.{code};
+ghost use Rattle.ups_cycle.specs.Statuses.{code};
 ghost use Rattle.ups_script.specs.Printing.{hex_digit, hex_byte, hex_word, hex_tag, is_plain, printed_byte, printed, into_item, word, words_data, words, spaced, follows_after, bracketed, title_word, subscription_text, watched_word, event_word, report_word, reply_words, reply_head, reply_line, line_of};
 ghost use Rattle.ups_script.specs.Ways.{way_text};
 
@@ -16,8 +16,9 @@ use crate::reading::is_interrupted;
 use crate::telling::Told;
 use std::alloc::Allocator;
 use std::io::{self, Error, ErrorKind, Write};
+use ups_cycle::Status;
 use ups_dataset::{DataSet, Element, Tag, Value};
-use ups_life::{Event, EventReport, InputReadiness, Reply, Status, StepUid, Subscription, Watched};
+use ups_life::{Event, EventReport, InputReadiness, Reply, StepUid, Subscription, Watched};
 use ups_pdu::{Ae, without_padding};
 use ups_reports::type_id;
 

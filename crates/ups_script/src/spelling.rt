@@ -3,7 +3,7 @@
 
 ghost use Rattle.std.specs.Prelude.{◌≡◌, ◌++◌, ℕ, List, OnOk};
 ghost use Rattle.ups_dataset.specs.Written.{written_head, written_element};
-ghost use Rattle.ups_dataset.specs.declared.syntax.TransferSyntax.TheVariants.{Explicit};
+ghost use Rattle.ups_pdu.specs.declared.syntax.TransferSyntax.TheVariants.{Explicit};
 ghost use Rattle.ups_script.specs.Escapes.{StandsFor};
 ghost use Rattle.ups_script.specs.Forms.{pad_of, vr_for, element_for};
 

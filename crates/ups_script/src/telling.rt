@@ -7,11 +7,12 @@ ghost use Rattle.ups_script.specs.Telling.{RepliesToMessage, title_of, TellsOf, 
 
 use crate::asking::{Asked, Question};
 use std::alloc::{AllocError, Allocator};
-use ups_dataset::{SetFault, TransferSyntax, read_set};
+use ups_cycle::Status;
+use ups_dataset::{SetFault, read_set};
 use ups_dimse::Operation;
-use ups_life::{Ask, Reply, Request, Status, StepUid, Watched, read_request};
+use ups_life::{Ask, Reply, Request, StepUid, Watched, read_request};
 use ups_manager::Manager;
-use ups_pdu::{Ae, Uid};
+use ups_pdu::{Ae, TransferSyntax, Uid};
 use ups_service::Service;
 
 /// What a question is told.

@@ -9,7 +9,7 @@ use Rattle.ups_life.specs.declared.request.Ask.{Ask}
 use Rattle.ups_life.specs.declared.request.Ask.TheVariants.{Do, Get, Find, Pending}
 use Rattle.ups_life.specs.declared.request.Reply.{Reply}
 use Rattle.ups_life.specs.declared.request.Reply.TheVariants.{Status as Answered}
-use Rattle.ups_life.specs.declared.status.Status.TheVariants.{ResourceLimitation}
+use Rattle.ups_cycle.specs.declared.status.Status.TheVariants.{ResourceLimitation}
 use Rattle.ups_life.specs.Settings.{Settings}
 use Rattle.ups_life.specs.Steps.{past}
 use Rattle.ups_life.specs.History.{accepts, legal, decided, reply}

@@ -1,7 +1,7 @@
 -- The law of a service: what it answers by a history, what it enters there, and what others may enter between.
 -- Histories stand here as they are shown, oldest first.
 use Rattle.std.specs.Prelude.{◌≡◌, ◌≢◌, ◌≤◌, ◌+◌, ◌⊎◌, ℕ, Bool, true, List, [], ◌∷◌, ◌++◌, length, All}
-use Rattle.ups_dataset.specs.declared.syntax.TransferSyntax.TheVariants.{Explicit}
+use Rattle.ups_pdu.specs.declared.syntax.TransferSyntax.TheVariants.{Explicit}
 use Rattle.ups_dataset.specs.Data.{El}
 use Rattle.ups_dataset.specs.Written.{written}
 use Rattle.ups_life.specs.declared.request.Request.{Request}
@@ -10,12 +10,13 @@ use Rattle.ups_life.specs.declared.request.Ask.TheVariants.{Do, Get, Find, Pendi
 use Rattle.ups_life.specs.declared.request.Reply.{Reply}
 use Rattle.ups_life.specs.declared.request.Reply.TheVariants.{Status as Answered, Set as Shown, Sets as Found, Swept, AckAhead, AckStale, Reports}
 use Rattle.ups_life.specs.declared.entry.Entry.{Entry}
-use Rattle.ups_life.specs.declared.status.Status.{Status}
-use Rattle.ups_life.specs.declared.status.Status.TheVariants.{ResourceLimitation, OutOfResources}
+use Rattle.ups_cycle.specs.declared.status.Status.{Status}
+use Rattle.ups_cycle.specs.declared.status.Status.TheVariants.{ResourceLimitation, OutOfResources}
 use Rattle.ups_life.specs.Limits.{row_limit}
 use Rattle.ups_life.specs.Settings.{Settings}
 use Rattle.ups_life.specs.Steps.{past}
-use Rattle.ups_life.specs.History.{legal, is_done, reply, got, entered_by}
+use Rattle.ups_life.specs.History.{legal, reply, got, entered_by}
+use Rattle.ups_cycle.specs.Statuses.{is_done}
 use Rattle.ups_life.specs.Worklist.{worklist}
 use Rattle.ups_service.specs.Reporting.{reports_to}
 

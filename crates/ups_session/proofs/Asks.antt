@@ -6,13 +6,13 @@ use Rattle.ups_dimse.specs.declared.command.Operation.{Operation}
 use Rattle.ups_dimse.specs.declared.command.Operation.TheVariants as operations
 use Rattle.ups_match.specs.declared.fault.KeyFault.{KeyFault}
 use Rattle.ups_match.specs.Matching.{KeySet, fault_of, is_match}
-use Rattle.ups_life.specs.declared.state.StepState.{StepState}
+use Rattle.ups_cycle.specs.declared.state.StepState.{StepState}
 use Rattle.ups_life.specs.declared.request.Transaction.{Transaction}
 use Rattle.ups_life.specs.declared.request.Ask.{Ask}
 use Rattle.ups_life.specs.declared.request.Ask.TheVariants.{Do}
 use Rattle.ups_life.specs.declared.request.Request.TheVariants.{AskCancel}
-use Rattle.ups_life.specs.declared.status.Status.{Status}
-use Rattle.ups_life.specs.declared.status.Status.TheVariants.{NoSuchArgument, ResourceLimitation, NoSuchActionType, ActionNotAppropriate}
+use Rattle.ups_cycle.specs.declared.status.Status.{Status}
+use Rattle.ups_cycle.specs.declared.status.Status.TheVariants.{NoSuchArgument, ResourceLimitation, NoSuchActionType, ActionNotAppropriate}
 use Rattle.ups_life.specs.declared.watching.Place.{Place}
 use Rattle.ups_life.specs.declared.watching.Target.{Target}
 use Rattle.ups_life.specs.declared.watching.Target.TheVariants.{Single, Global, Filtered}

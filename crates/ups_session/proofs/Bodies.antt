@@ -1,7 +1,7 @@
 -- A message whose bytes spell no data set.
 use Rattle.std.proofs.Common.{◌≡◌, ℕ, List, sym, subst, Option, Some, None, Result, Ok, Err, IfOk}
 use Rattle.std.specs.Prelude.{◌≢◌, MatchOption}
-use Rattle.ups_dataset.specs.declared.syntax.TransferSyntax.{TransferSyntax}
+use Rattle.ups_pdu.specs.declared.syntax.TransferSyntax.{TransferSyntax}
 use Rattle.ups_dataset.specs.declared.fault.SetFault.{SetFault}
 use Rattle.ups_dataset.specs.declared.fault.SetFault.TheVariants.{Memory}
 use Rattle.ups_dataset.specs.Data.{El}

@@ -21,7 +21,7 @@ use Rattle.ups_assoc.specs.Feeding.{Fed, more, whole, fault, Feeds}
 use Rattle.ups_life.specs.declared.event_reports.EventReport.{EventReport}
 use Rattle.ups_life.specs.declared.request.Reply.{Reply}
 use Rattle.ups_life.specs.declared.request.Reply.TheVariants.{Status as Told, Reports}
-use Rattle.ups_life.specs.declared.status.Status.TheVariants.{ResourceLimitation}
+use Rattle.ups_cycle.specs.declared.status.Status.TheVariants.{ResourceLimitation}
 use Rattle.ups_session.specs.declared.delivery.Route.{Route}
 use Rattle.ups_session.specs.declared.delivery.DeliveryCall.{DeliveryCall}
 use Rattle.ups_session.specs.declared.delivery.DeliveryCall.TheVariants.{Pendings}

@@ -8,8 +8,8 @@ use Rattle.ups_dimse.specs.declared.command.ResponseCommand.{ResponseCommand}
 use Rattle.ups_dimse.specs.Written as commands
 use Rattle.ups_assoc.specs.declared.negotiating.AcceptedContext.{AcceptedContext}
 use Rattle.ups_assoc.specs.Cutting.{pieces}
-use Rattle.ups_life.specs.declared.status.Status.{Status}
-use Rattle.ups_life.specs.Statuses.{code}
+use Rattle.ups_cycle.specs.declared.status.Status.{Status}
+use Rattle.ups_cycle.specs.Statuses.{code}
 use Rattle.ups_session.specs.Responses.{response_command, response_bytes, bare_response, set_response}
 
 pub if_ok : {T E : Type 0} (r : Result T E) (P Q : T → Type 0) → ((x : T) → P x → Q x) → IfOk r P → IfOk r Q

@@ -10,7 +10,7 @@ use Rattle.ups_pdu.specs.declared.associate.AssociateAc.{AssociateAc}
 use Rattle.ups_pdu.specs.declared.pdu.Pdu.{Pdu}
 use Rattle.ups_pdu.specs.declared.pdu.Pdu.TheVariants.{AssociateRq}
 use Rattle.ups_pdu.specs.declared.pdv.Pdv.{Pdv}
-use Rattle.ups_dataset.specs.declared.syntax.TransferSyntax.{TransferSyntax}
+use Rattle.ups_pdu.specs.declared.syntax.TransferSyntax.{TransferSyntax}
 use Rattle.ups_dimse.specs.declared.command.Command.{Command}
 use Rattle.ups_dimse.specs.declared.command.Command.TheVariants.{Request, Response, Cancel}
 use Rattle.ups_dimse.specs.declared.command.OperationResult.{OperationResult}
@@ -29,7 +29,7 @@ use Rattle.ups_life.specs.declared.request.Ask.TheVariants.{Do, Pending}
 use Rattle.ups_life.specs.declared.request.Reply.{Reply}
 use Rattle.ups_life.specs.declared.request.Reply.TheVariants.{Status as Told, Reports}
 use Rattle.ups_life.specs.declared.request.Request.TheVariants.{Ack}
-use Rattle.ups_life.specs.declared.status.Status.TheVariants.{ResourceLimitation, UnrecognizedOperation}
+use Rattle.ups_cycle.specs.declared.status.Status.TheVariants.{ResourceLimitation, UnrecognizedOperation}
 use Rattle.ups_session.specs.declared.delivery.ReportInFlight.{ReportInFlight}
 use Rattle.ups_session.specs.declared.delivery.Route.{Route}
 use Rattle.ups_session.specs.declared.delivery.DeliveryCall.{DeliveryCall}

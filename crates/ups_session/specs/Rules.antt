@@ -3,7 +3,7 @@ use Rattle.std.specs.Prelude.{◌≡◌, ◌⊎◌, ◌==◌, ℕ, ℤ, Bool, tr
 use Rattle.std.specs.Str.{bytes_eq}
 use Rattle.ups_pdu.specs.declared.registered.RegisteredUid.TheVariants as registered
 use Rattle.ups_pdu.specs.Registered.{text_of}
-use Rattle.ups_dataset.specs.declared.syntax.TransferSyntax.{TransferSyntax}
+use Rattle.ups_pdu.specs.declared.syntax.TransferSyntax.{TransferSyntax}
 use Rattle.ups_dataset.specs.Data.{El}
 use Rattle.ups_dataset.specs.Spelling.{SpellsSet}
 use Rattle.ups_dimse.specs.declared.command.RequestCommand.{RequestCommand}
@@ -14,8 +14,8 @@ use Rattle.ups_assoc.specs.declared.sop_class.SopClass.TheVariants.{Verification
 use Rattle.ups_assoc.specs.declared.negotiating.AcceptedContext.{AcceptedContext}
 use Rattle.ups_assoc.specs.Classes.{uid_of}
 use Rattle.ups_life.specs.declared.request.Ask.{Ask}
-use Rattle.ups_life.specs.declared.status.Status.{Status}
-use Rattle.ups_life.specs.declared.status.Status.TheVariants.{Success, UnrecognizedOperation, NoSuchSopClass, NoSuchActionType, ProcessingFailure, UnableToProcess}
+use Rattle.ups_cycle.specs.declared.status.Status.{Status}
+use Rattle.ups_cycle.specs.declared.status.Status.TheVariants.{Success, UnrecognizedOperation, NoSuchSopClass, NoSuchActionType, ProcessingFailure, UnableToProcess}
 use Rattle.ups_life.specs.Asking.{asked}
 use Rattle.ups_session.specs.Dispatch.{DispatchView, answered_at_once, asking}
 

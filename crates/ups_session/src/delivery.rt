@@ -25,12 +25,12 @@ use crate::reports::report_pdus;
 use crate::response::bare_response;
 use std::alloc::Allocator;
 use ups_assoc::{AcceptedContext, AcceptedContexts, Assembler, RawMessage, SopClass};
-use ups_dataset::TransferSyntax;
+use ups_cycle::Status;
 use ups_dimse::{
     Command, DimseFault, OperationResult, RequestCommand, ResponseCommand, read_command,
 };
-use ups_life::{EventReport, EventReports, Reply, Status};
-use ups_pdu::{Ae, AssociateAc, Pdu, Pdv};
+use ups_life::{EventReport, EventReports, Reply};
+use ups_pdu::{Ae, AssociateAc, Pdu, Pdv, TransferSyntax};
 use ups_ulstate::{UlAction, UlEvent, UlState, next};
 
 /// This side is the association requestor.

@@ -24,10 +24,11 @@ use crate::fault::SessionFault;
 use crate::response::bare_response;
 use std::alloc::{AllocError, Allocator};
 use ups_assoc::{AcceptedContext, Config, RawMessage, SopClass};
-use ups_dataset::{DataSet, SetFault, TransferSyntax, read_set};
+use ups_cycle::Status;
+use ups_dataset::{DataSet, SetFault, read_set};
 use ups_dimse::{Command, DimseFault, Operation, RequestCommand, read_command};
-use ups_life::{Ask, CHANGE_STATE, REQUEST_CANCEL, SUSPEND, Status, read_request};
-use ups_pdu::{RegisteredUid, Uid};
+use ups_life::{Ask, CHANGE_STATE, REQUEST_CANCEL, SUSPEND, read_request};
+use ups_pdu::{RegisteredUid, TransferSyntax, Uid};
 
 /// The outcome of a request before the service sees it.
 #[derive(Drop)]

@@ -8,10 +8,10 @@ ghost use Rattle.ups_assoc.specs.Contexts.{known_syntax};
 ghost use Rattle.ups_session.specs.Proposing.{proposed_id, padded_title, event_context, proposed_information, association_request, syntax_answered, syntax_at, agreement};
 
 use std::alloc::{AllocError, Allocator};
-use ups_dataset::TransferSyntax;
 use ups_pdu::{
     Ae, AnsweredContext, AssociateAc, AssociateRq, Bytes, ContextAnswer, MAX_DATA_LENGTH,
-    ProposedContext, ProposedContexts, RegisteredUid, Role, Roles, Uid, Uids, UserInformation,
+    ProposedContext, ProposedContexts, RegisteredUid, Role, Roles, TransferSyntax, Uid, Uids,
+    UserInformation,
 };
 
 /// The id of the one presentation context that is proposed.

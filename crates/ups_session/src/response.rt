@@ -4,12 +4,12 @@ ghost use Rattle.std.specs.Prelude.{◌≡◌, ◌≤◌, ◌<◌, ◌^◌, ◌�
 ghost use Rattle.std.specs.List.{AllByRecursion, flat_map};
 ghost use Rattle.ups_pdu.specs.Fits.{Fits};
 ghost use Rattle.ups_assoc.specs.Cutting.{pieces};
-ghost use Rattle.ups_dataset.specs.declared.syntax.TransferSyntax.TheVariants.{Explicit};
+ghost use Rattle.ups_pdu.specs.declared.syntax.TransferSyntax.TheVariants.{Explicit};
 ghost use Rattle.ups_dataset.specs.Written.{written};
-ghost use Rattle.ups_life.specs.Statuses.{code};
+ghost use Rattle.ups_cycle.specs.Statuses.{code};
 ghost use Rattle.ups_session.specs.declared.fault.SessionFault.TheVariants.{Memory};
 ghost use Rattle.ups_session.specs.Responses.{response_bytes, bare_response, set_response, response};
-ghost use Rattle.ups_life.specs.declared.status.Status.TheVariants.{Pending};
+ghost use Rattle.ups_cycle.specs.declared.status.Status.TheVariants.{Pending};
 ghost use Rattle.ups_service.specs.Law.{SmallReply};
 ghost use Rattle.ups_session.specs.Visits.{SendsPdus};
 
@@ -20,9 +20,10 @@ use crate::watched_io::WatchedWriter;
 use std::alloc::{AllocError, Allocator};
 use std::io::Write;
 use ups_assoc::{AcceptedContext, cut};
+use ups_cycle::Status;
 use ups_dataset::{DataSet, write_set};
 use ups_dimse::{Command, RequestCommand, write_command};
-use ups_life::{Reply, Status};
+use ups_life::Reply;
 use ups_pdu::{Pdu, RegisteredUid};
 
 /// Encodes the command set of a response.

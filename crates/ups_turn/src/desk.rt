@@ -17,7 +17,8 @@ use std::alloc::Allocator;
 use std::marker::Model;
 use std::snapshot::Snapshot;
 use std::sync::{Mutex, Wait};
-use ups_life::{Ask, Reply, Status};
+use ups_cycle::Status;
+use ups_life::{Ask, Reply};
 use ups_manager::Manager;
 use ups_pdu::Ae;
 

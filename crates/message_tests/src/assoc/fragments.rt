@@ -3,8 +3,7 @@ use fixtures::bytes_of;
 use std::alloc::{Allocator, Global};
 use std::test::*;
 use ups_assoc::*;
-use ups_dataset::TransferSyntax;
-use ups_pdu::{Bytes, Pdv};
+use ups_pdu::{Bytes, Pdv, TransferSyntax};
 
 /// The accepted contexts: one, of this id.
 pub(crate) fn context(id: u8) -> [AcceptedContext; 1] {

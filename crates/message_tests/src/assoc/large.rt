@@ -2,7 +2,7 @@ use super::associations::{answer_bytes, outcome_of};
 use fixtures::bytes_of;
 use std::test::*;
 use ups_assoc::*;
-use ups_dataset::TransferSyntax;
+use ups_pdu::TransferSyntax;
 
 /// A request with 128 contexts, by texts for `bytes_of`.
 struct Large {

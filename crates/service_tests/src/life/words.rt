@@ -11,10 +11,11 @@ use crate::steps::a_step;
 use fixtures::{Refusing, put_items, tag_of};
 use std::alloc::{Allocator, Global};
 use std::test::Fail;
+use ups_cycle::{Status, StepState};
 use ups_dataset::dictionary::PROCEDURE_STEP_DISCONTINUATION_REASON_CODE_SEQUENCE;
 use ups_dataset::{DataSet, Tag};
 use ups_dimse::{Operation, Tags};
-use ups_life::{Ask, Request, Row, Status, StepState, read_request};
+use ups_life::{Ask, Request, Row, read_request};
 use ups_pdu::{RegisteredUid, Uid};
 
 /// The offset of the local time, in which keys are read.

@@ -7,9 +7,10 @@ use fixtures::title;
 use std::alloc::Global;
 use std::process::Abort;
 use std::test::Fail;
+use ups_cycle::StepState;
 use ups_life::{
-    Ask, Entry, Event, EventKind, EventReport, MAX_MOMENT, Peer, Place, Reply, Request, StepState,
-    Target, Watched, acked, plain_events, plain_held, plain_watches,
+    Ask, Entry, Event, EventKind, EventReport, MAX_MOMENT, Peer, Place, Reply, Request, Target,
+    Watched, acked, plain_events, plain_held, plain_watches,
 };
 use ups_manager::*;
 use ups_pdu::Ae;

@@ -4,10 +4,11 @@ ghost use Rattle.ups_life.specs.Settings.{IsOffset};
 use super::{answer_to, keys_of};
 use std::alloc::{AllocError, Global};
 use std::test::Fail;
-use ups_dataset::{DataSet, TransferSyntax, write_set};
+use ups_dataset::{DataSet, write_set};
 use ups_life::{Configuration, Filter, Reply, plain_find};
 use ups_manager::*;
 use ups_match::Probe;
+use ups_pdu::TransferSyntax;
 
 /// Numbers that look random, the same at each run.
 #[derive(Drop)]

@@ -1,7 +1,7 @@
 use Rattle.std.proofs.Common.{rules, arith, ◌+◌, subst, refl}
 use Rattle.std.proofs.lemmas.Result.{err_from_is_err_and}
 use Rattle.ups_dataset.specs.declared.vr.Vr.TheVariants.{Sq}
-use Rattle.ups_dataset.specs.declared.syntax.TransferSyntax.{TransferSyntax}
+use Rattle.ups_pdu.specs.declared.syntax.TransferSyntax.{TransferSyntax}
 use Rattle.ups_dataset.specs.Data.{bytes, items, no_elements, no_items}
 use Rattle.ups_dataset.specs.Head.{rest_behind}
 use Rattle.ups_dataset.specs.Spelling.{SpellsItems}

@@ -2,7 +2,8 @@ use Rattle.std.proofs.Common.{w16, to_z, of_z, refl, sym, ap, subst, ◌∙◌, 
 use Rattle.std.proofs.lemmas.Int.{to_z-of_z}
 use Rattle.ups_life.specs.declared.request.Reply.TheVariants.{Status as Answered}
 use Rattle.ups_life.specs.Settings.{IsOffset}
-use Rattle.ups_life.specs.History.{is_done, accepts}
+use Rattle.ups_life.specs.History.{accepts}
+use Rattle.ups_cycle.specs.Statuses.{is_done}
 use Rattle.ups_manager.specs.Faults.{status_of}
 use Rattle.ups_manager.proofs.Entering.{Accepted, accepted, step_succeeds, steps_after, small_kept, answers_fault, step_not_done}
 use Rattle.ups_manager.proofs.deciding.decide_step.Given as given

@@ -2,7 +2,8 @@ use Rattle.std.proofs.Common.{Bool, sym, ap, ◌∙◌}
 use Rattle.std.specs.Option.{option_copied}
 use Rattle.ups_life.specs.Steps.{past}
 use Rattle.ups_life.specs.Verdict.{verdict}
-use Rattle.ups_life.specs.History.{is_done, repeats}
+use Rattle.ups_life.specs.History.{repeats}
+use Rattle.ups_cycle.specs.Statuses.{is_done}
 use Rattle.ups_life.proofs.Verdicts.{done_is_success, verdict_grants_all}
 use Rattle.ups_manager.proofs.submitting.decide.Goals as goal
 

@@ -1,6 +1,6 @@
 use Rattle.std.proofs.Common.{◌≡◌, ◌∙◌, ap, Some}
 use Rattle.std.specs.Option.{unwrap_or}
-use Rattle.ups_life.specs.Statuses.{code}
+use Rattle.ups_cycle.specs.Statuses.{code}
 use Rattle.ups_session.specs.Responses.{response_command}
 use Rattle.ups_session.proofs.Parts.{if_ok, written_answer}
 use Rattle.ups_session.proofs.response.response_bytes.Goals as goal

@@ -3,7 +3,7 @@ use Rattle.std.specs.List.{flat_map}
 use Rattle.std.proofs.lemmas.List.{take_all}
 use Rattle.std.proofs.lemmas.Result.{err_from_is_err_and}
 use Rattle.ups_dataset.specs.Data.{El}
-use Rattle.ups_life.specs.declared.status.Status.TheVariants.{Pending}
+use Rattle.ups_cycle.specs.declared.status.Status.TheVariants.{Pending}
 use Rattle.ups_session.specs.Responses.{set_response}
 use Rattle.ups_session.specs.Session.{okay}
 use Rattle.ups_session.specs.Visits.{SendsPdus}

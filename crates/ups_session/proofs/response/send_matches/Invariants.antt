@@ -1,6 +1,6 @@
 use Rattle.std.proofs.Common.{take}
 use Rattle.std.specs.List.{flat_map}
-use Rattle.ups_life.specs.declared.status.Status.TheVariants.{Pending}
+use Rattle.ups_cycle.specs.declared.status.Status.TheVariants.{Pending}
 use Rattle.ups_session.specs.Responses.{set_response}
 use Rattle.ups_session.specs.Session.{okay}
 use Rattle.ups_session.specs.Visits.{SendsPdus}

@@ -2,7 +2,7 @@ use Rattle.std.proofs.Common.{List, subst}
 use Rattle.std.specs.List.{flat_map}
 use Rattle.std.proofs.lemmas.Result.{err_from_is_err_and}
 use Rattle.ups_dataset.specs.Data.{El}
-use Rattle.ups_life.specs.declared.status.Status.TheVariants.{Success, Pending}
+use Rattle.ups_cycle.specs.declared.status.Status.TheVariants.{Success, Pending}
 use Rattle.ups_session.specs.Responses.{bare_response, set_response}
 use Rattle.ups_session.specs.Session.{okay, failing}
 use Rattle.ups_session.specs.Visits.{SendsPdus}

@@ -2,7 +2,7 @@ use Rattle.std.proofs.Common.{◌≡◌, ◌<◌, ◌++◌, ◌∷◌, [], List,
 use Rattle.std.specs.List.{AllByRecursion}
 use Rattle.ups_life.specs.declared.entry.Entry.{Entry}
 use Rattle.ups_life.specs.declared.request.Reply.TheVariants.{Status as Answered}
-use Rattle.ups_life.specs.declared.status.Status.{Status}
+use Rattle.ups_cycle.specs.declared.status.Status.{Status}
 use Rattle.ups_life.specs.Steps.{past}
 use Rattle.ups_life.proofs.Past.{past-push}
 use Rattle.ups_manager.specs.declared.rows.HeldStep.{HeldStep}

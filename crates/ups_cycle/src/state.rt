@@ -1,8 +1,8 @@
 //! The states of a step.
 
 ghost use Rattle.std.specs.Prelude.{◌≡◌, List, ℕ, Option, None, Some, MatchOption};
-ghost use Rattle.ups_life.specs.declared.state.StepState.{StepState};
-ghost use Rattle.ups_life.specs.States.{is_final, state_text, state_of};
+ghost use Rattle.ups_cycle.specs.declared.state.StepState.{StepState};
+ghost use Rattle.ups_cycle.specs.States.{is_final, state_text, state_of};
 
 use ups_pdu::without_padding;
 

@@ -1,8 +1,8 @@
 //! Statuses.
 
 ghost use Rattle.std.specs.Prelude.{◌≡◌};
-ghost use Rattle.ups_life.specs.Statuses.{code};
-ghost use Rattle.ups_life.specs.History.{is_done};
+ghost use Rattle.ups_cycle.specs.Statuses.{code};
+ghost use Rattle.ups_cycle.specs.Statuses.{is_done};
 
 /// How a request was answered (PS3.7 annex C, PS3.4 CC.2.1 to CC.2.7 and section C.4.1.1.4). It was accepted after
 /// Success, and after B301.

@@ -1,0 +1,51 @@
+-- The life cycle of a step (PS3.4 CC.1.1, CC.2.1, CC.2.2).
+use Rattle.std.specs.Prelude.{Bool, true, false, if◌then◌else◌}
+use Rattle.ups_cycle.specs.declared.status.Status.{Status}
+use Rattle.ups_cycle.specs.declared.status.Status.TheVariants.{Success, NoLongerUpdatable, WrongTransactionUid, AlreadyInProgress, FinalStateNotMet, NotInProgress, TooLateToCancel, AlreadyCanceled, AlreadyCompleted}
+use Rattle.ups_cycle.specs.declared.state.StepState.{StepState}
+use Rattle.ups_cycle.specs.declared.state.StepState.TheVariants.{Scheduled, InProgress, Completed, Canceled}
+
+-- THE LIFE CYCLE (PS3.4 CC.1.1, CC.2.1, CC.2.2): each function is a row of its table, each line a cell.
+
+-- to IN PROGRESS, with a proper Transaction UID
+abbrev pub claim_status : StepState → Status
+claim_status Scheduled = Success
+claim_status InProgress = AlreadyInProgress
+claim_status Completed = NoLongerUpdatable
+claim_status Canceled = NoLongerUpdatable
+
+-- to COMPLETED, with the right Transaction UID; `met`: what COMPLETED needs is there. No UID is right for a step that
+-- is SCHEDULED.
+abbrev pub complete_status : Bool → StepState → Status
+complete_status met Scheduled = NotInProgress
+complete_status met InProgress = if met then Success else FinalStateNotMet
+complete_status met Completed = AlreadyCompleted
+complete_status met Canceled = NoLongerUpdatable
+
+-- to CANCELED, with the right Transaction UID; `met`: what CANCELED needs is there
+abbrev pub discontinue_status : Bool → StepState → Status
+discontinue_status met Scheduled = NotInProgress
+discontinue_status met InProgress = if met then Success else FinalStateNotMet
+discontinue_status met Completed = NoLongerUpdatable
+discontinue_status met Canceled = AlreadyCanceled
+
+-- to a final state, with another Transaction UID or none; `proper`: it is a UID
+abbrev pub wrong_status : Bool → StepState → Status
+wrong_status proper Scheduled = if proper then NotInProgress else WrongTransactionUid
+wrong_status proper InProgress = WrongTransactionUid
+wrong_status proper Completed = WrongTransactionUid
+wrong_status proper Canceled = WrongTransactionUid
+
+-- a request to cancel
+abbrev pub cancel_status : StepState → Status
+cancel_status Scheduled = Success
+cancel_status InProgress = Success
+cancel_status Completed = TooLateToCancel
+cancel_status Canceled = AlreadyCanceled
+
+-- an N-SET, by its Transaction UID; `right`: it is that of the claim, `given`: there is one
+abbrev pub set_status : Bool → Bool → StepState → Status
+set_status right given Scheduled = if given then NotInProgress else Success
+set_status right given InProgress = if right then Success else WrongTransactionUid
+set_status right given Completed = NoLongerUpdatable
+set_status right given Canceled = NoLongerUpdatable

@@ -1,0 +1,3 @@
+pub mod Cycle
+pub mod States
+pub mod Statuses

@@ -1,0 +1,86 @@
+//! Which changes of state a step takes.
+
+ghost use Rattle.std.specs.Prelude.{◌≡◌};
+ghost use Rattle.ups_cycle.specs.Cycle.{claim_status, complete_status, discontinue_status, wrong_status, cancel_status, set_status};
+
+use crate::state::StepState;
+use crate::status::Status;
+
+// THE LIFE CYCLE (PS3.4 CC.1.1, CC.2.1, CC.2.2): each function is a row of its table, each arm a cell.
+
+/// To IN PROGRESS, with a proper Transaction UID.
+pub fn claim_status(state: StepState) -> Status
+    ensures { result ≡ claim_status state }
+{
+    match state {
+        StepState::Scheduled => Status::Success,
+        StepState::InProgress => Status::AlreadyInProgress,
+        StepState::Completed => Status::NoLongerUpdatable,
+        StepState::Canceled => Status::NoLongerUpdatable,
+    }
+}
+
+/// To COMPLETED, with the right Transaction UID; `met`: what COMPLETED needs is there.
+pub fn complete_status(met: bool, state: StepState) -> Status
+    ensures { result ≡ complete_status met state }
+{
+    match state {
+        StepState::Scheduled => Status::NotInProgress,
+        StepState::InProgress if met => Status::Success,
+        StepState::InProgress => Status::FinalStateNotMet,
+        StepState::Completed => Status::AlreadyCompleted,
+        StepState::Canceled => Status::NoLongerUpdatable,
+    }
+}
+
+/// To CANCELED, with the right Transaction UID; `met`: what CANCELED needs is there.
+pub fn discontinue_status(met: bool, state: StepState) -> Status
+    ensures { result ≡ discontinue_status met state }
+{
+    match state {
+        StepState::Scheduled => Status::NotInProgress,
+        StepState::InProgress if met => Status::Success,
+        StepState::InProgress => Status::FinalStateNotMet,
+        StepState::Completed => Status::NoLongerUpdatable,
+        StepState::Canceled => Status::AlreadyCanceled,
+    }
+}
+
+/// To a final state, with another Transaction UID or none; `proper`: it is a UID.
+pub fn wrong_status(proper: bool, state: StepState) -> Status
+    ensures { result ≡ wrong_status proper state }
+{
+    match state {
+        StepState::Scheduled if proper => Status::NotInProgress,
+        StepState::Scheduled => Status::WrongTransactionUid,
+        StepState::InProgress => Status::WrongTransactionUid,
+        StepState::Completed => Status::WrongTransactionUid,
+        StepState::Canceled => Status::WrongTransactionUid,
+    }
+}
+
+/// A request to cancel.
+pub fn cancel_status(state: StepState) -> Status
+    ensures { result ≡ cancel_status state }
+{
+    match state {
+        StepState::Scheduled => Status::Success,
+        StepState::InProgress => Status::Success,
+        StepState::Completed => Status::TooLateToCancel,
+        StepState::Canceled => Status::AlreadyCanceled,
+    }
+}
+
+/// An N-SET, by its Transaction UID: whether it is that of the claim, and whether there is one.
+pub fn set_status(right: bool, given: bool, state: StepState) -> Status
+    ensures { result ≡ set_status right given state }
+{
+    match state {
+        StepState::Scheduled if given => Status::NotInProgress,
+        StepState::Scheduled => Status::Success,
+        StepState::InProgress if right => Status::Success,
+        StepState::InProgress => Status::WrongTransactionUid,
+        StepState::Completed => Status::NoLongerUpdatable,
+        StepState::Canceled => Status::NoLongerUpdatable,
+    }
+}

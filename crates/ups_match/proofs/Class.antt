@@ -1,0 +1,277 @@
+-- A row that matches all keys matches the first indexed one.
+use Rattle.std.proofs.Common.{◌≡◌, ℕ, ℤ, Bool, true, false, ◌||◌, ◌&&◌, ◌==◌, not, cond, List, [], ◌∷◌, filter, refl, sym, ap, ◌∙◌, subst, arith, true≢false}
+use Rattle.std.specs.Prelude.{Option, None, Some}
+use Rattle.std.specs.List.{list_any}
+use Rattle.std.specs.Ordering.{int_eq}
+use Rattle.std.specs.Str.{bytes_eq}
+use Rattle.std.specs.Cmp.Lexicographic.{same_text}
+use Rattle.ups_pdu.specs.Padding.{is_nil, without_padding}
+use Rattle.ups_dataset.specs.declared.tag.Tag.{Tag}
+use Rattle.ups_dataset.specs.declared.vr.Vr.{Vr}
+use Rattle.ups_dataset.specs.declared.dictionary.TheConstants.{CODE_VALUE, PATIENT_ID, PROCEDURE_STEP_STATE, SCHEDULED_PROCEDURE_STEP_PRIORITY, SCHEDULED_PROCEDURE_STEP_START_DATE_TIME, SCHEDULED_STATION_NAME_CODE_SEQUENCE, WORKLIST_LABEL}
+use Rattle.ups_dataset.specs.Dictionary.{vr_of}
+use Rattle.ups_dataset.specs.Tag.{is_tag}
+use Rattle.ups_dataset.specs.Data.{Data, bytes, items, Items, no_items, item, Elements, no_elements, element, El, elements_of}
+use Rattle.ups_match.specs.declared.ranges.Span.{Span}
+use Rattle.ups_match.specs.declared.rule.Rule.TheVariants.{WildCards, Range}
+use Rattle.ups_match.specs.Class.{is_special, plain, plain_value, plain_code, FirstKey, value, start, all, or_else, range_key, start_key, first_among, first_key, moment_stored, start_of, meets_first, class}
+use Rattle.ups_match.specs.Matching.{KeySet, key_rule, matches, value_at, any_item, any_stored_item, matches_stored_text, all_match, value_matches, items_match, is_universal, is_universal_key, universal_items, all_universal, has_no_items, is_match}
+use Rattle.ups_match.specs.Met.{stored_text_met}
+use Rattle.ups_match.specs.Ranges.{span_of, spans}
+use Rattle.ups_match.specs.Likeness.{is_like}
+use Rattle.ups_match.specs.Values.{any_value, is_no_key, is_universal_text}
+
+pub both : (a b : Bool) → (a && b) ≡ true → (a ≡ true) × (b ≡ true)
+both true b h = (refl, h)
+both false b h = absurd cc
+
+pub one : (a b : Bool) → (a || b) ≡ true → a ≡ false → b ≡ true
+one true b h n = absurd cc
+one false b h n = h
+
+pub same_tag : (s t : Tag) → is_tag s t ≡ true → s ≡ t
+same_tag s t e =
+    let groups : s.group ≡ t.group = grind (arith, e) in
+    let elements : s.element ≡ t.element = grind (arith, e) in
+    (λ i. record { group = groups i; element = elements i })
+
+-- the key of a tag matches, where it isn't universal
+pub key_matches : (offset : ℤ) (keys row : Elements) (tag : Tag) (d : Data) → is_no_key tag ≡ false → all_match offset keys row ≡ true → value_at tag keys ≡ Some d → is_universal d ≡ false
+    → value_matches offset tag d (value_at tag row) ≡ true
+key_matches offset no_elements row tag d own m at u = absurd cc
+key_matches offset (element t vr v more) row tag d own m at u =
+    let now = both (is_universal_key t v || value_matches offset t v (value_at t row)) (all_match offset more row) m in
+    here now.0 (is_tag t tag) refl at (λ is. key_matches offset more row tag d own now.1 is u)
+  where
+    here : (is_universal_key t v || value_matches offset t v (value_at t row)) ≡ true → (b : Bool) → is_tag t tag ≡ b → cond b (Some v) (value_at tag more) ≡ Some d → (value_at tag more ≡ Some d → value_matches offset tag d (value_at tag row) ≡ true)
+        → value_matches offset tag d (value_at tag row) ≡ true
+    here now true e is later =
+        let same : t ≡ tag = same_tag t tag e in
+        let its : v ≡ d = cc in
+        let other : is_universal_key t v ≡ false = (λ i. is_no_key (same i) || is_universal (its i)) ∙ ap (λ (b : Bool). b || is_universal d) own ∙ u in
+        sym (λ i. value_matches offset (same i) (its i) (value_at (same i) row)) ∙ one (is_universal_key t v) (value_matches offset t v (value_at t row)) now other
+    here now false e is later = later is
+
+-- what is plain isn't universal
+star_is_special : (t : List ℕ) → bytes_eq t (42 ∷ []) ≡ true → plain t ≡ None
+star_is_special [] e = refl
+star_is_special (x ∷ xs) e = let same = same_text (x ∷ xs) (42 ∷ []) (sym e) in ap plain same
+
+never_none : (text : List ℕ) → None ≡ Some text → ⊥
+never_none text e = cc
+
+pub text_of_plain : (t text : List ℕ) → plain t ≡ Some text → t ≡ text
+text_of_plain t text p = here (is_nil t || list_any is_special t) p
+  where
+    here : (b : Bool) → cond b None (Some t) ≡ Some text → t ≡ text
+    here true e = absurd (never_none text e)
+    here false e = cc
+
+pub is_plain : (b text : List ℕ) → plain (without_padding b) ≡ Some text → is_universal_text b ≡ false
+is_plain b text p = here (is_nil (without_padding b)) (bytes_eq (without_padding b) (42 ∷ [])) refl refl p
+  where
+    here : (n s : Bool) → is_nil (without_padding b) ≡ n → bytes_eq (without_padding b) (42 ∷ []) ≡ s → plain (without_padding b) ≡ Some text → (n || s) ≡ false
+    here true s en es p = absurd (never_none text (sym (ap (λ (q : Bool). cond (q || list_any is_special (without_padding b)) None (Some (without_padding b))) en) ∙ p))
+    here false true en es p = absurd (never_none text (sym (star_is_special (without_padding b) es) ∙ p))
+    here false false en es p = refl
+
+-- a key comes first, or the later one
+step : (offset : ℤ) (row : Elements) (tag : Tag) (o : Option (List ℕ)) (later : FirstKey) → ((text : List ℕ) → o ≡ Some text → meets_first offset (value tag text) row ≡ true) → meets_first offset later row ≡ true
+    → meets_first offset (or_else tag o later) row ≡ true
+step offset row tag None later this rest = rest
+step offset row tag (Some text) later this rest = this text refl
+
+-- a text with wild cards is matched as it stands
+stored : (offset : ℤ) (b text : List ℕ) (s : Option Data) → without_padding b ≡ text → matches_stored_text WildCards offset b s ≡ stored_text_met WildCards offset text s
+stored offset b text None e = refl
+stored offset b text (Some (bytes c)) e = ap (λ (t : List ℕ). stored_text_met WildCards offset t (Some (bytes c))) e
+stored offset b text (Some (items is)) e = refl
+
+module _ (offset : ℤ) (keys row : Elements) (m : all_match offset keys row ≡ true) where
+  pub text_key : (tag : Tag) → is_no_key tag ≡ false → is_tag tag SCHEDULED_STATION_NAME_CODE_SEQUENCE ≡ false → key_rule tag ≡ WildCards → (text : List ℕ) → plain_value (value_at tag keys) ≡ Some text
+      → meets_first offset (value tag text) row ≡ true
+  text_key tag own other rule text p = here (value_at tag keys) refl p
+    where
+      here : (o : Option Data) → value_at tag keys ≡ o → plain_value o ≡ Some text → meets_first offset (value tag text) row ≡ true
+      here None at p = absurd (never_none text p)
+      here (Some (items is)) at p = absurd (never_none text p)
+      here (Some (bytes b)) at p =
+          let matched = key_matches offset keys row tag (bytes b) own m at (is_plain b text p) in
+          ap (λ (c : Bool). cond c (any_stored_item (λ station. stored_text_met (key_rule CODE_VALUE) offset text (value_at CODE_VALUE station)) (value_at tag row)) (stored_text_met (key_rule tag) offset text (value_at tag row))) other
+          ∙ ap (λ (r : _). stored_text_met r offset text (value_at tag row)) rule
+          ∙ sym (stored offset b text (value_at tag row) (text_of_plain (without_padding b) text p))
+          ∙ sym (ap (λ (r : _). matches_stored_text r offset b (value_at tag row)) rule)
+          ∙ matched
+
+-- one key that isn't universal makes the keys of an item so
+not_all_universal : (keys : Elements) (tag : Tag) (d : Data) → is_no_key tag ≡ false → value_at tag keys ≡ Some d → is_universal d ≡ false → all_universal keys ≡ false
+not_all_universal no_elements tag d own at u = absurd cc
+not_all_universal (element t vr v more) tag d own at u = here (is_tag t tag) refl at (λ is. not_all_universal more tag d own is u)
+  where
+    either : (a b : Bool) → b ≡ false → (a && b) ≡ false
+    either true b e = e
+    either false b e = refl
+
+    here : (b : Bool) → is_tag t tag ≡ b → cond b (Some v) (value_at tag more) ≡ Some d → (value_at tag more ≡ Some d → all_universal more ≡ false) → all_universal (element t vr v more) ≡ false
+    here true e is later =
+        let same : t ≡ tag = same_tag t tag e in
+        let its : v ≡ d = cc in
+        let other : is_universal_key t v ≡ false = (λ i. is_no_key (same i) || is_universal (its i)) ∙ ap (λ (b : Bool). b || is_universal d) own ∙ u in
+        ap (λ (b : Bool). b && all_universal more) other
+    here false e is later = either (is_universal_key t v) (all_universal more) (later is)
+
+-- some item passes a weaker test
+any_weaker : (f g : Elements → Bool) → ((e : Elements) → f e ≡ true → g e ≡ true) → (is : Items) → any_item f is ≡ true → any_item g is ≡ true
+any_weaker f g weaker no_items h = absurd cc
+any_weaker f g weaker (item es more) h = here (f es) (g es) refl refl h (any_weaker f g weaker more)
+  where
+    here : (a b : Bool) → f es ≡ a → g es ≡ b → (a || any_item f more) ≡ true → (any_item f more ≡ true → any_item g more ≡ true) → (b || any_item g more) ≡ true
+    here a true ea eb h later = refl
+    here true false ea eb h later = absurd (true≢false (sym (weaker es ea) ∙ eb))
+    here false false ea eb h later = later h
+
+any_stored_weaker : (f g : Elements → Bool) → ((e : Elements) → f e ≡ true → g e ≡ true) → (s : Option Data) → any_stored_item f s ≡ true → any_stored_item g s ≡ true
+any_stored_weaker f g weaker None h = absurd cc
+any_stored_weaker f g weaker (Some (bytes b)) h = absurd cc
+any_stored_weaker f g weaker (Some (items is)) h = any_weaker f g weaker is h
+
+code_rule : key_rule CODE_VALUE ≡ WildCards
+unfolding vr_of
+code_rule = refl
+
+start_rule : key_rule SCHEDULED_PROCEDURE_STEP_START_DATE_TIME ≡ Range
+unfolding vr_of
+start_rule = refl
+
+patient_rule : key_rule PATIENT_ID ≡ WildCards
+unfolding vr_of
+patient_rule = refl
+
+label_rule : key_rule WORKLIST_LABEL ≡ WildCards
+unfolding vr_of
+label_rule = refl
+
+state_rule : key_rule PROCEDURE_STEP_STATE ≡ WildCards
+unfolding vr_of
+state_rule = refl
+
+priority_rule : key_rule SCHEDULED_PROCEDURE_STEP_PRIORITY ≡ WildCards
+unfolding vr_of
+priority_rule = refl
+
+neither : (a b : Bool) → b ≡ false → (a && b) ≡ false
+neither true b e = e
+neither false b e = refl
+
+-- some stored value is like a text
+abbrev pub stored_like : List ℕ → Option Data → Bool
+stored_like text None = false
+stored_like text (Some (bytes b)) = any_value (is_like text) b
+stored_like text (Some (items is)) = false
+
+like : (offset : ℤ) (tag : Tag) (text : List ℕ) (s : Option Data) → key_rule tag ≡ WildCards → stored_text_met (key_rule tag) offset text s ≡ stored_like text s
+like offset tag text None rule = refl
+like offset tag text (Some (items is)) rule = refl
+like offset tag text (Some (bytes b)) rule = ap (λ (r : _). stored_text_met r offset text (Some (bytes b))) rule
+
+-- what meets the first indexed key, where it is a value
+pub meets_patient : (offset : ℤ) (text : List ℕ) (row : Elements) → meets_first offset (value PATIENT_ID text) row ≡ stored_like text (value_at PATIENT_ID row)
+meets_patient offset text row = like offset PATIENT_ID text (value_at PATIENT_ID row) patient_rule
+
+pub meets_label : (offset : ℤ) (text : List ℕ) (row : Elements) → meets_first offset (value WORKLIST_LABEL text) row ≡ stored_like text (value_at WORKLIST_LABEL row)
+meets_label offset text row = like offset WORKLIST_LABEL text (value_at WORKLIST_LABEL row) label_rule
+
+pub meets_state : (offset : ℤ) (text : List ℕ) (row : Elements) → meets_first offset (value PROCEDURE_STEP_STATE text) row ≡ stored_like text (value_at PROCEDURE_STEP_STATE row)
+meets_state offset text row = like offset PROCEDURE_STEP_STATE text (value_at PROCEDURE_STEP_STATE row) state_rule
+
+pub meets_priority : (offset : ℤ) (text : List ℕ) (row : Elements) → meets_first offset (value SCHEDULED_PROCEDURE_STEP_PRIORITY text) row ≡ stored_like text (value_at SCHEDULED_PROCEDURE_STEP_PRIORITY row)
+meets_priority offset text row = like offset SCHEDULED_PROCEDURE_STEP_PRIORITY text (value_at SCHEDULED_PROCEDURE_STEP_PRIORITY row) priority_rule
+
+any_same_item : (f g : Elements → Bool) → ((e : Elements) → f e ≡ g e) → (is : Items) → any_item f is ≡ any_item g is
+any_same_item f g same no_items = refl
+any_same_item f g same (item es more) = ap (λ (b : Bool). b || any_item f more) (same es) ∙ ap (λ (b : Bool). g es || b) (any_same_item f g same more)
+
+any_same_stored : (f g : Elements → Bool) → ((e : Elements) → f e ≡ g e) → (s : Option Data) → any_stored_item f s ≡ any_stored_item g s
+any_same_stored f g same None = refl
+any_same_stored f g same (Some (bytes b)) = refl
+any_same_stored f g same (Some (items is)) = any_same_item f g same is
+
+pub meets_station : (offset : ℤ) (text : List ℕ) (row : Elements)
+    → meets_first offset (value SCHEDULED_STATION_NAME_CODE_SEQUENCE text) row ≡ any_stored_item (λ station. stored_like text (value_at CODE_VALUE station)) (value_at SCHEDULED_STATION_NAME_CODE_SEQUENCE row)
+meets_station offset text row =
+    any_same_stored (λ station. stored_text_met (key_rule CODE_VALUE) offset text (value_at CODE_VALUE station)) (λ station. stored_like text (value_at CODE_VALUE station))
+    (λ e. like offset CODE_VALUE text (value_at CODE_VALUE e) code_rule) (value_at SCHEDULED_STATION_NAME_CODE_SEQUENCE row)
+
+module _ (offset : ℤ) (keys row : Elements) (m : all_match offset keys row ≡ true) where
+  station_key : (text : List ℕ) → plain_code (value_at SCHEDULED_STATION_NAME_CODE_SEQUENCE keys) ≡ Some text → meets_first offset (value SCHEDULED_STATION_NAME_CODE_SEQUENCE text) row ≡ true
+  station_key text p = here (value_at SCHEDULED_STATION_NAME_CODE_SEQUENCE keys) refl p
+    where
+      by_code : (es : Elements) (o : Option Data) → value_at CODE_VALUE es ≡ o → plain_value o ≡ Some text → (d : Data) × (o ≡ Some d) × (is_universal d ≡ false)
+      by_code es None at p = absurd (never_none text p)
+      by_code es (Some (items is)) at p = absurd (never_none text p)
+      by_code es (Some (bytes b)) at p = (bytes b, refl, is_plain b text p)
+
+      here : (o : Option Data) → value_at SCHEDULED_STATION_NAME_CODE_SEQUENCE keys ≡ o → plain_code o ≡ Some text → meets_first offset (value SCHEDULED_STATION_NAME_CODE_SEQUENCE text) row ≡ true
+      here None at p = absurd (never_none text p)
+      here (Some (bytes b)) at p = absurd (never_none text p)
+      here (Some (items no_items)) at p = absurd (never_none text p)
+      here (Some (items (item es more))) at p =
+          let (d, is, u) = by_code es (value_at CODE_VALUE es) refl p in
+          let no : is_universal (items (item es more)) ≡ false = neither (has_no_items more) (all_universal es) (not_all_universal es CODE_VALUE d refl is u) in
+          let matched = key_matches offset keys row SCHEDULED_STATION_NAME_CODE_SEQUENCE (items (item es more)) refl m at no in
+          any_stored_weaker (all_match offset es) (λ station. stored_text_met (key_rule CODE_VALUE) offset text (value_at CODE_VALUE station))
+          (λ station all. text_key offset es station all CODE_VALUE refl refl code_rule text p) (value_at SCHEDULED_STATION_NAME_CODE_SEQUENCE row) matched
+
+  range_of : (span : Option Span) → spans span (start_of offset row) ≡ true → meets_first offset (range_key span) row ≡ true
+  range_of None h = refl
+  range_of (Some s) h = h
+
+  start_matched : (configured : ℤ) → meets_first offset (start_key configured offset (value_at SCHEDULED_PROCEDURE_STEP_START_DATE_TIME keys)) row ≡ true
+  start_matched configured = here (value_at SCHEDULED_PROCEDURE_STEP_START_DATE_TIME keys) refl
+    where
+      in_range : (b : List ℕ) (s : Option Data) → matches_stored_text Range offset b s ≡ true → spans (span_of offset (without_padding b)) (moment_stored offset s) ≡ true
+      in_range b None h = absurd cc
+      in_range b (Some (items is)) h = absurd cc
+      in_range b (Some (bytes c)) h = h
+
+      by_offset : (b : List ℕ) → value_at SCHEDULED_PROCEDURE_STEP_START_DATE_TIME keys ≡ Some (bytes b) → (u : Bool) → is_universal_text b ≡ u → (other : Bool) → meets_first offset (cond (u || other) all (range_key (span_of offset (without_padding b)))) row ≡ true
+      by_offset b at true e other = refl
+      by_offset b at false e true = refl
+      by_offset b at false e false =
+          let matched = key_matches offset keys row SCHEDULED_PROCEDURE_STEP_START_DATE_TIME (bytes b) refl m at e in
+          range_of (span_of offset (without_padding b))
+          (in_range b (value_at SCHEDULED_PROCEDURE_STEP_START_DATE_TIME row) (sym (ap (λ (r : _). matches_stored_text r offset b (value_at SCHEDULED_PROCEDURE_STEP_START_DATE_TIME row)) start_rule) ∙ matched))
+
+      here : (o : Option Data) → value_at SCHEDULED_PROCEDURE_STEP_START_DATE_TIME keys ≡ o → meets_first offset (start_key configured offset o) row ≡ true
+      here None at = refl
+      here (Some (items is)) at = refl
+      here (Some (bytes b)) at = by_offset b at (is_universal_text b) refl (not (int_eq offset configured))
+
+  first_matched : (configured : ℤ) → meets_first offset (first_among configured offset keys) row ≡ true
+  first_matched configured =
+      step offset row PATIENT_ID _ _ (text_key offset keys row m PATIENT_ID refl refl patient_rule)
+      (step offset row WORKLIST_LABEL _ _ (text_key offset keys row m WORKLIST_LABEL refl refl label_rule)
+      (step offset row SCHEDULED_STATION_NAME_CODE_SEQUENCE _ _ station_key
+      (step offset row PROCEDURE_STEP_STATE _ _ (text_key offset keys row m PROCEDURE_STEP_STATE refl refl state_rule)
+      (step offset row SCHEDULED_PROCEDURE_STEP_PRIORITY _ _ (text_key offset keys row m SCHEDULED_PROCEDURE_STEP_PRIORITY refl refl priority_rule)
+      (start_matched configured)))))
+
+-- a row that matches keys is of their class
+pub matches_first : (configured : ℤ) (keys : KeySet) (row : List El) → is_match keys row ≡ true → meets_first keys.offset (first_key configured keys) (elements_of row) ≡ true
+unfolding first_key matches
+matches_first configured keys row m = first_matched keys.offset (elements_of keys.attributes) (elements_of row) m configured
+
+-- what passes a test is found among what passes a weaker one
+filter_among : {X : Type 0} (p q : X → Bool) → ((x : X) → p x ≡ true → q x ≡ true) → (xs : List X) → filter p (filter q xs) ≡ filter p xs
+filter_among p q weaker [] = refl
+filter_among {X} p q weaker (x ∷ xs) = here (p x) (q x) refl refl (filter_among p q weaker xs)
+  where
+    here : (a b : Bool) → p x ≡ a → q x ≡ b → filter p (filter q xs) ≡ filter p xs → filter p (cond b (x ∷ filter q xs) (filter q xs)) ≡ cond (p x) (x ∷ filter p xs) (filter p xs)
+    here a true ea eb rest = ap (λ (l : List X). cond (p x) (x ∷ l) l) rest
+    here true false ea eb rest = absurd (true≢false (sym (weaker x ea) ∙ eb))
+    here false false ea eb rest = rest ∙ sym (ap (λ (c : Bool). cond c (x ∷ filter p xs) (filter p xs)) ea)
+
+-- so that the rows that match are those of the class that match
+pub found_in_class : (configured : ℤ) (keys : KeySet) (rows : List (List El)) → filter (is_match keys) (class configured keys rows) ≡ filter (is_match keys) rows
+unfolding class
+found_in_class configured keys rows = filter_among (is_match keys) _ (matches_first configured keys) rows

@@ -1,0 +1,101 @@
+-- The first indexed key of a query: held steps are looked up by it, and only what it finds is put to the other keys.
+use Rattle.std.specs.Prelude.{ℕ, ℤ, Bool, true, false, ◌||◌, ◌&&◌, not, List, [], ◌∷◌, Option, None, Some, filter, if◌then◌else◌}
+use Rattle.std.specs.List.{list_any}
+use Rattle.std.specs.Ordering.{int_eq}
+use Rattle.ups_pdu.specs.Padding.{is_nil, without_padding}
+use Rattle.ups_dataset.specs.declared.tag.Tag.{Tag}
+use Rattle.ups_dataset.specs.declared.dictionary.TheConstants.{CODE_VALUE, PATIENT_ID, PROCEDURE_STEP_STATE, SCHEDULED_PROCEDURE_STEP_PRIORITY, SCHEDULED_PROCEDURE_STEP_START_DATE_TIME, SCHEDULED_STATION_NAME_CODE_SEQUENCE, WORKLIST_LABEL}
+use Rattle.ups_dataset.specs.Tag.{is_tag}
+use Rattle.ups_dataset.specs.Data.{Data, bytes, items, Items, no_items, item, Elements, no_elements, element, El, elements_of}
+use Rattle.ups_match.specs.declared.first.First.{First}
+use Rattle.ups_match.specs.declared.first.First.TheVariants as variants
+use Rattle.ups_match.specs.declared.ranges.Span.{Span}
+use Rattle.ups_match.specs.Likeness.{is_star, is_question_mark}
+use Rattle.ups_match.specs.Matching.{KeySet, key_rule, value_at, any_stored_item}
+use Rattle.ups_match.specs.Met.{stored_text_met}
+use Rattle.ups_match.specs.Moments.{moment}
+use Rattle.ups_match.specs.Ranges.{span_of, spans}
+use Rattle.ups_match.specs.Values.{is_backslash, is_universal_text}
+
+-- a byte that isn't just itself in a key: a wild card, or what stands between values
+abbrev pub is_special : ℕ → Bool
+is_special byte = is_star byte || (is_question_mark byte || is_backslash byte)
+
+-- a text, where it is one value that isn't empty and has no wild cards
+abbrev pub plain : List ℕ → Option (List ℕ)
+plain text = if is_nil text || list_any is_special text then None else Some text
+
+-- the one value that a key asks for
+abbrev pub plain_value : Option Data → Option (List ℕ)
+plain_value None = None
+plain_value (Some (bytes b)) = plain (without_padding b)
+plain_value (Some (items is)) = None
+
+-- the one code value that the item of a key asks for
+abbrev pub plain_code : Option Data → Option (List ℕ)
+plain_code None = None
+plain_code (Some (bytes b)) = None
+plain_code (Some (items no_items)) = None
+plain_code (Some (items (item es more))) = plain_value (value_at CODE_VALUE es)
+
+-- what a query is looked up by: the value of an attribute, the range of the start, or nothing
+pub data FirstKey : Type 0 where
+  value : Tag → List ℕ → FirstKey
+  start : Span → FirstKey
+  all : FirstKey
+
+-- a key that has one value comes before the later ones
+abbrev pub or_else : Tag → Option (List ℕ) → FirstKey → FirstKey
+or_else tag None later = later
+or_else tag (Some text) later = value tag text
+
+abbrev pub range_key : Option Span → FirstKey
+range_key None = all
+range_key (Some span) = start span
+
+-- the range of the start, where there is one and its offset is that of the service
+abbrev pub start_key : ℤ → ℤ → Option Data → FirstKey
+start_key configured offset None = all
+start_key configured offset (Some (bytes b)) = if is_universal_text b || not (int_eq offset configured) then all else range_key (span_of offset (without_padding b))
+start_key configured offset (Some (items is)) = all
+
+abbrev pub first_among : ℤ → ℤ → Elements → FirstKey
+first_among configured offset keys =
+    or_else PATIENT_ID (plain_value (value_at PATIENT_ID keys))
+    (or_else WORKLIST_LABEL (plain_value (value_at WORKLIST_LABEL keys))
+    (or_else SCHEDULED_STATION_NAME_CODE_SEQUENCE (plain_code (value_at SCHEDULED_STATION_NAME_CODE_SEQUENCE keys))
+    (or_else PROCEDURE_STEP_STATE (plain_value (value_at PROCEDURE_STEP_STATE keys))
+    (or_else SCHEDULED_PROCEDURE_STEP_PRIORITY (plain_value (value_at SCHEDULED_PROCEDURE_STEP_PRIORITY keys))
+    (start_key configured offset (value_at SCHEDULED_PROCEDURE_STEP_START_DATE_TIME keys))))))
+
+-- the first indexed key of a query, for a service that has this offset
+unfoldable pub first_key : ℤ → KeySet → FirstKey
+first_key configured keys = first_among configured keys.offset (elements_of keys.attributes)
+
+-- the first moment of the start that is stored
+abbrev pub moment_stored : ℤ → Option Data → Option ℤ
+moment_stored offset None = None
+moment_stored offset (Some (bytes b)) = moment (without_padding b) offset false
+moment_stored offset (Some (items is)) = None
+
+abbrev pub start_of : ℤ → Elements → Option ℤ
+start_of offset row = moment_stored offset (value_at SCHEDULED_PROCEDURE_STEP_START_DATE_TIME row)
+
+-- a data set matches the first indexed key alone: of the station names, their code value alone
+abbrev pub meets_first : ℤ → FirstKey → Elements → Bool
+meets_first offset (value tag text) row =
+    if is_tag tag SCHEDULED_STATION_NAME_CODE_SEQUENCE
+    then any_stored_item (λ station. stored_text_met (key_rule CODE_VALUE) offset text (value_at CODE_VALUE station)) (value_at tag row)
+    else stored_text_met (key_rule tag) offset text (value_at tag row)
+meets_first offset (start span) row = spans (Some span) (start_of offset row)
+meets_first offset all row = true
+
+-- the class of a query: the rows that match its first indexed key alone
+unfoldable pub class : ℤ → KeySet → List (List El) → List (List El)
+class configured keys rows = filter (λ row. meets_first keys.offset (first_key configured keys) (elements_of row)) rows
+
+-- what the code gives
+abbrev pub first_view : First → FirstKey
+first_view (variants.Value tag text) = value tag text.now
+first_view (variants.Start least greatest) = start (record { least = least; greatest = greatest })
+first_view variants.All = all
