@@ -8,7 +8,7 @@ use clap::{Arg, ArgAction};
 use std::alloc::Global;
 use ups_pdu::Ae;
 
-/// The word that names it.
+/// The option whose word is the title.
 pub(crate) fn ae_word<'a>(alloc: Global) -> Arg<'a> {
     Arg::new(alloc, "ae")
         .long("ae")
