@@ -1,5 +1,3 @@
 mod Digits
-mod Naming
 mod Settling
-mod Parts
 mod Seating

@@ -1,4 +1,3 @@
-pub mod Arguments
 pub mod Hexing
 pub mod Limits
 pub mod Piping

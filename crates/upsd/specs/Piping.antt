@@ -1,12 +1,12 @@
 -- How the service is set up for one association (PS3.4 annex CC).
 use Rattle.std.specs.Prelude.{ℕ, List, [], None, Some, false}
+use Rattle.ups_args.specs.Limits.{keep_seconds, local_offset}
 use Rattle.ups_assoc.specs.declared.negotiating.Config.{Config}
 use Rattle.ups_life.specs.declared.entry.Peer.{Peer}
 use Rattle.ups_life.specs.Settings.{Settings}
 use Rattle.ups_session.specs.Tells.{Told}
 use Rattle.ups_session.specs.WatchedIo.{Output}
 use Rattle.ups_life.specs.Limits.{history_limit}
-use Rattle.upsd.specs.Limits.{keep_seconds, local_offset}
 
 -- these peers may watch steps
 abbrev pub settings : List Peer → Settings

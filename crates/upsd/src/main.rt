@@ -1,15 +1,11 @@
 //! `upsd`, a DICOM Unified Procedure Step manager.
 #![tactic(auto)]
 
-ghost use Rattle.std.specs.Prelude.{◌≡◌, ◌≤◌, [], codes, length, None, IfOk, unwrap_or};
-ghost use Rattle.clap.specs.Matches.{first_value, found_of};
+ghost use Rattle.std.specs.Prelude.{◌≡◌, ◌≤◌, length, None};
+ghost use Rattle.ups_args.specs.Limits.{local_offset};
 ghost use Rattle.ups_manager.specs.Refusal.{refusal};
 ghost use Rattle.ups_life.specs.Limits.{history_limit, peer_limit};
-ghost use Rattle.ups_pdu.specs.Title.{SpellsAe};
-ghost use Rattle.upsd.specs.Arguments.{IsFlag, NamePeers, argument_words};
-ghost use Rattle.upsd.specs.Limits.{local_offset};
 
-mod arguments;
 mod ending;
 mod gate;
 mod hexing;
@@ -18,10 +14,9 @@ mod piping;
 mod scripting;
 mod serving;
 
-use crate::arguments::{ArgumentFault, ae_of, command, peers_of};
 use crate::limits::TURNS;
-use crate::scripting::{answer_script, script_arguments};
-use crate::serving::{answer_network, serve_arguments};
+use crate::scripting::answer_script;
+use crate::serving::answer_network;
 use clap::ArgMatches;
 pub use ending::{Status, parse_status, script_status, session_status};
 pub use hexing::DigitFault;
@@ -36,39 +31,11 @@ use std::process::ExitCode;
 use std::sync::Wait;
 use std::thread::Threads;
 use std::time::Clock;
-use ups_life::Peer;
+use ups_args::{
+    ArgumentFault, PipeArguments, command, pipe_arguments, script_arguments, serve_arguments,
+};
 pub use ups_net::{ServerOptions, work};
-use ups_pdu::Ae;
 pub use ups_session::{End, SessionFault, WatchedReader, WatchedWriter};
-
-/// What a command line asks of `pipe`.
-#[derive(Drop)]
-struct PipeArguments {
-    ae: Ae,
-    hex: bool,
-    peers: Vec<Peer>,
-}
-
-/// Reads what a command line asks of `pipe`.
-///
-/// Errors: those of its words.
-#[tactic(auto, using(crate::proofs::Naming::unrefused))]
-fn pipe_arguments<'a>(
-    alloc: Global,
-    matches: &ArgMatches<'a>,
-) -> Result<PipeArguments, ArgumentFault<'a>>
-    ensures title { IfOk result (λ asked. SpellsAe (unwrap_or (first_value (found_of matches.now) (codes "ae")) []) asked.ae) }
-    ensures hex { IfOk result (λ asked. IsFlag (found_of matches.now) (codes "hex") asked.hex) }
-    ensures peers { IfOk result (λ asked. NamePeers (argument_words (found_of matches.now) (codes "peer")) asked.peers.items) }
-    ensures few { IfOk result (λ asked. length asked.peers.items ≤ peer_limit) }
-    ensures allowed { IfOk result (λ asked. refusal asked.peers.items local_offset history_limit ≡ None) }
-{
-    Ok(PipeArguments {
-        ae: ae_of(matches.get_str("ae").unwrap_or(""))?,
-        hex: matches.get_flag("hex"),
-        peers: peers_of(alloc, matches.get_strs("peer").unwrap_or(&[]))?,
-    })
-}
 
 /// Answers one association from standard input to standard output, tells its fault, and gives how the program ends.
 ///

@@ -2,6 +2,7 @@
 
 ghost use Rattle.std.specs.Prelude.{◌≡◌, ◌≤◌, ℕ, List, [], length, None, false, true};
 ghost use Rattle.std.specs.Io.KnownBytes.{Consumes};
+ghost use Rattle.ups_args.specs.Limits.{local_offset};
 ghost use Rattle.ups_life.specs.declared.entry.Entry.{Entry};
 ghost use Rattle.ups_service.specs.Law.{nobody};
 ghost use Rattle.ups_manager.specs.Refusal.{refusal};
@@ -11,14 +12,13 @@ ghost use Rattle.ups_session.specs.WatchedIo.{Input, Output};
 ghost use Rattle.ups_session.specs.World.{world};
 ghost use Rattle.ups_life.specs.Limits.{history_limit, peer_limit};
 ghost use Rattle.upsd.specs.Hexing.{bytes_left};
-ghost use Rattle.upsd.specs.Limits.{local_offset};
 ghost use Rattle.upsd.specs.Piping.{config, epoch, settings, unwritten};
 
 use crate::gate::Epoch;
 use crate::hexing::{DigitFault, HexReader, HexWriter};
-use crate::limits::{KEEP, OFFSET};
 use std::alloc::Allocator;
 use std::io::{Read, Write};
+use ups_args::{KEEP, OFFSET};
 use ups_assoc::Config;
 use ups_life::{MAX_HISTORY, Peer};
 use ups_manager::Manager;

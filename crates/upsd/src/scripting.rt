@@ -1,7 +1,6 @@
 //! A script from a reader, and the replies to a writer.
 
-ghost use Rattle.std.specs.Prelude.{◌≡◌, ◌≤◌, ◌⊎◌, List, [], codes, length, None, Result, Err, IfOk, IfErr};
-ghost use Rattle.clap.specs.Matches.{first_value, found_of};
+ghost use Rattle.std.specs.Prelude.{◌≡◌, ◌≤◌, ◌⊎◌, List, [], length, None, Result, Err, IfErr};
 ghost use Rattle.ups_manager.specs.Refusal.{refusal};
 ghost use Rattle.ups_script.specs.declared.fault.ScriptFault.{ScriptFault};
 ghost use Rattle.ups_script.specs.declared.fault.ScriptFault.TheVariants.{Memory};
@@ -9,45 +8,14 @@ ghost use Rattle.ups_script.specs.Limits.{max_lines};
 ghost use Rattle.ups_script.specs.Running.{Runs, TellsLine};
 ghost use Rattle.ups_life.specs.declared.entry.Entry.{Entry};
 ghost use Rattle.ups_life.specs.Limits.{history_limit, peer_limit};
-ghost use Rattle.upsd.specs.Arguments.{NamePeers, SaysKeep, SaysOffset, argument_words};
 ghost use Rattle.upsd.specs.Statuses.{exit_code, script_status};
 
-use crate::arguments::{ArgumentFault, keep_asked, offset_asked, peers_of};
 use crate::ending::{Status, script_status};
-use clap::ArgMatches;
-use std::alloc::{AllocError, Allocator, Global};
+use std::alloc::{AllocError, Allocator};
 use std::io::{self, BufRead, BufReader, BufWriter, Write};
+use ups_args::ScriptArguments;
 use ups_life::Peer;
 use ups_script::run;
-
-/// What a command line asks of `script`.
-#[derive(Drop)]
-pub(crate) struct ScriptArguments {
-    peers: Vec<Peer>,
-    keep: u32,
-    offset: i16,
-}
-
-/// Reads what a command line asks of `script`.
-///
-/// Errors: those of its words.
-#[tactic(auto, using(crate::proofs::Naming::unrefused_at))]
-pub(crate) fn script_arguments<'a>(
-    alloc: Global,
-    matches: &ArgMatches<'a>,
-) -> Result<ScriptArguments, ArgumentFault<'a>>
-    ensures peers { IfOk result (λ asked. NamePeers (argument_words (found_of matches.now) (codes "peer")) asked.peers.items) }
-    ensures keep { IfOk result (λ asked. SaysKeep (first_value (found_of matches.now) (codes "keep")) asked.keep) }
-    ensures offset { IfOk result (λ asked. SaysOffset (first_value (found_of matches.now) (codes "offset")) asked.offset) }
-    ensures few { IfOk result (λ asked. length asked.peers.items ≤ peer_limit) }
-    ensures allowed { IfOk result (λ asked. refusal asked.peers.items asked.offset history_limit ≡ None) }
-{
-    Ok(ScriptArguments {
-        peers: peers_of(alloc, matches.get_strs("peer").unwrap_or(&[]))?,
-        keep: keep_asked(matches.get_str("keep"))?,
-        offset: offset_asked(matches.get_str("offset"))?,
-    })
-}
 
 /// Answers a script from standard input, tells its fault, and gives how the program ends. A line that is none is told
 /// among the replies too.

@@ -1,20 +1,13 @@
 //! Associations over TCP, and event reports.
 
-ghost use Rattle.std.specs.Prelude.{◌≡◌, ◌≤◌, [], codes, length, None, IfOk, unwrap_or};
-ghost use Rattle.clap.specs.Matches.{first_value, found_of};
+ghost use Rattle.std.specs.Prelude.{◌≡◌, ◌≤◌, length, None};
+ghost use Rattle.ups_args.specs.Limits.{workers_limit};
 ghost use Rattle.ups_manager.specs.Refusal.{refusal};
 ghost use Rattle.ups_life.specs.Limits.{history_limit, peer_limit};
-ghost use Rattle.ups_pdu.specs.Title.{SpellsAe};
-ghost use Rattle.upsd.specs.Arguments.{IsFlag, NamePeers, NameWatchers, SaysBind, SaysKeep, SaysOffset, SaysPort, SaysTimeout, SaysWorkersOrNot, argument_words};
-ghost use Rattle.upsd.specs.Limits.{turns_limit, workers_limit};
+ghost use Rattle.upsd.specs.Limits.{turns_limit};
 
-use crate::arguments::{
-    ArgumentFault, ae_of, bind_asked, keep_asked, offset_asked, peers_of, port_of, timeout_asked,
-    watchers_of, workers_asked,
-};
 use crate::ending::Status;
 use crate::limits::TURNS;
-use clap::ArgMatches;
 use log::{Log, info};
 use std::alloc::{AllocError, Global};
 use std::net::{Net, TcpListener, TcpStream};
@@ -22,64 +15,12 @@ use std::sync::Wait;
 use std::thread::Threads;
 use std::time::Clock;
 use std::{io, str};
+use ups_args::ServeArguments;
 use ups_assoc::Config;
-use ups_life::{MAX_HISTORY, Peer};
+use ups_life::MAX_HISTORY;
 use ups_manager::Manager;
-use ups_net::{Door, ServerOptions, Watcher, run};
-use ups_pdu::Ae;
+use ups_net::{Door, ServerOptions, run};
 use ups_turn::Desk;
-
-/// What a command line asks of `serve`.
-#[derive(Drop)]
-pub(crate) struct ServeArguments<'a> {
-    ae: Ae,
-    bind: &'a str,
-    port: u16,
-    peers: Vec<Peer>,
-    watchers: Vec<Watcher>,
-    keep: u32,
-    offset: i16,
-    workers: u32,
-    timeout: u32,
-    verbose: bool,
-}
-
-/// Reads what a command line asks of `serve`.
-///
-/// Errors: those of its words.
-#[tactic(auto, using(crate::proofs::Naming::unrefused_at))]
-pub(crate) fn serve_arguments<'a>(
-    alloc: Global,
-    matches: &ArgMatches<'a>,
-) -> Result<ServeArguments<'a>, ArgumentFault<'a>>
-    ensures title { IfOk result (λ asked. SpellsAe (unwrap_or (first_value (found_of matches.now) (codes "ae")) []) asked.ae) }
-    ensures bind { IfOk result (λ asked. SaysBind (first_value (found_of matches.now) (codes "bind")) asked.bind.now) }
-    ensures port { IfOk result (λ asked. SaysPort (unwrap_or (first_value (found_of matches.now) (codes "port")) []) asked.port) }
-    ensures peers { IfOk result (λ asked. NamePeers (argument_words (found_of matches.now) (codes "peer")) asked.peers.items) }
-    ensures watchers { IfOk result (λ asked. NameWatchers (argument_words (found_of matches.now) (codes "peer")) asked.watchers.items) }
-    ensures keep { IfOk result (λ asked. SaysKeep (first_value (found_of matches.now) (codes "keep")) asked.keep) }
-    ensures offset { IfOk result (λ asked. SaysOffset (first_value (found_of matches.now) (codes "offset")) asked.offset) }
-    ensures workers { IfOk result (λ asked. SaysWorkersOrNot (first_value (found_of matches.now) (codes "associations")) asked.workers) }
-    ensures timeout { IfOk result (λ asked. SaysTimeout (first_value (found_of matches.now) (codes "timeout")) asked.timeout) }
-    ensures verbose { IfOk result (λ asked. IsFlag (found_of matches.now) (codes "verbose") asked.verbose) }
-    ensures some { IfOk result (λ asked. 1 ≤ asked.workers) }
-    ensures most { IfOk result (λ asked. asked.workers ≤ workers_limit) }
-    ensures few { IfOk result (λ asked. length asked.peers.items ≤ peer_limit) }
-    ensures allowed { IfOk result (λ asked. refusal asked.peers.items asked.offset history_limit ≡ None) }
-{
-    Ok(ServeArguments {
-        ae: ae_of(matches.get_str("ae").unwrap_or(""))?,
-        bind: bind_asked(matches.get_str("bind")),
-        port: port_of(matches.get_str("port").unwrap_or(""))?,
-        peers: peers_of(alloc, matches.get_strs("peer").unwrap_or(&[]))?,
-        watchers: watchers_of(alloc, matches.get_strs("peer").unwrap_or(&[]))?,
-        keep: keep_asked(matches.get_str("keep"))?,
-        offset: offset_asked(matches.get_str("offset"))?,
-        workers: workers_asked(matches.get_str("associations"))?,
-        timeout: timeout_asked(matches.get_str("timeout"))?,
-        verbose: matches.get_flag("verbose"),
-    })
-}
 
 /// Listens where the command line says. With port 0 the port that was taken is printed, so that a client can be told.
 ///

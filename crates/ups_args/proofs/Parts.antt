@@ -1,0 +1,252 @@
+-- What the words of a command line are cut into.
+use Rattle.std.proofs.Common.{◌≡◌, ◌≢◌, ℕ, ◌<◌, ◌≤◌, ◌+◌, Bool, true, false, ◌&&◌, List, [], ◌∷◌, ◌++◌, length, get_or, take, drop, map, Option, None, Some, MatchOption, Bor, refl, sym, ◌∙◌, ap, subst, arith, lit<, length-append, append-nil, ◌==◌, Result, Ok, Err, ◌^◌, nat_lt, IsTrue, add-one, suc}
+use Rattle.std.specs.Char.{is_ascii_digit, digit_value}
+use Rattle.std.specs.Int.{IsInRange}
+use Rattle.std.specs.List.{list_all}
+use Rattle.std.specs.Str.{NoCharPasses}
+use Rattle.std.specs.Str.Parse.{AllDigits, IsNumeral, digits_value, without_leading_plus, ParsesUnsigned}
+use Rattle.std.specs.Str.Pattern.{RFindsChar, FindsTextSuffix, SplitsAroundMatch, StripsSuffix}
+use Rattle.std.proofs.lemmas.Bool.Decides.{nat_tests}
+use Rattle.std.proofs.lemmas.List.{length-map, append_cancel_right, get_or-append-add, get_or-map, take-append-drop, take_all}
+use Rattle.std.proofs.lemmas.Str.Parse.{digit_at, digit_from_value, without_leading_plus_none}
+use Rattle.std.proofs.lemmas.Str.Pattern.{NoCharPasses-char, drop_at_char, IsSplitOnceResult, split_after, split_parts}
+use Rattle.std.proofs.Math.Seq.{get_or-append_seam, take-suc, drop-cons}
+use Rattle.ups_life.specs.declared.entry.Peer.{Peer}
+use Rattle.ups_pdu.specs.Title.{SpellsAe}
+use Rattle.ups_manager.specs.Refusal.{is_twice}
+use Rattle.ups_args.specs.Arguments.{IsPort, IsAddress, SaysAddress, SaysLock, SaysPlace, NamesPeer, NamesPlace, EachNames, NamePeers, StopsAt, ending_of}
+
+both_true : (a b : Bool) → a ≡ true → b ≡ true → (a && b) ≡ true
+both_true true b e f = f
+both_true false b e f = absurd cc
+
+first_true : (a b : Bool) → (a && b) ≡ true → a ≡ true
+first_true true b e = refl
+first_true false b e = absurd cc
+
+no_digit : (c : ℕ) → c ≡ 43 → is_ascii_digit c ≡ true → ⊥
+no_digit c e h = let k : is_ascii_digit 43 ≡ true = ap is_ascii_digit (sym e) ∙ h in absurd cc
+
+digit_passes : (c : ℕ) → digit_value c < 10 → is_ascii_digit c ≡ true
+digit_passes c l = let r : IsInRange 48 57 c = digit_from_value c l in grind (arith, nat_tests, r.0, r.1)
+
+pub digits_pass : (xs : List ℕ) → AllDigits 10 xs → list_all is_ascii_digit xs ≡ true
+digits_pass [] d = refl
+digits_pass (x ∷ xs) d = both_true (is_ascii_digit x) (list_all is_ascii_digit xs) (digit_passes x d.0) (digits_pass xs d.1)
+
+first_digit : (bs : List ℕ) → list_all is_ascii_digit bs ≡ true → get_or bs 0 0 ≢ 43
+first_digit [] d e = absurd (omega arith)
+first_digit (c ∷ cs) d e = let h : is_ascii_digit c ≡ true = first_true (is_ascii_digit c) (list_all is_ascii_digit cs) d in absurd (no_digit c e h)
+
+no_plus : (bs : List ℕ) → list_all is_ascii_digit bs ≡ true → without_leading_plus bs ≡ bs
+no_plus bs d = without_leading_plus_none bs (first_digit bs d)
+
+-- what is read of digits alone
+record Reads (bs : List ℕ) (v : ℕ) : Type 0 where
+  pub numeral : IsNumeral 10 bs
+  pub most : digits_value 10 bs < 2 ^ 16
+  pub value : v ≡ digits_value 10 bs
+
+reads : {E : Type 0} (bs : List ℕ) (r : Result ℕ E) (v : ℕ) → ParsesUnsigned 16 10 bs r → r ≡ Ok v → list_all is_ascii_digit bs ≡ true → Reads bs v
+reads bs r v h e d =
+    let k : (IsNumeral 10 (without_leading_plus bs) × (digits_value 10 (without_leading_plus bs) < 2 ^ 16)) × (v ≡ digits_value 10 (without_leading_plus bs)) = rw e at h in
+    let p = no_plus bs d in
+    record {
+      numeral = subst (IsNumeral 10) p k.0.0;
+      most = subst (λ (l : List ℕ). digits_value 10 l < 2 ^ 16) p k.0.1;
+      value = k.1 ∙ ap (digits_value 10) p;
+    }
+
+above_zero : (v : ℕ) → IsTrue (nat_lt 0 v) → 1 ≤ v
+above_zero v t = grind (arith, nat_tests, t)
+
+is_above : (v : ℕ) → 1 ≤ v → IsTrue (nat_lt 0 v)
+is_above v l = grind (arith, nat_tests, l)
+
+pub port_from : {E : Type 0} (bs : List ℕ) (r : Result ℕ E) (v : ℕ) → ParsesUnsigned 16 10 bs r → r ≡ Ok v → list_all is_ascii_digit bs ≡ true → (IsTrue (nat_lt 0 v) → IsPort bs) × (IsPort bs → IsTrue (nat_lt 0 v))
+port_from bs r v h e d =
+    let k = reads bs r v h e d in (
+      (λ t. record { numeral = k.numeral; least = subst (λ (n : ℕ). 1 ≤ n) k.value (above_zero v t); most = k.most }),
+      λ p. is_above v (subst (λ (n : ℕ). 1 ≤ n) (sym k.value) p.least),
+    )
+
+pub port_value : {E : Type 0} (bs : List ℕ) (r : Result ℕ E) (v : ℕ) → ParsesUnsigned 16 10 bs r → r ≡ Ok v → list_all is_ascii_digit bs ≡ true → v ≡ digits_value 10 bs
+port_value bs r v h e d = (reads bs r v h e d).value
+
+pub no_port : {E : Type 0} (bs : List ℕ) (r : Result ℕ E) (x : E) → ParsesUnsigned 16 10 bs r → r ≡ Err x → list_all is_ascii_digit bs ≡ true → IsPort bs → ⊥
+no_port bs r x h e d p =
+    let k : IsNumeral 10 (without_leading_plus bs) × (digits_value 10 (without_leading_plus bs) < 2 ^ 16) → ⊥ = rw e at h in
+    let q = sym (no_plus bs d) in
+    k (subst (IsNumeral 10) q p.numeral, subst (λ (l : List ℕ). digits_value 10 l < 2 ^ 16) q p.most)
+
+-- none of these is c
+abbrev pub NoneIs : ℕ → List ℕ → Type 0
+NoneIs c xs = (i : ℕ) → i < length xs → get_or xs i 0 ≢ c
+
+none_in_digits : (xs : List ℕ) → AllDigits 10 xs → NoneIs 58 xs
+none_in_digits xs d i l e = let r = digit_at xs i d l in absurd (omega (arith, r.1))
+
+-- it stands at the seam
+at_seam : (c : ℕ) (us ys vs : List ℕ) → us ≡ ys ++ c ∷ vs → NoneIs c us → ⊥
+at_seam c us ys vs e none =
+    none (length ys) (omega (arith, ap length e, length-append ys (c ∷ vs))) (ap (λ l. get_or l (length ys) 0) e ∙ get_or-append_seam ys c vs 0)
+
+-- a text has one last c
+last_same : (c : ℕ) (xs ys us vs : List ℕ) → xs ++ c ∷ us ≡ ys ++ c ∷ vs → NoneIs c us → NoneIs c vs → (xs ≡ ys) × (us ≡ vs)
+last_same c [] [] us vs e n m = (refl, cc)
+last_same c [] (y ∷ ys) us vs e n m = let k : us ≡ ys ++ c ∷ vs = cc in absurd (at_seam c us ys vs k n)
+last_same c (x ∷ xs) [] us vs e n m = let k : vs ≡ xs ++ c ∷ us = cc in absurd (at_seam c vs xs us k m)
+last_same c (x ∷ xs) (y ∷ ys) us vs e n m =
+    let tail : xs ++ c ∷ us ≡ ys ++ c ∷ vs = cc in
+    let (p, q) = last_same c xs ys us vs tail n m in
+    let same : x ≡ y = cc in
+    (cc, q)
+
+-- the clause of `rsplit_once` at a colon
+abbrev pub IsLastSplit : List ℕ → Option (Bor (List ℕ) × Bor (List ℕ)) → Type 0
+IsLastSplit bs r = MatchOption r (RFindsChar 58 bs None) (λ x. SplitsAroundMatch (RFindsChar 58) bs x.0.now x.1.now)
+
+none_after : (bs : List ℕ) → NoCharPasses (λ d. d == 58) bs → NoneIs 58 bs
+none_after bs h i l = NoCharPasses-char 58 bs i h (lit< tt) l
+
+pub uncut : (bs : List ℕ) (r : Option (Bor (List ℕ) × Bor (List ℕ))) → IsLastSplit bs r → r ≡ None → IsAddress bs → ⊥
+uncut bs r h e a =
+    let none : NoCharPasses (λ d. d == 58) bs = rw e at h in
+    at_seam 58 bs a.host a.port a.parts (none_after bs none)
+
+pub record Cut (bs host port : List ℕ) : Type 0 where
+  pub parts : bs ≡ host ++ 58 ∷ port
+  pub last : NoneIs 58 port
+
+cut_from : (bs host port : List ℕ) → SplitsAroundMatch (RFindsChar 58) bs host port → Cut bs host port
+cut_from bs host port (i, j, found, front, back, le, before, behind) = record {
+  parts = sym (take-append-drop i bs) ∙ ap (λ l. take i bs ++ l) (drop_at_char 58 bs i j found.1 (lit< tt)) ∙ ap (λ l. l ++ 58 ∷ drop j bs) (sym front) ∙ ap (λ l. host ++ 58 ∷ l) (sym back);
+  last = subst (NoneIs 58) (sym back) (none_after (drop j bs) found.0);
+}
+
+pub cut_at : (bs : List ℕ) (r : Option (Bor (List ℕ) × Bor (List ℕ))) (host port : Bor (List ℕ)) → IsLastSplit bs r → r ≡ Some (host, port) → Cut bs host.now port.now
+cut_at bs r host port h e = let s : SplitsAroundMatch (RFindsChar 58) bs host.now port.now = rw e at h in cut_from bs host.now port.now s
+
+pub address_from : (bs host port : List ℕ) (number : ℕ) → Cut bs host port → 0 < length host → IsPort port → number ≡ digits_value 10 port → SaysAddress bs host number
+address_from bs host port number c some p is = record {
+  is_address = record { host = host; port = port; parts = c.parts; some_host = some; is_port = p };
+  is_host = refl;
+  is_port = is;
+}
+
+pub address_parts : (bs host port : List ℕ) → Cut bs host port → IsAddress bs → (0 < length host) × IsPort port
+address_parts bs host port c a =
+    let (p, q) = last_same 58 a.host host a.port port (sym a.parts ∙ c.parts) (none_in_digits a.port a.is_port.numeral.1) c.last in
+    (subst (λ (l : List ℕ). 0 < length l) p a.some_host, subst IsPort q a.is_port)
+
+last_digit : (port : List ℕ) → AllDigits 10 port → 0 < length port → get_or (58 ∷ port) (length port) 0 ≤ 57
+last_digit [] d l = absurd (omega arith)
+last_digit (p ∷ ps) d l = (digit_at (p ∷ ps) (length ps) d (omega arith)).1
+
+-- no address ends so
+digit_last : (text front : List ℕ) → IsAddress text → text ≡ front ++ ending_of true → ⊥
+digit_last text front a e =
+    let k : get_or text (length front + 4) 0 ≡ 107 = ap (λ l. get_or l (length front + 4) 0) e ∙ get_or-append-add front (ending_of true) 4 0 in
+    let m : get_or text (length a.host + length a.port) 0 ≡ get_or (58 ∷ a.port) (length a.port) 0 = ap (λ l. get_or l (length a.host + length a.port) 0) a.parts ∙ get_or-append-add a.host (58 ∷ a.port) (length a.port) 0 in
+    let n : length front + 4 ≡ length a.host + length a.port = omega (arith, ap length e, ap length a.parts, length-append front (ending_of true), length-append a.host (58 ∷ a.port)) in
+    let d = last_digit a.port a.is_port.numeral.1 a.is_port.numeral.0 in
+    let same : get_or text (length front + 4) 0 ≡ get_or text (length a.host + length a.port) 0 = ap (λ i. get_or text i 0) n in
+    absurd (omega (arith, k, m, d, same))
+
+-- the clause of `strip_suffix` at ",lock"
+abbrev pub IsStripped : List ℕ → Option (Bor (List ℕ)) → Type 0
+IsStripped s r = MatchOption r (FindsTextSuffix (ending_of true) s None) (λ x. StripsSuffix (FindsTextSuffix (ending_of true)) s x.now)
+
+pub ends_so : (s : List ℕ) (x : List ℕ) → StripsSuffix (FindsTextSuffix (ending_of true)) s x → s ≡ x ++ ending_of true
+ends_so s x (n, found, is, l) = found.1 ∙ ap (λ l. l ++ ending_of true) (sym is)
+
+pub unlocked : (text address : List ℕ) → text ≡ address ++ ending_of true → (IsAddress address → ⊥) → (lock : Bool) → SaysLock text lock → ⊥
+unlocked text address e never true s = never (subst IsAddress (append_cancel_right s.address address (ending_of true) (sym s.parts ∙ e)) s.is_address)
+unlocked text address e never false s = digit_last text address (subst IsAddress (sym (s.parts ∙ append-nil s.address)) s.is_address) e
+
+pub unaddressed : (text : List ℕ) → ((front : List ℕ) → text ≢ front ++ ending_of true) → (IsAddress text → ⊥) → (lock : Bool) → SaysLock text lock → ⊥
+unaddressed text unending never true s = unending s.address s.parts
+unaddressed text unending never false s = never (subst IsAddress (sym (s.parts ∙ append-nil s.address)) s.is_address)
+
+pub locked : (text address host : List ℕ) (port : ℕ) → text ≡ address ++ ending_of true → SaysAddress address host port → SaysPlace text host port true
+locked text address host port e a = record {
+  says = record { address = address; parts = e; is_address = a.is_address };
+  is_host = a.is_host;
+  is_port = a.is_port;
+}
+
+pub unmarked : (text host : List ℕ) (port : ℕ) → SaysAddress text host port → SaysPlace text host port false
+unmarked text host port a = record {
+  says = record { address = text; parts = sym (append-nil text); is_address = a.is_address };
+  is_host = a.is_host;
+  is_port = a.is_port;
+}
+
+pub unsplit : (bs : List ℕ) (r : Option (Bor (List ℕ) × Bor (List ℕ))) → IsSplitOnceResult 61 bs r → r ≡ None → (p : Peer) → NamesPeer bs p → ⊥
+unsplit bs r h e p n = let k = split_after 61 bs n.title n.rest r h (lit< tt) n.parts n.first in rw e at k
+
+-- what stands before the first =, and behind it
+pub record First (bs title rest : List ℕ) : Type 0 where
+  pub parts : bs ≡ title ++ 61 ∷ rest
+  pub first : NoneIs 61 title
+  pub only : (p : Peer) (n : NamesPeer bs p) → (title ≡ n.title) × (rest ≡ n.rest)
+
+pub first_of : (bs : List ℕ) (r : Option (Bor (List ℕ) × Bor (List ℕ))) (title rest : Bor (List ℕ)) → IsSplitOnceResult 61 bs r → r ≡ Some (title, rest) → First bs title.now rest.now
+first_of bs r title rest h e =
+    let k = split_parts 61 bs r h (lit< tt) in
+    let s : (bs ≡ title.now ++ (61 ∷ rest.now)) × NoneIs 61 title.now = rw e at k in
+    record {
+      parts = s.0;
+      first = s.1;
+      only = λ p n. let m = split_after 61 bs n.title n.rest r h (lit< tt) n.parts n.first in let (a, b) : (title.now ≡ n.title) × (rest.now ≡ n.rest) = rw e at m in (a, b);
+    }
+
+pub untitled : (bs title rest : List ℕ) → First bs title rest → ((ae : List ℕ) → SpellsAe title ae → ⊥) → (p : Peer) → NamesPeer bs p → ⊥
+untitled bs title rest f never p n = never p.ae (subst (λ (t : List ℕ). SpellsAe t p.ae) (sym (f.only p n).0) n.spells)
+
+pub unlockable : (bs title rest : List ℕ) → First bs title rest → ((lock : Bool) → SaysLock rest lock → ⊥) → (p : Peer) → NamesPeer bs p → ⊥
+unlockable bs title rest f never p n = never p.lock (subst (λ (t : List ℕ). SaysLock t p.lock) (sym (f.only p n).1) n.says)
+
+pub names : (bs title rest ae host : List ℕ) (port : ℕ) (lock : Bool) → First bs title rest → SpellsAe title ae → SaysPlace rest host port lock → NamesPlace bs record { ae = ae; lock = lock } host port
+names bs title rest ae host port lock f spells place = record {
+  names = record { title = title; rest = rest; parts = f.parts; first = f.first; spells = spells; says = place.says };
+  is_host = place.is_host;
+  is_port = place.is_port;
+}
+
+pub one_more : {P : Type 0} (Names : List ℕ → P → Type 0) (ws : List (List ℕ)) (ps : List P) (w : List ℕ) (p : P) → EachNames Names ws ps → Names w p → EachNames Names (ws ++ w ∷ []) (ps ++ p ∷ [])
+one_more Names [] [] w p n is = (is, tt)
+one_more Names [] (q ∷ ps) w p n is = absurd n
+one_more Names (v ∷ ws) [] w p n is = absurd n
+one_more Names (v ∷ ws) (q ∷ ps) w p n is = (n.0, one_more Names ws ps w p n.1 is)
+
+abbrev texts : List (Bor (List ℕ)) → List (List ℕ)
+texts words = map (λ (w : Bor (List ℕ)). w.now) words
+
+pub one_further : {P : Type 0} (Names : List ℕ → P → Type 0) (words : List (Bor (List ℕ))) (i : ℕ) (d : Bor (List ℕ)) (ps after : List P) (p : P) → i < length words
+    → EachNames Names (take i (map (λ (w : Bor (List ℕ)). w.now) words)) ps → Names (get_or words i d).now p → after ≡ ps ++ p ∷ [] → EachNames Names (take (i + 1) (map (λ (w : Bor (List ℕ)). w.now) words)) after
+one_further {P} Names words i d ps after p l n is e =
+    let short : i < length (texts words) = omega (arith, length-map words (λ (w : Bor (List ℕ)). w.now)) in
+    let step : take (suc i) (texts words) ≡ take i (texts words) ++ get_or (texts words) i [] ∷ [] = take-suc (texts words) i [] short in
+    let word : get_or (texts words) i [] ≡ (get_or words i d).now = get_or-map (λ (w : Bor (List ℕ)). w.now) words i d [] l in
+    let whole : take (i + 1) (texts words) ≡ take i (texts words) ++ (get_or words i d).now ∷ [] = ap (λ n. take n (texts words)) (add-one i) ∙ step ∙ ap (λ w. take i (texts words) ++ w ∷ []) word in
+    subst (λ (xs : List (List ℕ)). EachNames Names xs after) (sym whole)
+    (subst (λ (qs : List P). EachNames Names (take i (texts words) ++ (get_or words i d).now ∷ []) qs) (sym e) (one_more Names (take i (texts words)) ps (get_or words i d).now p n is))
+
+pub all_named : {P : Type 0} (Names : List ℕ → P → Type 0) (words : List (Bor (List ℕ))) (i : ℕ) (ps : List P) → length words ≤ i → EachNames Names (take i (map (λ (w : Bor (List ℕ)). w.now) words)) ps
+    → EachNames Names (map (λ (w : Bor (List ℕ)). w.now) words) ps
+all_named Names words i ps l n = subst (λ (xs : List (List ℕ)). EachNames Names xs ps) (take_all i (texts words) (omega (arith, length-map words (λ (w : Bor (List ℕ)). w.now)))) n
+
+-- the words before the one at a place name peers
+pub stops_here : (words : List (Bor (List ℕ))) (i : ℕ) (d : Bor (List ℕ)) (ps : List Peer) → i < length words → NamePeers (take i (map (λ (w : Bor (List ℕ)). w.now) words)) ps → is_twice ps ≡ false
+    → StopsAt (map (λ (w : Bor (List ℕ)). w.now) words) (get_or words i d).now ps
+stops_here words i d ps l n once =
+    let short : i < length (texts words) = omega (arith, length-map words (λ (w : Bor (List ℕ)). w.now)) in
+    let word : get_or (texts words) i [] ≡ (get_or words i d).now = get_or-map (λ (w : Bor (List ℕ)). w.now) words i d [] l in
+    record {
+      first = take i (texts words);
+      more = drop (suc i) (texts words);
+      parts = sym (take-append-drop i (texts words)) ∙ ap (λ l. take i (texts words) ++ l) (drop-cons (texts words) i [] short) ∙ ap (λ w. take i (texts words) ++ w ∷ drop (suc i) (texts words)) word;
+      named = n;
+      once = once;
+    }

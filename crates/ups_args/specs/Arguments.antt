@@ -1,0 +1,160 @@
+-- What the words of a command line say.
+use Rattle.std.specs.Prelude.{◌≡◌, ◌≢◌, ℕ, ◌<◌, ◌≤◌, ◌^◌, ℤ, Bool, true, false, List, [], ◌∷◌, ◌++◌, length, slice_index, codes, string_bytes, Option, Some, None, option_map, unwrap_or}
+use Rattle.std.specs.Str.Parse.{IsNumeral, digits_value, signed_digits_value, without_leading_plus, without_leading_sign}
+use Rattle.clap.specs.declared.parser.matches.Found.{Found}
+use Rattle.clap.specs.Matches.{matched_of, one_text, raw_values}
+use Rattle.ups_life.specs.declared.entry.Peer.{Peer}
+use Rattle.ups_life.specs.Limits.{peer_limit}
+use Rattle.ups_manager.specs.Refusal.{is_bad_offset, is_named, is_twice}
+use Rattle.ups_net.specs.declared.watcher.Watcher.{Watcher}
+use Rattle.ups_pdu.specs.Title.{SpellsAe}
+use Rattle.ups_args.specs.declared.fault.ArgumentFault.{ArgumentFault}
+use Rattle.ups_args.specs.declared.fault.ArgumentFault.TheVariants as faults
+use Rattle.ups_args.specs.Limits.{keep_seconds, local_offset, default_workers, timeout_seconds, workers_limit}
+
+-- a number of seconds below 2^32, in decimal digits, before which a + may stand
+pub record SaysSeconds (word : List ℕ) (seconds : ℕ) : Type 0 where
+  pub numeral : IsNumeral 10 (without_leading_plus word)
+  pub value : seconds ≡ digits_value 10 (without_leading_plus word)
+  pub fits : seconds < 2 ^ 32
+
+-- an offset from UTC in minutes, as DT has it (PS3.5 section 6.2), in decimal digits, before which a sign may stand
+pub record SaysMinutes (word : List ℕ) (offset : ℤ) : Type 0 where
+  pub numeral : IsNumeral 10 (without_leading_sign word)
+  pub value : offset ≡ signed_digits_value 10 word
+  pub within : is_bad_offset offset ≡ false
+
+-- for how many seconds a finished step is kept, by the word that says so or by none
+abbrev pub SaysKeep : Option (List ℕ) → ℕ → Type 0
+SaysKeep None keep = keep ≡ keep_seconds
+SaysKeep (Some word) keep = SaysSeconds word keep
+
+-- the offset of the local time, by the word that says so or by none
+abbrev pub SaysOffset : Option (List ℕ) → ℤ → Type 0
+SaysOffset None offset = offset ≡ local_offset
+SaysOffset (Some word) offset = SaysMinutes word offset
+
+-- the number of a port to listen on, from 0 to 65535, in decimal digits, before which a + may stand
+pub record SaysPort (word : List ℕ) (port : ℕ) : Type 0 where
+  pub numeral : IsNumeral 10 (without_leading_plus word)
+  pub value : port ≡ digits_value 10 (without_leading_plus word)
+  pub fits : port < 2 ^ 16
+
+-- how many associations are served at the same time, in decimal digits, before which a + may stand
+pub record SaysWorkers (word : List ℕ) (count : ℕ) : Type 0 where
+  pub numeral : IsNumeral 10 (without_leading_plus word)
+  pub value : count ≡ digits_value 10 (without_leading_plus word)
+  pub least : 1 ≤ count
+  pub most : count ≤ workers_limit
+
+-- the same, by the word that says so or by none
+abbrev pub SaysWorkersOrNot : Option (List ℕ) → ℕ → Type 0
+SaysWorkersOrNot None count = count ≡ default_workers
+SaysWorkersOrNot (Some word) count = SaysWorkers word count
+
+-- for how many seconds a read or a write waits at most, by the word that says so or by none
+abbrev pub SaysTimeout : Option (List ℕ) → ℕ → Type 0
+SaysTimeout None timeout = timeout ≡ timeout_seconds
+SaysTimeout (Some word) timeout = SaysSeconds word timeout
+
+-- the address to listen on, by the word that says so or by none
+abbrev pub SaysBind : Option (List ℕ) → List ℕ → Type 0
+SaysBind None address = address ≡ codes "127.0.0.1"
+SaysBind (Some word) address = address ≡ word
+
+-- the number of a port, from 1 to 65535, in decimal digits
+pub record IsPort (text : List ℕ) : Type 0 where
+  pub numeral : IsNumeral 10 text
+  pub least : 1 ≤ digits_value 10 text
+  pub most : digits_value 10 text < 2 ^ 16
+
+-- host:port; no digit is a colon, so the last colon begins the port
+pub record IsAddress (text : List ℕ) : Type 0 where
+  pub host : List ℕ
+  pub port : List ℕ
+  pub parts : text ≡ host ++ 58 ∷ port
+  pub some_host : 0 < length host
+  pub is_port : IsPort port
+
+-- what stands behind the address of a peer that may lock steps, and of another
+abbrev pub ending_of : Bool → List ℕ
+ending_of true = codes ",lock"
+ending_of false = []
+
+-- an address, and whether the peer may lock steps
+pub record SaysLock (text : List ℕ) (lock : Bool) : Type 0 where
+  pub address : List ℕ
+  pub parts : text ≡ address ++ ending_of lock
+  pub is_address : IsAddress address
+
+-- an address, with its host and its port
+pub record SaysAddress (text host : List ℕ) (port : ℕ) : Type 0 where
+  pub is_address : IsAddress text
+  pub is_host : host ≡ is_address.host
+  pub is_port : port ≡ digits_value 10 is_address.port
+
+-- the address of a peer, with its host and its port, and whether the peer may lock steps
+pub record SaysPlace (text host : List ℕ) (port : ℕ) (lock : Bool) : Type 0 where
+  pub says : SaysLock text lock
+  pub is_host : host ≡ says.is_address.host
+  pub is_port : port ≡ digits_value 10 says.is_address.port
+
+-- a title, =, and the address; the first = ends the title
+pub record NamesPeer (word : List ℕ) (peer : Peer) : Type 0 where
+  pub title : List ℕ
+  pub rest : List ℕ
+  pub parts : word ≡ title ++ 61 ∷ rest
+  pub first : (i : ℕ) → i < length title → slice_index title i ≢ 61
+  pub spells : SpellsAe title peer.ae
+  pub says : SaysLock rest peer.lock
+
+-- a word names a peer, and the host and the port where it listens
+pub record NamesPlace (word : List ℕ) (peer : Peer) (host : List ℕ) (port : ℕ) : Type 0 where
+  pub names : NamesPeer word peer
+  pub is_host : host ≡ names.says.is_address.host
+  pub is_port : port ≡ digits_value 10 names.says.is_address.port
+
+-- a word names a watcher: the title of a peer, and where it listens
+abbrev pub NamesWatcher : List ℕ → Watcher → Type 0
+NamesWatcher word watcher = (lock : Bool) × NamesPlace word (record { ae = watcher.ae; lock = lock }) (string_bytes watcher.host) watcher.port
+
+-- each word names what is in its place
+abbrev pub EachNames : {P : Type 0} → (List ℕ → P → Type 0) → List (List ℕ) → List P → Type 0
+EachNames Names [] [] = Unit {0}
+EachNames Names [] (p ∷ ps) = ⊥
+EachNames Names (w ∷ ws) [] = ⊥
+EachNames Names (w ∷ ws) (p ∷ ps) = Names w p × EachNames Names ws ps
+
+abbrev pub NamePeers : List (List ℕ) → List Peer → Type 0
+NamePeers = EachNames NamesPeer
+
+abbrev pub NameWatchers : List (List ℕ) → List Watcher → Type 0
+NameWatchers = EachNames NamesWatcher
+
+-- the words before this one name peers, each another one
+pub record StopsAt (words : List (List ℕ)) (word : List ℕ) (before : List Peer) : Type 0 where
+  pub first : List (List ℕ)
+  pub more : List (List ℕ)
+  pub parts : words ≡ first ++ word ∷ more
+  pub named : NamePeers first before
+  pub once : is_twice before ≡ false
+
+-- why words name no peers: there are more than may be named; or else by the first word that names no peer, or names one
+-- with the title of a peer before it; or memory ran out
+abbrev pub FailToName : List (List ℕ) → ArgumentFault → Type 0
+FailToName words faults.TooMany = peer_limit < length words
+FailToName words (faults.Peer word) = (length words ≤ peer_limit) × (before : List Peer) × StopsAt words word.now before × ((peer : Peer) → NamesPeer word.now peer → ⊥)
+FailToName words faults.Doubled =
+    (length words ≤ peer_limit) × (before : List Peer) × (word : List ℕ) × (peer : Peer) × StopsAt words word before × NamesPeer word peer × (is_named peer.ae before ≡ true)
+FailToName words faults.Memory = length words ≤ peer_limit
+FailToName words fault = ⊥
+
+-- the words of an argument that may be given several times
+abbrev pub argument_words : Found → List ℕ → List (List ℕ)
+argument_words found id = unwrap_or (option_map raw_values (matched_of found id)) []
+
+-- a flag is set or not
+pub record IsFlag (found : Found) (id : List ℕ) (flag : Bool) : Type 0 where
+  pub unset : one_text found id ≡ None → flag ≡ false
+  pub set : one_text found id ≡ Some (codes "true") → flag ≡ true
+  pub reset : one_text found id ≡ Some (codes "false") → flag ≡ false

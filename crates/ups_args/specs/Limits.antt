@@ -1,0 +1,22 @@
+-- How many associations may be served, and how the service is set up where nothing else is said.
+use Rattle.std.specs.Prelude.{ℕ, ℤ, pos}
+
+-- the seconds for which a finished step is kept at least
+abbrev pub keep_seconds : ℕ
+keep_seconds = 60
+
+-- the offset of the local time from UTC, in minutes
+abbrev pub local_offset : ℤ
+local_offset = pos 0
+
+-- the associations that may be served at the same time
+abbrev pub workers_limit : ℕ
+workers_limit = 1022
+
+-- and those that are where nothing else is said
+abbrev pub default_workers : ℕ
+default_workers = 4
+
+-- the seconds for which a read or a write waits at most
+abbrev pub timeout_seconds : ℕ
+timeout_seconds = 60

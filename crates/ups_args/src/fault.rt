@@ -1,0 +1,58 @@
+//! Why words are refused.
+
+ghost use Rattle.std.specs.Prelude.{◌≡◌};
+ghost use Rattle.ups_args.specs.declared.fault.ArgumentFault.TheVariants.{Memory};
+
+use std::alloc::{AllocError, AllocFailed};
+use thiserror::Error;
+
+/// Why the words of a command line are refused.
+#[derive(Clone, Copy, Debug, PartialEq, Eq, Error)]
+pub enum ArgumentFault<'a> {
+    /// The word behind `--ae` is not a title.
+    #[error("--ae takes the title of an application entity: 1 to 16 printable characters without a backslash")]
+    Ae,
+    /// This word names no peer.
+    #[error("{0:?} is no PEER: AE=host:port or AE=host:port,lock")]
+    Peer(&'a str),
+    /// A title is named by two words.
+    #[error("a PEER is named twice")]
+    Doubled,
+    /// More peers than may be named.
+    #[error("more than 1,000 PEERs are named")]
+    TooMany,
+    /// The word behind `--keep` is no number of seconds.
+    #[error("--keep takes a number of seconds, from 0 to 4294967295")]
+    Keep,
+    /// The word behind `--offset` is no offset from UTC.
+    #[error("--offset takes a number of minutes, from -720 to 840")]
+    Offset,
+    /// The word behind `--port` is no number of a port.
+    #[error("--port takes the number of a port, from 0 to 65535; 0 stands for any that is free")]
+    Port,
+    /// The word behind `--associations` is no number of associations.
+    #[error("--associations takes a number from 1 to 1022")]
+    Associations,
+    /// The word behind `--timeout` is no number of seconds.
+    #[error("--timeout takes a number of seconds, from 0 to 4294967295; 0 stands for no limit")]
+    Timeout,
+    /// Memory ran out.
+    #[error("out of memory")]
+    Memory,
+}
+
+impl From<AllocError> for ArgumentFault<'_> {
+    ghost from_gives = { λ _ e. e ≡ Memory };
+
+    fn from(_e: AllocError) -> Self {
+        ArgumentFault::Memory
+    }
+}
+
+impl<T: Drop> From<AllocFailed<T>> for ArgumentFault<'_> {
+    ghost from_gives = { λ _ e. e ≡ Memory };
+
+    fn from(_e: AllocFailed<T>) -> Self {
+        ArgumentFault::Memory
+    }
+}

@@ -1,0 +1,21 @@
+//! Reads what the words of a command line ask of `upsd`, into titles, numbers, peers and watchers, and may not know what is
+//! done with them: it makes no manager, no session and no connection, reads no input and writes no output.
+#![tactic(auto)]
+
+mod addresses;
+mod fault;
+mod limits;
+mod peers;
+mod pipe;
+mod program;
+mod script;
+mod server;
+mod times;
+mod title;
+
+pub use fault::ArgumentFault;
+pub use limits::{KEEP, OFFSET, limits_are_as_defined};
+pub use pipe::{PipeArguments, pipe_arguments};
+pub use program::command;
+pub use script::{ScriptArguments, script_arguments};
+pub use server::{ServeArguments, serve_arguments};

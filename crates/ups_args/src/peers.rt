@@ -1,0 +1,119 @@
+//! The application entities that may watch steps, and where each of them listens.
+
+ghost use Rattle.std.specs.Prelude.{◌≡◌, ◌≤◌, Bool, false, length, map, IfErr, IfOk, MatchOption};
+ghost use Rattle.ups_args.specs.Arguments.{FailToName, NamePeers, NamesPeer, NamesPlace, NameWatchers, SaysLock, SaysPlace};
+ghost use Rattle.ups_life.specs.declared.entry.Peer.{Peer};
+ghost use Rattle.ups_life.specs.Limits.{peer_limit};
+ghost use Rattle.ups_manager.specs.Refusal.{is_named, is_twice};
+
+use crate::addresses::{Address, address_of};
+use crate::fault::ArgumentFault;
+use clap::{Arg, ArgAction};
+use std::alloc::{Allocator, Global};
+use ups_life::{MAX_PEERS, Peer};
+use ups_net::Watcher;
+use ups_pdu::Ae;
+
+/// The words that name peers.
+pub(crate) fn peer_words<'a>(alloc: Global) -> Arg<'a> {
+    Arg::new(alloc, "peer")
+        .value_name("PEER")
+        .help(
+            "an application entity that may watch steps, and gets its reports there: AE=host:port or AE=host:port,lock",
+        )
+        .action(ArgAction::Append)
+}
+
+/// The address of a peer, and whether the peer may lock steps: `,lock` behind the address says so. None where the text is
+/// no address.
+fn lock_of<'a>(text: &'a str) -> Option<(Address<'a>, bool)>
+    ensures { MatchOption result ((lock : Bool) → SaysLock text.now lock → ⊥) (λ r. SaysPlace text.now r.0.host.now r.0.port r.1) }
+{
+    if let Some(front) = text.strip_suffix(",lock") {
+        let address = address_of(front)?;
+        return Some((address, true));
+    }
+    let address = address_of(text)?;
+    Some((address, false))
+}
+
+/// A peer, and where it listens.
+#[derive(Clone, Copy)]
+struct Place<'a> {
+    peer: Peer,
+    address: Address<'a>,
+}
+
+/// The peer that a word names, and where it listens, as `AE=host:port` or `AE=host:port,lock`. The first `=` ends the
+/// title.
+fn place_of<'a>(word: &'a str) -> Option<Place<'a>>
+    ensures { MatchOption result ((peer : Peer) → NamesPeer word.now peer → ⊥) (λ p. NamesPlace word.now p.peer p.address.host.now p.address.port) }
+{
+    let (title, rest) = word.split_once('=')?;
+    let ae = Ae::of(title.as_bytes())?;
+    let (address, lock) = lock_of(rest)?;
+    Some(Place {
+        peer: Peer { ae, lock },
+        address,
+    })
+}
+
+/// The peers that words name.
+///
+/// Errors: TooMany where there are more than 1,000 words; else by the first word that is wrong: Peer where it names none,
+/// Doubled where a word before it names one of the same title; lack of memory.
+#[tactic(auto, using(crate::proofs::Naming::twice_on))]
+pub(crate) fn peers_of<'a, A: Allocator + Copy>(
+    alloc: A,
+    words: &[&'a str],
+) -> Result<Vec<Peer, A>, ArgumentFault<'a>>
+    ensures named { IfOk result (λ peers. NamePeers (map (λ w. w.now) words.now) peers.items) }
+    ensures few { IfOk result (λ peers. length peers.items ≤ peer_limit) }
+    ensures once { IfOk result (λ peers. is_twice peers.items ≡ false) }
+    ensures fault { IfErr result (FailToName (map (λ w. w.now) words.now)) }
+{
+    let mut peers = Vec::new(alloc);
+    if words.len() > MAX_PEERS {
+        return Err(ArgumentFault::TooMany);
+    }
+    for word in words {
+        let Some(Place { peer, address: _ }) = place_of(word) else {
+            return Err(ArgumentFault::Peer(word));
+        };
+        if is_named(&peers, peer.ae) {
+            return Err(ArgumentFault::Doubled);
+        }
+        peers.push(peer)?;
+    }
+    Ok(peers)
+}
+
+/// Whether one of the peers has this title.
+fn is_named(peers: &[Peer], ae: Ae) -> bool
+    ensures { result ≡ is_named ae peers.now }
+{
+    peers.iter().any(|peer| peer.ae == ae)
+}
+
+/// The watchers that words name: the titles of the peers, and where they listen.
+///
+/// Errors: Peer by the first word that names none; out of memory.
+pub(crate) fn watchers_of<'a>(
+    alloc: Global,
+    words: &[&'a str],
+) -> Result<Vec<Watcher>, ArgumentFault<'a>>
+    ensures named { IfOk result (λ watchers. NameWatchers (map (λ w. w.now) words.now) watchers.items) }
+{
+    let mut watchers = Vec::new(alloc);
+    for word in words {
+        let Some(place) = place_of(word) else {
+            return Err(ArgumentFault::Peer(word));
+        };
+        watchers.push(Watcher {
+            ae: place.peer.ae,
+            host: place.address.host.to_string(alloc)?,
+            port: place.address.port,
+        })?;
+    }
+    Ok(watchers)
+}

@@ -1,0 +1,56 @@
+//! What is asked of `script`.
+
+ghost use Rattle.std.specs.Prelude.{◌≡◌, ◌≤◌, codes, length, None, IfOk};
+ghost use Rattle.clap.specs.Matches.{first_value, found_of};
+ghost use Rattle.ups_args.specs.Arguments.{NamePeers, SaysKeep, SaysOffset, argument_words};
+ghost use Rattle.ups_life.specs.Limits.{history_limit, peer_limit};
+ghost use Rattle.ups_manager.specs.Refusal.{refusal};
+
+use crate::fault::ArgumentFault;
+use crate::peers::{peer_words, peers_of};
+use crate::times::{keep_asked, offset_asked, with_times};
+use clap::{ArgMatches, Command};
+use std::alloc::{AllocError, Global};
+use ups_life::Peer;
+
+/// The command line of `upsd script`.
+pub(crate) fn script_command<'a>(alloc: Global) -> Result<Command<'a>, AllocError> {
+    let command = Command::new(alloc, "script").about(
+        "answers a script from standard input, a line for each of its lines",
+    );
+    with_times(alloc, command)?.arg(peer_words(alloc))
+}
+
+/// What a command line asks of `script`.
+#[derive(Drop)]
+pub struct ScriptArguments {
+    /// Who may watch steps.
+    pub peers: Vec<Peer>,
+    /// For how many seconds a finished step is kept at least.
+    pub keep: u32,
+    /// The offset of the local time from UTC in minutes, above 0 east of it.
+    pub offset: i16,
+}
+
+/// Reads what a command line asks of `script`.
+///
+/// # Errors
+///
+/// Those of its words, as [`ArgumentFault`] has them.
+#[tactic(auto, using(crate::proofs::Naming::unrefused_at))]
+pub fn script_arguments<'a>(
+    alloc: Global,
+    matches: &ArgMatches<'a>,
+) -> Result<ScriptArguments, ArgumentFault<'a>>
+    ensures peers { IfOk result (λ asked. NamePeers (argument_words (found_of matches.now) (codes "peer")) asked.peers.items) }
+    ensures keep { IfOk result (λ asked. SaysKeep (first_value (found_of matches.now) (codes "keep")) asked.keep) }
+    ensures offset { IfOk result (λ asked. SaysOffset (first_value (found_of matches.now) (codes "offset")) asked.offset) }
+    ensures few { IfOk result (λ asked. length asked.peers.items ≤ peer_limit) }
+    ensures allowed { IfOk result (λ asked. refusal asked.peers.items asked.offset history_limit ≡ None) }
+{
+    Ok(ScriptArguments {
+        peers: peers_of(alloc, matches.get_strs("peer").unwrap_or(&[]))?,
+        keep: keep_asked(matches.get_str("keep"))?,
+        offset: offset_asked(matches.get_str("offset"))?,
+    })
+}

@@ -1,0 +1,191 @@
+//! What is asked of `serve`.
+
+ghost use Rattle.std.specs.Prelude.{◌≡◌, ◌≤◌, ℕ, [], codes, length, None, option_map, IfErr, IfOk, MatchResult, unwrap_or};
+ghost use Rattle.clap.specs.Matches.{first_value, found_of};
+ghost use Rattle.ups_args.specs.Arguments.{IsFlag, NamePeers, NameWatchers, SaysBind, SaysKeep, SaysOffset, SaysPort, SaysTimeout, SaysWorkers, SaysWorkersOrNot, argument_words};
+ghost use Rattle.ups_args.specs.Limits.{workers_limit};
+ghost use Rattle.ups_life.specs.Limits.{history_limit, peer_limit};
+ghost use Rattle.ups_manager.specs.Refusal.{refusal};
+ghost use Rattle.ups_pdu.specs.Title.{SpellsAe};
+
+use crate::fault::ArgumentFault;
+use crate::limits::{LOOPBACK, MAX_WORKERS, TIMEOUT, WORKERS};
+use crate::peers::{peer_words, peers_of, watchers_of};
+use crate::times::{keep_asked, keep_of, offset_asked, with_times};
+use crate::title::{ae_of, ae_word};
+use clap::{Arg, ArgAction, ArgMatches, Command};
+use std::alloc::{AllocError, Global};
+use ups_life::Peer;
+use ups_net::Watcher;
+use ups_pdu::Ae;
+
+/// The options of a server: where it listens, and how it serves.
+fn with_network<'a>(alloc: Global, command: Command<'a>) -> Result<Command<'a>, AllocError> {
+    let port = Arg::new(alloc, "port")
+        .long("port")
+        .value_name("P")
+        .help("the port to listen on; 0 takes any that is free, and prints it")
+        .required(true)
+        .action(ArgAction::Set);
+    let bind = Arg::new(alloc, "bind")
+        .long("bind")
+        .value_name("ADDRESS")
+        .help("the address to listen on [default: 127.0.0.1]")
+        .action(ArgAction::Set);
+    let associations = Arg::new(alloc, "associations")
+        .long("associations")
+        .value_name("N")
+        .help("how many associations are served at the same time [default: 4]")
+        .action(ArgAction::Set);
+    let timeout = Arg::new(alloc, "timeout")
+        .long("timeout")
+        .value_name("SECONDS")
+        .help("how long a peer may take to send or to receive, 0 for any time [default: 60]")
+        .action(ArgAction::Set);
+    let verbose = Arg::new(alloc, "verbose")
+        .long("verbose")
+        .help("tell of each association who asks for it, and whether it is accepted")
+        .action(ArgAction::SetTrue);
+    command
+        .arg(port)?
+        .arg(bind)?
+        .arg(associations)?
+        .arg(timeout)?
+        .arg(verbose)
+}
+
+/// The command line of `upsd serve`.
+pub(crate) fn serve_command<'a>(alloc: Global) -> Result<Command<'a>, AllocError> {
+    let command = Command::new(alloc, "serve")
+        .about("answers associations over TCP, and delivers event reports")
+        .arg(ae_word(alloc))?;
+    with_times(alloc, with_network(alloc, command)?)?.arg(peer_words(alloc))
+}
+
+/// The number of the port that a word says; 0 stands for any that is free.
+///
+/// Errors: Port where it says none from 0 to 65535.
+fn port_of(word: &str) -> Result<u16, ArgumentFault<'_>>
+    ensures said { MatchResult result (SaysPort word.now) (λ _. (port : ℕ) → SaysPort word.now port → ⊥) }
+    ensures fault { IfErr result (λ fault. fault ≡ ArgumentFault.Port) }
+{
+    match word.parse::<u16>() {
+        Ok(port) => Ok(port),
+        Err(_) => Err(ArgumentFault::Port),
+    }
+}
+
+/// How many associations are served at the same time, by a word.
+///
+/// Errors: Associations where it says no number from 1 to 1,022.
+fn workers_of(word: &str) -> Result<u32, ArgumentFault<'_>>
+    ensures said { MatchResult result (SaysWorkers word.now) (λ _. (count : ℕ) → SaysWorkers word.now count → ⊥) }
+    ensures fault { IfErr result (λ fault. fault ≡ ArgumentFault.Associations) }
+{
+    match word.parse::<u32>() {
+        Ok(count) if 1 <= count && count <= MAX_WORKERS => Ok(count),
+        _ => Err(ArgumentFault::Associations),
+    }
+}
+
+/// How many associations are served at the same time, by the word behind `--associations`, or 4 where there is none.
+///
+/// Errors: those of `workers_of`.
+fn workers_asked(word: Option<&str>) -> Result<u32, ArgumentFault<'_>>
+    ensures { IfOk result (SaysWorkersOrNot (option_map (λ w. w.now) word.entry)) }
+{
+    match word {
+        Some(word) => workers_of(word),
+        None => Ok(WORKERS),
+    }
+}
+
+/// For how many seconds a read or a write waits at most, by the word behind `--timeout`, or 60 where there is none; 0
+/// stands for any time.
+///
+/// Errors: Timeout where the word says no number of seconds.
+fn timeout_asked(word: Option<&str>) -> Result<u32, ArgumentFault<'_>>
+    ensures { IfOk result (SaysTimeout (option_map (λ w. w.now) word.entry)) }
+{
+    let Some(word) = word else {
+        return Ok(TIMEOUT);
+    };
+    match keep_of(word) {
+        Ok(seconds) => Ok(seconds),
+        Err(_) => Err(ArgumentFault::Timeout),
+    }
+}
+
+/// The address to listen on: the word behind `--bind`, or 127.0.0.1 where there is none.
+fn bind_asked<'a>(word: Option<&'a str>) -> &'a str
+    ensures { SaysBind (option_map (λ w. w.now) word.entry) result.now }
+{
+    match word {
+        Some(word) => word,
+        None => LOOPBACK,
+    }
+}
+
+/// What a command line asks of `serve`.
+#[derive(Drop)]
+pub struct ServeArguments<'a> {
+    /// The title of this application entity.
+    pub ae: Ae,
+    /// The address to listen on.
+    pub bind: &'a str,
+    /// The port to listen on; 0 stands for any that is free.
+    pub port: u16,
+    /// Who may watch steps.
+    pub peers: Vec<Peer>,
+    /// Where each of the peers gets its event reports.
+    pub watchers: Vec<Watcher>,
+    /// For how many seconds a finished step is kept at least.
+    pub keep: u32,
+    /// The offset of the local time from UTC in minutes, above 0 east of it.
+    pub offset: i16,
+    /// How many associations are served at the same time.
+    pub workers: u32,
+    /// For how many seconds a read or a write waits at most; 0 stands for any time.
+    pub timeout: u32,
+    /// Whether each association is told of, with who asks for it.
+    pub verbose: bool,
+}
+
+/// Reads what a command line asks of `serve`.
+///
+/// # Errors
+///
+/// Those of its words, as [`ArgumentFault`] has them.
+#[tactic(auto, using(crate::proofs::Naming::unrefused_at))]
+pub fn serve_arguments<'a>(
+    alloc: Global,
+    matches: &ArgMatches<'a>,
+) -> Result<ServeArguments<'a>, ArgumentFault<'a>>
+    ensures title { IfOk result (λ asked. SpellsAe (unwrap_or (first_value (found_of matches.now) (codes "ae")) []) asked.ae) }
+    ensures bind { IfOk result (λ asked. SaysBind (first_value (found_of matches.now) (codes "bind")) asked.bind.now) }
+    ensures port { IfOk result (λ asked. SaysPort (unwrap_or (first_value (found_of matches.now) (codes "port")) []) asked.port) }
+    ensures peers { IfOk result (λ asked. NamePeers (argument_words (found_of matches.now) (codes "peer")) asked.peers.items) }
+    ensures watchers { IfOk result (λ asked. NameWatchers (argument_words (found_of matches.now) (codes "peer")) asked.watchers.items) }
+    ensures keep { IfOk result (λ asked. SaysKeep (first_value (found_of matches.now) (codes "keep")) asked.keep) }
+    ensures offset { IfOk result (λ asked. SaysOffset (first_value (found_of matches.now) (codes "offset")) asked.offset) }
+    ensures workers { IfOk result (λ asked. SaysWorkersOrNot (first_value (found_of matches.now) (codes "associations")) asked.workers) }
+    ensures timeout { IfOk result (λ asked. SaysTimeout (first_value (found_of matches.now) (codes "timeout")) asked.timeout) }
+    ensures verbose { IfOk result (λ asked. IsFlag (found_of matches.now) (codes "verbose") asked.verbose) }
+    ensures some { IfOk result (λ asked. 1 ≤ asked.workers) }
+    ensures most { IfOk result (λ asked. asked.workers ≤ workers_limit) }
+    ensures few { IfOk result (λ asked. length asked.peers.items ≤ peer_limit) }
+    ensures allowed { IfOk result (λ asked. refusal asked.peers.items asked.offset history_limit ≡ None) }
+{
+    Ok(ServeArguments {
+        ae: ae_of(matches.get_str("ae").unwrap_or(""))?,
+        bind: bind_asked(matches.get_str("bind")),
+        port: port_of(matches.get_str("port").unwrap_or(""))?,
+        peers: peers_of(alloc, matches.get_strs("peer").unwrap_or(&[]))?,
+        watchers: watchers_of(alloc, matches.get_strs("peer").unwrap_or(&[]))?,
+        keep: keep_asked(matches.get_str("keep"))?,
+        offset: offset_asked(matches.get_str("offset"))?,
+        workers: workers_asked(matches.get_str("associations"))?,
+        timeout: timeout_asked(matches.get_str("timeout"))?,
+        verbose: matches.get_flag("verbose"),
+    })
+}

@@ -1,0 +1,79 @@
+//! How long a finished step is kept, and the local time.
+
+ghost use Rattle.std.specs.Prelude.{◌≡◌, ℕ, ℤ, option_map, IfErr, IfOk, MatchResult};
+ghost use Rattle.ups_args.specs.Arguments.{SaysKeep, SaysMinutes, SaysOffset, SaysSeconds};
+
+use crate::fault::ArgumentFault;
+use crate::limits::{KEEP, OFFSET};
+use clap::{Arg, ArgAction, Command};
+use std::alloc::{AllocError, Global};
+use ups_life::{MAX_OFFSET, MIN_OFFSET};
+
+/// The options of the history: how long a finished step is kept, and the local time.
+pub(crate) fn with_times<'a>(
+    alloc: Global,
+    command: Command<'a>,
+) -> Result<Command<'a>, AllocError> {
+    let keep = Arg::new(alloc, "keep")
+        .long("keep")
+        .value_name("N")
+        .help("for how many seconds a finished step is kept at least [default: 60]")
+        .action(ArgAction::Set);
+    let offset = Arg::new(alloc, "offset")
+        .long("offset")
+        .value_name("MINUTES")
+        .help("the offset of the local time from UTC, above 0 east of it [default: 0]")
+        .allow_negative_numbers(true)
+        .action(ArgAction::Set);
+    command.arg(keep)?.arg(offset)
+}
+
+/// How many seconds a word says.
+///
+/// Errors: Keep where it says none, or 2^32 or more.
+pub(crate) fn keep_of(word: &str) -> Result<u32, ArgumentFault<'_>>
+    ensures said { MatchResult result (SaysSeconds word.now) (λ _. (seconds : ℕ) → SaysSeconds word.now seconds → ⊥) }
+    ensures fault { IfErr result (λ fault. fault ≡ ArgumentFault.Keep) }
+{
+    match word.parse::<u32>() {
+        Ok(seconds) => Ok(seconds),
+        Err(_) => Err(ArgumentFault::Keep),
+    }
+}
+
+/// The offset from UTC in minutes that a word says (PS3.5 section 6.2, DT).
+///
+/// Errors: Offset where it says none from -720 to 840.
+fn offset_of(word: &str) -> Result<i16, ArgumentFault<'_>>
+    ensures said { MatchResult result (SaysMinutes word.now) (λ _. (offset : ℤ) → SaysMinutes word.now offset → ⊥) }
+    ensures fault { IfErr result (λ fault. fault ≡ ArgumentFault.Offset) }
+{
+    match word.parse::<i16>() {
+        Ok(offset) if offset >= MIN_OFFSET && offset <= MAX_OFFSET => Ok(offset),
+        _ => Err(ArgumentFault::Offset),
+    }
+}
+
+/// For how many seconds a finished step is kept at least, by the word behind `--keep`, or 60 where there is none.
+///
+/// Errors: those of `keep_of`.
+pub(crate) fn keep_asked(word: Option<&str>) -> Result<u32, ArgumentFault<'_>>
+    ensures { IfOk result (SaysKeep (option_map (λ w. w.now) word.entry)) }
+{
+    match word {
+        Some(word) => keep_of(word),
+        None => Ok(KEEP),
+    }
+}
+
+/// The offset of the local time from UTC in minutes, by the word behind `--offset`, or 0 where there is none.
+///
+/// Errors: those of `offset_of`.
+pub(crate) fn offset_asked(word: Option<&str>) -> Result<i16, ArgumentFault<'_>>
+    ensures { IfOk result (SaysOffset (option_map (λ w. w.now) word.entry)) }
+{
+    match word {
+        Some(word) => offset_of(word),
+        None => Ok(OFFSET),
+    }
+}

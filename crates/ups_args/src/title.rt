@@ -1,0 +1,32 @@
+//! The title of the application entity that the program is.
+
+ghost use Rattle.std.specs.Prelude.{◌≡◌, ℕ, List, IfErr, MatchResult};
+ghost use Rattle.ups_pdu.specs.Title.{SpellsAe};
+
+use crate::fault::ArgumentFault;
+use clap::{Arg, ArgAction};
+use std::alloc::Global;
+use ups_pdu::Ae;
+
+/// The option whose word is the title.
+pub(crate) fn ae_word<'a>(alloc: Global) -> Arg<'a> {
+    Arg::new(alloc, "ae")
+        .long("ae")
+        .value_name("AE")
+        .help("the title of this application entity")
+        .required(true)
+        .action(ArgAction::Set)
+}
+
+/// The title that a word is (PS3.5 section 6.2, AE).
+///
+/// Errors: Ae where it is none.
+pub(crate) fn ae_of(word: &str) -> Result<Ae, ArgumentFault<'_>>
+    ensures spelled { MatchResult result (SpellsAe word.now) (λ _. (title : List ℕ) → SpellsAe word.now title → ⊥) }
+    ensures fault { IfErr result (λ fault. fault ≡ ArgumentFault.Ae) }
+{
+    match Ae::of(word.as_bytes()) {
+        Some(ae) => Ok(ae),
+        None => Err(ArgumentFault::Ae),
+    }
+}

@@ -1,6 +1,0 @@
-use Rattle.std.proofs.Common.{◌∙◌}
-use Rattle.upsd.proofs.Parts.{digits_pass}
-use Rattle.upsd.proofs.arguments.port_number.Goals as goal
-
-pub returns-then-not-are_digits : goal.returns-then-not-are_digits
-returns-then-not-are_digits c = λ p. let e = c.are_digits.ensures ∙ digits_pass c.args.text.now p.numeral.1 in absurd cc

@@ -1,6 +1,0 @@
-use Rattle.std.proofs.Common.{map, take, Bor, ℕ, List}
-use Rattle.upsd.specs.Arguments.{NameWatchers}
-use Rattle.upsd.proofs.arguments.watchers_of.Given as goal
-
-abbrev pub invariant-loop-word : goal.invariant-loop-word
-invariant-loop-word l = NameWatchers (take l.word-index (map (λ (w : Bor (List ℕ)). w.now) l.words)) l.watchers.items
