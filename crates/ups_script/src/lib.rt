@@ -3,21 +3,14 @@
 #![tactic(auto)]
 
 mod asking;
-mod attributes;
 mod fault;
-mod laws;
 mod limits;
 mod line;
-mod paths;
 mod printing;
 mod reading;
 mod running;
-mod spelling;
 mod telling;
-mod text;
-mod words;
 
-pub use fault::{BadLine, LineReason, ScriptFault};
-pub use laws::what_is_printed_is_read_again;
+pub use fault::{BadLine, ScriptFault};
 pub use limits::limits_are_as_defined;
 pub use running::{answer_lines, run};
