@@ -99,10 +99,7 @@ impl<'a> Text<'a> {
     }
 
     /// The bytes that it stands for: those of the script where none is escaped.
-    pub fn bytes<A: Allocator + Copy>(
-        self,
-        alloc: A,
-    ) -> Result<CowSlice<'a, u8, A>, AllocError>
+    pub fn bytes<A: Allocator + Copy>(self, alloc: A) -> Result<CowSlice<'a, u8, A>, AllocError>
         ensures { (bytes : List ℕ) → StandsFor self.entry.written.now bytes → IfOk result (λ cow. cow_slice_items cow ≡ bytes) }
     {
         if !self.has_escapes() {

@@ -11,7 +11,8 @@ use std::alloc::Allocator;
 use ups_dimse::{Operation, Tags};
 use ups_life::{CHANGE_STATE, REQUEST_CANCEL, SUBSCRIBE, SUSPEND, UNSUBSCRIBE};
 use ups_lines::{
-    Attribute, LineFault, LineReason, Text, Words, attributes_of, filled, number_of, spelled, tag_of,
+    Attribute, LineFault, LineReason, Text, Words, attributes_of, filled, number_of, spelled,
+    tag_of,
 };
 use ups_pdu::{Ae, RegisteredUid, Uid};
 
