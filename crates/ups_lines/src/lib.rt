@@ -1,5 +1,5 @@
-//! Lines of text: their words, the bytes that a word with escapes stands for, attributes as the bytes of a data set, and
-//! values and attributes as words again. What a line asks, and of whom, it may not know.
+//! Lines as text, whatever they ask: their words, the bytes that a word with escapes stands for, the bytes of a data set
+//! that attributes make, and values and attributes as they are printed; of verbs, requests and managers nothing is known.
 #![tactic(auto)]
 
 mod attributes;

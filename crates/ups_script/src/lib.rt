@@ -1,5 +1,6 @@
 //! Scripts: requests to a service of Unified Procedure Steps (PS3.4 annex CC), a line each, and a line for each reply.
-//! A line becomes the operation and the data set that a message would bring, and is asked of a manager as that is.
+//! A line becomes the operation and the data set that a message would bring, and is asked of a manager as that is. Of
+//! words, escapes and the bytes of attributes `ups_lines` knows.
 #![tactic(auto)]
 
 mod asking;

@@ -10,8 +10,8 @@ ghost use Rattle.ups_reports.specs.Payloads.{type_id};
 ghost use Rattle.ups_life.specs.Readiness.{readiness_word};
 ghost use Rattle.ups_life.specs.Statuses.{code};
 ghost use Rattle.ups_lines.specs.Printing.{hex_word, printed, words, spaced};
-ghost use Rattle.ups_script.specs.Printing.{bracketed, title_word, subscription_text, watched_word, event_word, report_word, reply_words, reply_head, reply_line, line_of};
 ghost use Rattle.ups_lines.specs.Ways.{way_text};
+ghost use Rattle.ups_script.specs.Printing.{bracketed, title_word, subscription_text, watched_word, event_word, report_word, reply_words, reply_head, reply_line, line_of};
 
 use crate::reading::is_interrupted;
 use crate::telling::Told;
