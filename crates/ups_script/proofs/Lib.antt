@@ -1,12 +1,4 @@
-mod Again
 mod Answering
-mod Decoding
-mod Falling
-mod Forming
 mod Lasting
-mod Parting
-mod Printed
-mod Tagging
 mod Taking
 mod Unread
-mod Worked

@@ -1,11 +1,7 @@
 pub mod Asking
-pub mod Escapes
-pub mod Forms
 pub mod Limits
 pub mod Lines
 pub mod Printing
 pub mod Questions
 pub mod Running
 pub mod Telling
-pub mod Ways
-pub mod Words

@@ -8,7 +8,3 @@ max_line = 16777216
 -- the lines of a script
 abbrev pub max_lines : ℕ
 max_lines = 1000000
-
--- the items that a line makes
-abbrev pub max_items : ℕ
-max_items = 131072

@@ -1,8 +1,6 @@
--- The lines of a script: how they are taken from what a reader has left, where that is known, and their words.
+-- The lines of a script: how they are taken from what a reader has left, where that is known.
 use Rattle.std.specs.Prelude.{◌≡◌, ◌≢◌, ◌<◌, ◌⊎◌, ℕ, ◌+◌, Bool, true, false, List, [], ◌∷◌, ◌++◌, length, take, All, Option, OnSome}
 use Rattle.std.specs.Io.KnownBytes.{Keeps, Consumes, IsAtEnd}
-use Rattle.std.specs.List.{slice_split}
-use Rattle.ups_pdu.specs.Padding.{is_space}
 use Rattle.ups_script.specs.Limits.{max_line}
 
 -- the end of a line is met: a line feed is behind these bytes; or the input ends there, or the line is too long
@@ -37,7 +35,3 @@ IsLinePart shown before count taken false = taken ≡ count
 abbrev pub TakesLines : Option (List ℕ) → List (List ℕ) → Option (List ℕ) → Type 0
 TakesLines before [] after = Keeps before after
 TakesLines before (line ∷ lines) after = (then : Option (List ℕ)) × TakesLine before line then × TakesLines then lines after
-
--- the words of a line: a space parts two
-abbrev pub words_of : List ℕ → List (List ℕ)
-words_of line = slice_split is_space line

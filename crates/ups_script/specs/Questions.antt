@@ -2,9 +2,9 @@
 use Rattle.std.specs.Prelude.{◌≡◌, ℕ, List, ◌∷◌, codes}
 use Rattle.std.specs.Str.Parse.{IsNumeral, digits_value}
 use Rattle.ups_pdu.specs.Title.{SpellsAe}
+use Rattle.ups_lines.specs.Escapes.{StandsFor}
 use Rattle.ups_script.specs.declared.line.Verb.{Verb}
 use Rattle.ups_script.specs.declared.line.Verb.TheVariants.{Create, Get, Set, Change, Cancel, Subscribe, Unsubscribe, Suspend, Find, Pending, Ack, Watches, Sweep, Held, Holder}
-use Rattle.ups_script.specs.Escapes.{StandsFor}
 
 -- a number of seconds in decimal digits
 pub record IsMomentWord (word : List ℕ) (moment : ℕ) : Type 0 where

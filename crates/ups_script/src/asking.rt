@@ -2,19 +2,18 @@
 
 ghost use Rattle.std.specs.Prelude.{IfOk};
 ghost use Rattle.ups_life.specs.Settings.{IsMoment};
-ghost use Rattle.ups_script.specs.Lines.{words_of};
+ghost use Rattle.ups_lines.specs.Words.{words_of};
 ghost use Rattle.ups_script.specs.Questions.{AsksAt};
 
-use crate::attributes::{Attribute, attributes_of};
-use crate::fault::{LineFault, LineReason};
 use crate::limits::MAX_LINE;
 use crate::line::{Heading, Verb};
-use crate::spelling::spelled;
-use crate::text::Text;
-use crate::words::{Words, filled, number_of, tag_of};
 use std::alloc::Allocator;
 use ups_dimse::{Operation, Tags};
 use ups_life::{CHANGE_STATE, REQUEST_CANCEL, SUBSCRIBE, SUSPEND, UNSUBSCRIBE};
+use ups_lines::{
+    Attribute, LineFault, LineReason, Text, Words, attributes_of, filled, number_of, spelled,
+    tag_of,
+};
 use ups_pdu::{Ae, RegisteredUid, Uid};
 
 /// Where the arguments of a change stand in its data set: Procedure Step State and Transaction UID (PS3.4 table CC.2.1-1).

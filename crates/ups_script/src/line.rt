@@ -4,13 +4,11 @@ ghost use Rattle.std.specs.Prelude.{◌≡◌, IfOk, MatchOption};
 ghost use Rattle.std.specs.Option.{IfSome, option_copied};
 ghost use Rattle.ups_life.specs.Settings.{IsMoment};
 ghost use Rattle.ups_script.specs.Questions.{verb_word, IsMomentWord, IsTitleWord, IsHeading};
-ghost use Rattle.ups_script.specs.Words.{words_left};
+ghost use Rattle.ups_lines.specs.Words.{words_left};
 
-use crate::fault::{LineFault, LineReason};
-use crate::text::Text;
-use crate::words::{Words, number_of};
 use std::alloc::Allocator;
 use ups_life::MAX_MOMENT;
+use ups_lines::{LineFault, LineReason, Text, Words, number_of};
 use ups_pdu::Ae;
 
 /// What a line asks for.

@@ -1,6 +1,6 @@
 //! Replies as lines: a status, and what is shown.
 
-ghost use Rattle.std.specs.Prelude.{◌≡◌, ◌<◌, ◌∷◌, [], ◌++◌, true, map, OnOk, if◌then◌else◌};
+ghost use Rattle.std.specs.Prelude.{◌≡◌, ◌∷◌, [], ◌++◌, true, map, OnOk};
 ghost use Rattle.std.specs.Fmt.{decimal};
 ghost use Rattle.std.specs.Io.KnownBytes.{Appends, Keeps};
 ghost use Rattle.std.specs.List.{flat_map};
@@ -9,189 +9,20 @@ ghost use Rattle.ups_dataset.specs.View.{value_view, element_view};
 ghost use Rattle.ups_reports.specs.Payloads.{type_id};
 ghost use Rattle.ups_life.specs.Readiness.{readiness_word};
 ghost use Rattle.ups_cycle.specs.Statuses.{code};
-ghost use Rattle.ups_script.specs.Printing.{hex_digit, hex_byte, hex_word, hex_tag, is_plain, printed_byte, printed, into_item, word, words_data, words, spaced, follows_after, bracketed, title_word, subscription_text, watched_word, event_word, report_word, reply_words, reply_head, reply_line, line_of};
-ghost use Rattle.ups_script.specs.Ways.{way_text};
+ghost use Rattle.ups_lines.specs.Printing.{hex_word, printed, words, spaced};
+ghost use Rattle.ups_lines.specs.Ways.{way_text};
+ghost use Rattle.ups_script.specs.Printing.{bracketed, title_word, subscription_text, watched_word, event_word, report_word, reply_words, reply_head, reply_line, line_of};
 
 use crate::reading::is_interrupted;
 use crate::telling::Told;
 use std::alloc::Allocator;
 use std::io::{self, Error, ErrorKind, Write};
 use ups_cycle::Status;
-use ups_dataset::{DataSet, Element, Tag, Value};
+use ups_dataset::DataSet;
 use ups_life::{Event, EventReport, InputReadiness, Reply, StepUid, Subscription, Watched};
-use ups_pdu::{Ae, without_padding};
+use ups_lines::{Way, put_hex, put_set, put_text};
+use ups_pdu::Ae;
 use ups_reports::type_id;
-
-/// The way from a set to what is printed of it.
-#[derive(Clone, Copy)]
-pub(crate) enum Way<'a> {
-    /// It stands in the set itself.
-    Here,
-    /// It stands in an item of a sequence, to which another way leads. Items are counted from 1.
-    Into(&'a Way<'a>, Tag, usize),
-}
-
-/// The hex digit of a value.
-fn digit_of(value: u8) -> u8
-    requires { value < 16 }
-    ensures { result ≡ hex_digit value }
-{
-    if value < 10 {
-        b'0' + value
-    } else {
-        b'A' - 10 + value
-    }
-}
-
-/// The two hex digits of a byte.
-fn hex_of(byte: u8) -> [u8; 2]
-    ensures { result ≡ hex_byte byte }
-{
-    [digit_of(byte / 16), digit_of(byte % 16)]
-}
-
-/// Prints a number as four hex digits.
-fn put_hex<W: Write>(writer: &mut W, number: u16) -> io::Result<()>
-    ensures { OnOk result (Appends (W.contents writer.old) (W.contents writer.new) (hex_word number)) }
-{
-    let [high, low] = number.to_be_bytes();
-    writer.write_all(&hex_of(high))?;
-    writer.write_all(&hex_of(low))
-}
-
-/// Prints a tag (PS3.5 section 7.1): its group and its element.
-fn put_tag<W: Write>(writer: &mut W, tag: Tag) -> io::Result<()>
-    ensures { OnOk result (Appends (W.contents writer.old) (W.contents writer.new) (hex_tag tag)) }
-{
-    put_hex(writer, tag.group)?;
-    put_hex(writer, tag.element)
-}
-
-/// Whether a byte stands for itself: it is a visible character without a meaning of its own in a reply.
-fn is_plain(byte: u8) -> bool
-    ensures { result ≡ is_plain byte }
-{
-    33 <= byte && byte <= 126 && !(byte == b'%' || byte == b'[' || byte == b']')
-}
-
-/// Prints a byte: as `%` and two hex digits where it does not stand for itself.
-fn put_byte<W: Write>(writer: &mut W, byte: u8) -> io::Result<()>
-    ensures { OnOk result (Appends (W.contents writer.old) (W.contents writer.new) (printed_byte byte)) }
-{
-    if is_plain(byte) {
-        return writer.write_all(&[byte]);
-    }
-    writer.write_all(b"%")?;
-    writer.write_all(&hex_of(byte))
-}
-
-/// Prints a value, without the padding at its end.
-fn put_text<W: Write>(writer: &mut W, value: &[u8]) -> io::Result<()>
-    ensures { OnOk result (Appends (W.contents writer.old) (W.contents writer.new) (printed value.now)) }
-{
-    let text = without_padding(value);
-    for byte in text {
-        put_byte(writer, *byte)?;
-    }
-    Ok(())
-}
-
-/// Prints the end of the way into an item of this number: `/` for the first of a sequence, `.k/` for item k.
-fn put_item<W: Write>(writer: &mut W, number: usize) -> io::Result<()>
-    ensures { OnOk result (Appends (W.contents writer.old) (W.contents writer.new) (into_item number)) }
-{
-    if number == 1 {
-        return writer.write_all(b"/");
-    }
-    write!(writer, ".{number}/")
-}
-
-/// Prints a way.
-fn put_way<W: Write>(writer: &mut W, way: &Way<'_>) -> io::Result<()>
-    ensures { OnOk result (Appends (W.contents writer.old) (W.contents writer.new) (way_text way.now)) }
-{
-    match way {
-        Way::Here => Ok(()),
-        Way::Into(outer, sequence, number) => {
-            put_way(writer, outer)?;
-            put_tag(writer, *sequence)?;
-            put_item(writer, *number)
-        }
-    }
-}
-
-/// Prints the space before a word that stands behind another, as the next one does.
-fn put_space<W: Write>(writer: &mut W, follows: &mut bool) -> io::Result<()>
-    ensures text { OnOk result (Appends (W.contents writer.old) (W.contents writer.new) (if follows.old then 32 ∷ [] else [])) }
-    ensures follows { OnOk result (follows.new ≡ true) }
-{
-    if *follows {
-        writer.write_all(b" ")?;
-    }
-    *follows = true;
-    Ok(())
-}
-
-/// Prints an attribute with bytes as its value.
-fn put_attribute<W: Write>(
-    writer: &mut W,
-    follows: &mut bool,
-    way: &Way<'_>,
-    tag: Tag,
-    value: &[u8],
-) -> io::Result<()>
-    ensures text { OnOk result (Appends (W.contents writer.old) (W.contents writer.new) (spaced follows.old (word (way_text way.now) tag value.now ∷ []))) }
-    ensures follows { OnOk result (follows.new ≡ true) }
-{
-    put_space(writer, follows)?;
-    put_way(writer, way)?;
-    put_tag(writer, tag)?;
-    writer.write_all(b"=")?;
-    put_text(writer, value)
-}
-
-/// Prints an element: its value, or the attributes in its items.
-#[cycle(printing)]
-fn put_element<A: Allocator + Copy, W: Write>(
-    element: &Element<A>,
-    way: &Way<'_>,
-    follows: &mut bool,
-    writer: &mut W,
-) -> io::Result<()>
-    ensures text { OnOk result (Appends (W.contents writer.old) (W.contents writer.new) (spaced follows.old (words_data (way_text way.now) element.now.tag (value_view element.now.value)))) }
-    ensures follows { OnOk result (follows.new ≡ follows_after follows.old (words_data (way_text way.now) element.now.tag (value_view element.now.value))) }
-{
-    match &element.value {
-        Value::Bytes(bytes) => put_attribute(writer, follows, way, element.tag, bytes.as_slice()),
-        Value::Items(sets) if sets.is_empty() => {
-            put_attribute(writer, follows, way, element.tag, &[])
-        }
-        Value::Items(sets) => {
-            for (place, set) in sets.iter().enumerate() {
-                let inner = Way::Into(&*way, element.tag, place + 1);
-                put_set(set, &inner, follows, writer)?;
-            }
-            Ok(())
-        }
-    }
-}
-
-/// Prints the attributes of a set.
-#[cycle(printing)]
-fn put_set<A: Allocator + Copy, W: Write>(
-    set: &DataSet<A>,
-    way: &Way<'_>,
-    follows: &mut bool,
-    writer: &mut W,
-) -> io::Result<()>
-    ensures text { OnOk result (Appends (W.contents writer.old) (W.contents writer.new) (spaced follows.old (words (way_text way.now) set.now))) }
-    ensures follows { OnOk result (follows.new ≡ follows_after follows.old (words (way_text way.now) set.now)) }
-{
-    for element in set.elements() {
-        put_element(element, way, follows, writer)?;
-    }
-    Ok(())
-}
 
 /// Flushes a writer. A call that a signal interrupts is made again.
 fn flush<W: Write>(writer: &mut W) -> io::Result<()>

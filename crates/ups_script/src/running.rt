@@ -4,18 +4,18 @@ ghost use Rattle.std.specs.Prelude.{◌≡◌, ◌≤◌, ◌⊎◌, length, [],
 ghost use Rattle.std.specs.Io.KnownBytes.{Appends};
 ghost use Rattle.ups_life.specs.declared.entry.Entry.{Entry};
 ghost use Rattle.ups_life.specs.Limits.{history_limit, peer_limit};
+ghost use Rattle.ups_lines.specs.Words.{words_of};
 ghost use Rattle.ups_manager.specs.Refusal.{refusal};
 ghost use Rattle.ups_script.specs.declared.fault.ScriptFault.TheVariants.{Memory};
 ghost use Rattle.ups_script.specs.declared.telling.Told.{Told};
 ghost use Rattle.ups_script.specs.Limits.{max_lines};
-ghost use Rattle.ups_script.specs.Lines.{words_of};
 ghost use Rattle.ups_script.specs.Printing.{bad_text, line_of};
 ghost use Rattle.ups_script.specs.Questions.{AsksAt};
 ghost use Rattle.ups_script.specs.Running.{TellsLine, AnswersLine, Leaves, Breaks, Runs};
 ghost use Rattle.ups_script.specs.Telling.{TellsAsked};
 
 use crate::asking::{Asked, asked_by};
-use crate::fault::{BadLine, LineFault, ScriptFault};
+use crate::fault::{BadLine, ScriptFault};
 use crate::limits::MAX_LINES;
 use crate::printing::{end, put_told};
 use crate::reading::{is_at_end, next_line};
@@ -23,6 +23,7 @@ use crate::telling::tell;
 use std::alloc::Allocator;
 use std::io::{self, BufRead, Write};
 use ups_life::{MAX_HISTORY, Peer};
+use ups_lines::LineFault;
 use ups_manager::Manager;
 
 /// Writes that the line of a number is none.

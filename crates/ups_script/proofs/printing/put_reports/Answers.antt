@@ -3,7 +3,7 @@ use Rattle.std.specs.Io.KnownBytes.{Appends}
 use Rattle.std.specs.List.{flat_map}
 use Rattle.std.proofs.lemmas.List.{take_all}
 use Rattle.ups_script.specs.Printing.{report_word}
-use Rattle.ups_script.proofs.Printed.{spaced_map}
+use Rattle.ups_lines.proofs.Printed.{spaced_map}
 use Rattle.ups_script.proofs.printing.put_reports.Goals as goal
 
 pub returns : goal.returns

@@ -2,8 +2,8 @@ use Rattle.std.proofs.Common.{List, ◌∷◌, subst, rules}
 use Rattle.std.specs.Io.KnownBytes.{Appends}
 use Rattle.std.specs.List.{flat_map}
 use Rattle.std.proofs.lemmas.List.{take_all}
-use Rattle.ups_script.specs.Printing.{printed}
-use Rattle.ups_script.proofs.Printed.{spaced_map}
+use Rattle.ups_lines.specs.Printing.{printed}
+use Rattle.ups_lines.proofs.Printed.{spaced_map}
 use Rattle.ups_script.proofs.printing.put_steps.Goals as goal
 
 pub returns : goal.returns

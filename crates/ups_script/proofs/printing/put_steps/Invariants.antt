@@ -1,7 +1,7 @@
 use Rattle.std.proofs.Common.{◌∷◌, take}
 use Rattle.std.specs.Io.KnownBytes.{Appends}
 use Rattle.std.specs.List.{flat_map}
-use Rattle.ups_script.specs.Printing.{printed}
+use Rattle.ups_lines.specs.Printing.{printed}
 use Rattle.ups_script.proofs.printing.put_steps.Given as goal
 
 abbrev pub invariant-loop-step : goal.invariant-loop-step

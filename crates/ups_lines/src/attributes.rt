@@ -1,0 +1,117 @@
+//! The attributes of a line, in the order of a data set.
+
+ghost use Rattle.std.specs.Prelude.{IfOk};
+ghost use Rattle.ups_lines.specs.Escapes.{IsText};
+
+use crate::fault::{LineFault, LineReason};
+use crate::paths::Path;
+use crate::text::Text;
+use crate::words::{Words, filled};
+use std::alloc::{AllocError, Allocator};
+
+/// An attribute of a line: where it stands, and its value.
+#[derive(Clone, Copy)]
+pub struct Attribute<'a> {
+    pub(crate) path: Path<'a>,
+    pub(crate) value: Text<'a>,
+    /// How many attributes stand before it in the line.
+    place: u32,
+    /// Whether a later one stands for it.
+    pub(crate) is_replaced: bool,
+}
+
+impl<'a> Attribute<'a> {
+    /// The attribute of this path with this value.
+    ///
+    /// Errors: Attribute where the path is none; Escape.
+    pub fn new(path: &'a [u8], value: &'a [u8]) -> Result<Attribute<'a>, LineReason>
+        ensures { IfOk result (λ _. IsText value.now) }
+    {
+        Ok(Attribute {
+            path: Path::of(path).ok_or(LineReason::Attribute)?,
+            value: Text::of(value).ok_or(LineReason::Escape)?,
+            place: 0,
+            is_replaced: false,
+        })
+    }
+
+    /// The attribute that is written as `path=value`.
+    ///
+    /// Errors: Attribute; Escape.
+    fn of(word: &'a [u8]) -> Result<Attribute<'a>, LineReason> {
+        let Some(end) = word.iter().position(|byte| *byte == b'=') else {
+            return Err(LineReason::Attribute);
+        };
+        Attribute::new(&word[..end], &word[end + 1..])
+    }
+}
+
+/// Marks what a later value of an element replaces: its own earlier value, and what stood in its items.
+///
+/// Errors: lack of memory.
+fn mark_below<A: Allocator + Copy>(
+    alloc: A,
+    sorted: &mut [Attribute<'_>],
+) -> Result<(), AllocError> {
+    // the values round the attribute that is looked at, each later than the one before it
+    let mut round = Vec::new(alloc);
+    for attribute in sorted.iter_mut() {
+        leave(&mut round, attribute.path);
+        match round.last() {
+            Some((_, place)) if *place > attribute.place => attribute.is_replaced = true,
+            _ => round.push((attribute.path, attribute.place))?,
+        }
+    }
+    Ok(())
+}
+
+/// Drops the last paths, up to one that covers this one.
+fn leave<A: Allocator + Copy>(round: &mut Vec<(Path<'_>, u32), A>, path: Path<'_>) {
+    while let Some((last, _)) = round.last() {
+        if last.covers(path) {
+            return;
+        }
+        round.pop();
+    }
+}
+
+/// Marks each value that a later one of its own element replaces, or what stands later in items of it.
+fn mark_above(sorted: &mut [Attribute<'_>]) {
+    let mut behind: Option<Path<'_>> = None;
+    for attribute in sorted.iter_mut().rev() {
+        let path = attribute.path;
+        if !attribute.is_replaced {
+            attribute.is_replaced = behind.is_some_and(|other| path.covers(other));
+        }
+        if !attribute.is_replaced {
+            behind = Some(path);
+        }
+    }
+}
+
+/// The attributes that arguments and the words behind them give, in the order of a data set. Of two for one element the
+/// later one stands, also where one is a value and the other stands in an item.
+///
+/// Errors: EmptyWord, Attribute or Escape where a word is no attribute; lack of memory.
+pub fn attributes_of<'a, A: Allocator + Copy>(
+    alloc: A,
+    arguments: &[Option<Attribute<'a>>],
+    words: Words<'a>,
+) -> Result<Vec<Attribute<'a>, A>, LineFault> {
+    let count = arguments.len().saturating_add(words.count());
+    let mut attributes = Vec::with_capacity(alloc, count)?;
+    for argument in arguments.iter().flatten() {
+        attributes.push(*argument)?;
+    }
+    for word in words {
+        let mut attribute = Attribute::of(filled(word)?)?;
+        attribute.place = u32::try_from(attributes.len()).unwrap_or(u32::MAX);
+        attributes.push(attribute)?;
+    }
+    attributes.sort_unstable_by(|one, two| {
+        one.path.cmp(two.path).then(one.place.cmp(&two.place))
+    });
+    mark_below(alloc, attributes.as_mut_slice())?;
+    mark_above(attributes.as_mut_slice());
+    Ok(attributes)
+}

@@ -1,0 +1,15 @@
+//! Laws on the texts of scripts and their replies.
+
+ghost use Rattle.std.specs.Prelude.{◌≡◌, ◌<◌, ◌∷◌, [], ℕ, List, All};
+ghost use Rattle.ups_pdu.specs.Padding.{without_padding};
+ghost use Rattle.ups_lines.specs.Escapes.{StandsFor};
+ghost use Rattle.ups_lines.specs.Words.{words_of};
+ghost use Rattle.ups_lines.specs.Printing.{printed};
+
+/// A value as it is printed is one word, and this stands for the value without the padding at its end, and for nothing
+/// else.
+pub fn what_is_printed_is_read_again()
+    ensures word { (value : List ℕ) → words_of (printed value) ≡ printed value ∷ [] }
+    ensures again { (value : List ℕ) → All (λ byte. byte < 256) value → StandsFor (printed value) (without_padding value) }
+    ensures alone { (text : List ℕ) → (one : List ℕ) → (other : List ℕ) → StandsFor text one → StandsFor text other → one ≡ other }
+{}

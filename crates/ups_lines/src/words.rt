@@ -1,0 +1,149 @@
+//! The words of a line: how they are parted, the numbers and the tags that they are.
+
+ghost use Rattle.std.specs.Prelude.{◌≡◌, ◌<◌, ◌∷◌, [], ℕ, IfOk, OnOk, MatchOption, OnSome};
+ghost use Rattle.std.specs.Char.{digit_value};
+ghost use Rattle.std.specs.List.{position};
+ghost use Rattle.std.specs.Option.{IfSome, option_copied};
+ghost use Rattle.std.specs.Str.Parse.{IsNumeral, digits_value};
+ghost use Rattle.ups_pdu.specs.Padding.{is_space};
+ghost use Rattle.ups_lines.specs.Words.{words_of, word_bytes_left, words_left, SpellsNumber, SpellsTag};
+
+use crate::fault::LineReason;
+use crate::text::byte_of;
+use ups_dataset::Tag;
+
+/// The words of a text, each parted from the next by one space. Between two spaces there is a word without bytes.
+#[derive(Clone, Copy)]
+pub struct Words<'a> {
+    /// The text of the words that are left; None behind the last one.
+    pub rest: Option<&'a [u8]>,
+}
+
+/// Where the first space of a text stands; None where there is none.
+fn space_in(text: &[u8]) -> Option<usize>
+    ensures { result ≡ position is_space text.now }
+{
+    text.iter().position(|byte| *byte == b' ')
+}
+
+impl<'a> Words<'a> {
+    /// The words of a text.
+    pub fn of(text: &'a [u8]) -> Words<'a>
+        ensures { words_left (option_copied result.rest) ≡ words_of text.now }
+    {
+        Words { rest: Some(text) }
+    }
+
+    /// The next word; None behind the last one.
+    fn front(&mut self) -> Option<&'a [u8]>
+        ensures word { MatchOption result (words_left (option_copied self.old.rest) ≡ []) (λ word. words_left (option_copied self.old.rest) ≡ word.now ∷ words_left (option_copied self.new.rest)) }
+        ensures falls { OnSome result (word_bytes_left (option_copied self.new.rest) < word_bytes_left (option_copied self.old.rest)) }
+    {
+        let text = self.rest?;
+        match space_in(text) {
+            Some(place) => {
+                self.rest = Some(&text[place + 1..]);
+                Some(&text[..place])
+            }
+            None => {
+                self.rest = None;
+                Some(text)
+            }
+        }
+    }
+
+    /// The next word, which is not empty.
+    ///
+    /// Errors: MissingWord; EmptyWord.
+    pub fn word(&mut self) -> Result<&'a [u8], LineReason>
+        ensures { IfOk result (λ word. words_left (option_copied self.old.rest) ≡ word.now ∷ words_left (option_copied self.new.rest)) }
+    {
+        let word = self.front().ok_or(LineReason::MissingWord)?;
+        filled(word)
+    }
+
+    /// Refuses words that are left.
+    ///
+    /// Errors: EmptyWord where the next one is; ExtraWord.
+    pub fn end(mut self) -> Result<(), LineReason>
+        ensures { OnOk result (words_left (option_copied self.entry.rest) ≡ []) }
+    {
+        match self.front() {
+            None => Ok(()),
+            Some(word) => {
+                filled(word)?;
+                Err(LineReason::ExtraWord)
+            }
+        }
+    }
+}
+
+/// A word that is not empty.
+///
+/// Errors: EmptyWord.
+pub fn filled(word: &[u8]) -> Result<&[u8], LineReason>
+    ensures { IfOk result (λ filled. filled.now ≡ word.now) }
+{
+    if word.is_empty() {
+        Err(LineReason::EmptyWord)
+    } else {
+        Ok(word)
+    }
+}
+
+impl<'a> Iterator for Words<'a> {
+    type Item = &'a [u8];
+
+    ghost use Rattle.std.specs.Iterator.{at_most};
+    ghost use Rattle.std.specs.Option.{option_copied};
+    ghost use Rattle.ups_lines.specs.Words.{word_bytes_left};
+
+    ghost remaining = { λ w. at_most (word_bytes_left (option_copied w.rest)) };
+
+    fn next(&mut self) -> Option<&'a [u8]> {
+        self.front()
+    }
+}
+
+/// The value of a decimal digit; None where the byte is none.
+fn decimal_digit(byte: u8) -> Option<u8>
+    ensures { IfSome result (λ value. (digit_value byte < 10) × (value ≡ digit_value byte)) }
+{
+    match byte {
+        b'0'..=b'9' => Some(byte - b'0'),
+        _ => None,
+    }
+}
+
+/// The number that decimal digits spell, with any zeros before it; None where they spell none below 2^64.
+pub fn number_of(word: &[u8]) -> Option<u64>
+    ensures { IfSome result (λ number. IsNumeral 10 word.now × (number ≡ digits_value 10 word.now)) }
+{
+    let mut number: u64 = 0;
+    for digit in word {
+        let value = decimal_digit(*digit)?;
+        number = number.checked_mul(10)?.checked_add(u64::from(value))?;
+    }
+    if word.is_empty() { None } else { Some(number) }
+}
+
+/// The number that four hex digits spell.
+fn hex_number(a: u8, b: u8, c: u8, d: u8) -> Option<u16>
+    ensures { MatchOption result ((number : ℕ) → SpellsNumber a b c d number → ⊥) (SpellsNumber a b c d) }
+{
+    Some(u16::from_be_bytes([byte_of(a, b)?, byte_of(c, d)?]))
+}
+
+/// The tag that eight hex digits spell: those of the group, and those of the element (PS3.5 section 7.1). Many are read
+/// to sort attributes, so this is not left to a reader of texts of any length.
+pub fn tag_of(digits: &[u8]) -> Option<Tag>
+    ensures { MatchOption result ((tag : Tag) → SpellsTag digits.now tag → ⊥) (SpellsTag digits.now) }
+{
+    let [a, b, c, d, e, f, g, h] = digits else {
+        return None;
+    };
+    Some(Tag {
+        group: hex_number(*a, *b, *c, *d)?,
+        element: hex_number(*e, *f, *g, *h)?,
+    })
+}

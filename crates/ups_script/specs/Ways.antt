@@ -1,9 +1,0 @@
--- The way from a set to what stands in it.
-use Rattle.std.specs.Prelude.{ℕ, List, []}
-use Rattle.ups_script.specs.declared.printing.Way.{Way, Here, Into'}
-use Rattle.ups_script.specs.Printing.{way_into}
-
--- each sequence on the way with the number of its item, the outermost first
-abbrev pub way_text : Way → List ℕ
-way_text Here = []
-way_text (Into' place outer sequence number) = way_into (way_text outer) sequence number
