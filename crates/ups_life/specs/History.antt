@@ -8,6 +8,7 @@ use Rattle.ups_dataset.specs.Limits.{max_depth}
 use Rattle.ups_dataset.specs.Data.{El, element_at, elements_of, is_listed}
 use Rattle.ups_dataset.specs.Valid.{depth_elements}
 use Rattle.ups_dataset.specs.Written.{written}
+use Rattle.ups_cycle.specs.Statuses.{is_done}
 use Rattle.ups_life.specs.declared.request.Request.{Request}
 use Rattle.ups_life.specs.declared.request.Request.TheVariants.{Create, AskCancel, Set, Subscribe, Unsubscribe, Suspend, Ack, Sweep}
 use Rattle.ups_life.specs.declared.request.Reply.{Reply}
