@@ -9,10 +9,10 @@ may say what the rows are: `sessions`, `commands` or `deliveries`. Otherwise eac
 
 A script has in each row a line of it, ` -> ` and its reply; or a line without a reply; or `! ` and what the program says on
 standard error where the script ends early. `N times: ` repeats a row, with the number of the time in the place of a `#` in
-the line; `{N: text}` so repeats a text of a reply. In a heading `(peers)` names the peers W1, which may lock steps, and W2,
-which may not; `(offset N)` sets the local time, in minutes east of UTC; `(without its line feed)` takes the line feed from
-the last line. In a line U1 to U3 stand for three steps, B for the attributes of a new one, IP for the state in progress,
-`=x*N` for a value of N letters x, and `\\r` for a carriage return.
+the line; behind that, `{N: text}` so repeats a text of the line or of the reply. In a heading `(peers)` names the peers W1,
+which may lock steps, and W2, which may not; `(offset N)` sets the local time, in minutes east of UTC; `(without its line
+feed)` takes the line feed from the last line. In a line U1 to U3 stand for three steps, B for the attributes of a new one,
+IP for the state in progress, `=x*N` for a value of N letters x, and `\\r` for a carriage return.
 
 A row of `sessions` is `FORM | ASKED | ANSWERED | ENDED`, an association of `upsd pipe` as UPSD, without peers: in `bytes`; or
 in hex digits, which are those of a `text`, or the `digits` of the words, of which the answered ones have a line each, or the
@@ -87,6 +87,11 @@ def repeated(text, times):
     return "".join(text.replace("#", str(number)) for number in range(1, times + 1))
 
 
+def unfolded(text):
+    """A text in which each part of the form `{N: text}` stands as often as it says."""
+    return re.sub(r"\{(\d+): ([^{}]*)\}", lambda it: repeated(it[2], int(it[1])), text)
+
+
 def apart(what, found, expected):
     """Where what was found differs from what was expected."""
     at = len(os.path.commonprefix([found, expected]))
@@ -112,9 +117,9 @@ class Script:
             return
         times, _, row = row.rpartition(" times: ")
         line, arrow, reply = row.partition(" -> ")
-        line, reply = spelled(line) + "\n", re.sub(r"\{(\d+): ([^{}]*)\}", lambda it: repeated(it[2], int(it[1])), spelled(reply))
-        self.script += repeated(line, int(times)) if times else line
-        self.replies += f"{reply}\n" * int(times or 1) if arrow else ""
+        line, reply = spelled(line) + "\n", unfolded(spelled(reply)) + "\n"
+        self.script += unfolded(repeated(line, int(times)) if times else line)
+        self.replies += reply * int(times or 1) if arrow else ""
 
     def spoiled(self):
         """The same with another last reply; or, where there is none, with something that the program should say."""

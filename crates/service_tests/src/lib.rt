@@ -1,13 +1,5 @@
-//! Tests of the crates of the service: matching, the life cycle of steps, the manager, event reports.
+//! Tests of the manager.
 #![tactic(auto)]
 
 #[cfg(test)]
-mod events;
-#[cfg(test)]
-mod life;
-#[cfg(test)]
 mod manager;
-#[cfg(test)]
-mod matching;
-#[cfg(test)]
-mod steps;

@@ -5,8 +5,7 @@ ghost use Rattle.std.specs.Prelude.{[], ◌∷◌};
 ghost use Rattle.ups_life.specs.Settings.{IsMoment};
 ghost use Rattle.ups_service.specs.Law.{Calls};
 
-use crate::steps::{a_step, step_uid, transaction};
-use fixtures::{described, put_item, put_text, tag_of, title};
+use fixtures::{a_step, described, put_item, put_text, tag_of, title, uid};
 use std::alloc::{Allocator, Global};
 use std::test::Fail;
 use ups_cycle::StepState;
@@ -15,7 +14,7 @@ use ups_dimse::Tags;
 use ups_life::{Ask, Entry, MAX_MOMENT, Reply, Request, StepUid, Transaction};
 use ups_manager::*;
 use ups_match::Keys;
-use ups_pdu::Ae;
+use ups_pdu::{Ae, Uid};
 
 mod entries;
 mod histories;
@@ -72,6 +71,20 @@ fn state_of(word: &str) -> StepState {
         "COMPLETED" => StepState::Completed,
         "CANCELED" => StepState::Canceled,
         _ => StepState::Scheduled,
+    }
+}
+
+/// Returns the UID of a step that a text is.
+fn step_uid(text: &str) -> Result<StepUid, Fail> {
+    Ok(StepUid::of(uid(text)?).ok_or("the UID of a step")?)
+}
+
+/// Returns the Transaction UID that a text is.
+fn transaction(text: &str) -> Transaction {
+    match Uid::of(text.as_bytes()) {
+        Some(uid) => Transaction::Proper(uid),
+        None if text.is_empty() => Transaction::Absent,
+        None => Transaction::Malformed,
     }
 }
 

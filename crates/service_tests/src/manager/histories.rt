@@ -2,20 +2,23 @@
 //! by walking the entries.
 
 use super::plain::{Dice, KEYS, found_by_both, settings_of};
-use crate::life::words;
 use fixtures::title;
+use fixtures::words::message_of;
 use std::alloc::Global;
 use std::process::Abort;
 use std::test::Fail;
 use ups_cycle::StepState;
 use ups_life::{
     Ask, Entry, Event, EventKind, EventReport, MAX_MOMENT, Peer, Place, Reply, Request, Target,
-    Watched, acked, plain_events, plain_held, plain_watches,
+    Watched, acked, plain_events, plain_held, plain_watches, read_request,
 };
 use ups_manager::*;
 use ups_pdu::Ae;
 
-/// Words, and what each stands for by chance: one of the lines under it. A call is a message as `life::words` has it, an
+/// The offset of the local time, in which keys are read.
+const OFFSET: i16 = 60;
+
+/// Words, and what each stands for by chance: one of the lines under it. A call is a message as `fixtures::words` has it, an
 /// acknowledgement or a sweep, with words between bars.
 ///
 /// Of the rows the last two are refused, and of the sets the last. The filters are of each kind of key that there is. Of
@@ -338,8 +341,9 @@ fn request_of(alloc: Global, text: &str) -> Result<Request<Global>, Fail> {
         let upto = number.parse::<u64>()?;
         return Ok(Request::Ack { upto });
     }
-    match words::ask_of(alloc, text)? {
-        Ask::Do(request) => Ok(request),
+    let (operation, set) = message_of(alloc, text)?;
+    match read_request(alloc, &operation, set, OFFSET) {
+        Ok(Ask::Do(request)) => Ok(request),
         _ => Err("no request".into()),
     }
 }

@@ -1,8 +1,9 @@
 //! What is found, and which UIDs are used.
 
-use super::words::{request_of, set_of};
+use super::words::request_of;
 use super::*;
 use fixtures::described;
+use fixtures::words::set_of;
 use ups_match::Keys;
 
 /// Requests that are accepted, one after the other.

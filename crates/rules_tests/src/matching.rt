@@ -1,6 +1,5 @@
 mod keys;
 mod likeness;
-mod patterns;
 mod uids;
 
 use fixtures::bytes_of;

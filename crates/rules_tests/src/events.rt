@@ -1,12 +1,11 @@
 //! What event reports say, as bytes in Explicit VR Little Endian.
 
-use crate::steps::step_uid;
-use fixtures::{Refusing, bytes_of, title};
+use fixtures::{Refusing, bytes_of, title, uid};
 use std::alloc::{Allocator, Global};
 use std::test::Fail;
 use ups_cycle::StepState;
 use ups_dataset::{DataSet, read_set, write_set};
-use ups_life::{Entry, Event, EventKind, InputReadiness, Request, Transaction};
+use ups_life::{Entry, Event, EventKind, InputReadiness, Request, StepUid, Transaction};
 use ups_pdu::TransferSyntax;
 use ups_reports::{payload, type_id};
 
@@ -95,7 +94,12 @@ fn bytes_by(rt: &impl AllocGlobal, words: &str) -> Result<Vec<u8>, Fail> {
     Ok(bytes)
 }
 
-/// Returns an event of the step 1.2.3.4: the number of its type, the state and the readiness.
+/// Returns the UID of the step that the events are of.
+fn step_of_events() -> Result<StepUid, Fail> {
+    Ok(StepUid::of(uid("1.2.3.4")?).ok_or("the UID of a step")?)
+}
+
+/// Returns an event of the step: the number of its type, the state and the readiness.
 fn event_of(text: &str) -> Result<Event, Fail> {
     let (number, rest) = text.split_once('|').ok_or("a state")?;
     let (state, readiness) = rest.split_once('|').ok_or("a readiness")?;
@@ -112,7 +116,7 @@ fn event_of(text: &str) -> Result<Event, Fail> {
         number: 1,
         entry: 0,
         kind,
-        step: step_uid("1.2.3.4")?,
+        step: step_of_events()?,
         state: StepState::of(state.as_bytes()).ok_or("a state")?,
         readiness: InputReadiness::of(readiness.as_bytes()),
     })
@@ -120,7 +124,7 @@ fn event_of(text: &str) -> Result<Event, Fail> {
 
 /// Returns a request on the step with a set.
 fn request_of<A: Allocator + Copy>(verb: &str, set: DataSet<A>) -> Result<Request<A>, Fail> {
-    let step = step_uid("1.2.3.4")?;
+    let step = step_of_events()?;
     Ok(match verb {
         "create" => Request::Create {
             step,

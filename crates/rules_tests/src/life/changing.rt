@@ -3,9 +3,10 @@
 //! A row begins with the number of growths that there are at least. A growth that is refused fails the call, and leaves
 //! what it was given as it was: the last call, of which no growth is refused, does what its row says.
 
-use super::words::{request_of, row_of, set_of, tags_of};
+use super::words::{request_of, row_of};
 use super::*;
 use fixtures::described;
+use fixtures::words::{set_of, tags_of};
 use ups_dataset::Tag;
 
 /// What is held of a step, or `none`; a request at the second minute of 1970; and what is held after it: the state, the

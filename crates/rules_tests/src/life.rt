@@ -8,7 +8,7 @@ use ups_pdu::Uid;
 mod changing;
 mod deciding;
 mod reading;
-pub(crate) mod words;
+mod words;
 mod worklist;
 
 /// The greatest number of growths that a test refuses in turn.

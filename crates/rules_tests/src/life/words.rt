@@ -1,0 +1,62 @@
+//! What the rows of the tests say: what is asked, and what is held.
+
+use fixtures::Refusing;
+use fixtures::words::{message_of, set_of};
+use std::alloc::{Allocator, Global};
+use std::test::Fail;
+use ups_cycle::{Status, StepState};
+use ups_life::{Ask, Request, Row, read_request};
+use ups_pdu::Uid;
+
+/// The offset of the local time, in which keys are read.
+const OFFSET: i16 = 60;
+
+/// Returns what is read of a message where the growth of this number is refused; 0 refuses none.
+pub(super) fn read<'a>(
+    heap: &'a Refusing<Global>,
+    message: &str,
+    growth: u64,
+) -> Result<Result<Ask<&'a Refusing<Global>>, Status>, Fail> {
+    heap.refuse(0);
+    let (operation, set) = message_of(heap, message)?;
+    heap.refuse(growth);
+    Ok(read_request(heap, &operation, set, OFFSET))
+}
+
+/// Returns the request that a message asks for.
+pub(super) fn request_of<'a>(
+    heap: &'a Refusing<Global>,
+    message: &str,
+) -> Result<Request<&'a Refusing<Global>>, Fail> {
+    match read(heap, message, 0)? {
+        Ok(Ask::Do(request)) => Ok(request),
+        _ => Err("no request".into()),
+    }
+}
+
+/// Returns the state of a word, in which a low line stands for a space.
+fn state_of(word: &str) -> Option<StepState> {
+    match word {
+        "SCHEDULED" => Some(StepState::Scheduled),
+        "IN_PROGRESS" => Some(StepState::InProgress),
+        "COMPLETED" => Some(StepState::Completed),
+        "CANCELED" => Some(StepState::Canceled),
+        _ => None,
+    }
+}
+
+/// Returns what is held of a step: its state, the Transaction UID of its claim, and its attributes. A claim that is no UID
+/// stands for none, and a word that is no state for no step. What is final is so since a minute after 1970 began.
+pub(super) fn row_of<A: Allocator + Copy>(alloc: A, text: &str) -> Result<Option<Row<A>>, Fail> {
+    let (state, rest) = text.split_once(' ').unwrap_or((text, ""));
+    let (claim, attributes) = rest.split_once(' ').unwrap_or((rest, ""));
+    let Some(state) = state_of(state) else {
+        return Ok(None);
+    };
+    Ok(Some(Row {
+        attributes: set_of(alloc, attributes)?,
+        state,
+        transaction: Uid::of(claim.as_bytes()),
+        final_at: if state.is_final() { Some(60) } else { None },
+    }))
+}

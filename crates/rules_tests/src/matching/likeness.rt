@@ -1,0 +1,52 @@
+use fixtures::bytes_of;
+use std::alloc::{AllocError, Global};
+use std::test::Fail;
+use ups_match::likes;
+
+/// A pattern that is universal as a key, a text, and whether they are alike. `rows/matching.rows` has the others.
+const ROWS: &str = r#"""|""|yes
+""|"A"|no
+"*"|""|yes
+"*"|"A"|yes
+"*"|"ABC"|yes
+"*"|"*?"|yes"#;
+
+/// Whether the text of a row is like its pattern.
+fn row_is_alike(rt: &impl AllocGlobal, row: &str) -> Result<&'static str, Fail> {
+    let (pattern, rest) = row.split_once('|').ok_or("a pattern")?;
+    let (text, _) = rest.split_once('|').ok_or("a text")?;
+    let pattern = bytes_of(rt, pattern)?;
+    let text = bytes_of(rt, text)?;
+    Ok(if likes(&pattern, &text) { "yes" } else { "no" })
+}
+
+#[test]
+fn wild_cards_stand_for_any_letters(rt: HostRuntime) -> Result<(), Fail> {
+    for row in ROWS.lines() {
+        assert!(rt; row.ends_with(row_is_alike(&rt, row)?), "{row}");
+    }
+    Ok(())
+}
+
+/// A front, many letters A, and an end.
+fn letters(alloc: Global, front: &[u8], count: usize, end: &[u8]) -> Result<Vec<u8>, AllocError> {
+    let mut text = Vec::from_slice(alloc, front)?;
+    text.resize(text.len().saturating_add(count), b'A')?;
+    text.extend_from_slice(end)?;
+    Ok(text)
+}
+
+/// Whether a run with a `?` is found at a place of a text of 300 bytes, and nowhere behind it.
+fn is_found_at(alloc: Global, place: usize) -> Result<bool, AllocError> {
+    let text = letters(alloc, b"", place, b"XBYB")?;
+    let text = letters(alloc, text.as_slice(), 300_usize.saturating_sub(place), b"")?;
+    Ok(likes(b"*X?YB*", text.as_slice()) && !likes(b"*X?Y*X*", text.as_slice()))
+}
+
+#[test]
+fn a_run_with_a_question_mark_at_each_place(rt: HostRuntime) -> Result<(), Fail> {
+    for place in 0..300 {
+        assert!(rt; is_found_at(rt.alloc(), place)?, "at place {place}");
+    }
+    Ok(())
+}

@@ -1,0 +1,68 @@
+use super::keys::{says_the_same, set_of};
+use fixtures::Refusing;
+use std::alloc::Allocator;
+use std::test::Fail;
+use ups_dataset::dictionary::SOP_INSTANCE_UID;
+use ups_match::{Keys, Matcher, Probe};
+
+/// The last UIDs of long lists.
+const LAST: &str = "1.9|1.99|1.9 ||1.*|1.?";
+
+/// What is stored. Which of the lists match, where there is memory, `rows/matching.rows` says.
+const STORED: &str =
+    r"1.9|1.8|1.99|1.8\1.9|1.8\1.7|1.9  | 1.9||1.8\|1.2.840.10008.0|1.2.840.10008.39|1.8\1.2.840.10008.17\1.7|1.2.840.10008.40|1.2.840.10008";
+
+/// A list of forty UIDs, 1.2.840.10008.0 to 39, and one more.
+fn long_list<A: Allocator + Copy>(alloc: A, last: &str) -> Result<Vec<u8, A>, Fail> {
+    let mut list = Vec::new(alloc);
+    for number in 0..40u8 {
+        let uid = format!(in alloc; "1.2.840.10008.{number}\\")?;
+        list.extend_from_slice(uid.as_bytes())?;
+    }
+    list.extend_from_slice(last.as_bytes())?;
+    Ok(list)
+}
+
+/// Whether a long list says the same of what is stored, prepared and not.
+fn list_says_the_same<A: Allocator + Copy>(alloc: A, last: &str) -> Result<bool, Fail> {
+    let list = long_list(alloc, last)?;
+    for stored in STORED.split('|') {
+        if !says_the_same(alloc, SOP_INSTANCE_UID, &list, stored.as_bytes())? {
+            return Ok(false);
+        }
+    }
+    Ok(true)
+}
+
+#[test]
+fn a_long_list_says_the_same_prepared_and_not(rt: HostRuntime) -> Result<(), Fail> {
+    for last in LAST.split('|') {
+        assert!(rt; list_says_the_same(rt.alloc(), last)?, "{last}");
+    }
+    Ok(())
+}
+
+/// What a long list says of a UID that it has and of one that it hasn't, where the nth growth is refused while its keys
+/// are made.
+fn said_without_memory<A: Allocator + Copy>(alloc: A, n: u64) -> Result<(bool, bool), Fail> {
+    let heap = Refusing::new(alloc);
+    let list = set_of(&heap, SOP_INSTANCE_UID, &long_list(&heap, "1.9")?)?;
+    let one = set_of(&heap, SOP_INSTANCE_UID, b"1.9")?;
+    let other = set_of(&heap, SOP_INSTANCE_UID, b"1.8")?;
+    heap.refuse(n);
+    let keys = Keys::of(list, 0)?;
+    let mut probe = Probe::new();
+    Ok((probe.matches(&keys, &one), probe.matches(&keys, &other)))
+}
+
+#[test]
+fn long_lists_are_lists_where_memory_runs_out(rt: HostRuntime) -> Result<(), Fail> {
+    for n in 1..80u64 {
+        assert_eq!(rt;
+            said_without_memory(rt.alloc(), n)?,
+            (true, false),
+            "at {n}"
+        );
+    }
+    Ok(())
+}
