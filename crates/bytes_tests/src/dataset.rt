@@ -3,6 +3,7 @@ use std::alloc::Allocator;
 use std::test::*;
 use ups_dataset::dictionary::*;
 use ups_dataset::*;
+use ups_pdu::TransferSyntax;
 
 mod memory;
 

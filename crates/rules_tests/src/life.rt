@@ -1,6 +1,7 @@
 use fixtures::{Refusing, add_bytes, title, uid};
 use std::alloc::{Allocator, Global};
 use std::test::Fail;
+use ups_cycle::Status;
 use ups_dataset::DataSet;
 use ups_life::*;
 use ups_pdu::Uid;

@@ -118,11 +118,7 @@ fn range_of(text: &[u8], offset: i16, configured: i16) -> Option<Span>
 }
 
 /// The range of the start, where it isn't universal and its offset is that of the service.
-fn start_range<A: Allocator + Copy>(
-    keys: &DataSet<A>,
-    offset: i16,
-    configured: i16,
-) -> Option<Span>
+fn start_range<A: Allocator + Copy>(keys: &DataSet<A>, offset: i16, configured: i16) -> Option<Span>
     ensures { range_key result ≡ start_key configured offset (value_at SCHEDULED_PROCEDURE_STEP_START_DATE_TIME (elements_of keys.now)) }
 {
     let Some(key) = keys.get(SCHEDULED_PROCEDURE_STEP_START_DATE_TIME) else {

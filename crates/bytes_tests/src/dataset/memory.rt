@@ -4,7 +4,7 @@ use std::alloc::{Allocator, Global};
 use std::test::*;
 use ups_dataset::dictionary::*;
 use ups_dataset::*;
-use ups_pdu::Bytes;
+use ups_pdu::{Bytes, TransferSyntax};
 
 /// A set with bytes, a sequence with two items and a group length.
 const MIXED: &str =
