@@ -34,7 +34,7 @@ use Rattle.ups_match.specs.contracts.uids.UidList as UidList
 use Rattle.ups_match.specs.contracts.prepared.Prepared as Prepared
 use Rattle.ups_match.proofs.prepared.Prepared.TheLaws.TheKnot as preparing
 use Rattle.ups_match.specs.contracts.keys.Keys as Keys
-use Rattle.ups_life.proofs.state.StepState.TheSendSync as state
+use Rattle.ups_cycle.proofs.state.StepState.TheSendSync as state
 use Rattle.ups_life.proofs.step.StepUid.TheSendSync as step
 use Rattle.ups_life.proofs.request.Transaction.TheSendSync as transaction
 use Rattle.ups_life.proofs.watching.Place.TheSendSync as place
