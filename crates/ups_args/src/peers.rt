@@ -39,20 +39,20 @@ fn lock_of<'a>(text: &'a str) -> Option<(Address<'a>, bool)>
 
 /// A peer, and where it listens.
 #[derive(Clone, Copy)]
-struct Place<'a> {
+struct PeerWord<'a> {
     peer: Peer,
     address: Address<'a>,
 }
 
 /// The peer that a word names, and where it listens, as `AE=host:port` or `AE=host:port,lock`. The first `=` ends the
 /// title.
-fn place_of<'a>(word: &'a str) -> Option<Place<'a>>
+fn peer_word_of<'a>(word: &'a str) -> Option<PeerWord<'a>>
     ensures { MatchOption result ((peer : Peer) → NamesPeer word.now peer → ⊥) (λ p. NamesPlace word.now p.peer p.address.host.now p.address.port) }
 {
     let (title, rest) = word.split_once('=')?;
     let ae = Ae::of(title.as_bytes())?;
     let (address, lock) = lock_of(rest)?;
-    Some(Place {
+    Some(PeerWord {
         peer: Peer { ae, lock },
         address,
     })
@@ -77,7 +77,7 @@ pub(crate) fn peers_of<'a, A: Allocator + Copy>(
         return Err(ArgumentFault::TooMany);
     }
     for word in words {
-        let Some(Place { peer, address: _ }) = place_of(word) else {
+        let Some(PeerWord { peer, address: _ }) = peer_word_of(word) else {
             return Err(ArgumentFault::Peer(word));
         };
         if is_named(&peers, peer.ae) {
@@ -106,7 +106,7 @@ pub(crate) fn watchers_of<'a>(
 {
     let mut watchers = Vec::new(alloc);
     for word in words {
-        let Some(place) = place_of(word) else {
+        let Some(place) = peer_word_of(word) else {
             return Err(ArgumentFault::Peer(word));
         };
         watchers.push(Watcher {

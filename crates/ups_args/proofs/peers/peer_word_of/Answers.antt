@@ -1,5 +1,5 @@
 use Rattle.ups_args.proofs.Parts.{unsplit, first_of, untitled, unlockable, names}
-use Rattle.ups_args.proofs.peers.place_of.Goals as goal
+use Rattle.ups_args.proofs.peers.peer_word_of.Goals as goal
 
 pub returns-in_err-title : goal.returns-in_err-title
 returns-in_err-title c = rw c.from_residual.ensures (unsplit c.args.word.now c.split_once.result c.split_once.ensures.cases c.in_err-title.was)
