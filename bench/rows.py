@@ -1,11 +1,12 @@
 #!/usr/bin/env python3
-"""Runs rows and the examples over the built program, and lists each that it does not do.
+"""Runs rows and the examples over the built programs, and lists each that they do not do.
 
-    bench/rows.py rows/*.rows examples              runs them over crates/upsd/out/upsd, which rt ci proves and builds
+    bench/rows.py rows/*.rows examples              runs them over what rt ci proves and builds: crates/upsd/out/upsd, and
+                                                    crates/readings/out/readings
     bench/rows.py --self-test rows/*.rows examples  spoils what each expects, in each way, and sees that this is found
 
 A file of rows has sections. The first line of a section is `# ` and a heading; its rows follow. The first line of the file
-may say what the rows are: `sessions`, `commands` or `deliveries`. Otherwise each section is a script.
+may say what the rows are: `sessions`, `commands`, `deliveries` or `readings`. Otherwise each section is a script.
 
 A script has in each row a line of it, ` -> ` and its reply; or a line without a reply; or `! ` and what the program says on
 standard error where the script ends early. `N times: ` repeats a row, with the number of the time in the place of a `#` in
@@ -32,6 +33,11 @@ taken byte by byte, with a signal that interrupts each call.
 A row of `deliveries` is `PEERS | HOST | ASKED | TAKEN | HEARD | ENDED`: the words of `upsd serve` that name peers, in which
 PORT stands for a port where the watcher W1 listens at the host; what the server is asked in one association; what the
 watcher says then, and what it hears; and how the association with it ends.
+
+A row of `readings` is `KIND | GIVEN | TOLD | WRITTEN`: the kind of some bytes (crates/readings/src/main.rt has the kinds),
+which are given to the program `readings`; what they are told to be, with bytes between `<` and `>` as hex digits, or with
+`..` before it a part of that; and the bytes that are written for them: `=` stands for those that are given, `..` for any, and
+without this column there are none. Behind its first words the kind may say where the bytes `end`.
 
 Bytes are words: hex digits, as often as a number behind `*` says; text in quotes; the names of the SOP classes, as PUSH; and
 the names of bytes: of the stored PDUs in crates/fixtures/src/vectors.rt, and of the sections whose heading begins with
@@ -101,6 +107,8 @@ def apart(what, found, expected):
 class Script:
     """A script, the words of its command line, what is replied, and what the program says beside that."""
 
+    program = "upsd"
+
     def __init__(self, heading, rows):
         self.name, self.script, self.replies, self.said = heading, "", "", ""
         for row in rows:
@@ -147,6 +155,8 @@ class Script:
 
 class Row:
     """A row that is run for each number of what is short in it."""
+
+    program = "upsd"
 
     def __init__(self, row, short):
         self.name, (self.what, *numbers) = row, short
@@ -276,6 +286,8 @@ def often(word):
 class Delivery:
     """The peers of a server, the host of its watcher, what the server is asked, what the watcher says and hears, and the end."""
 
+    program = "upsd"
+
     def __init__(self, names, row):
         words, self.host, *said, self.ended = row.split(" | ")
         self.name, self.peers = row, words.split(" ")
@@ -295,7 +307,52 @@ class Delivery:
         return None if ended == self.ended else f"it ends as {ended}"
 
 
-KINDS = {"sessions": Session, "commands": Command, "deliveries": Delivery}
+class Reading(Row):
+    """Bytes of a kind, what they are told to be, and what is written for them: None where that may be any bytes."""
+
+    program = "readings"
+
+    def __init__(self, names, row):
+        kind, given, told, *written = row.split(" | ")
+        self.kind, _, numbers = kind.partition(" end ")
+        super().__init__(row, ["end", *numbers.split(" ")] if numbers else [""])
+        self.given = spelling.bytes_of(names, given)
+        self.told = re.sub(r"<(.*?)>", lambda it: f"<{spelling.bytes_of(names, it[1]).hex()}>", told)
+        self.written = written_for(names, self.given, "".join(written))
+
+    def spoiled(self):
+        """The same that is told otherwise; and, unless any bytes may be written, with others of them."""
+        told, written = copy.copy(self), copy.copy(self)
+        told.told = f"{self.told}X"
+        if self.written is None:
+            return [told]
+        written.written = b"X" + self.written
+        return [told, written]
+
+    def difference_at(self, program, number):
+        """How what the program tells differs from the row at a number."""
+        ran = runs.run([program], f"{self.kind} {self.cut(self.given, number).hex()}\n".encode())
+        if ran.status or ran.said:
+            return f"it ends with status {ran.status}, saying {ran.said.decode(errors='replace')!r}"
+        told, _, digits = ran.output.decode(errors="replace").removesuffix("\n").partition(" | ")
+        if self.told.startswith(".."):
+            if self.told[2:] not in told:
+                return f"it is told to be {told!r}"
+        elif told.rstrip(" ") != self.told:
+            return apart("what it is told to be", told, self.told)
+        if self.written is None or digits == self.written.hex():
+            return None
+        return apart("what is written", digits, self.written.hex())
+
+
+def written_for(names, given, column):
+    """The bytes that are written for what is given, by a column; None where they may be any."""
+    if column == "=":
+        return given
+    return None if column == ".." else spelling.bytes_of(names, column)
+
+
+KINDS = {"sessions": Session, "commands": Command, "deliveries": Delivery, "readings": Reading}
 
 
 def rows_of(file):
@@ -347,13 +404,14 @@ def main():
     asked = argparse.ArgumentParser(description=about, epilog=more, formatter_class=argparse.RawDescriptionHelpFormatter)
     asked.add_argument("files", nargs="+", metavar="FILE", help="a file of rows, or a folder of examples")
     asked.add_argument("--program", default="crates/upsd/out/upsd", help="the program (default: %(default)s)")
+    asked.add_argument("--readings", default="crates/readings/out/readings", help="that of readings (default: %(default)s)")
     asked.add_argument("--self-test", action="store_true", help="spoil what each row expects: it has to fail")
     given = asked.parse_args()
-    program = os.path.abspath(given.program)
+    programs = {"upsd": os.path.abspath(given.program), "readings": os.path.abspath(given.readings)}
     passed, failed = 0, 0
     for file in given.files:
         for row in examples_of(file) if os.path.isdir(file) else rows_of(file):
-            why = fault_of(program, row, given.self_test)
+            why = fault_of(programs[row.program], row, given.self_test)
             passed, failed = passed + (why is None), failed + (why is not None)
             if why:
                 print(f"{file}: {row.name}: {why}")

@@ -7,8 +7,8 @@ use std::test::Fail;
 use ups_cycle::StepState;
 use ups_dataset::dictionary::*;
 use ups_dataset::{DataSet, Element, MAX_DEPTH, Tag, Vr, vr_of};
-use ups_life::{Ask, Reply, Request, StepUid, Transaction};
-use ups_manager::{Call, Manager, Service};
+use ups_life::{Ask, Entry, Reply, Request, StepUid, Transaction};
+use ups_manager::{Manager, Service};
 use ups_pdu::{Ae, Bytes, Uid};
 use ups_turn::{Desk, Pass};
 
@@ -117,7 +117,7 @@ pub(crate) fn request_of(alloc: Global, claim: Claim) -> Option<Request<Global>>
 
 /// Enters a request of the caller 0.
 pub(crate) fn enter<A: Allocator + Copy>(manager: &mut Manager<A>, ae: Ae, request: Request<A>) {
-    let _ = manager.submit(Call {
+    let _ = manager.submit(Entry {
         caller: 0,
         ae,
         moment: NOON,

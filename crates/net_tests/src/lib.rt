@@ -6,4 +6,6 @@ mod peers;
 #[cfg(test)]
 mod running;
 #[cfg(test)]
+mod sending;
+#[cfg(test)]
 mod sessions;

@@ -40,7 +40,7 @@ impl Lines {
 }
 
 /// Connects to an address. No read of the connection waits forever.
-fn connect<R: Net<Listener = TcpListener, Stream = TcpStream>>(
+pub(crate) fn connect<R: Net<Listener = TcpListener, Stream = TcpStream>>(
     rt: &R,
     address: SocketAddr,
 ) -> io::Result<TcpStream> {

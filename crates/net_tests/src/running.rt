@@ -20,7 +20,7 @@ use ups_assoc::Config;
 use ups_dataset::DataSet;
 use ups_dataset::dictionary::*;
 use ups_life::{Entry, Peer, Reply, Request, StepUid, Target};
-use ups_manager::{Call, Manager};
+use ups_manager::Manager;
 use ups_net::{Door, ServerOptions, Watcher, run};
 use ups_pdu::Ae;
 use ups_turn::{Desk, Pass};
@@ -89,7 +89,7 @@ where
 fn enter(manager: &mut Manager<Global>, ae: Ae, moment: u64, request: Request<Global>)
     requires { IsMoment moment }
 {
-    let _ = manager.submit(Call {
+    let _ = manager.submit(Entry {
         caller: 0,
         ae,
         moment,
@@ -190,7 +190,7 @@ struct Outcome {
 
 /// The options of a server with one worker, which serves one association, and one round of the sweeper and the deliverer.
 /// W1 is looked for at a port of this host.
-fn options_of(alloc: Global, port: u16) -> Result<ServerOptions, Fail> {
+pub(crate) fn options_of(alloc: Global, port: u16) -> Result<ServerOptions, Fail> {
     let mut watchers = Vec::new(alloc);
     watchers.push(Watcher {
         ae: title("W1")?,

@@ -11,7 +11,7 @@ use Rattle.std.proofs.lemmas.List.{length-map, append_cancel_right, get_or-appen
 use Rattle.std.proofs.lemmas.Str.Parse.{digit_at, digit_from_value, without_leading_plus_none}
 use Rattle.std.proofs.lemmas.Str.Pattern.{NoCharPasses-char, drop_at_char, IsSplitOnceResult, split_after, split_parts}
 use Rattle.std.proofs.Math.Seq.{get_or-append_seam, take-suc, drop-cons}
-use Rattle.ups_life.specs.declared.entry.Peer.{Peer}
+use Rattle.ups_life.specs.declared.peer.Peer.{Peer}
 use Rattle.ups_pdu.specs.Title.{SpellsAe}
 use Rattle.ups_manager.specs.Refusal.{is_twice}
 use Rattle.ups_args.specs.Arguments.{IsPort, IsAddress, SaysAddress, SaysLock, SaysPlace, NamesPeer, NamesPlace, EachNames, NamePeers, StopsAt, ending_of}

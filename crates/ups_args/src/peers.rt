@@ -2,7 +2,7 @@
 
 ghost use Rattle.std.specs.Prelude.{◌≡◌, ◌≤◌, Bool, false, length, map, IfErr, IfOk, MatchOption};
 ghost use Rattle.ups_args.specs.Arguments.{FailToName, NamePeers, NamesPeer, NamesPlace, NameWatchers, SaysLock, SaysPlace};
-ghost use Rattle.ups_life.specs.declared.entry.Peer.{Peer};
+ghost use Rattle.ups_life.specs.declared.peer.Peer.{Peer};
 ghost use Rattle.ups_life.specs.Limits.{peer_limit};
 ghost use Rattle.ups_manager.specs.Refusal.{is_named, is_twice};
 

@@ -14,20 +14,20 @@ claim_status InProgress = AlreadyInProgress
 claim_status Completed = NoLongerUpdatable
 claim_status Canceled = NoLongerUpdatable
 
--- to COMPLETED, with the right Transaction UID; `met`: what COMPLETED needs is there. No UID is right for a step that
+-- to COMPLETED, with the right Transaction UID; `performed`: what COMPLETED needs is there. No UID is right for a step that
 -- is SCHEDULED.
 abbrev pub complete_status : Bool → StepState → Status
-complete_status met Scheduled = NotInProgress
-complete_status met InProgress = if met then Success else FinalStateNotMet
-complete_status met Completed = AlreadyCompleted
-complete_status met Canceled = NoLongerUpdatable
+complete_status performed Scheduled = NotInProgress
+complete_status performed InProgress = if performed then Success else FinalStateNotMet
+complete_status performed Completed = AlreadyCompleted
+complete_status performed Canceled = NoLongerUpdatable
 
--- to CANCELED, with the right Transaction UID; `met`: what CANCELED needs is there
+-- to CANCELED, with the right Transaction UID; `discontinued`: what CANCELED needs is there
 abbrev pub discontinue_status : Bool → StepState → Status
-discontinue_status met Scheduled = NotInProgress
-discontinue_status met InProgress = if met then Success else FinalStateNotMet
-discontinue_status met Completed = NoLongerUpdatable
-discontinue_status met Canceled = AlreadyCanceled
+discontinue_status discontinued Scheduled = NotInProgress
+discontinue_status discontinued InProgress = if discontinued then Success else FinalStateNotMet
+discontinue_status discontinued Completed = NoLongerUpdatable
+discontinue_status discontinued Canceled = AlreadyCanceled
 
 -- to a final state, with another Transaction UID or none; `proper`: it is a UID
 abbrev pub wrong_status : Bool → StepState → Status

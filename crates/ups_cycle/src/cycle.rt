@@ -20,26 +20,26 @@ pub fn claim_status(state: StepState) -> Status
     }
 }
 
-/// To COMPLETED, with the right Transaction UID; `met`: what COMPLETED needs is there.
-pub fn complete_status(met: bool, state: StepState) -> Status
-    ensures { result ≡ complete_status met state }
+/// To COMPLETED, with the right Transaction UID; `performed`: what COMPLETED needs is there.
+pub fn complete_status(performed: bool, state: StepState) -> Status
+    ensures { result ≡ complete_status performed state }
 {
     match state {
         StepState::Scheduled => Status::NotInProgress,
-        StepState::InProgress if met => Status::Success,
+        StepState::InProgress if performed => Status::Success,
         StepState::InProgress => Status::FinalStateNotMet,
         StepState::Completed => Status::AlreadyCompleted,
         StepState::Canceled => Status::NoLongerUpdatable,
     }
 }
 
-/// To CANCELED, with the right Transaction UID; `met`: what CANCELED needs is there.
-pub fn discontinue_status(met: bool, state: StepState) -> Status
-    ensures { result ≡ discontinue_status met state }
+/// To CANCELED, with the right Transaction UID; `discontinued`: what CANCELED needs is there.
+pub fn discontinue_status(discontinued: bool, state: StepState) -> Status
+    ensures { result ≡ discontinue_status discontinued state }
 {
     match state {
         StepState::Scheduled => Status::NotInProgress,
-        StepState::InProgress if met => Status::Success,
+        StepState::InProgress if discontinued => Status::Success,
         StepState::InProgress => Status::FinalStateNotMet,
         StepState::Completed => Status::NoLongerUpdatable,
         StepState::Canceled => Status::AlreadyCanceled,

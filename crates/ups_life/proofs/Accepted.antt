@@ -3,7 +3,7 @@ use Rattle.std.proofs.Common.{◌≡◌, ◌⊎◌, inl, inr, ℕ, Bool, true, f
 use Rattle.std.specs.Prelude.{nat_lt, length}
 use Rattle.ups_dataset.specs.Data.{El}
 use Rattle.ups_life.specs.declared.entry.Entry.{Entry}
-use Rattle.ups_life.specs.declared.entry.Peer.{Peer}
+use Rattle.ups_life.specs.declared.peer.Peer.{Peer}
 use Rattle.ups_life.specs.declared.request.Request.{Request}
 use Rattle.ups_life.specs.declared.request.Request.TheVariants.{Create, Change, AskCancel, Set, Subscribe, Ack, Sweep}
 use Rattle.ups_life.specs.declared.request.Reply.{Reply}
@@ -74,6 +74,26 @@ allowed_or_done s es e r h = inr h
 
 pub legal_head : {A : Type 0} (s : Settings) (e : Entry A) (es : List (Entry A)) → legal s (e ∷ es) ≡ true → accepts (decided s es e e.request) ≡ true
 legal_head s e es h = let_in (accepts (decided s es e e.request) && not (nat_lt (length es) s.limit)) (decided s es e e.request) (both (accepts (reply s es e)) (legal s es) h).0
+
+-- what has to fit, and was accepted, does
+has_status : {A : Type 0} (s : Settings) (es : List (Entry A)) (e : Entry A) (r : Request A) → is_sized r ≡ true → accepts (decided s es e r) ≡ true → is_done (status s es e) ≡ true
+has_status s es e (Create step set) z h = h
+has_status s es e (AskCancel step reasons) z h = h
+has_status s es e (Set step t set) z h = h
+has_status s es e r z h = absurd cc
+
+sized_fits : (done has_to fit : Bool) (x : Status) → is_done (cond (done && has_to && not fit) ResourceLimitation x) ≡ true → is_done x ≡ done → has_to ≡ true → fit ≡ true
+sized_fits true true true x h e z = refl
+sized_fits true true false x h e z = absurd cc
+sized_fits true false fit x h e z = absurd cc
+sized_fits false has_to fit x h e z = absurd (differ (is_done x) e h)
+
+pub fitted : {A : Type 0} (s : Settings) (e : Entry A) (es : List (Entry A)) → legal s (e ∷ es) ≡ true → is_sized e.request ≡ true → fits (row_then s es e).attributes ≡ true
+fitted s e es h z =
+    let set : List El = (row_then s es e).attributes in
+    let due : Status = sized e.request set (said s es e.request) in
+    sized_fits (is_done (said s es e.request)) (is_sized e.request) (fits set) (said s es e.request)
+    (of_lock_done s.peers e.request due (of_peer_done s.peers (receiver_of e.request) (of_lock s.peers e.request due) (has_status s es e e.request z (legal_head s e es h)))) refl z
 
 pub legal_tail : {A : Type 0} (s : Settings) (e : Entry A) (es : List (Entry A)) → legal s (e ∷ es) ≡ true → legal s es ≡ true
 legal_tail s e es h = (both (accepts (reply s es e)) (legal s es) h).1

@@ -1,6 +1,7 @@
 pub mod Accepted
 pub mod Cancels
 pub mod Current
+pub mod Depths
 mod Filters
 pub mod HeldOnce
 pub mod Items

@@ -1,11 +1,14 @@
--- Why no row is made of what a request gives.
-use Rattle.std.specs.Prelude.{◌<◌, ◌≤◌, ◌+◌, nat_lt, nat_le, Bool, ◌&&◌, List, filter}
+-- Why no row is made of what a request gives, and why a question to a history has no answer.
+use Rattle.std.specs.Prelude.{◌≡◌, ◌<◌, ◌≤◌, ◌+◌, nat_lt, nat_le, Bool, false, ◌&&◌, List, filter}
 use Rattle.ups_dataset.specs.Limits.{max_depth}
 use Rattle.ups_dataset.specs.Data.{El, elements_of, is_listed}
 use Rattle.ups_dataset.specs.Valid.{depth_data, depth_elements}
 use Rattle.ups_life.specs.declared.changing.ChangeFault.{ChangeFault}
 use Rattle.ups_life.specs.declared.changing.ChangeFault.TheVariants.{TooDeep, Memory}
+use Rattle.ups_life.specs.declared.entry.Entry.{Entry}
+use Rattle.ups_life.specs.Settings.{Settings}
 use Rattle.ups_life.specs.Steps.{REASONS}
+use Rattle.ups_life.specs.History.{legal}
 
 -- its items nest no deeper than those of a data set may
 abbrev pub IsShallow : List El → Type 0
@@ -23,3 +26,8 @@ nest_too_deep reasons = nat_lt max_depth (depth_elements (elements_of (filter (�
 -- a reason that does
 abbrev pub is_deep_reason : El → Bool
 is_deep_reason e = is_listed e.tag REASONS && nat_le max_depth (depth_data e.value)
+
+-- why a walk over a history has no answer: memory ran out; or, and only where the history isn't legal, items nest too deep
+abbrev pub WalkFails : {A : Type 0} → Settings → List (Entry A) → ChangeFault → Type 0
+WalkFails s es TooDeep = legal s es ≡ false
+WalkFails s es Memory = Unit {0}

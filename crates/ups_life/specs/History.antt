@@ -14,7 +14,7 @@ use Rattle.ups_life.specs.declared.request.Request.TheVariants.{Create, AskCance
 use Rattle.ups_life.specs.declared.request.Reply.{Reply}
 use Rattle.ups_life.specs.declared.request.Reply.TheVariants.{Status as Answered, Set as Shown, Swept, AckAhead, AckStale}
 use Rattle.ups_life.specs.declared.entry.Entry.{Entry}
-use Rattle.ups_life.specs.declared.entry.Peer.{Peer}
+use Rattle.ups_life.specs.declared.peer.Peer.{Peer}
 use Rattle.ups_life.specs.declared.row.Row.{Row}
 use Rattle.ups_cycle.specs.declared.status.Status.{Status}
 use Rattle.ups_cycle.specs.declared.status.Status.TheVariants.{Success, AttributesNotSupported, ResourceLimitation, DeletionLockNotGranted, UnknownInstance, UnknownReceivingAe}

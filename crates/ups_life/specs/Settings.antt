@@ -1,7 +1,7 @@
 -- What is fixed at the start.
 use Rattle.std.specs.Prelude.{ℕ, ◌≤◌, ℤ, List}
 pub use Rattle.ups_match.specs.Moments.{IsOffset}
-use Rattle.ups_life.specs.declared.entry.Peer.{Peer}
+use Rattle.ups_life.specs.declared.peer.Peer.{Peer}
 use Rattle.ups_life.specs.Limits.{last_moment}
 
 -- the peers, how long a finished step is kept (seconds), the offset of the local time from UTC (minutes, east of it

@@ -2,7 +2,7 @@
 
 ghost use Rattle.std.specs.Prelude.{◌≡◌};
 
-use crate::entry::Peer;
+use crate::peer::Peer;
 use std::alloc::Allocator;
 use std::marker::Model;
 

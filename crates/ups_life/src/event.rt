@@ -17,17 +17,17 @@ pub enum EventKind {
     Assigned,
 }
 
-/// What a request makes known of a step to whoever watches it.
+/// What a request makes known of a step to whoever watches it (PS3.4 CC.2.4).
 #[derive(Clone, Copy)]
-pub(crate) struct Report {
+pub struct Report {
     /// What it is about.
-    pub(crate) kind: EventKind,
+    pub kind: EventKind,
     /// The instance UID of the step.
-    pub(crate) step: StepUid,
+    pub step: StepUid,
     /// The state of the step after it.
-    pub(crate) state: StepState,
+    pub state: StepState,
     /// The readiness of the step's input after it.
-    pub(crate) readiness: Option<InputReadiness>,
+    pub readiness: Option<InputReadiness>,
 }
 
 /// A report to one watcher (PS3.4 CC.2.4).

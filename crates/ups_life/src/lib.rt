@@ -14,18 +14,18 @@ mod events;
 mod instances;
 pub mod laws;
 mod limits;
+mod peer;
 mod plain;
 mod readiness;
 mod reading;
-mod reporting;
 mod request;
 mod row;
 mod sets;
 mod showing;
 mod step;
 mod subscribing;
+mod telling;
 mod values;
-mod walking;
 mod watching;
 
 pub use actions::{CHANGE_STATE, REQUEST_CANCEL, SUBSCRIBE, SUSPEND, UNSUBSCRIBE};
@@ -33,19 +33,22 @@ pub use changing::{ChangeFault, change};
 pub use checks::{CHECKED, Checked, ValueRule};
 pub use configuration::Configuration;
 pub use deciding::verdict;
-pub use entry::{Entry, Peer};
-pub use event::{Event, EventKind};
+pub use entry::Entry;
+pub use event::{Event, EventKind, Report};
 pub use event_reports::{EventReport, EventReports};
 pub use events::Events;
 pub use limits::{MAX_HISTORY, MAX_MOMENT, MAX_OFFSET, MAX_PEERS, MAX_ROW_BYTES, MIN_OFFSET};
-pub use plain::{plain_find, repeats, used};
+pub use peer::{Peer, is_peer, may_lock};
+pub use plain::{
+    acked, is_due, plain_events, plain_find, plain_held, plain_pending, plain_watches, repeats,
+    used, watched_among,
+};
 pub use readiness::InputReadiness;
 pub use reading::read_request;
-pub use reporting::{acked, plain_events, plain_pending};
 pub use request::{Ask, Reply, Request, Transaction};
 pub use row::{Holder, Row};
 pub use sets::Sets;
 pub use showing::shown;
 pub use step::StepUid;
-pub use walking::{is_due, is_peer, may_lock, plain_held, plain_watches, watched_among};
+pub use telling::{cancel_reports, readiness_in, set_reports};
 pub use watching::{Filter, Place, Subscription, Target, Watched, Watcher};

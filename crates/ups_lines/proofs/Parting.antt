@@ -1,5 +1,5 @@
 -- Words that a space parts, and the numbers that they are.
-use Rattle.std.proofs.Common.{◌≡◌, ℕ, ◌+◌, ◌-◌, ◌*◌, ◌<◌, ◌≤◌, Bool, true, false, cond, not, List, [], ◌∷◌, ◌++◌, length, take, drop, get_or, refl, sym, ap, subst, ◌∙◌, arith, Some, None, length-drop}
+use Rattle.std.proofs.Common.{◌≡◌, ℕ, zero, suc, ◌+◌, ◌-◌, ◌*◌, ◌<◌, ◌≤◌, Bool, true, false, cond, not, List, [], ◌∷◌, ◌++◌, length, take, drop, get_or, refl, sym, ap, subst, ◌∙◌, arith, Some, None, length-drop}
 use Rattle.std.specs.Char.{digit_value}
 use Rattle.std.specs.List.{position, position_or_len, slice_split, onto_first}
 use Rattle.std.specs.Str.Parse.{AllDigits, digits_value_after, digits_value}
@@ -63,3 +63,18 @@ digits_next word i value number total low (all, so_far) (digit, here) sum =
 -- the words of a text behind a part of it
 pub rest_of : (xs : List ℕ) (n : ℕ) → take (length xs - n) (drop n xs) ≡ drop n xs
 rest_of xs n = take_all (length xs - n) (drop n xs) (omega (arith, length-drop n xs))
+
+grows : (n : ℕ) (xs : List ℕ) → n ≤ digits_value_after 10 n xs
+grows n [] = omega arith
+grows n (x ∷ xs) = omega (arith, grows (n * 10 + digit_value x) xs)
+
+-- the first digits spell no more than all of them
+pub up_to : (n i : ℕ) (xs : List ℕ) → digits_value_after 10 n (take i xs) ≤ digits_value_after 10 n xs
+up_to n zero xs = grows n xs
+up_to n (suc i) [] = omega arith
+up_to n (suc i) (x ∷ xs) = up_to (n * 10 + digit_value x) i xs
+
+pub digit_at : (i : ℕ) (xs : List ℕ) → i < length xs → AllDigits 10 xs → digit_value (get_or xs i 0) < 10
+digit_at i [] low all = absurd (omega (arith, low))
+digit_at zero (x ∷ xs) low (first, all) = first
+digit_at (suc i) (x ∷ xs) low (first, all) = digit_at i xs (omega (arith, low)) all

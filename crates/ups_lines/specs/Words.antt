@@ -1,8 +1,10 @@
 -- The words of a line, and the tags that they are.
-use Rattle.std.specs.Prelude.{◌≡◌, ℕ, ◌+◌, ◌*◌, List, [], ◌∷◌, length, Option, None, Some}
+use Rattle.std.specs.Prelude.{◌≡◌, ◌⊎◌, ℕ, ◌+◌, ◌*◌, List, [], ◌∷◌, length, Option, None, Some}
 use Rattle.std.specs.List.{slice_split}
 use Rattle.ups_pdu.specs.Padding.{is_space}
 use Rattle.ups_dataset.specs.declared.tag.Tag.{Tag}
+use Rattle.ups_lines.specs.declared.fault.LineReason.{LineReason}
+use Rattle.ups_lines.specs.declared.fault.LineReason.TheVariants.{EmptyWord, MissingWord}
 use Rattle.ups_lines.specs.Escapes.{SpellsByte}
 
 -- the words of a line: a space parts two
@@ -18,6 +20,10 @@ word_bytes_left (Some text) = 1 + length text
 abbrev pub words_left : Option (List ℕ) → List (List ℕ)
 words_left None = []
 words_left (Some text) = words_of text
+
+-- no word comes next, and why: none is left, or the next one is empty
+abbrev pub NoWord : List (List ℕ) → LineReason → Type 0
+NoWord words reason = ((words ≡ []) × (reason ≡ MissingWord)) ⊎ ((rest : List (List ℕ)) × (words ≡ [] ∷ rest) × (reason ≡ EmptyWord))
 
 -- four hex digits spell a number, the higher ones first
 pub record SpellsNumber (a b c d number : ℕ) : Type 0 where

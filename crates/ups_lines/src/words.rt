@@ -1,12 +1,13 @@
 //! The words of a line: how they are parted, the numbers and the tags that they are.
 
-ghost use Rattle.std.specs.Prelude.{◌≡◌, ◌<◌, ◌∷◌, [], ℕ, IfOk, OnOk, MatchOption, OnSome};
+ghost use Rattle.std.specs.Prelude.{◌≡◌, ◌≢◌, ◌<◌, ◌^◌, ◌∷◌, [], ℕ, IfOk, IfErr, OnErr, OnOk, MatchOption, OnSome};
 ghost use Rattle.std.specs.Char.{digit_value};
 ghost use Rattle.std.specs.List.{position};
 ghost use Rattle.std.specs.Option.{IfSome, option_copied};
 ghost use Rattle.std.specs.Str.Parse.{IsNumeral, digits_value};
+ghost use Rattle.ups_lines.specs.declared.fault.LineReason.TheVariants.{EmptyWord};
 ghost use Rattle.ups_pdu.specs.Padding.{is_space};
-ghost use Rattle.ups_lines.specs.Words.{words_of, word_bytes_left, words_left, SpellsNumber, SpellsTag};
+ghost use Rattle.ups_lines.specs.Words.{words_of, word_bytes_left, words_left, NoWord, SpellsNumber, SpellsTag};
 
 use crate::fault::LineReason;
 use crate::text::byte_of;
@@ -56,7 +57,8 @@ impl<'a> Words<'a> {
     ///
     /// Errors: MissingWord; EmptyWord.
     pub fn word(&mut self) -> Result<&'a [u8], LineReason>
-        ensures { IfOk result (λ word. words_left (option_copied self.old.rest) ≡ word.now ∷ words_left (option_copied self.new.rest)) }
+        ensures word { IfOk result (λ word. words_left (option_copied self.old.rest) ≡ word.now ∷ words_left (option_copied self.new.rest)) }
+        ensures fault { IfErr result (NoWord (words_left (option_copied self.old.rest))) }
     {
         let word = self.front().ok_or(LineReason::MissingWord)?;
         filled(word)
@@ -66,7 +68,8 @@ impl<'a> Words<'a> {
     ///
     /// Errors: EmptyWord where the next one is; ExtraWord.
     pub fn end(mut self) -> Result<(), LineReason>
-        ensures { OnOk result (words_left (option_copied self.entry.rest) ≡ []) }
+        ensures none { OnOk result (words_left (option_copied self.entry.rest) ≡ []) }
+        ensures some { OnErr result (words_left (option_copied self.entry.rest) ≢ []) }
     {
         match self.front() {
             None => Ok(()),
@@ -82,7 +85,8 @@ impl<'a> Words<'a> {
 ///
 /// Errors: EmptyWord.
 pub fn filled(word: &[u8]) -> Result<&[u8], LineReason>
-    ensures { IfOk result (λ filled. filled.now ≡ word.now) }
+    ensures filled { IfOk result (λ filled. filled.now ≡ word.now) }
+    ensures empty { IfErr result (λ reason. (word.now ≡ []) × (reason ≡ EmptyWord)) }
 {
     if word.is_empty() {
         Err(LineReason::EmptyWord)
@@ -107,7 +111,7 @@ impl<'a> Iterator for Words<'a> {
 
 /// The value of a decimal digit; None where the byte is none.
 fn decimal_digit(byte: u8) -> Option<u8>
-    ensures { IfSome result (λ value. (digit_value byte < 10) × (value ≡ digit_value byte)) }
+    ensures { MatchOption result (digit_value byte < 10 → ⊥) (λ value. (digit_value byte < 10) × (value ≡ digit_value byte)) }
 {
     match byte {
         b'0'..=b'9' => Some(byte - b'0'),
@@ -117,7 +121,7 @@ fn decimal_digit(byte: u8) -> Option<u8>
 
 /// The number that decimal digits spell, with any zeros before it; None where they spell none below 2^64.
 pub fn number_of(word: &[u8]) -> Option<u64>
-    ensures { IfSome result (λ number. IsNumeral 10 word.now × (number ≡ digits_value 10 word.now)) }
+    ensures { MatchOption result (IsNumeral 10 word.now → digits_value 10 word.now < 2 ^ 64 → ⊥) (λ number. IsNumeral 10 word.now × (number ≡ digits_value 10 word.now)) }
 {
     let mut number: u64 = 0;
     for digit in word {

@@ -12,13 +12,12 @@ use Rattle.ups_life.specs.Settings.{Settings}
 use Rattle.ups_life.specs.Steps.{past}
 use Rattle.ups_life.specs.Events.{acked, events}
 use Rattle.ups_life.specs.History.{accepts, acknowledged, decided}
-use Rattle.ups_manager.specs.declared.call.Call.{Call}
 use Rattle.ups_manager.specs.declared.deciding.Decision.{Decision}
-use Rattle.ups_manager.specs.declared.deciding.Effect.{Effect}
-use Rattle.ups_manager.specs.declared.deciding.Effect.TheVariants.{Nothing}
+use Rattle.ups_manager.specs.declared.deciding.StepsChange.{StepsChange}
+use Rattle.ups_manager.specs.declared.deciding.StepsChange.TheVariants.{Nothing}
 use Rattle.ups_manager.specs.declared.deciding.Kind.TheVariants.{OfEvents}
 use Rattle.ups_manager.specs.declared.rows.HeldStep.{HeldStep}
-use Rattle.ups_manager.specs.Deciding.{kind_of, entry_of, after_effect, IsDecided, IsRefused}
+use Rattle.ups_manager.specs.Deciding.{kind_of, after_change, IsDecided, IsRefused}
 use Rattle.ups_manager.specs.Held.{held_steps, IsSmallStep}
 use Rattle.ups_life.specs.declared.request.Ask.TheVariants.{Do}
 use Rattle.ups_service.specs.Law.{is_granted, OrLacking, Answers, SmallReply, entry}
@@ -51,14 +50,14 @@ small A made before upto = at (nat_lt made upto) (nat_le upto before)
     at false false = tt
 
 -- what is decided by a reply that is due, or tells that memory ran out
-pub ack_answers : {A : Type 0} (s : Settings) (history : List (Entry A)) (hs : List (HeldStep A)) (call : Call A) (n : ℕ) (reply : Reply A) (r : Result (Decision A) (Reply A)) → kind_of call.request ≡ OfEvents n → hs ≡ held_steps s (past history)
+pub ack_answers : {A : Type 0} (s : Settings) (history : List (Entry A)) (hs : List (HeldStep A)) (call : Entry A) (n : ℕ) (reply : Reply A) (r : Result (Decision A) (Reply A)) → kind_of call.request ≡ OfEvents n → hs ≡ held_steps s (past history)
     → AllByRecursion IsSmallStep hs → OrLacking ResourceLimitation (due s (past history) call.ae n) reply
-    → MatchResult r (λ d. (d.reply ≡ reply) × (d.effect ≡ Nothing) × (accepts reply ≡ true)) (λ x. (x ≡ reply) × (accepts reply ≡ false)) → MatchResult r (IsDecided s history hs call) (IsRefused s history call)
+    → MatchResult r (λ d. (d.reply ≡ reply) × (d.steps_change ≡ Nothing) × (accepts reply ≡ true)) (λ x. (x ≡ reply) × (accepts reply ≡ false)) → MatchResult r (IsDecided s history hs call) (IsRefused s history call)
 ack_answers {A} s history hs call n reply (Ok d) kind kept all_small (inl is) (same, none, ok) = record {
   reply = ack_decided s (past history) call.caller call.ae call.moment call.request n kind ∙ sym is ∙ sym same;
   accepted = ap accepts same ∙ ok;
-  steps = ap (λ (e : Effect A). after_effect e hs) none ∙ kept ∙ sym (ack_leaves s (past history) call.caller call.ae call.moment call.request n kind);
-  small = subst (λ (e : Effect A). AllByRecursion IsSmallStep (after_effect e hs)) (sym none) all_small;
+  steps = ap (λ (e : StepsChange A). after_change e hs) none ∙ kept ∙ sym (ack_leaves s (past history) call.caller call.ae call.moment call.request n kind);
+  small = subst (λ (e : StepsChange A). AllByRecursion IsSmallStep (after_change e hs)) (sym none) all_small;
 }
 ack_answers {A} s history hs call n reply (Ok d) kind kept all_small (inr (owed, is)) (same, none, ok) = let never : false ≡ true = sym (ap accepts is) ∙ ok in absurd cc
 ack_answers {A} s history hs call n reply (Err x) kind kept all_small (inl is) (same, refused) = record {

@@ -22,11 +22,10 @@ use Rattle.ups_life.specs.Verdict.{verdict}
 use Rattle.ups_life.specs.History.{accepts, legal, reply, sized, in_room, is_sized, fits, repeats, row_then, decided}
 use Rattle.ups_cycle.specs.Statuses.{is_done}
 use Rattle.ups_life.proofs.Past.{past-push, length-past}
-use Rattle.ups_manager.specs.declared.call.Call.{Call}
 use Rattle.ups_manager.specs.declared.deciding.Decision.{Decision}
 use Rattle.ups_manager.specs.declared.deciding.Kind.TheVariants.{OfStep}
 use Rattle.ups_manager.specs.declared.rows.HeldStep.{HeldStep}
-use Rattle.ups_manager.specs.Deciding.{kind_of, entry_of, IsDecided}
+use Rattle.ups_manager.specs.Deciding.{kind_of, IsDecided}
 use Rattle.ups_manager.specs.Held.{held_steps, step_at, row_in, row_of_step, holder_in, claimed_by, put_step, IsSmallStep}
 use Rattle.ups_manager.specs.declared.submitting.SubmitFault.{SubmitFault}
 use Rattle.ups_manager.specs.declared.submitting.SubmitFault.TheVariants.{Refused, Memory}
@@ -39,11 +38,11 @@ use Rattle.ups_manager.proofs.Small.{small_after, small_put}
 -- A REPLY
 
 -- what is refused is so whether there is room or not
-pub refuses : {A : Type 0} (s : Settings) (history : List (Entry A)) (call : Call A) (x : Reply A) → decided s (past history) (entry_of call) call.request ≡ x → accepts x ≡ false → x ≡ reply s (past history) (entry_of call)
+pub refuses : {A : Type 0} (s : Settings) (history : List (Entry A)) (call : Entry A) (x : Reply A) → decided s (past history) call call.request ≡ x → accepts x ≡ false → x ≡ reply s (past history) call
 refuses {A} s history call x is n = sym (ap (in_room s (past history)) is ∙ ap (λ a. cond (a && not (nat_lt (length (past history)) s.limit)) (no_room {A = A}) x) n)
 
 -- to what is granted, memory may be wanting
-pub lacks : {A : Type 0} (s : Settings) (history : List (Entry A)) (call : Call A) (x : Reply A) → decided s (past history) (entry_of call) call.request ≡ x → is_granted x ≡ true
+pub lacks : {A : Type 0} (s : Settings) (history : List (Entry A)) (call : Entry A) (x : Reply A) → decided s (past history) call call.request ≡ x → is_granted x ≡ true
     → Answers s history call.caller call.ae call.moment (Do call.request) (Answered ResourceLimitation)
 lacks {A} s history call x is granted =
     subst (λ (due : Reply A). OrLacking ResourceLimitation due (Answered ResourceLimitation)) (sym (ap (in_room s (past history)) is)) (at (accepts x && not (nat_lt (length (past history)) s.limit)))
@@ -62,7 +61,7 @@ room_of limit history (Refused status) h = h.0
 room_of limit history Memory h = refl
 
 -- where there is no room
-pub answers_full : {A : Type 0} (s : Settings) (history : List (Entry A)) (call : Call A) (x : Reply A) (limit : ℕ) (f : SubmitFault) → decided s (past history) (entry_of call) call.request ≡ x → accepts x ≡ true → RoomFails limit history f
+pub answers_full : {A : Type 0} (s : Settings) (history : List (Entry A)) (call : Entry A) (x : Reply A) (limit : ℕ) (f : SubmitFault) → decided s (past history) call call.request ≡ x → accepts x ≡ true → RoomFails limit history f
     → Answers s history call.caller call.ae call.moment (Do call.request) (Answered (status_of f))
 answers_full {A} s history call x limit f is ok h =
     subst (λ y. Answers s history call.caller call.ae call.moment (Do call.request) (Answered y)) (sym (room_of limit history f h)) (lacks s history call x is (done_granted A x ok))
@@ -70,17 +69,17 @@ answers_full {A} s history call x limit f is ok h =
 pub room_not_done : {A : Type 0} (limit : ℕ) (history : List (Entry A)) (f : SubmitFault) → RoomFails limit history f → is_done (status_of f) ≡ false
 room_not_done limit history f h = ap is_done (room_of limit history f h)
 
-pub none_entered : {A : Type 0} (history : List (Entry A)) (call : Call A) (x : Reply A) → accepts x ≡ false → history ≡ history ++ entered call.caller call.ae call.moment (Do call.request) x
-none_entered history call x n = sym (ap (λ b. history ++ cond b (entry_of call ∷ []) []) n ∙ append-nil history)
+pub none_entered : {A : Type 0} (history : List (Entry A)) (call : Entry A) (x : Reply A) → accepts x ≡ false → history ≡ history ++ entered call.caller call.ae call.moment (Do call.request) x
+none_entered history call x n = sym (ap (λ b. history ++ cond b (call ∷ []) []) n ∙ append-nil history)
 
-pub one_entered : {A : Type 0} (history : List (Entry A)) (call : Call A) (x : Reply A) → accepts x ≡ true → history ++ entry_of call ∷ [] ≡ history ++ entered call.caller call.ae call.moment (Do call.request) x
-one_entered history call x ok = sym (ap (λ b. history ++ cond b (entry_of call ∷ []) []) ok)
+pub one_entered : {A : Type 0} (history : List (Entry A)) (call : Entry A) (x : Reply A) → accepts x ≡ true → history ++ call ∷ [] ≡ history ++ entered call.caller call.ae call.moment (Do call.request) x
+one_entered history call x ok = sym (ap (λ b. history ++ cond b (call ∷ []) []) ok)
 
 within : (n m : ℕ) → n < m → nat_lt n m ≡ true
 within n m h = grind (arith, nat_tests)
 
 -- where there is room
-pub succeeds : {A : Type 0} (s : Settings) (history : List (Entry A)) (call : Call A) (x : Reply A) → decided s (past history) (entry_of call) call.request ≡ x → length history < s.limit → reply s (past history) (entry_of call) ≡ x
+pub succeeds : {A : Type 0} (s : Settings) (history : List (Entry A)) (call : Entry A) (x : Reply A) → decided s (past history) call call.request ≡ x → length history < s.limit → reply s (past history) call ≡ x
 succeeds {A} s history call x is room =
     let left : length (past history) < s.limit = omega (arith, room, length-past history) in
     ap (in_room s (past history)) is ∙ ap (λ b. cond (accepts x && not b) (no_room {A = A}) x) (within (length (past history)) s.limit left) ∙ no (accepts x)
@@ -90,10 +89,10 @@ succeeds {A} s history call x is room =
     no false = refl
 
 -- the history stays legal
-pub legal_after : {A : Type 0} (s : Settings) (history new : List (Entry A)) (call : Call A) (x : Reply A) → is_legal s history → new ≡ history ++ entry_of call ∷ [] → decided s (past history) (entry_of call) call.request ≡ x → accepts x ≡ true
+pub legal_after : {A : Type 0} (s : Settings) (history new : List (Entry A)) (call : Entry A) (x : Reply A) → is_legal s history → new ≡ history ++ call ∷ [] → decided s (past history) call call.request ≡ x → accepts x ≡ true
     → length history < s.limit → is_legal s new
 legal_after s history new call x so is decided ok room =
-    ap (λ l. legal s (past l)) is ∙ ap (legal s) (past-push history (entry_of call)) ∙ ap (λ y. accepts y && legal s (past history)) (succeeds s history call x decided room)
+    ap (λ l. legal s (past l)) is ∙ ap (legal s) (past-push history call) ∙ ap (λ y. accepts y && legal s (past history)) (succeeds s history call x decided room)
     ∙ ap (λ b. b && legal s (past history)) ok ∙ so
 
 pub small_done : (A : Type 0) (x : Reply A) → accepts x ≡ true → SmallReply x
@@ -102,7 +101,7 @@ small_done A (Swept count) h = tt
 small_done A x h = absurd cc
 
 -- what is decided of slices is decided of what they lend
-pub of_slices : {A : Type 0} (s : Settings) (slice history : List (Entry A)) (steps hs : List (HeldStep A)) (call : Call A) (d : Decision A) → slice ≡ history → steps ≡ hs → IsDecided s slice steps call d → IsDecided s history hs call d
+pub of_slices : {A : Type 0} (s : Settings) (slice history : List (Entry A)) (steps hs : List (HeldStep A)) (call : Entry A) (d : Decision A) → slice ≡ history → steps ≡ hs → IsDecided s slice steps call d → IsDecided s history hs call d
 of_slices s slice history steps hs call d whole all is = subst (λ l. IsDecided s l hs call d) whole (subst (λ l. IsDecided s slice l call d) all is)
 
 -- A REQUEST THAT CREATES OR CHANGES A STEP
@@ -116,7 +115,7 @@ step_decided s es caller ae moment (Set step t set) h = refl
 step_decided s es caller ae moment r h = absurd cc
 
 -- what is held of the step of a call that is accepted after a history
-pub record Accepted {A : Type 0} (s : Settings) (history : List (Entry A)) (hs : List (HeldStep A)) (call : Call A) (x : HeldStep A) : Type 0 where
+pub record Accepted {A : Type 0} (s : Settings) (history : List (Entry A)) (hs : List (HeldStep A)) (call : Entry A) (x : HeldStep A) : Type 0 where
   pub step : step_of call.request ≡ Some x.step
   pub allowed : verdict (row_in x.step hs) (repeats (past history) call.request) call.request ≡ Success
   pub row : x.row ≡ row_after s.offset call.moment (unwrap_or (row_in x.step hs) nothing) call.request
@@ -131,61 +130,61 @@ unless_too_large true false h = absurd (no (h refl))
     no e = absurd cc
 unless_too_large false fit h = refl
 
-pub step_succeeds : {A : Type 0} (s : Settings) (history : List (Entry A)) (hs : List (HeldStep A)) (call : Call A) (x : HeldStep A) → kind_of call.request ≡ OfStep → hs ≡ held_steps s (past history) → Accepted s history hs call x
-    → decided s (past history) (entry_of call) call.request ≡ Answered Success
+pub step_succeeds : {A : Type 0} (s : Settings) (history : List (Entry A)) (hs : List (HeldStep A)) (call : Entry A) (x : HeldStep A) → kind_of call.request ≡ OfStep → hs ≡ held_steps s (past history) → Accepted s history hs call x
+    → decided s (past history) call call.request ≡ Answered Success
 step_succeeds {A} s history hs call x kind kept a =
     let es = past history in
     let r = call.request in
     let known_is : known s es (step_of r) ≡ row_in x.step hs =
     ap (known s es) a.step ∙ sym (row_in-held_steps s es x.step) ∙ ap (row_in x.step) (sym kept) in
     let allowed : verdict (known s es (step_of r)) (repeats es r) r ≡ Success = ap (λ k. verdict k (repeats es r) r) known_is ∙ a.allowed in
-    let row_is : row_then s es (entry_of call) ≡ x.row = ap (λ k. row_after s.offset call.moment (unwrap_or k nothing) r) known_is ∙ sym a.row in
+    let row_is : row_then s es call ≡ x.row = ap (λ k. row_after s.offset call.moment (unwrap_or k nothing) r) known_is ∙ sym a.row in
     step_decided s es call.caller call.ae call.moment r kind
-    ∙ ap (λ v. Answered (sized r (row_then s es (entry_of call)).attributes v)) allowed
+    ∙ ap (λ v. Answered (sized r (row_then s es call).attributes v)) allowed
     ∙ ap (λ k. Answered (sized r k.attributes Success)) row_is
     ∙ ap (λ v. Answered v) (unless_too_large (is_sized r) (fits x.row.attributes) a.fits)
 
 -- the steps are then those that are held
-pub steps_after : {A : Type 0} (s : Settings) (history : List (Entry A)) (hs : List (HeldStep A)) (call : Call A) (x : HeldStep A) → is_legal s history → hs ≡ held_steps s (past history) → Accepted s history hs call x
-    → put_step x hs ≡ held_steps s (entry_of call ∷ past history)
+pub steps_after : {A : Type 0} (s : Settings) (history : List (Entry A)) (hs : List (HeldStep A)) (call : Entry A) (x : HeldStep A) → is_legal s history → hs ≡ held_steps s (past history) → Accepted s history hs call x
+    → put_step x hs ≡ held_steps s (call ∷ past history)
 steps_after {A} s history hs call x so kept a =
     let es = past history in
     ap (put_step x) kept
-    ∙ sym (held_steps-after s (entry_of call) es x so a.step
+    ∙ sym (held_steps-after s call es x so a.step
     (ap (λ l. verdict (row_in x.step l) (repeats es call.request) call.request) (sym kept) ∙ a.allowed)
     (a.row ∙ ap (λ l. row_after s.offset call.moment (unwrap_or (row_in x.step l) nothing) call.request) kept)
     (a.holder ∙ ap (λ l. option_or (claimed_by call) (holder_in (step_at x.step l))) kept))
 
-pub small_kept : {A : Type 0} (s : Settings) (history : List (Entry A)) (hs : List (HeldStep A)) (call : Call A) (x : HeldStep A) → AllByRecursion IsSmallStep hs → Accepted s history hs call x → AllByRecursion IsSmallStep (put_step x hs)
+pub small_kept : {A : Type 0} (s : Settings) (history : List (Entry A)) (hs : List (HeldStep A)) (call : Entry A) (x : HeldStep A) → AllByRecursion IsSmallStep hs → Accepted s history hs call x → AllByRecursion IsSmallStep (put_step x hs)
 small_kept s history hs call x all a = small_put x hs (small_after s call.moment hs x (repeats (past history) call.request) call.request a.step all a.allowed a.row a.fits) all
 
 -- a refusal is what is decided
 not_sized : (p q : Bool) (status : Status) → is_done status ≡ false → cond (is_done status && p && q) ResourceLimitation status ≡ status
 not_sized p q status n = ap (λ a. cond (a && p && q) ResourceLimitation status) n
 
-step_refused : {A : Type 0} (s : Settings) (history : List (Entry A)) (hs : List (HeldStep A)) (call : Call A) (x : Status) → kind_of call.request ≡ OfStep → hs ≡ held_steps s (past history) → is_done x ≡ false
-    → x ≡ verdict (row_of_step (step_of call.request) hs) (repeats (past history) call.request) call.request → decided s (past history) (entry_of call) call.request ≡ Answered x
+step_refused : {A : Type 0} (s : Settings) (history : List (Entry A)) (hs : List (HeldStep A)) (call : Entry A) (x : Status) → kind_of call.request ≡ OfStep → hs ≡ held_steps s (past history) → is_done x ≡ false
+    → x ≡ verdict (row_of_step (step_of call.request) hs) (repeats (past history) call.request) call.request → decided s (past history) call call.request ≡ Answered x
 step_refused s history hs call x kind kept n is =
     let es = past history in
     let r = call.request in
     let said : verdict (known s es (step_of r)) (repeats es r) r ≡ x =
     ap (λ k. verdict k (repeats es r) r) (sym (row_of_step-held_steps s es (step_of r)) ∙ ap (row_of_step (step_of r)) (sym kept)) ∙ sym is in
     step_decided s es call.caller call.ae call.moment r kind
-    ∙ ap (λ v. Answered (sized r (row_then s es (entry_of call)).attributes v)) said
-    ∙ ap (λ v. Answered v) (not_sized (is_sized r) (not (fits (row_then s es (entry_of call)).attributes)) x n)
+    ∙ ap (λ v. Answered (sized r (row_then s es call).attributes v)) said
+    ∙ ap (λ v. Answered v) (not_sized (is_sized r) (not (fits (row_then s es call).attributes)) x n)
 
 -- a request that is allowed may be refused for its size, or for lack of memory
-step_lacks : {A : Type 0} (s : Settings) (history : List (Entry A)) (hs : List (HeldStep A)) (call : Call A) → kind_of call.request ≡ OfStep → hs ≡ held_steps s (past history)
+step_lacks : {A : Type 0} (s : Settings) (history : List (Entry A)) (hs : List (HeldStep A)) (call : Entry A) → kind_of call.request ≡ OfStep → hs ≡ held_steps s (past history)
     → verdict (row_of_step (step_of call.request) hs) (repeats (past history) call.request) call.request ≡ Success → Answers s history call.caller call.ae call.moment (Do call.request) (Answered ResourceLimitation)
 step_lacks {A} s history hs call kind kept ok =
     let es = past history in
     let r = call.request in
     let allowed : verdict (known s es (step_of r)) (repeats es r) r ≡ Success =
     ap (λ k. verdict k (repeats es r) r) (sym (row_of_step-held_steps s es (step_of r)) ∙ ap (row_of_step (step_of r)) (sym kept)) ∙ ok in
-    at (is_sized r && not (fits (row_then s es (entry_of call)).attributes))
-    (step_decided s es call.caller call.ae call.moment r kind ∙ ap (λ v. Answered (sized r (row_then s es (entry_of call)).attributes v)) allowed)
+    at (is_sized r && not (fits (row_then s es call).attributes))
+    (step_decided s es call.caller call.ae call.moment r kind ∙ ap (λ v. Answered (sized r (row_then s es call).attributes v)) allowed)
   where
-    at : (large : Bool) → decided s (past history) (entry_of call) call.request ≡ Answered (cond large ResourceLimitation Success) → Answers s history call.caller call.ae call.moment (Do call.request) (Answered ResourceLimitation)
+    at : (large : Bool) → decided s (past history) call call.request ≡ Answered (cond large ResourceLimitation Success) → Answers s history call.caller call.ae call.moment (Do call.request) (Answered ResourceLimitation)
     at true is = inl (refuses s history call (Answered ResourceLimitation) is refl)
     at false is = lacks s history call (Answered Success) is refl
 
@@ -193,7 +192,7 @@ lack_of : {A : Type 0} (offset : ℤ) (moment : ℕ) (before : Row A) (r : Reque
 lack_of offset moment before r (Refused status) h = h.0
 lack_of offset moment before r Memory h = refl
 
-pub answers_fault : {A : Type 0} (s : Settings) (history : List (Entry A)) (hs : List (HeldStep A)) (call : Call A) (offset : ℤ) (f : SubmitFault) → kind_of call.request ≡ OfStep → hs ≡ held_steps s (past history)
+pub answers_fault : {A : Type 0} (s : Settings) (history : List (Entry A)) (hs : List (HeldStep A)) (call : Entry A) (offset : ℤ) (f : SubmitFault) → kind_of call.request ≡ OfStep → hs ≡ held_steps s (past history)
     → StepFails offset call.moment (row_of_step (step_of call.request) hs) (repeats (past history) call.request) call.request f → Answers s history call.caller call.ae call.moment (Do call.request) (Answered (status_of f))
 answers_fault {A} s history hs call offset f kind kept (inl h) =
     let said = ap status_of h.0 in
@@ -218,7 +217,7 @@ pub step_not_done : {A : Type 0} (offset : ℤ) (moment : ℕ) (row : Option (Ro
 step_not_done offset moment row used r f (inl h) = ap (λ x. is_done (status_of x)) h.0 ∙ h.1
 step_not_done offset moment row used r f (inr h) = ap is_done (lack_of offset moment (unwrap_or row nothing) r f h.1)
 
-pub accepted : {A : Type 0} (s : Settings) (history : List (Entry A)) (hs : List (HeldStep A)) (call : Call A) (x : HeldStep A) (offset : ℤ) → offset ≡ s.offset
+pub accepted : {A : Type 0} (s : Settings) (history : List (Entry A)) (hs : List (HeldStep A)) (call : Entry A) (x : HeldStep A) (offset : ℤ) → offset ≡ s.offset
     → step_of call.request ≡ Some x.step → verdict (row_in x.step hs) (repeats (past history) call.request) call.request ≡ Success
     → x.row ≡ row_after offset call.moment (unwrap_or (row_in x.step hs) nothing) call.request → x.holder ≡ option_or (claimed_by call) (holder_in (step_at x.step hs))
     → (is_sized call.request ≡ true → fits x.row.attributes ≡ true) → Accepted s history hs call x
@@ -237,7 +236,7 @@ HaveDates {A} history = All (λ (e : Entry A). IsMoment e.moment) history
 pub no_moments : {A : Type 0} → HaveDates {A = A} []
 no_moments k d h = absurd (omega (arith, h))
 
-pub moments_after : {A : Type 0} (history new : List (Entry A)) (call : Call A) → HaveDates history → IsMoment call.moment → new ≡ history ++ entry call.caller call.ae call.moment call.request ∷ [] → HaveDates new
+pub moments_after : {A : Type 0} (history new : List (Entry A)) (call : Entry A) → HaveDates history → IsMoment call.moment → new ≡ history ++ entry call.caller call.ae call.moment call.request ∷ [] → HaveDates new
 moments_after {A} history new call dated is more =
     let e : Entry A = entry call.caller call.ae call.moment call.request in
     subst HaveDates (sym more) (All-append (λ (x : Entry A). IsMoment x.moment) history (e ∷ []) dated (All-cons (λ (x : Entry A). IsMoment x.moment) e [] is no_moments))

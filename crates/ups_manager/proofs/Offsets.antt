@@ -2,7 +2,7 @@
 use Rattle.std.proofs.Common.{◌≡◌, ℕ, ℤ, Bool, true, false, cond, ◌||◌, T, List, Option, None, Some, refl, sym, subst}
 use Rattle.std.specs.Prelude.{pos, negsuc, not, ◌≤ℤ◌}
 use Rattle.std.specs.Int.Signed.{lt_z, lt_z_no}
-use Rattle.ups_life.specs.declared.entry.Peer.{Peer}
+use Rattle.ups_life.specs.declared.peer.Peer.{Peer}
 use Rattle.ups_life.specs.Settings.{IsOffset}
 use Rattle.ups_manager.specs.declared.fault.ManagerFault.{ManagerFault}
 use Rattle.ups_manager.specs.declared.fault.ManagerFault.TheVariants.{TwicePeer, BadLimit, BadOffset}

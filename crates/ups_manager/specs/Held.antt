@@ -14,7 +14,6 @@ use Rattle.ups_life.specs.Limits.{row_limit}
 use Rattle.ups_life.specs.Settings.{Settings}
 use Rattle.ups_life.specs.Steps.{taken, holder, row_of}
 use Rattle.ups_life.specs.Watching.{held, is_held}
-use Rattle.ups_manager.specs.declared.call.Call.{Call}
 use Rattle.ups_manager.specs.declared.rows.HeldStep.{HeldStep}
 
 -- what is held of u, and who holds it
@@ -58,7 +57,7 @@ holder_in None = None
 holder_in (Some h) = h.holder
 
 -- who claims a step by a call
-abbrev pub claimed_by : {A : Type 0} → Call A → Option Holder
+abbrev pub claimed_by : {A : Type 0} → Entry A → Option Holder
 claimed_by call = option_map (λ uid. record { caller = call.caller; ae = call.ae }) (taken call.request)
 
 -- who holds u after a history; nobody holds what is not held

@@ -3,7 +3,7 @@ use Rattle.std.specs.Prelude.{ℕ, ℤ, nat_lt, ◌==◌, Bool, false, ◌||◌,
 use lib.Signed.{lt_z}
 use Rattle.std.specs.List.{list_any}
 use Rattle.std.specs.Str.{bytes_eq}
-use Rattle.ups_life.specs.declared.entry.Peer.{Peer}
+use Rattle.ups_life.specs.declared.peer.Peer.{Peer}
 use Rattle.ups_life.specs.Limits.{history_limit, least_offset, greatest_offset}
 use Rattle.ups_manager.specs.declared.fault.ManagerFault.{ManagerFault}
 use Rattle.ups_manager.specs.declared.fault.ManagerFault.TheVariants.{TwicePeer, BadLimit, BadOffset}

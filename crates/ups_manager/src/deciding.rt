@@ -10,14 +10,13 @@ ghost use Rattle.ups_life.specs.Verdict.{verdict};
 ghost use Rattle.ups_life.specs.Watching.{is_among, is_due};
 ghost use Rattle.ups_life.specs.Events.{acked, events};
 ghost use Rattle.ups_life.specs.History.{receiver_of, of_peer, of_lock, accepts, acknowledged};
-ghost use Rattle.ups_manager.specs.declared.deciding.Effect.TheVariants.{Nothing};
+ghost use Rattle.ups_manager.specs.declared.deciding.StepsChange.TheVariants.{Nothing};
 ghost use Rattle.ups_manager.specs.declared.deciding.Kind.TheVariants.{OfStep, OfWatcher, OfTime};
-ghost use Rattle.ups_manager.specs.Deciding.{kind_of, after_effect, IsDecided, IsRefused};
+ghost use Rattle.ups_manager.specs.Deciding.{kind_of, after_change, IsDecided, IsRefused};
 ghost use Rattle.ups_manager.specs.Held.{row_of_step};
 ghost use Rattle.ups_manager.specs.Kept.{Stands};
 ghost use Rattle.ups_service.specs.Law.{OrLacking};
 
-use crate::call::Call;
 use crate::rows::{HeldStep, find, put, row_of};
 use crate::submitting::step_for;
 use std::alloc::{AllocError, Allocator};
@@ -43,7 +42,7 @@ pub(crate) enum Kind {
 
 /// What becomes of the steps held.
 #[derive(Drop)]
-pub(crate) enum Effect<A: Allocator + Copy> {
+pub(crate) enum StepsChange<A: Allocator + Copy> {
     /// This one stands in the place of the one with its UID, or behind the others.
     Put(HeldStep<A>),
     /// Nothing.
@@ -56,7 +55,7 @@ pub(crate) enum Effect<A: Allocator + Copy> {
 #[derive(Drop)]
 pub(crate) struct Decision<A: Allocator + Copy> {
     pub reply: Reply<A>,
-    pub effect: Effect<A>,
+    pub steps_change: StepsChange<A>,
 }
 
 fn kind_of<A: Allocator + Copy>(request: &Request<A>) -> Kind
@@ -91,16 +90,16 @@ fn remove<A: Allocator + Copy>(held: &mut Vec<HeldStep<A>, A>, steps: &[StepUid]
     held.retain(|step| !is_among(step.step, steps));
 }
 
-impl<A: Allocator + Copy> Effect<A> {
+impl<A: Allocator + Copy> StepsChange<A> {
     /// Makes it so.
     pub fn apply(self, steps: &mut Vec<HeldStep<A>, A>)
         requires { vec_len steps.old < vec_capacity steps.old }
-        ensures { steps.new.items ≡ after_effect self steps.old.items }
+        ensures { steps.new.items ≡ after_change self steps.old.items }
     {
         match self {
-            Effect::Put(held) => put(steps, held),
-            Effect::Nothing => {}
-            Effect::Remove(due) => remove(steps, due.as_slice()),
+            StepsChange::Put(held) => put(steps, held),
+            StepsChange::Nothing => {}
+            StepsChange::Remove(due) => remove(steps, due.as_slice()),
         }
     }
 }
@@ -113,7 +112,7 @@ fn decide_step<A: Allocator + Copy>(
     configuration: &Configuration<A>,
     history: &[Entry<A>],
     steps: &[HeldStep<A>],
-    call: &Call<A>,
+    call: &Entry<A>,
 ) -> Result<Decision<A>, Reply<A>>
     requires moment { IsMoment call.now.moment }
     requires stands { Stands configuration.now history.now steps.now }
@@ -124,7 +123,7 @@ fn decide_step<A: Allocator + Copy>(
     match step_for(alloc, offset, history, steps, call) {
         Ok(held) => Ok(Decision {
             reply: Reply::Status(Status::Success),
-            effect: Effect::Put(held),
+            steps_change: StepsChange::Put(held),
         }),
         Err(fault) => Err(Reply::Status(fault.status())),
     }
@@ -180,7 +179,7 @@ fn decide_watcher<A: Allocator + Copy>(
     configuration: &Configuration<A>,
     history: &[Entry<A>],
     steps: &[HeldStep<A>],
-    call: &Call<A>,
+    call: &Entry<A>,
 ) -> Result<Decision<A>, Reply<A>>
     requires stands { Stands configuration.now history.now steps.now }
     requires kind { kind_of call.now.request ≡ OfWatcher }
@@ -191,7 +190,7 @@ fn decide_watcher<A: Allocator + Copy>(
     if status.is_done() {
         Ok(Decision {
             reply: Reply::Status(status),
-            effect: Effect::Nothing,
+            steps_change: StepsChange::Nothing,
         })
     } else {
         Err(Reply::Status(status))
@@ -244,7 +243,7 @@ fn decide_sweep<A: Allocator + Copy>(
     configuration: &Configuration<A>,
     history: &[Entry<A>],
     steps: &[HeldStep<A>],
-    call: &Call<A>,
+    call: &Entry<A>,
 ) -> Result<Decision<A>, Reply<A>>
     requires stands { Stands configuration.now history.now steps.now }
     requires kind { kind_of call.now.request ≡ OfTime }
@@ -259,7 +258,7 @@ fn decide_sweep<A: Allocator + Copy>(
     }
     Ok(Decision {
         reply: Reply::Swept(count),
-        effect: Effect::Remove(due),
+        steps_change: StepsChange::Remove(due),
     })
 }
 
@@ -309,13 +308,13 @@ fn accepts<A: Allocator + Copy>(reply: &Reply<A>) -> bool
 /// What is decided by a reply to a request that changes no step.
 ///
 /// Errors: the reply, where it accepts nothing.
-fn without_effect<A: Allocator + Copy>(reply: Reply<A>) -> Result<Decision<A>, Reply<A>>
-    ensures { MatchResult result (λ d. (d.reply ≡ reply) × (d.effect ≡ Nothing) × (accepts reply ≡ true)) (λ r. (r ≡ reply) × (accepts reply ≡ false)) }
+fn without_change<A: Allocator + Copy>(reply: Reply<A>) -> Result<Decision<A>, Reply<A>>
+    ensures { MatchResult result (λ d. (d.reply ≡ reply) × (d.steps_change ≡ Nothing) × (accepts reply ≡ true)) (λ r. (r ≡ reply) × (accepts reply ≡ false)) }
 {
     if accepts(&reply) {
         Ok(Decision {
             reply,
-            effect: Effect::Nothing,
+            steps_change: StepsChange::Nothing,
         })
     } else {
         Err(reply)
@@ -330,7 +329,7 @@ pub(crate) fn decide<A: Allocator + Copy>(
     configuration: &Configuration<A>,
     history: &[Entry<A>],
     steps: &[HeldStep<A>],
-    call: &Call<A>,
+    call: &Entry<A>,
 ) -> Result<Decision<A>, Reply<A>>
     requires moment { IsMoment call.now.moment }
     requires stands { Stands configuration.now history.now steps.now }
@@ -340,7 +339,7 @@ pub(crate) fn decide<A: Allocator + Copy>(
         Kind::OfStep => decide_step(alloc, configuration, history, steps, call),
         Kind::OfWatcher => decide_watcher(configuration, history, steps, call),
         Kind::OfEvents(upto) => {
-            without_effect(ack_reply(alloc, configuration, history, call.ae, upto))
+            without_change(ack_reply(alloc, configuration, history, call.ae, upto))
         }
         Kind::OfTime => decide_sweep(alloc, configuration, history, steps, call),
     }

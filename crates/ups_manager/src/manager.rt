@@ -23,7 +23,6 @@ ghost use Rattle.ups_service.specs.Law.{OrLacking, Answers, SmallReply, entered,
 ghost use Rattle.ups_manager.specs.Refusal.{refusal};
 ghost use Rattle.ups_service.specs.Reporting.{reports_to};
 
-use crate::call::Call;
 use crate::deciding::decide;
 use crate::fault::ManagerFault;
 use crate::reporting::reports_of;
@@ -250,9 +249,9 @@ impl<A: Allocator + Copy> Manager<A> {
         }
     }
 
-    /// Answers a request by the history, and enters it where it is accepted. After 0213, which also tells
+    /// Answers a call by the history: the entry that it would be. It is entered where it is accepted. After 0213, which also tells
     /// that memory ran out, and after any other refusal nothing has changed.
-    pub fn submit(&mut self, call: Call<A>) -> Reply<A>
+    pub fn submit(&mut self, call: Entry<A>) -> Reply<A>
         requires moment { IsMoment call.moment }
         ensures answer { Answers self.old.settings self.old.history call.caller call.ae call.moment (Do call.request) result }
         ensures history { self.new.history ≡ self.old.history ++ entered call.caller call.ae call.moment (Do call.request) result }
@@ -281,8 +280,8 @@ impl<A: Allocator + Copy> Manager<A> {
         if let Err(fault) = make_room(configuration.limit(), history, steps) {
             return Reply::Status(fault.status());
         }
-        history.push_reserved(call.into_entry());
-        decision.effect.apply(steps);
+        history.push_reserved(call);
+        decision.steps_change.apply(steps);
         decision.reply
     }
 
@@ -298,7 +297,7 @@ impl<A: Allocator + Copy> Manager<A> {
         ensures legal_after { is_legal self.new.settings self.new.history }
     {
         match ask {
-            Ask::Do(request) => self.submit(Call {
+            Ask::Do(request) => self.submit(Entry {
                 caller,
                 ae,
                 moment,

@@ -14,7 +14,6 @@ ghost use Rattle.ups_manager.specs.Deciding.{kind_of};
 ghost use Rattle.ups_manager.specs.Faults.{status_of, RowFails, StepFails, RoomFails};
 ghost use Rattle.ups_manager.specs.Held.{step_at, row_in, row_of_step, holder_in, claimed_by};
 
-use crate::call::Call;
 use crate::rows::{HeldStep, find, row_of};
 use std::alloc::Allocator;
 use ups_cycle::{Status, StepState};
@@ -108,7 +107,10 @@ fn row_for<A: Allocator + Copy>(
 }
 
 /// Who holds a step after a call on it that was accepted.
-fn holder_after<A: Allocator + Copy>(before: Option<&HeldStep<A>>, call: &Call<A>) -> Option<Holder>
+fn holder_after<A: Allocator + Copy>(
+    before: Option<&HeldStep<A>>,
+    call: &Entry<A>,
+) -> Option<Holder>
     ensures { result ≡ option_or (claimed_by call.now) (holder_in (option_copied before.entry)) }
 {
     if let Request::Change {
@@ -133,7 +135,7 @@ pub(crate) fn step_for<A: Allocator + Copy>(
     offset: i16,
     history: &[Entry<A>],
     steps: &[HeldStep<A>],
-    call: &Call<A>,
+    call: &Entry<A>,
 ) -> Result<HeldStep<A>, SubmitFault>
     requires moment { IsMoment call.now.moment }
     requires offset { IsOffset offset }

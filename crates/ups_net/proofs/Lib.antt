@@ -1,2 +1,4 @@
 pub mod Crosses
+pub mod Ending
 pub mod Served
+pub mod Staying

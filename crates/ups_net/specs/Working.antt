@@ -1,7 +1,8 @@
--- What becomes of the pass of a thread of the server.
-use Rattle.std.specs.Prelude.{◌≡◌, ◌⊎◌, Bool, true, false, map, nat_le}
+-- What becomes of the passes of a server's threads.
+use Rattle.std.specs.Prelude.{◌≡◌, Bool, true, false, map, nat_le, List, [], ◌∷◌, ◌++◌, MatchBool}
 use Rattle.ups_net.specs.Delivering.{DeliversRounds}
 use Rattle.ups_net.specs.Serving.{ServesAssociations}
+use Rattle.ups_net.specs.Sweeping.{Sweeps}
 use Rattle.ups_net.specs.declared.options.ServerOptions.{ServerOptions}
 use Rattle.ups_net.specs.declared.watcher.Watcher.{Watcher}
 use Rattle.ups_turn.specs.Pass.{Standing}
@@ -11,6 +12,32 @@ abbrev pub Works : {A : Type 0} → ServerOptions → Bool → Standing A → St
 Works options true old new = ServesAssociations options.config options.turns options.associations old new
 Works options false old new = DeliversRounds options.config options.turns (map (λ (w : Watcher). w.ae) options.watchers.items) options.rounds old new
 
--- a thread has done its job, which is a worker's where its number is one of a worker, or none was to begin
+-- a thread has done its job, which is a worker's where its number is one of a worker
 abbrev pub DoesJob : {A : Type 0} → ServerOptions → Standing A → Standing A → Type 0
-DoesJob options old new = (new ≡ old) ⊎ Works options (nat_le old.number options.workers) old new
+DoesJob options old new = Works options (nat_le old.number options.workers) old new
+
+-- what becomes of a thread's pass: it has done its job, or none was to begin, and it is as it was
+abbrev pub EndsThread : {A : Type 0} → ServerOptions → Bool → Standing A → Standing A → Type 0
+EndsThread options begun old new = MatchBool begun (DoesJob options old new) (new ≡ old)
+
+-- the same of each of several threads
+abbrev pub EndThreads : {A : Type 0} → ServerOptions → Bool → List (Standing A) → List (Standing A) → Type 0
+EndThreads options begun [] [] = Unit {0}
+EndThreads options begun [] (new ∷ news) = ⊥
+EndThreads options begun (old ∷ olds) [] = ⊥
+EndThreads options begun (old ∷ olds) (new ∷ news) = EndsThread options begun old new × EndThreads options begun olds news
+
+-- each pass but the last has done its job, and the last has swept
+pub record AllWork {A : Type 0} (options : ServerOptions) (olds news : List (Standing A)) : Type 0 where
+  pub front : List (Standing A)
+  pub sweeper : Standing A
+  pub worked : List (Standing A)
+  pub swept : Standing A
+  pub before : olds ≡ front ++ sweeper ∷ []
+  pub after : news ≡ worked ++ swept ∷ []
+  pub each : EndThreads options true front worked
+  pub sweeps : Sweeps options.config.ae options.rounds sweeper swept
+
+-- the threads of a server have all done their jobs; or none has begun, and each pass is as it was
+abbrev pub Ran : {A : Type 0} → ServerOptions → Bool → List (Standing A) → List (Standing A) → Type 0
+Ran options begun olds news = MatchBool begun (AllWork options olds news) (news ≡ olds)

@@ -1,7 +1,7 @@
 //! The server: workers that share a listener and a desk, each with a pass of its own, over TCP (PS3.8 section 9.1).
 //!
 //! Of what a socket carries nothing is promised, nor of when: a contract here says what becomes of the passes, whatever
-//! was read.
+//! was read. Of time limits, of the second between two rounds and of the door none speaks.
 #![tactic(auto)]
 
 mod clock;
@@ -10,7 +10,6 @@ mod door;
 mod journal;
 mod options;
 mod rounds;
-mod seated;
 mod serving;
 mod socket;
 mod sweeping;
@@ -21,6 +20,7 @@ mod workers;
 pub use clock::{HostClock, moment_of};
 pub use delivering::deliver_rounds;
 pub use door::Door;
+pub use journal::end_told;
 pub use options::ServerOptions;
 pub use serving::serve_one;
 pub use socket::tune;

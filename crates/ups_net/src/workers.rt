@@ -1,14 +1,17 @@
 //! The workers of a server, and the threads in which they run.
 
-ghost use Rattle.std.specs.Prelude.{◌≡◌, ◌≤◌, ◌+◌, All, length, vec_capacity};
-ghost use Rattle.atomic_table.specs.Seated.{TableId};
+ghost use Rattle.std.specs.Prelude.{◌≡◌, true, ◌≤◌, ◌+◌, ◌++◌, [], ◌∷◌, All, List, length, map, vec_capacity, IfSome, MatchOption, MatchBool};
+ghost use Rattle.std.specs.Global.{Global};
 ghost use denote.Param.Send.{IsSync};
+ghost use Rattle.ups_turn.specs.Pass.{Standing};
 ghost use Rattle.ups_net.specs.Serving.{ServesAssociations};
-ghost use Rattle.ups_net.specs.Working.{DoesJob};
+ghost use Rattle.ups_net.specs.Sweeping.{Sweeps};
+ghost use Rattle.ups_net.specs.Working.{EndsThread, EndThreads, Ran};
+ghost use Rattle.ups_net.specs.declared.options.ServerOptions.{ServerOptions};
 
 use crate::delivering::deliver_rounds;
 use crate::door::Door;
-use crate::journal::tell_served;
+use crate::journal::{end_told, tell_served};
 use crate::options::ServerOptions;
 use crate::serving::serve_one;
 use crate::sweeping::sweep;
@@ -16,22 +19,12 @@ use log::Log;
 use std::alloc::Global;
 use std::net::{Net, TcpListener, TcpStream};
 use std::snapshot::Snapshot;
-use std::sync::Wait;
-use std::sync::atomic::{AtomicU64, Ordering};
+use std::sync::{OnceLock, OnceToken, Wait};
 use std::thread::{self, Promise, PromisedHandle, Threads};
 use std::time::Clock;
 use ups_turn::{Desk, Pass};
 
-/// The workers wait.
-const HELD: u64 = 0;
-
-/// All workers are there, and begin.
-const BEGUN: u64 = 1;
-
-/// One could not be started, and none begins.
-const CALLED_OFF: u64 = 2;
-
-/// Serves so many associations, one after another, each on the next connection at the door.
+/// Serves so many associations, one after another, each on a connection that the door gives.
 pub fn work<R: Wait + Clock + Log>(
     rt: &R,
     door: &Door,
@@ -46,30 +39,76 @@ pub fn work<R: Wait + Clock + Log>(
     let mut pass = pass;
     for _ in 0..options.associations {
         let stream = door.next_connection(rt, options.timeout);
-        let (after, ended) = serve_one(rt, &stream, desk, pass, options);
+        let (after, ended, is_sent) = serve_one(rt, &stream, desk, pass, options);
         pass = after;
-        tell_served(rt, &ended);
+        tell_served(rt, &end_told(ended, is_sent));
     }
     pass
 }
 
-/// Waits until the workers begin, or are called off; whether they begin.
-fn begins<R: Wait>(rt: &R, start: &AtomicU64) -> bool {
+/// Waits until it is told whether the threads begin.
+fn told<'a, R: Wait>(rt: &R, start: &'a OnceLock<bool>) -> OnceToken<'a, bool>
+    ensures { result.of ≡ start.now.id }
+{
     for _ in rt.forever() {
-        match start.load(Ordering::SeqCst) {
-            HELD => start.park(rt, 0),
-            BEGUN => return true,
-            _ => return false,
+        let _ = start.wait(rt);
+        if let Some(token) = start.witness() {
+            return token;
         }
     }
     unreachable!()
 }
 
-/// What a thread does once the threads begin, before it hands its pass back: a worker serves associations, and the
-/// deliverer delivers event reports. The number of its pass says which of them it is.
+/// Tells the threads whether they begin. Nobody else tells them, so once is enough.
+fn tell<'a, R: Wait>(rt: &R, start: &'a OnceLock<bool>, begin: bool) -> OnceToken<'a, bool>
+    ensures lock { result.of ≡ start.now.id }
+    ensures told { result.value ≡ begin }
+{
+    for _ in rt.forever() {
+        if let Ok(token) = start.set(rt, begin) {
+            return token;
+        }
+    }
+    unreachable!()
+}
+
+/// What the threads are told: what they have been told already, or else that they begin.
+fn settle<'a, R: Wait>(
+    rt: &R,
+    start: &'a OnceLock<bool>,
+    off: Option<OnceToken<'a, bool>>,
+) -> OnceToken<'a, bool>
+    requires lock { IfSome off (λ t. t.of ≡ start.now.id) }
+    ensures lock { result.of ≡ start.now.id }
+    ensures told { MatchOption off.entry (result.value ≡ true) (λ t. result.value ≡ t.value) }
+{
+    match off {
+        Some(token) => token,
+        None => tell(rt, start, true),
+    }
+}
+
+/// The pass of the sweeper: it sweeps where the threads begin, and else is as it was.
+fn sweep_begun<R: Wait + Clock>(
+    rt: &R,
+    desk: &Desk<Global>,
+    mut pass: Pass<Global>,
+    begun: bool,
+    options: &ServerOptions,
+) -> Pass<Global>
+    requires here { pass.table ≡ desk.now.table }
+    ensures sweeps { MatchBool begun (Sweeps options.now.config.ae options.now.rounds pass result) (result ≡ pass) }
+{
+    if begun {
+        sweep(rt, desk, &mut pass, options.config.ae, options.rounds);
+    }
+    pass
+}
+
+/// What a thread does once the threads begin: a worker serves associations, and the deliverer delivers event reports. The
+/// number of its pass says which of them it is.
 fn do_job<R>(
     rt: &R,
-    start: &AtomicU64,
     door: &Door,
     desk: &Desk<Global>,
     pass: Pass<Global>,
@@ -78,61 +117,93 @@ fn do_job<R>(
 where
     R: Wait + Clock + Log + Net<Listener = TcpListener, Stream = TcpStream>,
     requires here { pass.table ≡ desk.now.table }
-    ensures works { DoesJob options.now pass result }
-    ensures stays { result.table ≡ pass.table }
+    ensures works { EndsThread options.now true pass result }
 {
-    if !begins(rt, start) {
-        return pass;
-    }
     if pass.number() <= options.workers {
         return work(rt, door, desk, pass, options);
     }
     deliver_rounds(rt, desk, pass, options)
 }
 
-/// The promise of a thread: the pass that it hands back is at the desk of the one that it was given.
-#[derive(Drop)]
-struct AtSameDesk {
-    pass: Snapshot<Pass<Global>>,
-}
-
-impl Promise<Pass<Global>> for AtSameDesk {
-    ghost use Rattle.std.specs.Prelude.{◌≡◌};
-
-    ghost kept_by = { λ p r. r.table ≡ p.pass.value.table };
-}
-
-/// Has each of these threads hand its pass back.
-fn join_all<R: Threads>(
+/// The thread of a pass: it does its job where the threads begin, and hands the pass back, with what it was told.
+fn attend<'a, R>(
     rt: &R,
-    handles: Vec<PromisedHandle<Pass<Global>, AtSameDesk>>,
+    start: &'a OnceLock<bool>,
+    door: &Door,
+    desk: &Desk<Global>,
+    pass: Pass<Global>,
+    options: &ServerOptions,
+) -> (Pass<Global>, OnceToken<'a, bool>)
+where
+    R: Wait + Clock + Log + Net<Listener = TcpListener, Stream = TcpStream>,
+    requires here { pass.table ≡ desk.now.table }
+    ensures lock { result.1.of ≡ start.now.id }
+    ensures ends { EndsThread options.now result.1.value pass result.0 }
+{
+    let token = told(rt, start);
+    if !*start.value(&token) {
+        return (pass, token);
+    }
+    (do_job(rt, door, desk, pass, options), token)
+}
+
+/// The promise of a thread: where it was told to begin, the pass that it hands back has done its job, and else is as it
+/// was.
+#[derive(Drop)]
+struct DoneJob {
+    pass: Snapshot<Pass<Global>>,
+    options: Snapshot<ServerOptions>,
+    start: Snapshot<OnceLock<bool>>,
+}
+
+impl<'a> Promise<(Pass<Global>, OnceToken<'a, bool>)> for DoneJob {
+    ghost use Rattle.std.specs.Prelude.{◌≡◌};
+    ghost use Rattle.ups_net.specs.Working.{EndsThread};
+
+    ghost kept_by = { λ p r. (r.1.of ≡ p.start.value.id) × EndsThread p.options.value r.1.value p.pass.value r.0 };
+}
+
+/// Has each of these threads hand its pass back, and puts the passes behind those that are back, in the order of the
+/// threads. All of them were told the same.
+fn join_all<'a, R: Threads>(
+    rt: &R,
+    token: &OnceToken<'a, bool>,
+    handles: Vec<PromisedHandle<(Pass<Global>, OnceToken<'a, bool>), DoneJob>>,
     passes: &mut Vec<Pass<Global>>,
 )
     requires room { length passes.old.items + length handles.items ≤ vec_capacity passes.old }
-    ensures all { length passes.new.items ≡ length passes.old.items + length handles.items }
+    requires lock { All (λ h. h.promise.start.value.id ≡ token.now.of) handles.items }
     ensures capacity { vec_capacity passes.new ≡ vec_capacity passes.old }
-    ensures stay { (table : TableId) → All (λ p. p.table ≡ table) passes.old.items → All (λ h. h.promise.pass.value.table ≡ table) handles.items → All (λ p. p.table ≡ table) passes.new.items }
+    ensures ends { (options : ServerOptions) → All (λ h. h.promise.options.value ≡ options) handles.entry.items → (rest : List (Standing Global)) × (passes.new.items ≡ passes.old.items ++ rest) × EndThreads options token.now.value (map (λ h. h.promise.pass.value) handles.entry.items) rest }
 {
     for handle in handles {
-        passes.push_reserved(handle.join(rt));
+        let (pass, other) = handle.join(rt);
+        token.agrees(&other);
+        passes.push_reserved(pass);
     }
 }
 
-/// Has the waiting threads begin, or go home.
-fn release(start: &AtomicU64, word: u64) {
-    start.store(word, Ordering::SeqCst);
-    start.wake_all();
+/// Puts the passes of threads that were not started behind those that are back.
+fn put_back(unbegun: Vec<Pass<Global>>, passes: &mut Vec<Pass<Global>>)
+    requires room { length passes.old.items + length unbegun.items ≤ vec_capacity passes.old }
+    ensures capacity { vec_capacity passes.new ≡ vec_capacity passes.old }
+    ensures all { passes.new.items ≡ passes.old.items ++ unbegun.items }
+{
+    for pass in unbegun {
+        passes.push_reserved(pass);
+    }
 }
 
-/// The threads of a server: one for each of these passes, while the sweeper's pass sweeps in this one. It puts each pass
-/// behind those that are back.
+/// The threads of a server: one for each of these passes, while the sweeper's pass sweeps in this one. The passes come back
+/// in their order, with that of the sweeper behind them. Where a thread can't be started, the passes from its own on wait
+/// in `unbegun` until those before them are back.
 fn run_threads<R>(
     rt: &R,
     door: &Door,
     desk: &Desk<Global>,
     passes: Vec<Pass<Global>>,
-    mut sweeper: Pass<Global>,
-    mut handles: Vec<PromisedHandle<Pass<Global>, AtSameDesk>>,
+    sweeper: Pass<Global>,
+    mut unbegun: Vec<Pass<Global>>,
     mut back: Vec<Pass<Global>>,
     options: &ServerOptions,
 ) -> (bool, Vec<Pass<Global>>)
@@ -141,12 +212,11 @@ where
     requires here { All (λ p. p.table ≡ desk.now.table) passes.items }
     requires sweeper { sweeper.table ≡ desk.now.table }
     requires room { length passes.items + 1 ≤ vec_capacity back }
-    requires empty { length back.items ≡ 0 }
-    requires handles { (length passes.items ≤ vec_capacity handles) × (length handles.items ≡ 0) }
-    ensures all { length result.1.items ≡ length passes.items + 1 }
-    ensures stay { All (λ p. p.table ≡ desk.now.table) result.1.items }
+    requires spare { length passes.items ≤ vec_capacity unbegun }
+    requires empty { (back.items ≡ []) × (unbegun.items ≡ []) }
+    ensures ran { Ran options.now result.0 (passes.items ++ sweeper ∷ []) result.1.items }
 {
-    let start = AtomicU64::new(HELD);
+    let start = OnceLock::new();
     let start = &start;
     thread::scope(
         thread::scope_env(),
@@ -156,50 +226,60 @@ where
             requires here { All (λ p. p.table ≡ desk.now.table) passes.items }
             requires sweeper { sweeper.table ≡ desk.now.table }
             requires room { length passes.items + 1 ≤ vec_capacity back }
-            requires empty { length back.items ≡ 0 }
-            requires handles { (length passes.items ≤ vec_capacity handles) × (length handles.items ≡ 0) }
-            ensures all { length result.1.items ≡ length passes.items + 1 }
-            ensures stay { All (λ p. p.table ≡ desk.entry.now.table) result.1.items }
+            requires spare { length passes.items ≤ vec_capacity unbegun }
+            requires empty { (back.items ≡ []) × (unbegun.items ≡ []) }
+            ensures ran { Ran options.entry.now result.0 (passes.items ++ sweeper ∷ []) result.1.items }
         {
-            let mut all = true;
+            let Ok(mut handles) = Vec::with_capacity(options.alloc, passes.len()) else {
+                put_back(passes, &mut back);
+                back.push_reserved(sweeper);
+                return (false, back);
+            };
+            let mut off = None;
             for pass in passes {
-                if !all {
-                    back.push_reserved(pass);
+                if off.is_some() {
+                    unbegun.push_reserved(pass);
                     continue;
                 }
-                let promise = AtSameDesk {
+                let promise = DoneJob {
                     pass: Snapshot::of(&pass),
+                    options: Snapshot::of(options),
+                    start: Snapshot::of(start),
                 };
                 match scope.spawn_with(
                     promise,
-                    move || -> Pass<Global>
+                    move || -> (Pass<Global>, OnceToken<'_, bool>)
                         requires { pass.table ≡ desk.now.table }
-                        ensures { result.table ≡ pass.table }
-                    { do_job(rt, start, door, desk, pass, options) },
+                        ensures lock { result.1.of ≡ start.entry.now.id }
+                        ensures ends { EndsThread options.entry.now result.1.value pass result.0 }
+                    { attend(rt, start, door, desk, pass, options) },
                 ) {
                     Ok(handle) => handles.push_reserved(handle),
                     Err(refused) => {
-                        all = false;
-                        release(start, CALLED_OFF);
-                        back.push_reserved((refused.value)());
+                        let token = tell(rt, start, false);
+                        let (pass, other) = (refused.value)();
+                        token.agrees(&other);
+                        unbegun.push_reserved(pass);
+                        off = Some(token);
                     }
                 }
             }
-            if all {
-                release(start, BEGUN);
-                sweep(rt, desk, &mut sweeper, options.config.ae, options.rounds);
-            }
-            join_all(rt, handles, &mut back);
-            back.push_reserved(sweeper);
-            (all, back)
+            let token = settle(rt, start, off);
+            let begun = *start.value(&token);
+            let swept = sweep_begun(rt, desk, sweeper, begun, options);
+            join_all(rt, &token, handles, &mut back);
+            put_back(unbegun, &mut back);
+            back.push_reserved(swept);
+            (begun, back)
         },
     )
 }
 
 /// Runs a server: of the passes the last sweeps, in this thread. Each other one has a thread of its own: those with the
-/// numbers up to `options.workers` are the workers', and one with a greater number delivers event reports. It returns once
-/// each worker has served as many associations as `options` says, and the others have made as many rounds: true, and the
-/// passes. Where a thread can't be started, or memory runs out before, none begins its work: false, and the passes.
+/// numbers up to `options.workers` are the workers', and one with a greater number delivers event reports. The passes come
+/// back in their order: true, and each has done its job, as many associations or rounds of it as `options` says; or false,
+/// and each is as it was, since a thread could not be started, or memory ran out before. That a thread runs, and when, no
+/// contract says.
 pub fn run<R>(
     rt: &R,
     door: &Door,
@@ -211,18 +291,19 @@ where
     R: Threads + Wait + Clock + Log + Sync + Net<Listener = TcpListener, Stream = TcpStream>,
     requires some { 2 ≤ length passes.items }
     requires here { All (λ p. p.table ≡ desk.now.table) passes.items }
+    ensures ran { Ran options.now result.0 passes.items result.1.items }
     ensures all { length result.1.items ≡ length passes.items }
     ensures stay { All (λ p. p.table ≡ desk.now.table) result.1.items }
 {
     let Ok(back) = Vec::with_capacity(options.alloc, passes.len()) else {
         return (false, passes);
     };
-    let Ok(handles) = Vec::with_capacity(options.alloc, passes.len()) else {
+    let Ok(unbegun) = Vec::with_capacity(options.alloc, passes.len()) else {
         return (false, passes);
     };
     let mut passes = passes;
     let Some(sweeper) = passes.pop() else {
         unreachable!()
     };
-    run_threads(rt, door, desk, passes, sweeper, handles, back, options)
+    run_threads(rt, door, desk, passes, sweeper, unbegun, back, options)
 }

@@ -8,7 +8,7 @@ use Rattle.std.proofs.lemmas.Grind.{flat_map-append}
 use Rattle.ups_life.specs.declared.entry.Entry.{Entry}
 use Rattle.ups_life.specs.Settings.{Settings}
 use Rattle.ups_script.specs.declared.telling.Told.{Told}
-use Rattle.ups_script.specs.Lines.{MeetsEnd, TakesLine, TakesLines}
+use Rattle.ups_script.specs.Lines.{HasMore, MeetsEnd, TakesLine, TakesLines}
 use Rattle.ups_script.specs.Printing.{line_of}
 use Rattle.ups_script.specs.declared.fault.ScriptFault.{ScriptFault}
 use Rattle.ups_script.specs.declared.fault.ScriptFault.TheVariants.{BadLine, TooManyLines, Read, Write, Memory}
@@ -91,8 +91,8 @@ ended settings count limit input a b written after old new so low k end = record
 
 -- there are more lines than are allowed
 pub too_many : {A : Type 0} (settings : Settings) (count limit : ℕ) (input a b written after : Option (List ℕ)) (old new : List (Entry A))
-    → Sofar settings count input a written after old new → count ≡ limit → Keeps a b → Runs settings limit input b written after old new (Err TooManyLines)
-too_many settings count limit input a b written after old new so all k = record {
+    → Sofar settings count input a written after old new → count ≡ limit → HasMore a → Keeps a b → Runs settings limit input b written after old new (Err TooManyLines)
+too_many settings count limit input a b written after old new so all more k = record {
   lines = so.lines;
   told = so.told;
   rest = a;
@@ -102,7 +102,7 @@ too_many settings count limit input a b written after old new so all k = record 
   answered = so.answered;
   replied = so.replied;
   few = omega (arith, so.counted, all);
-  ends = (so.counted ∙ all, k, Keeps-refl after, refl);
+  ends = (so.counted ∙ all, more, k, Keeps-refl after, refl);
 }
 
 unread : {A : Type 0} (settings : Settings) (limit count : ℕ) (a b after : Option (List ℕ)) (new : List (Entry A)) (part : List ℕ) (fault : ScriptFault)

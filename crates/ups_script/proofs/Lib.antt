@@ -1,4 +1,5 @@
 mod Answering
+mod Failing
 mod Lasting
 mod Taking
 mod Unread

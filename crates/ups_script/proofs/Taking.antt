@@ -1,5 +1,5 @@
 -- Lines that are taken from a reader.
-use Rattle.std.proofs.Common.{◌≡◌, ◌≢◌, ℕ, ◌≤◌, Bool, true, false, List, [], ◌∷◌, ◌++◌, length, take, All, sym, ap, subst, ◌∙◌, arith, inl, inr, Option, Some, None, length-append, append_assoc, length-take}
+use Rattle.std.proofs.Common.{◌≡◌, ◌≢◌, ℕ, ◌<◌, ◌≤◌, Bool, true, false, List, [], ◌∷◌, ◌++◌, length, take, All, sym, ap, subst, ◌∙◌, arith, inl, inr, Option, Some, None, length-append, append_assoc, length-take}
 use Rattle.std.specs.Prelude.{IfSome, OnSome}
 use Rattle.std.specs.Io.{StartsWith}
 use Rattle.std.specs.Io.KnownBytes.{Keeps, Consumes, IsAtEnd}
@@ -7,13 +7,18 @@ use Rattle.std.specs.Io.BufRead.{DropsConsumable}
 use Rattle.std.proofs.KnownBytes.{Consumes-trans}
 use Rattle.std.proofs.BufReadLemmas.{Consumes_shown}
 use Rattle.std.proofs.lemmas.List.Elements.{All-append}
-use Rattle.ups_script.specs.Lines.{MeetsEnd, TakesLine, Goes, Lengthens, IsLinePart}
+use Rattle.ups_script.specs.Lines.{HasMore, MeetsEnd, TakesLine, Goes, Lengthens, IsLinePart}
 
 -- a reader that shows nothing is at its end
 pub ends_here : (a b : Option (List ℕ)) (shown : List ℕ) → IfSome a (λ xs. length shown ≡ 0 → xs ≡ []) → Keeps a b → length shown ≡ 0 → OnSome a (IsAtEnd b)
 ends_here None b shown end kept none = tt
 ends_here (Some xs) None shown end kept none = absurd kept
 ends_here (Some xs) (Some ys) shown end kept none = kept ∙ end none
+
+-- one that shows something has that left
+pub more_here : (a : Option (List ℕ)) (shown : List ℕ) → IfSome a (λ xs. StartsWith xs shown) → 0 < length shown → HasMore a
+more_here None shown front some = tt
+more_here (Some xs) shown front some = omega (arith, some, ap length front, length-take (length shown) xs)
 
 goes : (a c : Option (List ℕ)) (shown from : List ℕ) (count taken : ℕ) (whole : Bool) → count ≤ length shown → Consumes a c (take taken shown) → (length shown ≡ 0 → OnSome a (IsAtEnd c))
     → IsLinePart shown (length from) count taken whole → Goes a c (take count shown) (from ++ take count shown) whole

@@ -1,7 +1,11 @@
 -- The lines of a script: how they are taken from what a reader has left, where that is known.
-use Rattle.std.specs.Prelude.{◌≡◌, ◌≢◌, ◌<◌, ◌⊎◌, ℕ, ◌+◌, Bool, true, false, List, [], ◌∷◌, ◌++◌, length, take, All, Option, OnSome}
+use Rattle.std.specs.Prelude.{◌≡◌, ◌≢◌, ◌<◌, ◌⊎◌, ℕ, ◌+◌, Bool, true, false, List, [], ◌∷◌, ◌++◌, length, take, All, Option, IfSome, OnSome}
 use Rattle.std.specs.Io.KnownBytes.{Keeps, Consumes, IsAtEnd}
 use Rattle.ups_script.specs.Limits.{max_line}
+
+-- a reader has bytes left, where they are known
+abbrev pub HasMore : Option (List ℕ) → Type 0
+HasMore left = IfSome left (λ bytes. 0 < length bytes)
 
 -- the end of a line is met: a line feed is behind these bytes; or the input ends there, or the line is too long
 abbrev pub MeetsEnd : Option (List ℕ) → Option (List ℕ) → List ℕ → List ℕ → Type 0

@@ -10,9 +10,9 @@ use Rattle.ups_script.specs.declared.fault.ScriptFault.{ScriptFault}
 use Rattle.ups_script.specs.declared.fault.ScriptFault.TheVariants.{BadLine, TooManyLines, Read, Write, Memory}
 use Rattle.ups_script.specs.declared.telling.Told.{Told}
 use Rattle.ups_script.specs.Limits.{max_lines}
-use Rattle.ups_script.specs.Lines.{TakesLine, TakesLines}
+use Rattle.ups_script.specs.Lines.{HasMore, TakesLine, TakesLines}
 use Rattle.ups_script.specs.Printing.{bad_text, line_of}
-use Rattle.ups_script.specs.Questions.{AsksAt}
+use Rattle.ups_script.specs.Questions.{AsksAt, IsBad}
 use Rattle.ups_script.specs.Telling.{TellsAsked}
 
 -- the number of one of the lines that are read
@@ -50,18 +50,19 @@ Leaves settings history asked written after Memory new = Keeps written after × 
 Leaves {A} settings history asked written after Write new = (told : Told A) × TellsAsked settings history asked told new
 Leaves settings history asked written after fault new = ⊥
 
--- how the line of a number ends a script, by what was written before it and by the history: it is none, and that is
--- written; memory ran out, and nothing was done; or a write failed, and its question may have been told something
+-- how the line of a number ends a script, by what was written before it and by the history: it is none, for the reason
+-- told, and that is written; memory ran out, and nothing was done; or a write failed, and its question may have been told something
 abbrev pub Breaks : {A : Type 0} → Settings → List (Entry A) → List ℕ → ℕ → Option (List ℕ) → Option (List ℕ) → ScriptFault → List (Entry A) → Type 0
-Breaks settings history line number written after (BadLine bad) new = (bad.number ≡ number) × Appends written after (bad_text number) × (new ≡ history)
+Breaks settings history line number written after (BadLine bad) new = (bad.number ≡ number) × IsBad line bad.reason × Appends written after (bad_text number) × (new ≡ history)
 Breaks settings history line number written after Memory new = Keeps written after × (new ≡ history)
 Breaks {A} settings history line number written after Write new = (new ≡ history) ⊎ ((told : Told A) × AnswersLine settings history line told new)
 Breaks settings history line number written after fault new = ⊥
 
--- how a script ends behind lines that were answered
+-- how a script ends behind lines that were answered: too many are told only where as many as are allowed were answered and
+-- something is left
 abbrev pub EndsScript : {A : Type 0} → Settings → ℕ → ℕ → Option (List ℕ) → Option (List ℕ) → Option (List ℕ) → Option (List ℕ) → List (Entry A) → List (Entry A) → Result Unit ScriptFault → Type 0
 EndsScript settings limit count rest left written after history new (Ok done) = Keeps rest left × OnSome rest (IsAtEnd left) × Keeps written after × (new ≡ history)
-EndsScript settings limit count rest left written after history new (Err TooManyLines) = (count ≡ limit) × Keeps rest left × Keeps written after × (new ≡ history)
+EndsScript settings limit count rest left written after history new (Err TooManyLines) = (count ≡ limit) × HasMore rest × Keeps rest left × Keeps written after × (new ≡ history)
 EndsScript settings limit count rest left written after history new (Err Read) = ((part : List ℕ) × Consumes rest left part) × Keeps written after × (new ≡ history)
 EndsScript settings limit count rest left written after history new (Err fault) =
     (((part : List ℕ) × Consumes rest left part) × (fault ≡ Memory) × Keeps written after × (new ≡ history))

@@ -15,7 +15,7 @@ use Rattle.ups_life.specs.Settings.{Settings}
 use Rattle.ups_life.specs.Steps.{past}
 use Rattle.ups_life.specs.Watching.{held, watched}
 use Rattle.ups_manager.specs.Held.{holder_of}
-use Rattle.ups_service.specs.Law.{nobody, Serves}
+use Rattle.ups_service.specs.Law.{nobody, alone, Serves}
 use Rattle.ups_script.specs.declared.asking.Asked.{Asked}
 use Rattle.ups_script.specs.declared.asking.Question.{Question}
 use Rattle.ups_script.specs.declared.asking.Question.TheVariants as questions
@@ -25,7 +25,7 @@ use Rattle.ups_script.specs.Asking.{Asks}
 
 -- What is asked at a moment is answered by the law of the manager; what is refused has its status, and changes nothing.
 abbrev pub Meets : {A : Type 0} → Settings → List (Entry A) → List ℕ → ℕ → Result (Ask A) Status → Reply A → List (Entry A) → Type 0
-Meets settings history ae moment (Ok ask) reply after = Serves settings nobody 0 history ae moment ask reply after
+Meets settings history ae moment (Ok ask) reply after = Serves settings nobody 0 (alone history) ae moment ask reply (alone after)
 Meets settings history ae moment (Err status) reply after = (reply ≡ Answered status) × (after ≡ history)
 
 -- the reply to a message, by the bytes of its data set
@@ -44,9 +44,9 @@ title_of settings history instance = title_at settings history (step_in instance
 -- what each question is told by a history, and the history after it
 abbrev pub TellsOf : {A : Type 0} → Settings → List (Entry A) → List ℕ → ℕ → Question A → Told A → List (Entry A) → Type 0
 TellsOf settings history ae moment (questions.Message operation data_set) (told.Replied reply) after = RepliesToMessage settings history ae moment operation data_set.items reply after
-TellsOf settings history ae moment questions.Sweep (told.Replied reply) after = Serves settings nobody 0 history ae moment (Do Sweep) reply after
-TellsOf settings history ae moment (questions.Pending max) (told.Replied reply) after = Serves settings nobody 0 history ae moment (Pending max) reply after
-TellsOf settings history ae moment (questions.Acknowledge upto) (told.Replied reply) after = Serves settings nobody 0 history ae moment (Do (Ack upto)) reply after
+TellsOf settings history ae moment questions.Sweep (told.Replied reply) after = Serves settings nobody 0 (alone history) ae moment (Do Sweep) reply (alone after)
+TellsOf settings history ae moment (questions.Pending max) (told.Replied reply) after = Serves settings nobody 0 (alone history) ae moment (Pending max) reply (alone after)
+TellsOf settings history ae moment (questions.Acknowledge upto) (told.Replied reply) after = Serves settings nobody 0 (alone history) ae moment (Do (Ack upto)) reply (alone after)
 TellsOf settings history ae moment questions.Watches (told.Watched steps) after = (steps.items ≡ watched settings (past history) ae) × (after ≡ history)
 TellsOf settings history ae moment questions.Held (told.Steps steps) after = (steps.items ≡ held settings (past history)) × (after ≡ history)
 TellsOf settings history ae moment (questions.Holder instance) (told.Holder title) after = (title ≡ title_of settings history instance) × (after ≡ history)

@@ -1,9 +1,11 @@
 //! What a line asks.
 
-ghost use Rattle.std.specs.Prelude.{IfOk};
+ghost use Rattle.std.specs.Prelude.{◌≡◌, ◌<◌, ◌^◌, ◌∷◌, [], ℕ, List, IfOk, IfErr, OnErr};
+ghost use Rattle.std.specs.Option.{option_copied};
+ghost use Rattle.std.specs.Str.Parse.{IsNumeral, digits_value};
 ghost use Rattle.ups_life.specs.Settings.{IsMoment};
-ghost use Rattle.ups_lines.specs.Words.{words_of};
-ghost use Rattle.ups_script.specs.Questions.{AsksAt};
+ghost use Rattle.ups_lines.specs.Words.{words_of, words_left};
+ghost use Rattle.ups_script.specs.Questions.{AsksAt, FailsArguments, IsBad, OnBad};
 
 use crate::limits::MAX_LINE;
 use crate::line::{Heading, Verb};
@@ -178,7 +180,9 @@ fn ending<A: Allocator + Copy>(
 /// The number that the last word is.
 ///
 /// Errors: MissingWord or EmptyWord; Number; ExtraWord.
-fn last_number(mut words: Words<'_>) -> Result<u64, LineReason> {
+fn last_number(mut words: Words<'_>) -> Result<u64, LineReason>
+    ensures { OnErr result ((word : List ℕ) → words_left (option_copied words.entry.rest) ≡ word ∷ [] → IsNumeral 10 word → digits_value 10 word < 2 ^ 64 → ⊥) }
+{
     let number = number_of(words.word()?).ok_or(LineReason::Number)?;
     words.end()?;
     Ok(number)
@@ -191,7 +195,9 @@ fn question_of<A: Allocator + Copy>(
     alloc: A,
     verb: Verb,
     mut words: Words<'_>,
-) -> Result<Question<A>, LineFault> {
+) -> Result<Question<A>, LineFault>
+    ensures { IfErr result (λ fault. OnBad fault (λ _. FailsArguments verb (words_left (option_copied words.entry.rest)))) }
+{
     match verb {
         Verb::Create => {
             let instance = instance_of(alloc, &mut words)?;
@@ -235,7 +241,8 @@ fn question_of<A: Allocator + Copy>(
 ///
 /// Errors: the first of the reasons for which the bytes are no line; lack of memory.
 pub(crate) fn asked_by<A: Allocator + Copy>(alloc: A, bytes: &[u8]) -> Result<Asked<A>, LineFault>
-    ensures { IfOk result (λ asked. AsksAt (words_of bytes.now) asked.moment asked.ae) }
+    ensures asks { IfOk result (λ asked. AsksAt (words_of bytes.now) asked.moment asked.ae) }
+    ensures bad { IfErr result (λ fault. OnBad fault (IsBad bytes.now)) }
 {
     if bytes.len() > MAX_LINE {
         return Err(LineFault::Malformed(LineReason::TooLong));

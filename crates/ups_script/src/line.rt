@@ -1,9 +1,9 @@
 //! How the lines of a script begin: when is asked, by whom and what for.
 
-ghost use Rattle.std.specs.Prelude.{◌≡◌, IfOk, MatchOption};
-ghost use Rattle.std.specs.Option.{IfSome, option_copied};
+ghost use Rattle.std.specs.Prelude.{◌≡◌, ◌∷◌, ℕ, IfOk, IfErr, MatchOption};
+ghost use Rattle.std.specs.Option.{IfSome, IfNone, option_copied};
 ghost use Rattle.ups_life.specs.Settings.{IsMoment};
-ghost use Rattle.ups_script.specs.Questions.{verb_word, IsMomentWord, IsTitleWord, IsHeading};
+ghost use Rattle.ups_script.specs.Questions.{verb_word, IsMomentWord, IsTitleWord, IsHeading, NoMoment, NoTitle, FailsVerb, FailsHeading, OnBad};
 ghost use Rattle.ups_lines.specs.Words.{words_left};
 
 use std::alloc::Allocator;
@@ -90,6 +90,7 @@ pub(crate) struct Heading {
 fn moment_of(word: &[u8]) -> Option<u64>
     ensures moment { IfSome result IsMoment }
     ensures value { IfSome result (IsMomentWord word.now) }
+    ensures none { IfNone result (NoMoment word.now) }
 {
     let moment = number_of(word)?;
     if moment > MAX_MOMENT {
@@ -102,11 +103,23 @@ fn moment_of(word: &[u8]) -> Option<u64>
 ///
 /// Errors: Escape; Title; lack of memory.
 fn title_of<A: Allocator + Copy>(alloc: A, word: &[u8]) -> Result<Ae, LineFault>
-    ensures { IfOk result (IsTitleWord word.now) }
+    ensures title { IfOk result (IsTitleWord word.now) }
+    ensures fault { IfErr result (λ fault. OnBad fault (NoTitle word.now)) }
 {
     let text = Text::of(word).ok_or(LineReason::Escape)?;
     let title = Ae::of(text.bytes(alloc)?.as_slice()).ok_or(LineReason::Title)?;
     Ok(title)
+}
+
+/// The verb that the next word is.
+///
+/// Errors: MissingWord or EmptyWord; Verb.
+fn verb_in(words: &mut Words<'_>) -> Result<Verb, LineReason>
+    ensures verb { IfOk result (λ verb. words_left (option_copied words.old.rest) ≡ verb_word verb ∷ words_left (option_copied words.new.rest)) }
+    ensures fault { IfErr result (FailsVerb (words_left (option_copied words.old.rest))) }
+{
+    let word = words.word()?;
+    Verb::of(word).ok_or(LineReason::Verb)
 }
 
 impl Heading {
@@ -119,10 +132,11 @@ impl Heading {
     ) -> Result<Heading, LineFault>
         ensures moment { IfOk result (λ heading. IsMoment heading.moment) }
         ensures words { IfOk result (λ heading. IsHeading (words_left (option_copied words.old.rest)) heading.moment heading.ae heading.verb (words_left (option_copied words.new.rest))) }
+        ensures fault { IfErr result (λ fault. OnBad fault (FailsHeading (words_left (option_copied words.old.rest)))) }
     {
         let moment = moment_of(words.word()?).ok_or(LineReason::Moment)?;
         let ae = title_of(alloc, words.word()?)?;
-        let verb = Verb::of(words.word()?).ok_or(LineReason::Verb)?;
+        let verb = verb_in(words)?;
         Ok(Heading { moment, ae, verb })
     }
 }

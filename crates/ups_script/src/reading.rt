@@ -2,7 +2,7 @@
 
 ghost use Rattle.std.specs.Prelude.{◌≡◌, ◌≢◌, ◌≤◌, ◌<◌, ℕ, List, Some, Ok, true, false, All, length, take, IfOk, IfErr, OnErr, OnSome};
 ghost use Rattle.std.specs.Io.KnownBytes.{Keeps, Consumes, IsAtEnd};
-ghost use Rattle.ups_script.specs.Lines.{IsLinePart, Lengthens, TakesLine};
+ghost use Rattle.ups_script.specs.Lines.{HasMore, IsLinePart, Lengthens, TakesLine};
 ghost use Rattle.ups_script.specs.Running.{IsReading};
 
 use crate::fault::ScriptFault;
@@ -21,6 +21,7 @@ pub(crate) fn is_interrupted(error: &Error) -> bool {
 fn gives_nothing<R: BufRead>(reader: &mut R) -> Result<Option<bool>, ScriptFault>
     ensures kept { Keeps (R.remaining reader.old) (R.remaining reader.new) }
     ensures end { result ≡ Ok (Some true) → OnSome (R.remaining reader.old) (IsAtEnd (R.remaining reader.new)) }
+    ensures more { result ≡ Ok (Some false) → HasMore (R.remaining reader.old) }
     ensures fault { IfErr result IsReading }
 {
     match reader.fill_buf() {
@@ -41,6 +42,7 @@ fn gives_nothing<R: BufRead>(reader: &mut R) -> Result<Option<bool>, ScriptFault
 pub(crate) fn is_at_end<R: BufRead>(reader: &mut R) -> Result<bool, ScriptFault>
     ensures kept { Keeps (R.remaining reader.old) (R.remaining reader.new) }
     ensures end { result ≡ Ok true → OnSome (R.remaining reader.old) (IsAtEnd (R.remaining reader.new)) }
+    ensures more { result ≡ Ok false → HasMore (R.remaining reader.old) }
     ensures fault { IfErr result IsReading }
 {
     for _ in 0..u64::MAX {

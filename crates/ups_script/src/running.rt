@@ -10,7 +10,7 @@ ghost use Rattle.ups_script.specs.declared.fault.ScriptFault.TheVariants.{Memory
 ghost use Rattle.ups_script.specs.declared.telling.Told.{Told};
 ghost use Rattle.ups_script.specs.Limits.{max_lines};
 ghost use Rattle.ups_script.specs.Printing.{bad_text, line_of};
-ghost use Rattle.ups_script.specs.Questions.{AsksAt};
+ghost use Rattle.ups_script.specs.Questions.{AsksAt, IsBad, OnBad};
 ghost use Rattle.ups_script.specs.Running.{TellsLine, AnswersLine, Leaves, Breaks, Runs};
 ghost use Rattle.ups_script.specs.Telling.{TellsAsked};
 
@@ -56,7 +56,8 @@ fn put_answer<A: Allocator + Copy, W: Write>(
 
 /// What a line asks, of which nothing is kept.
 fn asked_of<A: Allocator + Copy>(alloc: A, line: Vec<u8, A>) -> Result<Asked<A>, LineFault>
-    ensures { IfOk result (λ asked. AsksAt (words_of line.items) asked.moment asked.ae) }
+    ensures asks { IfOk result (λ asked. AsksAt (words_of line.items) asked.moment asked.ae) }
+    ensures bad { IfErr result (λ fault. OnBad fault (IsBad line.items)) }
 {
     asked_by(alloc, &line)
 }

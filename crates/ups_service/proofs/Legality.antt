@@ -54,6 +54,17 @@ numbered : {A : Type 0} (b : Bool) (e : Entry A) → AllByRecursion (λ (x : Ent
 numbered true e = (refl, tt)
 numbered false e = tt
 
+few_by : {A : Type 0} (b : Bool) (e : Entry A) → length (cond b (e ∷ []) []) ≤ 1
+few_by true e = omega arith
+few_by false e = omega arith
+
+-- a call enters one request at most
+pub entered_few : {A : Type 0} (caller : ℕ) (ae : List ℕ) (moment : ℕ) (ask : Ask A) (reply : Reply A) → length (entered caller ae moment ask reply) ≤ 1
+entered_few caller ae moment (Do request) reply = few_by (accepts reply) (entry caller ae moment request)
+entered_few caller ae moment (Get step listed) reply = omega arith
+entered_few caller ae moment (Find keys) reply = omega arith
+entered_few caller ae moment (Pending max) reply = omega arith
+
 pub entered_numbered : {A : Type 0} (caller : ℕ) (ae : List ℕ) (moment : ℕ) (ask : Ask A) (reply : Reply A) → AllByRecursion (λ (e : Entry A). e.caller ≡ caller) (entered caller ae moment ask reply)
 entered_numbered caller ae moment (Do request) reply = numbered (accepts reply) (entry caller ae moment request)
 entered_numbered caller ae moment (Get step listed) reply = tt

@@ -1,1 +1,3 @@
+pub mod Calling
 pub mod Legality
+pub mod OneClaim

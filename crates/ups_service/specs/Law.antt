@@ -1,6 +1,6 @@
 -- The law of a service: what it answers by a history, what it enters there, and what others may enter between.
 -- Histories stand here as they are shown, oldest first.
-use Rattle.std.specs.Prelude.{◌≡◌, ◌≢◌, ◌≤◌, ◌+◌, ◌⊎◌, ℕ, Bool, true, List, [], ◌∷◌, ◌++◌, length, All}
+use Rattle.std.specs.Prelude.{◌≡◌, ◌≢◌, ◌≤◌, ◌+◌, ◌⊎◌, ℕ, nat_lt, Bool, true, List, [], ◌∷◌, ◌++◌, length, All, MatchBool}
 use Rattle.ups_pdu.specs.declared.syntax.TransferSyntax.TheVariants.{Explicit}
 use Rattle.ups_dataset.specs.Data.{El}
 use Rattle.ups_dataset.specs.Written.{written}
@@ -23,6 +23,10 @@ use Rattle.ups_service.specs.Reporting.{reports_to}
 -- each entry was accepted after those before it
 abbrev pub is_legal : {A : Type 0} → Settings → List (Entry A) → Type 0
 is_legal settings history = legal settings (past history) ≡ true
+
+-- a history goes on from what was seen
+abbrev pub BeginsHistory : {A : Type 0} → List (Entry A) → List (Entry A) → Type 0
+BeginsHistory {A} seen log = (rest : List (Entry A)) × (seen ++ rest ≡ log)
 
 -- a request as it is entered: who makes it, for which application entity, and when
 abbrev pub entry : {A : Type 0} → ℕ → List ℕ → ℕ → Request A → Entry A
@@ -74,27 +78,69 @@ abbrev pub MayCome : {A : Type 0} → Others → ℕ → List (Entry A) → Type
 MayCome nobody caller between = between ≡ []
 MayCome {A} callers caller between = All (λ (e : Entry A). e.caller ≢ caller) between
 
--- The reply of a service: the one by the history. Where callers share the service, a caller may be refused instead,
--- whatever is due, since it may make only so many calls: what shares the service says when.
-abbrev pub Replies : {A : Type 0} → Others → Settings → List (Entry A) → ℕ → List ℕ → ℕ → Ask A → Reply A → Type 0
-Replies nobody settings history caller ae moment ask reply = Answers settings history caller ae moment ask reply
-Replies callers settings history caller ae moment ask reply =
-    Answers settings history caller ae moment ask reply ⊎ (reply ≡ Answered (lacking ask))
+-- how many calls a caller may make: any number; or it has made so many, of so many at most
+pub data Allowance : Type 0 where
+  unbounded : Allowance
+  bounded : ℕ → ℕ → Allowance
 
--- One call of a service that had seen a history: others made a legal history of it, as far as they may, the reply is
--- given by that one, and it is seen afterwards, with the call's own request at its end where that was accepted.
-abbrev pub Serves : {A : Type 0} → Settings → Others → ℕ → List (Entry A) → List ℕ → ℕ → Ask A → Reply A → List (Entry A) → Type 0
-Serves {A} settings others caller seen ae moment ask reply after =
-    (between : List (Entry A)) × MayCome others caller between × is_legal settings (seen ++ between)
-    × Replies others settings (seen ++ between) caller ae moment ask reply
-    × (after ≡ (seen ++ between) ++ entered caller ae moment ask reply)
+-- a call is left
+abbrev pub is_left : Allowance → Bool
+is_left unbounded = true
+is_left (bounded made most) = nat_lt made most
+
+-- one call more was made
+abbrev pub one_made : Allowance → Allowance
+one_made unbounded = unbounded
+one_made (bounded made most) = bounded (made + 1) most
+
+-- so many calls more were made
+abbrev pub all_made : ℕ → Allowance → Allowance
+all_made n unbounded = unbounded
+all_made n (bounded made most) = bounded (made + n) most
+
+-- what a caller has of a service: the history that it has seen, and the calls that it may make
+pub record Seen (A : Type 0) : Type 0 where
+  pub history : List (Entry A)
+  pub calls : Allowance
+
+abbrev pub seen_so : {A : Type 0} → List (Entry A) → Allowance → Seen A
+seen_so history calls = record { history = history; calls = calls }
+
+-- who alone has the history may make any number of calls
+abbrev pub alone : {A : Type 0} → List (Entry A) → Seen A
+alone history = seen_so history unbounded
+
+-- A call that was left: by requests of others, as far as they may enter any, a legal history goes on from what the caller
+-- had seen. The reply is the one by that history, which is seen afterwards, with the call's own request at its end where
+-- that was accepted; and one call more was made.
+abbrev pub Grants : {A : Type 0} → Settings → Others → ℕ → Seen A → List ℕ → ℕ → Ask A → Reply A → Seen A → Type 0
+Grants {A} settings others caller seen ae moment ask reply after =
+    (between : List (Entry A)) × MayCome others caller between × is_legal settings (seen.history ++ between)
+    × Answers settings (seen.history ++ between) caller ae moment ask reply
+    × (after ≡ seen_so ((seen.history ++ between) ++ entered caller ae moment ask reply) (one_made seen.calls))
+
+-- a call that was not left is refused, whatever is due, and nothing more is seen
+abbrev pub Refuses : {A : Type 0} → Seen A → Ask A → Reply A → Seen A → Type 0
+Refuses seen ask reply after = (reply ≡ Answered (lacking ask)) × (after ≡ seen)
+
+-- one call of a service
+abbrev pub Serves : {A : Type 0} → Settings → Others → ℕ → Seen A → List ℕ → ℕ → Ask A → Reply A → Seen A → Type 0
+Serves settings others caller seen ae moment ask reply after =
+    MatchBool (is_left seen.calls) (Grants settings others caller seen ae moment ask reply after) (Refuses seen ask reply after)
 
 -- calls of one application entity, one after another: each ask at its moment has its reply
-abbrev pub Calls : {A : Type 0} → Settings → Others → ℕ → List (Entry A) → List ℕ → List (Ask A) → List ℕ → List (Reply A) → List (Entry A) → Type 0
+abbrev pub Calls : {A : Type 0} → Settings → Others → ℕ → Seen A → List ℕ → List (Ask A) → List ℕ → List (Reply A) → Seen A → Type 0
 Calls settings others caller seen ae [] [] [] after = after ≡ seen
 Calls {A} settings others caller seen ae (ask ∷ asks) (moment ∷ moments) (reply ∷ replies) after =
-    (then : List (Entry A)) × Serves settings others caller seen ae moment ask reply then × Calls settings others caller then ae asks moments replies after
+    (then : Seen A) × Serves settings others caller seen ae moment ask reply then × Calls settings others caller then ae asks moments replies after
 Calls settings others caller seen ae asks moments replies after = ⊥
+
+-- the same of calls that were all left
+abbrev pub AllGranted : {A : Type 0} → Settings → Others → ℕ → Seen A → List ℕ → List (Ask A) → List ℕ → List (Reply A) → Seen A → Type 0
+AllGranted settings others caller seen ae [] [] [] after = after ≡ seen
+AllGranted {A} settings others caller seen ae (ask ∷ asks) (moment ∷ moments) (reply ∷ replies) after =
+    (then : Seen A) × Grants settings others caller seen ae moment ask reply then × AllGranted settings others caller then ae asks moments replies after
+AllGranted settings others caller seen ae asks moments replies after = ⊥
 
 -- no more bytes than a row may have: what is created, set or canceled leaves the limit at most, and each of two changes
 -- of state adds 20 at most

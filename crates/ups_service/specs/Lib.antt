@@ -1,2 +1,3 @@
+pub mod Claiming
 pub mod Law
 pub mod Reporting

@@ -5,13 +5,12 @@ use ups_life::{Ask, Reply};
 use ups_pdu::Ae;
 
 /// What answers a session: a manager, or a pass to one that others share. It has what was fixed at the start,
-/// the number of the caller that it stands for, and the history that it has seen.
+/// the number of the caller that it stands for, the history that it has seen, and the calls that it may make.
 pub trait Service<A: Allocator + Copy> {
-    ghost use Rattle.std.specs.Prelude.{◌≡◌, ℕ, List, true, is_some};
+    ghost use Rattle.std.specs.Prelude.{◌≡◌, ℕ, true, is_some};
     ghost use Rattle.std.specs.Option.{IfSome};
-    ghost use Rattle.ups_life.specs.declared.entry.Entry.{Entry};
     ghost use Rattle.ups_life.specs.Settings.{Settings, IsMoment};
-    ghost use Rattle.ups_service.specs.Law.{Others, Serves, SmallReply};
+    ghost use Rattle.ups_service.specs.Law.{Others, Seen, Serves, SmallReply};
 
     ghost settings: { Self → Settings };
 
@@ -20,7 +19,9 @@ pub trait Service<A: Allocator + Copy> {
 
     ghost caller: { Self → ℕ };
 
-    ghost seen: { Self → List (Entry A) };
+    /// The history that it has seen, and how many calls it may make. While one is left each reply is the one by
+    /// the history.
+    ghost seen: { Self → Seen A };
 
     /// Takes an ask from its place and answers it, as `call` does. The ask is not passed by value, since the
     /// toolchain proves no impl yet whose method takes a value that is generic in its allocator.

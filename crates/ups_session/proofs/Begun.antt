@@ -5,8 +5,7 @@ use Rattle.ups_ulstate.specs.declared.state.UlEvent.TheVariants.{AssociateReques
 use Rattle.ups_pdu.specs.declared.pdu.Pdu.TheVariants.{AssociateRq}
 use Rattle.ups_assoc.specs.declared.negotiating.Config.{Config}
 use Rattle.ups_life.specs.Settings.{Settings}
-use Rattle.ups_life.specs.declared.entry.Entry.{Entry}
-use Rattle.ups_service.specs.Law.{Others}
+use Rattle.ups_service.specs.Law.{Others, Seen}
 use Rattle.ups_session.specs.declared.fault.End.TheVariants.{Closed}
 use Rattle.ups_session.specs.declared.fault.SessionFault.{SessionFault}
 use Rattle.ups_session.specs.Delivery.{DeliveryView}
@@ -27,7 +26,7 @@ abbrev connecting : {A : Type 0} → DeliveryView A
 connecting = record { association = record { state = Sta4; established = None; ending = Closed }; ahead = []; in_flight = None; sent = 0 }
 
 -- it connects, and sends the A-ASSOCIATE-RQ
-pub begins : {A Y : Type 0} (config : Config) (ae : List ℕ) (c0 c1 : Output) (m0 m1 : Told) (s : Settings) (o : Others) (k : ℕ) (seen : List (Entry A)) (r : Result Y SessionFault)
+pub begins : {A Y : Type 0} (config : Config) (ae : List ℕ) (c0 c1 : Output) (m0 m1 : Told) (s : Settings) (o : Others) (k : ℕ) (seen : Seen A) (r : Result Y SessionFault)
     → SendsPdus {A = A} (AssociateRq (association_request config.ae ae) ∷ []) c0 c1 m0 m1 r
     → Performed (Happens (requestor {A = A} config ae)) (event AssociateRequest ∷ event TransportConfirmed ∷ []) unconnected proposed (world c0 m0 s o k seen) (world c1 m1 s o k seen) r
 begins {A} config ae c0 c1 m0 m1 s o k seen r is =

@@ -2,7 +2,6 @@
 use Rattle.std.proofs.Common.{◌≡◌, ℕ, List, [], ◌∷◌, ◌++◌, Result, Ok, Err, refl, sym, ap, ◌∙◌, subst, inr}
 use Rattle.std.proofs.KnownBytes.{Appends-nil, Appends-trans}
 use Rattle.ups_life.specs.Settings.{Settings}
-use Rattle.ups_life.specs.declared.entry.Entry.{Entry}
 use Rattle.ups_life.specs.declared.request.Reply.{Reply}
 use Rattle.ups_session.specs.declared.fault.SessionFault.{SessionFault}
 use Rattle.ups_session.specs.declared.fault.SessionFault.TheVariants.{Memory}
@@ -11,15 +10,15 @@ use Rattle.ups_pdu.specs.declared.pdu.Pdu.{Pdu}
 use Rattle.ups_session.specs.Tells.{Tells}
 use Rattle.ups_session.specs.Visits.{calls_of, moments_of, pdus_of, Sends}
 use Rattle.ups_session.specs.Fold.{Asked, Exchange, silence, joined_exchanges, Chain}
-use Rattle.ups_service.specs.Law.{Others}
+use Rattle.ups_service.specs.Law.{Others, Seen}
 use Rattle.ups_session.specs.World.{World, ServesAll, IsDone, Performed}
 use Rattle.ups_session.proofs.Chains.{chain_on, chain_none}
 use Rattle.ups_session.proofs.Spoken.{prefix_after, prefix_of, prefix_trans, calls-append, moments-append, pdus-append, sends_on}
 use Rattle.ups_session.proofs.Telling.{Tells-nil, Tells-trans}
 
-pub ServesAll-append : {A : Type 0} (s : Settings) (o : Others) (c : ℕ) (s0 s1 s2 : List (Entry A)) (us : List (Asked A)) (ms : List ℕ) (rs : List (Reply A)) (bs : List (Asked A)) (ns : List ℕ) (qs : List (Reply A))
+pub ServesAll-append : {A : Type 0} (s : Settings) (o : Others) (c : ℕ) (s0 s1 s2 : Seen A) (us : List (Asked A)) (ms : List ℕ) (rs : List (Reply A)) (bs : List (Asked A)) (ns : List ℕ) (qs : List (Reply A))
     → ServesAll s o c s0 us ms rs s1 → ServesAll s o c s1 bs ns qs s2 → ServesAll s o c s0 (us ++ bs) (ms ++ ns) (rs ++ qs) s2
-ServesAll-append {A} s o c s0 s1 s2 [] [] [] bs ns qs p q = subst (λ (seen : List (Entry A)). ServesAll s o c seen bs ns qs s2) p q
+ServesAll-append {A} s o c s0 s1 s2 [] [] [] bs ns qs p q = subst (λ (seen : Seen A). ServesAll s o c seen bs ns qs s2) p q
 ServesAll-append s o c s0 s1 s2 (a ∷ us) (m ∷ ms) (r ∷ rs) bs ns qs (mid, p, ps) q = (mid, p, ServesAll-append s o c mid s1 s2 us ms rs bs ns qs ps q)
 ServesAll-append s o c s0 s1 s2 [] [] (r ∷ rs) bs ns qs p q = absurd p
 ServesAll-append s o c s0 s1 s2 [] (m ∷ ms) [] bs ns qs p q = absurd p
@@ -28,7 +27,7 @@ ServesAll-append s o c s0 s1 s2 (a ∷ us) [] [] bs ns qs p q = absurd p
 ServesAll-append s o c s0 s1 s2 (a ∷ us) [] (r ∷ rs) bs ns qs p q = absurd p
 ServesAll-append s o c s0 s1 s2 (a ∷ us) (m ∷ ms) [] bs ns qs p q = absurd p
 
-pub ServesAll-more : {A : Type 0} (s t : Settings) (o p : Others) (c d : ℕ) (s0 s1 s2 : List (Entry A)) (us : List (Asked A)) (ms : List ℕ) (rs : List (Reply A)) (bs : List (Asked A)) (ns : List ℕ) (qs : List (Reply A))
+pub ServesAll-more : {A : Type 0} (s t : Settings) (o p : Others) (c d : ℕ) (s0 s1 s2 : Seen A) (us : List (Asked A)) (ms : List ℕ) (rs : List (Reply A)) (bs : List (Asked A)) (ns : List ℕ) (qs : List (Reply A))
     → t ≡ s → p ≡ o → d ≡ c → ServesAll s o c s0 us ms rs s1 → ServesAll t p d s1 bs ns qs s2 → ServesAll s o c s0 (us ++ bs) (ms ++ ns) (rs ++ qs) s2
 ServesAll-more {A} s t o p c d s0 s1 s2 us ms rs bs ns qs same shared one first then =
     let kept : ServesAll t p c s1 bs ns qs s2 = subst (λ (y : ℕ). ServesAll t p y s1 bs ns qs s2) one then in

@@ -2,9 +2,8 @@
 use Rattle.std.proofs.Common.{◌≡◌, ℕ, List, [], ◌∷◌, refl, sym, ◌∙◌, append-nil, subst, Some, None, Result, Ok, Err, OnOk}
 use Rattle.ups_pdu.specs.declared.pdu.Pdu.{Pdu}
 use Rattle.ups_life.specs.Settings.{Settings}
-use Rattle.ups_life.specs.declared.entry.Entry.{Entry}
 use Rattle.ups_life.specs.declared.request.Reply.{Reply}
-use Rattle.ups_service.specs.Law.{Others, Serves}
+use Rattle.ups_service.specs.Law.{Others, Seen, Serves}
 use Rattle.ups_session.specs.declared.fault.SessionFault.{SessionFault}
 use Rattle.ups_session.specs.declared.gate.GateCall.TheVariants.{Moment}
 use Rattle.ups_session.specs.Fold.{Asked, Indication, Exchange, Reaction, Side, Happens}
@@ -21,14 +20,14 @@ use Rattle.ups_session.proofs.Spoken.{stopping, says_lost}
 use Rattle.ups_session.proofs.Telling.{Tells-trans}
 
 -- the service stands for the same as before
-ServesAll-at : {A : Type 0} (s t : Settings) (o p : Others) (k l : ℕ) (seen after : List (Entry A)) (asks : List (Asked A)) (moments : List ℕ) (replies : List (Reply A)) → t ≡ s → p ≡ o → l ≡ k
+ServesAll-at : {A : Type 0} (s t : Settings) (o p : Others) (k l : ℕ) (seen after : Seen A) (asks : List (Asked A)) (moments : List ℕ) (replies : List (Reply A)) → t ≡ s → p ≡ o → l ≡ k
     → ServesAll t p l seen asks moments replies after → ServesAll s o k seen asks moments replies after
 ServesAll-at {A} s t o p k l seen after asks moments replies same shared one is =
     subst (λ (x : Settings). ServesAll x o k seen asks moments replies after) same
     (subst (λ (x : Others). ServesAll t x k seen asks moments replies after) shared (subst (λ (x : ℕ). ServesAll t p x seen asks moments replies after) one is))
 
 -- nothing is asked, and what is due is said, or a beginning of it
-pub settled_said : {A L W Y : Type 0} (side : Side A L W) (reaction : Reaction A L W) (after : L) (c0 c1 : Output) (m0 m1 : Told) (s : Settings) (o : Others) (k : ℕ) (seen : List (Entry A)) (r : Result Y SessionFault)
+pub settled_said : {A L W Y : Type 0} (side : Side A L W) (reaction : Reaction A L W) (after : L) (c0 c1 : Output) (m0 m1 : Told) (s : Settings) (o : Others) (k : ℕ) (seen : Seen A) (r : Result Y SessionFault)
     → reaction.waiting ≡ None → OnOk r (reaction.association ≡ after) → SendsPdus reaction.send c0 c1 m0 m1 r → IsSettled side reaction after (world c0 m0 s o k seen) (world c1 m1 s o k seen) r
 settled_said {A} side reaction after c0 c1 m0 m1 s o k seen r silent done is = record {
   replies = [];
@@ -49,7 +48,7 @@ settled_said {A} side reaction after c0 c1 m0 m1 s o k seen r silent done is = r
 }
 
 -- memory ran out before it was said
-pub settled_lost : {A L W Y : Type 0} (side : Side A L W) (reaction : Reaction A L W) (after : L) (c : Output) (m : Told) (s : Settings) (o : Others) (k : ℕ) (seen : List (Entry A)) → reaction.waiting ≡ None
+pub settled_lost : {A L W Y : Type 0} (side : Side A L W) (reaction : Reaction A L W) (after : L) (c : Output) (m : Told) (s : Settings) (o : Others) (k : ℕ) (seen : Seen A) → reaction.waiting ≡ None
     → IsSettled side reaction after (world c m s o k seen) (world c m s o k seen) (stopping {Y = Y} Memory)
 settled_lost side reaction after c m s o k seen silent = settled_said side reaction after c c m m s o k seen (stopping Memory) silent tt (says_lost reaction.send c m)
 
@@ -58,7 +57,7 @@ on_ok l (Ok y) = refl
 on_ok l (Err e) = tt
 
 -- something is asked, and then what the reply comes to
-pub settled_asked : {A L W Y : Type 0} (side : Side A L W) (association after : L) (waiting : W) (m : ℕ) (q : Reply A) (next : Reaction A L W) (c0 : Output) (m0 m1 : Told) (s s1 : Settings) (o o1 : Others) (k k1 : ℕ) (seen seen1 : List (Entry A)) (w : World A) (r : Result Y SessionFault)
+pub settled_asked : {A L W Y : Type 0} (side : Side A L W) (association after : L) (waiting : W) (m : ℕ) (q : Reply A) (next : Reaction A L W) (c0 : Output) (m0 m1 : Told) (s s1 : Settings) (o o1 : Others) (k k1 : ℕ) (seen seen1 : Seen A) (w : World A) (r : Result Y SessionFault)
     → Tells m0 m1 (Moment m ∷ []) → s1 ≡ s → o1 ≡ o → k1 ≡ k → Serves s o k seen (side.asked waiting).ae m (side.asked waiting).ask q seen1
     → side.OnReply association waiting q next → IsSettled side next after (world c0 m1 s1 o1 k1 seen1) w r
     → IsSettled side (record { association = association; send = []; waiting = Some waiting }) after (world c0 m0 s o k seen) w r
@@ -111,7 +110,7 @@ performed_settled {A} side from after h reaction u v r reacts is =
     }
 
 -- a side that only says something
-pub performed_said : {A L W C Y : Type 0} (side : Side A L W) (waits : C → W) (from after : L) (h : Indication A) (effect : Effect A C) (said : List (Pdu A)) (c0 c1 : Output) (m0 m1 : Told) (s : Settings) (o : Others) (k : ℕ) (seen : List (Entry A)) (r : Result Y SessionFault)
+pub performed_said : {A L W C Y : Type 0} (side : Side A L W) (waits : C → W) (from after : L) (h : Indication A) (effect : Effect A C) (said : List (Pdu A)) (c0 c1 : Output) (m0 m1 : Told) (s : Settings) (o : Others) (k : ℕ) (seen : Seen A) (r : Result Y SessionFault)
     → side.Reacts from h (reaction_with waits after effect) → awaited_by waits effect ≡ None → said_by effect ≡ said → SendsPdus said c0 c1 m0 m1 r
     → Performed (Happens side) (h ∷ []) from after (world c0 m0 s o k seen) (world c1 m1 s o k seen) r
 performed_said {A} side waits from after h effect said c0 c1 m0 m1 s o k seen r reacts silent says is =

@@ -156,8 +156,10 @@ Assembles d established released (more begun) reaction = reaction ≡ saying (wi
 Assembles d established released (whole message) reaction = Understands (with_association d (with_begun d.association established Nothing)) released message reaction
 Assembles d established released (fault why) reaction = reaction ≡ along d (aborting true (with_begun d.association established Failed))
 
+-- Where nothing is agreed on, each fragment is on a context that wasn't accepted, and the association is aborted, as any
+-- is upon such a fragment (PS3.8 section 9.3.5.1, annex D).
 abbrev pub Receives : {A : Type 0} → DeliveryView A → Option (EstablishedView A) → Bool → Pdv A → DeliveryReaction A → Type 0
-Receives d None released pdv reaction = reaction ≡ saying d []
+Receives d None released pdv reaction = reaction ≡ along d (aborting true d.association)
 Receives d (Some established) released pdv reaction = Assembles d established released (fed established.assembler.ids established.assembler.begun pdv) reaction
 
 abbrev pub OnFragment : {A : Type 0} → DeliveryView A → Pdv A → Option (UlAction × UlState) → DeliveryReaction A → Type 0

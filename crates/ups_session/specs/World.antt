@@ -2,9 +2,8 @@
 use Rattle.std.specs.Prelude.{◌≡◌, ℕ, List, [], ◌∷◌, Result, Ok, Err}
 use Rattle.std.specs.Io.KnownBytes.{Appends}
 use Rattle.ups_life.specs.Settings.{Settings}
-use Rattle.ups_life.specs.declared.entry.Entry.{Entry}
 use Rattle.ups_life.specs.declared.request.Reply.{Reply}
-use Rattle.ups_service.specs.Law.{Others, Serves}
+use Rattle.ups_service.specs.Law.{Others, Seen, Grants, Serves}
 use Rattle.ups_session.specs.declared.fault.SessionFault.{SessionFault}
 use Rattle.ups_session.specs.Tells.{Told, Tells}
 use Rattle.ups_session.specs.WatchedIo.{Output}
@@ -19,17 +18,24 @@ pub record World (A : Type 0) : Type 0 where
   pub settings : Settings
   pub others : Others
   pub caller : ℕ
-  pub seen : List (Entry A)
+  pub seen : Seen A
 
-abbrev pub world : {A : Type 0} → Output → Told → Settings → Others → ℕ → List (Entry A) → World A
+abbrev pub world : {A : Type 0} → Output → Told → Settings → Others → ℕ → Seen A → World A
 world output told settings others caller seen = record { output = output; told = told; settings = settings; others = others; caller = caller; seen = seen }
 
 -- the service answered these asks, one after the other, each at its moment, with these replies
-abbrev pub ServesAll : {A : Type 0} → Settings → Others → ℕ → List (Entry A) → List (Asked A) → List ℕ → List (Reply A) → List (Entry A) → Type 0
+abbrev pub ServesAll : {A : Type 0} → Settings → Others → ℕ → Seen A → List (Asked A) → List ℕ → List (Reply A) → Seen A → Type 0
 ServesAll settings others caller seen [] [] [] after = after ≡ seen
 ServesAll {A} settings others caller seen (asked ∷ asks) (moment ∷ moments) (reply ∷ replies) after =
-    (then : List (Entry A)) × Serves settings others caller seen asked.ae moment asked.ask reply then × ServesAll settings others caller then asks moments replies after
+    (then : Seen A) × Serves settings others caller seen asked.ae moment asked.ask reply then × ServesAll settings others caller then asks moments replies after
 ServesAll settings others caller seen asks moments replies after = ⊥
+
+-- the same where a call was left for each of them
+abbrev pub GrantsAll : {A : Type 0} → Settings → Others → ℕ → Seen A → List (Asked A) → List ℕ → List (Reply A) → Seen A → Type 0
+GrantsAll settings others caller seen [] [] [] after = after ≡ seen
+GrantsAll {A} settings others caller seen (asked ∷ asks) (moment ∷ moments) (reply ∷ replies) after =
+    (then : Seen A) × Grants settings others caller seen asked.ae moment asked.ask reply then × GrantsAll settings others caller then asks moments replies after
+GrantsAll settings others caller seen asks moments replies after = ⊥
 
 -- all of it was processed, or the first of it
 abbrev pub IsDone : {L X Y : Type 0} → L → L → List X → List X → Result Y SessionFault → Type 0

@@ -489,7 +489,8 @@ impl<A: Allocator + Copy> Delivery<A> {
         }
     }
 
-    /// Processes a PDV in a state in which messages are received.
+    /// Processes a PDV in a state in which messages are received. Where nothing is agreed on, it is on a context that
+    /// wasn't accepted, and the association is aborted.
     ///
     /// Errors: out of memory.
     fn receive(
@@ -506,7 +507,7 @@ impl<A: Allocator + Copy> Delivery<A> {
     {
         match self.association.established.take() {
             Some(established) => self.assemble(alloc, released, established, pdv),
-            None => Ok(Effect::Send(Vec::new(alloc))),
+            None => Ok(Effect::Send(self.abort(alloc)?)),
         }
     }
 

@@ -14,6 +14,7 @@ mod effect;
 mod fault;
 mod gate;
 mod indication;
+pub mod laws;
 mod party;
 mod pdu_io;
 mod proposing;

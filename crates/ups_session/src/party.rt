@@ -1,6 +1,6 @@
 //! A party of an association: its requestor or its acceptor.
 
-ghost use Rattle.std.specs.Prelude.{◌≡◌, ◌∷◌, [], true, is_some, ℕ, List, IfOk, IfErr, OnOk, MatchOption};
+ghost use Rattle.std.specs.Prelude.{◌≡◌, ◌∷◌, [], true, is_some, ℕ, IfOk, IfErr, OnOk, MatchOption};
 
 use crate::effect::Effect;
 use crate::fault::{End, SessionFault};
@@ -15,8 +15,7 @@ use ups_service::Service;
 pub(crate) trait Party<A: Allocator + Copy> {
     ghost use Rattle.std.specs.Option.{IfSome};
     ghost use Rattle.ups_life.specs.Settings.{Settings};
-    ghost use Rattle.ups_life.specs.declared.entry.Entry.{Entry};
-    ghost use Rattle.ups_service.specs.Law.{Others};
+    ghost use Rattle.ups_service.specs.Law.{Others, Seen};
     ghost use Rattle.ups_session.specs.declared.fault.End.{End};
     ghost use Rattle.ups_session.specs.declared.fault.SessionFault.TheVariants.{Memory};
     ghost use Rattle.ups_session.specs.Fold.{Side, Happens, IsOpen};
@@ -71,7 +70,7 @@ pub(crate) trait Party<A: Allocator + Copy> {
     ) -> Result<(), SessionFault>
         requires start { view self.old ≡ start }
         requires ready { is_ready self.old }
-        ensures begins { (settings : Settings) → (others : Others) → (caller : ℕ) → (seen : List (Entry A)) → Performed (Happens (side (setup self.old))) (side (setup self.old)).first start (view self.new)
+        ensures begins { (settings : Settings) → (others : Others) → (caller : ℕ) → (seen : Seen A) → Performed (Happens (side (setup self.old))) (side (setup self.old)).first start (view self.new)
             (world writer.old (G.told gate.old) settings others caller seen) (world writer.new (G.told gate.new) settings others caller seen) result }
         ensures open { OnOk result (IsOpen ((side (setup self.old)).state (view self.new))) }
         ensures ready { OnOk result (is_ready self.new) }

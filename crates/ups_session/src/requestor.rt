@@ -5,8 +5,7 @@ ghost use Rattle.std.specs.Io.KnownBytes.{Consumes};
 ghost use Rattle.ups_ulstate.specs.declared.state.UlEvent.TheVariants.{AssociateRequest, TransportConfirmed};
 ghost use Rattle.ups_assoc.specs.declared.negotiating.Config.{Config};
 ghost use Rattle.ups_life.specs.Settings.{Settings};
-ghost use Rattle.ups_life.specs.declared.entry.Entry.{Entry};
-ghost use Rattle.ups_service.specs.Law.{Others};
+ghost use Rattle.ups_service.specs.Law.{Others, Seen};
 ghost use Rattle.ups_session.specs.declared.delivery.DeliveryCall.TheVariants.{Pendings, Acknowledgement};
 ghost use Rattle.ups_session.specs.Fold.{event as happened, Happens};
 ghost use Rattle.ups_session.specs.Requestor.{awaiting, requestor, unconnected, proposed};
@@ -112,7 +111,7 @@ fn propose<A: Allocator + Copy, W: Write, G: Gate>(
     writer: &mut WatchedWriter<W>,
     gate: &mut G,
 ) -> Result<(), SessionFault>
-    ensures { (settings : Settings) → (others : Others) → (caller : ℕ) → (seen : List (Entry A)) → Performed (Happens (requestor config.now ae)) (happened AssociateRequest ∷ happened TransportConfirmed ∷ []) unconnected proposed
+    ensures { (settings : Settings) → (others : Others) → (caller : ℕ) → (seen : Seen A) → Performed (Happens (requestor config.now ae)) (happened AssociateRequest ∷ happened TransportConfirmed ∷ []) unconnected proposed
         (world writer.old (G.told gate.old) settings others caller seen) (world writer.new (G.told gate.new) settings others caller seen) result }
 {
     let Ok(request) = association_request(alloc, config.ae, ae) else {

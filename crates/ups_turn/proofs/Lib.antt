@@ -3,6 +3,7 @@ mod Sums
 mod Prefixes
 mod Steps
 mod Turns
+mod Served
 mod Meets
 mod Opens
 mod Closes

@@ -12,11 +12,11 @@ use Rattle.atomic_table.specs.Table.{opening}
 use Rattle.atomic_table.specs.Seated.{TableId}
 use Rattle.ups_life.specs.declared.entry.Entry.{Entry}
 use Rattle.ups_manager.specs.State.{State}
-use Rattle.ups_service.specs.Law.{is_legal}
+use Rattle.ups_service.specs.Law.{is_legal, BeginsHistory}
 use Rattle.ups_turn.specs.declared.view.Part.{Part}
 use Rattle.ups_turn.specs.declared.view.View.{View}
 use Rattle.ups_turn.specs.declared.view.Opening.{Opening}
-use Rattle.ups_turn.specs.Rule.{Kept, FitsView, Behind, BeginsHistory, IsPassNumber, settings_of, one_if, tickets, turns, draws, passes, count_numbered, between, parts_from, opening_view, first_view}
+use Rattle.ups_turn.specs.Rule.{Kept, FitsView, Behind, IsPassNumber, settings_of, one_if, tickets, turns, draws, passes, count_numbered, between, parts_from, opening_view, first_view}
 use Rattle.ups_turn.specs.Plays.{kept_back, dealt}
 use Rattle.ups_turn.specs.Pass.{are_seats, most_seats, fresh, passes_from, resting}
 

@@ -5,10 +5,10 @@ use Rattle.std.proofs.lemmas.Bool.Decides.{nat_tests}
 use Rattle.std.proofs.lemmas.List.{append_assoc}
 use Rattle.std.proofs.lemmas.List.Elements.{All-nil, All-cons, All-head, All-tail}
 use Rattle.ups_life.specs.declared.entry.Entry.{Entry}
-use Rattle.ups_service.specs.Law.{is_legal}
+use Rattle.ups_service.specs.Law.{is_legal, BeginsHistory}
 use Rattle.ups_service.proofs.Legality.{beginning_legal}
 use Rattle.ups_turn.specs.declared.view.Part.{Part}
-use Rattle.ups_turn.specs.Rule.{Behind, BeginsHistory}
+use Rattle.ups_turn.specs.Rule.{Behind}
 use Rattle.ups_turn.specs.Plays.{longer, longest, CaughtUp}
 use Rattle.ups_life.specs.Settings.{Settings}
 

@@ -13,12 +13,12 @@ use lib.ListN.{get_elem?}
 use Rattle.atomic_table.specs.Table.{State as Table, Allows, Step, Act, Valid, carried_after, keeps, takes, gives, stepped, put_back, rest}
 use Rattle.ups_life.specs.declared.entry.Entry.{Entry}
 use Rattle.ups_manager.specs.State.{State}
-use Rattle.ups_service.specs.Law.{is_legal}
+use Rattle.ups_service.specs.Law.{is_legal, BeginsHistory}
 use Rattle.ups_service.proofs.Legality.{legal_within}
 use Rattle.ups_turn.specs.declared.view.Part.{Part}
 use Rattle.ups_turn.specs.declared.view.View.{View}
 use Rattle.ups_turn.specs.declared.view.Opening.{Opening}
-use Rattle.ups_turn.specs.Rule.{Kept, FitsView, Slot, Behind, BeginsHistory, IsPassNumber, EnteredByPasses, settings_of, manager_state, is_mine, one_if, tickets, turns, draws, passes, count_numbered, between}
+use Rattle.ups_turn.specs.Rule.{Kept, FitsView, Slot, Behind, IsPassNumber, EnteredByPasses, settings_of, manager_state, is_mine, one_if, tickets, turns, draws, passes, count_numbered, between}
 use Rattle.ups_turn.specs.Plays.{Knows, with_ticket, seeing, at_turn, served, Draws, Looks, history_in, Decides, ServesNext, HasTurn}
 use Rattle.ups_turn.proofs.Sums.{total_set, total_least, total_two, total_within, total_some, total_same, each_set}
 

@@ -1,8 +1,7 @@
 -- What the steps of a turn come to, one after the other.
-use Rattle.std.proofs.Common.{inl, inr, ◌≡◌, ℕ, ◌+◌, Bool, true, false, nat_lt, List, [], ◌∷◌, ◌++◌, length, Some, None, refl, sym, ap, ◌∙◌, subst}
-use Rattle.std.specs.Prelude.{Option, MatchBool, ◌≢◌}
-use Rattle.std.proofs.lemmas.List.{append-nil}
-use Rattle.std.proofs.lemmas.List.Elements.{All-nil, All-head, All-from_recursion}
+use Rattle.std.proofs.Common.{◌≡◌, ℕ, ◌+◌, ◌≤◌, true, List, [], ◌∷◌, ◌++◌, length, Some, None, refl, sym, ap, ◌∙◌, subst}
+use Rattle.std.specs.Prelude.{Option}
+use Rattle.std.proofs.lemmas.List.Elements.{All-head, All-from_recursion}
 use Rattle.atomic_table.specs.Table.{rest}
 use Rattle.atomic_table.specs.Seated.{TableId}
 use Rattle.ups_life.specs.declared.entry.Entry.{Entry}
@@ -10,11 +9,11 @@ use Rattle.ups_life.specs.declared.request.Ask.{Ask}
 use Rattle.ups_life.specs.declared.request.Reply.{Reply}
 use Rattle.ups_life.specs.Settings.{Settings}
 use Rattle.ups_manager.specs.State.{State}
-use Rattle.ups_service.specs.Law.{callers, Serves as Law, Answers, entered, is_legal}
-use Rattle.ups_service.proofs.Legality.{entered_numbered, lacking_enters_nothing}
+use Rattle.ups_service.specs.Law.{Answers, entered, is_legal}
+use Rattle.ups_service.proofs.Legality.{entered_few, entered_numbered}
 use Rattle.ups_turn.specs.Rule.{Behind, manager_state}
 use Rattle.ups_turn.specs.Plays.{Knows, with_ticket, at_turn, served, TakesTurn, Took, MayGive, MayDecide, MayServe, seeing, history_in}
-use Rattle.ups_turn.specs.Pass.{Standing, resting, most_calls, IsServed, IsSpent, IsCall}
+use Rattle.ups_turn.specs.Pass.{resting, IsServed}
 
 module _ {A : Type 0} where
   -- the value that was taken last
@@ -68,6 +67,7 @@ module _ {A : Type 0} where
       holds = refl;
       manager_is = manager_after;
       counted = counted;
+      few = subst (λ (k : ℕ). k ≤ 1) counted (entered_few number ae moment ask reply);
       own = All-from_recursion (λ (e : Entry A). e.caller ≡ number) (entered number ae moment ask reply) (entered_numbered number ae moment ask reply);
       legal = subst (λ (x : State A). is_legal x.settings x.history) manager_after legal;
     })
@@ -99,6 +99,7 @@ module _ {A : Type 0} where
     added = may.added;
     has = record { turn = may.turn; parts = may.parts; holds = λ i. (0, Some (may.manager_is i)) ∷ rest (may.holds i) };
     counted = may.counted;
+    few = may.few;
     own = may.own;
     legal = may.legal;
   })
@@ -109,27 +110,3 @@ module _ {A : Type 0} where
       let now : last ≡ (at_turn me.0 true m.history, (0, Some m) ∷ rest me.1) = decided ∙ ap (λ (g : Knows A). (at_turn g.0 true (history_in g.1), g.1)) is in
       let whole : m ≡ manager_state me.0.settings m.history = may.manager_is ∙ ap (manager_state me.0.settings) (sym (ap (λ (x : State A). x.history) may.manager_is)) in
       subst (λ (g : Knows A). MayServe g) (sym now) (record { number = may.number; seen = m.history; has = record { turn = refl; parts = ap (seeing m.history) may.parts; holds = λ i. (0, Some (whole i)) ∷ rest (may.holds i) } })
-
-  -- each call of a pass is one of a service that callers share
-  pub call_serves : (old : Standing A) (ae : List ℕ) (moment : ℕ) (ask : Ask A) (reply : Reply A) (new : Standing A) → is_legal old.settings old.seen → IsCall old ae moment ask reply new
-      → (new.settings ≡ old.settings) × (new.number ≡ old.number) × (new.table ≡ old.table) × Law old.settings callers old.number old.seen ae moment ask reply new.seen
-  call_serves old ae moment ask reply new legal called = at (nat_lt old.calls most_calls) called
-    where
-      at : (b : Bool) → MatchBool b (IsServed old ae moment ask reply new) (IsSpent old ask reply new)
-          → (new.settings ≡ old.settings) × (new.number ≡ old.number) × (new.table ≡ old.table) × Law old.settings callers old.number old.seen ae moment ask reply new.seen
-      at true turn = (turn.same.1, turn.same.2, turn.same.0, (turn.between, turn.others, turn.legal, inl turn.answers, turn.seen))
-      at false spent =
-          let same = spent.1 in
-          let none = sym (append-nil old.seen) in
-          let nothing = lacking_enters_nothing old.number ae moment ask in (
-            ap (λ (p : Standing A). p.settings) same,
-            ap (λ (p : Standing A). p.number) same,
-            ap (λ (p : Standing A). p.table) same,
-            (
-              [],
-              All-nil (λ (e : Entry A). e.caller ≢ old.number),
-              subst (is_legal old.settings) none legal,
-              inr spent.0,
-              ap (λ (p : Standing A). p.seen) same ∙ (none ∙ (sym (append-nil (old.seen ++ [])) ∙ (λ i. (old.seen ++ []) ++ sym (ap (λ r. entered old.number ae moment ask r) spent.0 ∙ nothing) i))),
-            ),
-          )

@@ -1,5 +1,5 @@
 -- What a pass and a desk are seen as, and what one call, a meeting and the close of a desk promise.
-use Rattle.std.specs.Prelude.{◌≡◌, ◌≢◌, ℕ, zero, suc, ◌+◌, ◌^◌, nat_lt, nat_le, ◌&&◌, Bool, true, false, List, [], ◌∷◌, ◌++◌, All, None, MatchBool, ◌≤◌, ◌==◌, count_by}
+use Rattle.std.specs.Prelude.{◌≡◌, ◌≢◌, ℕ, zero, suc, pos, ◌+◌, ◌^◌, nat_lt, nat_le, ◌&&◌, Bool, true, false, List, [], ◌∷◌, ◌++◌, All, None, MatchBool, ◌≤◌, ◌==◌, count_by}
 use Rattle.atomic_table.specs.Seated.{TableId}
 use Rattle.ups_life.specs.declared.entry.Entry.{Entry}
 use Rattle.ups_life.specs.declared.request.Ask.{Ask}
@@ -7,12 +7,12 @@ use Rattle.ups_life.specs.declared.request.Reply.{Reply}
 use Rattle.ups_life.specs.declared.request.Reply.TheVariants.{Status as Answered}
 use Rattle.ups_life.specs.Settings.{Settings}
 use Rattle.ups_manager.specs.State.{State}
-use Rattle.ups_service.specs.Law.{is_legal, Answers, entered, lacking}
+use Rattle.ups_service.specs.Law.{Seen, bounded, seen_so, is_legal, BeginsHistory, Answers, entered, lacking}
 use Rattle.ups_turn.specs.declared.fault.OpenFault.{OpenFault}
 use Rattle.ups_turn.specs.declared.fault.OpenFault.TheVariants.{BadSeats, Memory}
 use Rattle.ups_turn.specs.declared.view.Part.{Part}
 use Rattle.ups_turn.specs.declared.view.View.{View}
-use Rattle.ups_turn.specs.Rule.{Behind, BeginsHistory, IsPassNumber}
+use Rattle.ups_turn.specs.Rule.{Behind, IsPassNumber}
 use Rattle.ups_turn.specs.Plays.{longer}
 
 -- how a pass stands: at which desk, with which number, how many calls it has made, and the history that it has seen
@@ -35,6 +35,10 @@ most_seats = 1024
 
 abbrev pub most_calls : ℕ
 most_calls = 2 ^ 40
+
+-- what a pass has of its service: the history that it has seen, and the calls that it has made
+abbrev pub seen_by : {A : Type 0} → Standing A → Seen A
+seen_by p = seen_so p.seen (bounded p.calls most_calls)
 
 -- so many passes a desk may have
 abbrev pub are_seats : ℕ → Bool
@@ -113,3 +117,10 @@ EndsFor history passes = All (λ p. Behind history (part_of p)) passes
 -- the numbers of passes go from 1 to that of the seats, and no two passes have the same
 abbrev pub HaveNumbers : {A : Type 0} → ℕ → List (Standing A) → Type 0
 HaveNumbers seats passes = All (λ p. IsPassNumber seats p.number) passes × ((k : ℕ) → count_by (λ p. p.number == k) passes ≤ 1)
+
+-- what stands for a desk, for its settings and for a number where none is picked
+abbrev pub no_table : TableId
+no_table = record { words = 0; slots = 0; views_name = 0; atom = 0; block = 0; offset = 0; slot_names = [] }
+
+abbrev pub no_settings : Settings
+no_settings = record { peers = []; keep = 0; offset = pos 0; limit = 0 }

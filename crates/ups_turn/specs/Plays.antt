@@ -1,13 +1,13 @@
 -- What each step tells the seat that takes it, as a function of what the seat knew before.
-use Rattle.std.specs.Prelude.{◌≡◌, ℕ, pos, ◌+◌, Bool, true, false, List, [], ◌∷◌, ◌++◌, map, length, All, Option, Some, None, MatchBool, nat_lt, if◌then◌else◌}
+use Rattle.std.specs.Prelude.{◌≡◌, ℕ, pos, ◌+◌, Bool, true, false, List, [], ◌∷◌, ◌++◌, map, length, All, Option, Some, None, MatchBool, ◌≤◌, nat_lt, if◌then◌else◌}
 use Rattle.atomic_table.specs.Table.{Me, Step}
 use Rattle.ups_life.specs.declared.entry.Entry.{Entry}
 use Rattle.ups_life.specs.Settings.{Settings}
 use Rattle.ups_manager.specs.State.{State}
-use Rattle.ups_service.specs.Law.{is_legal}
+use Rattle.ups_service.specs.Law.{is_legal, BeginsHistory}
 use Rattle.ups_turn.specs.declared.view.Part.{Part}
 use Rattle.ups_turn.specs.declared.view.View.{View}
-use Rattle.ups_turn.specs.Rule.{Behind, BeginsHistory, manager_state, is_mine}
+use Rattle.ups_turn.specs.Rule.{Behind, manager_state, is_mine}
 
 -- a seat's view, and the slots that are in its hands
 abbrev pub Knows : Type 0 → Type 0
@@ -68,13 +68,15 @@ pub record HasTurn {A : Type 0} (me : Knows A) (number : ℕ) (seen log : List (
   pub parts : me.0.parts ≡ record { number = number; seen = seen } ∷ []
   pub holds : me.1 ≡ (0, Some (manager_state me.0.settings log)) ∷ []
 
--- what is in the seat's hands may be entered: to what its pass has seen it adds so many requests, all of this pass
+-- what is in the seat's hands may be entered: to what its pass has seen it adds one request of this pass, or none; so many
+-- are counted
 pub record MayDecide {A : Type 0} (me : Knows A) (count : ℕ) : Type 0 where
   pub number : ℕ
   pub seen : List (Entry A)
   pub added : List (Entry A)
   pub has : HasTurn me number seen (seen ++ added)
   pub counted : length added ≡ count
+  pub few : count ≤ 1
   pub own : All (λ (e : Entry A). e.caller ≡ number) added
   pub legal : is_legal me.0.settings (seen ++ added)
 
@@ -93,7 +95,8 @@ pub record Took {A : Type 0} (me after : Knows A) (manager : State A) : Type 0 w
   pub manager_is : manager ≡ manager_state me.0.settings log
   pub after_is : after ≡ (at_turn (with_ticket me.0 ticket) true log, (0, None) ∷ [])
 
--- the manager may be given back: to what the seat's pass has seen it adds so many requests, all of this pass
+-- the manager may be given back: to what the seat's pass has seen it adds one request of this pass, or none; so many are
+-- counted
 pub record MayGive {A : Type 0} (me : Knows A) (manager : State A) (count : ℕ) : Type 0 where
   pub number : ℕ
   pub seen : List (Entry A)
@@ -103,6 +106,7 @@ pub record MayGive {A : Type 0} (me : Knows A) (manager : State A) (count : ℕ)
   pub holds : me.1 ≡ (0, None) ∷ []
   pub manager_is : manager ≡ manager_state me.0.settings (seen ++ added)
   pub counted : length added ≡ count
+  pub few : count ≤ 1
   pub own : All (λ (e : Entry A). e.caller ≡ number) added
   pub legal : is_legal me.0.settings (seen ++ added)
 

@@ -8,7 +8,7 @@ use Rattle.atomic_table.specs.Table.{State as Table}
 use Rattle.ups_life.specs.declared.entry.Entry.{Entry}
 use Rattle.ups_life.specs.Settings.{Settings}
 use Rattle.ups_manager.specs.State.{State}
-use Rattle.ups_service.specs.Law.{is_legal}
+use Rattle.ups_service.specs.Law.{is_legal, BeginsHistory}
 use Rattle.ups_turn.specs.declared.view.Part.{Part}
 use Rattle.ups_turn.specs.declared.view.View.{View}
 use Rattle.ups_turn.specs.declared.view.Opening.{Opening}
@@ -20,9 +20,6 @@ IsPassNumber seats number = (1 ≤ number) × (number ≤ seats)
 -- after a history come requests of passes alone
 abbrev pub EnteredByPasses : {A : Type 0} → ℕ → List (Entry A) → List (Entry A) → Type 0
 EnteredByPasses {A} seats before log = (rest : List (Entry A)) × (before ++ rest ≡ log) × All (λ (e : Entry A). IsPassNumber seats e.caller) rest
-
-abbrev pub BeginsHistory : {A : Type 0} → List (Entry A) → List (Entry A) → Type 0
-BeginsHistory {A} seen log = (rest : List (Entry A)) × (seen ++ rest ≡ log)
 
 -- what a pass has seen goes on to the history by requests of other callers alone
 abbrev pub Behind : {A : Type 0} → List (Entry A) → Part A → Type 0

@@ -3,7 +3,7 @@ ghost use Rattle.std.specs.Prelude.{◌≡◌, ℕ, true, is_some};
 ghost use Rattle.std.specs.Option.{IfSome};
 ghost use Rattle.ups_life.specs.Settings.{IsMoment};
 ghost use Rattle.ups_service.specs.Law.{Others, callers, Serves, SmallReply};
-ghost use Rattle.ups_turn.specs.Pass.{IsCall};
+ghost use Rattle.ups_turn.specs.Pass.{IsCall, seen_by};
 
 use crate::desk::Desk;
 use crate::pass::Pass;
@@ -14,7 +14,8 @@ use ups_pdu::Ae;
 use ups_service::Service;
 
 /// A pass at its desk: the service that a session of this pass asks. Other passes enter requests between two of its
-/// calls. A pass that has made 2^40 calls refuses each later one: with 0213, or with A700 where it is a query.
+/// calls. A pass may make 2^40 calls, each of which is answered by the history, and refuses each later one: with 0213, or
+/// with A700 where it is a query.
 #[derive(Drop)]
 pub struct At<'a, A: Allocator + Copy, R: Wait> {
     rt: &'a R,
@@ -40,13 +41,13 @@ impl<'a, A: Allocator + Copy, R: Wait> Service<A> for At<'a, A, R> {
 
     ghost caller = { λ s. s.pass.now.number };
 
-    ghost seen = { λ s. s.pass.now.seen };
+    ghost seen = { λ s. seen_by s.pass.now };
 
     fn answer(&mut self, ae: Ae, moment: u64, ask: &mut Option<Ask<A>>) -> Reply<A>
         requires given { is_some ask.old ≡ true }
         requires moment { IsMoment moment }
         ensures same { (self.new.pass.now.settings ≡ self.old.pass.now.settings) × (◌≡◌ {A = Others} callers callers) × (self.new.pass.now.number ≡ self.old.pass.now.number) }
-        ensures serves { IfSome ask.old (λ asked. Serves self.old.pass.now.settings callers self.old.pass.now.number self.old.pass.now.seen ae moment asked result self.new.pass.now.seen) }
+        ensures serves { IfSome ask.old (λ asked. Serves self.old.pass.now.settings callers self.old.pass.now.number (seen_by self.old.pass.now) ae moment asked result (seen_by self.new.pass.now)) }
         ensures small { SmallReply result }
         ensures called { IfSome ask.old (λ asked. IsCall self.old.pass.now ae moment asked result self.new.pass.now) }
         ensures same_reference { self.new.pass.ghost_name ≡ self.old.pass.ghost_name }

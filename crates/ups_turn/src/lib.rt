@@ -2,7 +2,7 @@
 //!
 //! A desk is a ticket counter. A pass that calls draws the next ticket, waits until it is served, has the
 //! manager to itself for one call, and serves the next ticket before the call returns. Each pass is a service
-//! of the law that `ups_manager` gives, under its own caller number.
+//! of the law that `ups_service` gives, under its own caller number, and may make 2^40 calls.
 #![tactic(auto)]
 
 mod at;
@@ -11,6 +11,7 @@ mod fault;
 pub mod laws;
 mod pass;
 mod rule;
+mod seated;
 mod turn;
 mod view;
 
@@ -18,3 +19,4 @@ pub use at::At;
 pub use desk::Desk;
 pub use fault::{CloseFault, OpenFault};
 pub use pass::Pass;
+pub use seated::{Fixed, Seated};

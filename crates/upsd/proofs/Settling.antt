@@ -9,7 +9,7 @@ use Rattle.ups_session.specs.Fold.{Side, Happens}
 use Rattle.ups_session.specs.Session.{IsUnbegun, IsBroken, IsSession}
 use Rattle.ups_session.specs.Tells.{Told}
 use Rattle.ups_session.specs.WatchedIo.{Input, Output}
-use Rattle.ups_service.specs.Law.{Others}
+use Rattle.ups_service.specs.Law.{Others, alone}
 use Rattle.ups_session.specs.World.{World, world}
 use Rattle.ups_session.proofs.Going.{goes_short}
 
@@ -30,13 +30,13 @@ kept side ending start turns now input old new (Err Memory) is = kept_short side
 
 -- the same session, with the settings that were fixed at the start
 pub settled : {A L W : Type 0} (side : Side A L W) (ending : L → End) (start : L) (turns : ℕ) (now : Input) (input : List ℕ) (before later : Output) (m n : Told) (fixed s t : Settings) (o : Others) (c : ℕ) (seen then : List (Entry A)) (result : Result End SessionFault)
-    → s ≡ fixed → seen ≡ [] → IsSession side ending start turns now input (world before m s o c seen) (world later n t o c then) result
-    → IsSession side ending start turns now input (world before m fixed o c []) (world later n fixed o c then) result
+    → s ≡ fixed → seen ≡ [] → IsSession side ending start turns now input (world before m s o c (alone seen)) (world later n t o c (alone then)) result
+    → IsSession side ending start turns now input (world before m fixed o c (alone [])) (world later n fixed o c (alone then)) result
 settled {A} side ending start turns now input before later m n fixed s t o c seen then result same none_seen is =
-    let all : t ≡ fixed = (kept side ending start turns now input (world before m s o c seen) (world later n t o c then) result is).0 ∙ same in
-    subst (λ (x : List (Entry A)). IsSession side ending start turns now input (world before m fixed o c x) (world later n fixed o c then) result) none_seen
-    (subst (λ (x : Settings). IsSession side ending start turns now input (world before m x o c seen) (world later n fixed o c then) result) same
-    (subst (λ (x : Settings). IsSession side ending start turns now input (world before m s o c seen) (world later n x o c then) result) all is))
+    let all : t ≡ fixed = (kept side ending start turns now input (world before m s o c (alone seen)) (world later n t o c (alone then)) result is).0 ∙ same in
+    subst (λ (x : List (Entry A)). IsSession side ending start turns now input (world before m fixed o c (alone x)) (world later n fixed o c (alone then)) result) none_seen
+    (subst (λ (x : Settings). IsSession side ending start turns now input (world before m x o c (alone seen)) (world later n fixed o c (alone then)) result) same
+    (subst (λ (x : Settings). IsSession side ending start turns now input (world before m s o c (alone seen)) (world later n x o c (alone then)) result) all is))
 
 abbrev pub short : Result End SessionFault
 short = Err Memory

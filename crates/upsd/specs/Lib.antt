@@ -1,4 +1,5 @@
 pub mod Hexing
 pub mod Limits
 pub mod Piping
+pub mod Serving
 pub mod Statuses

@@ -2,7 +2,7 @@
 use Rattle.std.specs.Prelude.{ℕ, List, [], None, Some, false}
 use Rattle.ups_args.specs.Limits.{keep_seconds, local_offset}
 use Rattle.ups_assoc.specs.declared.negotiating.Config.{Config}
-use Rattle.ups_life.specs.declared.entry.Peer.{Peer}
+use Rattle.ups_life.specs.declared.peer.Peer.{Peer}
 use Rattle.ups_life.specs.Settings.{Settings}
 use Rattle.ups_session.specs.Tells.{Told}
 use Rattle.ups_session.specs.WatchedIo.{Output}

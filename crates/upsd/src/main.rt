@@ -16,7 +16,7 @@ mod serving;
 
 use crate::limits::TURNS;
 use crate::scripting::answer_script;
-use crate::serving::answer_network;
+use crate::serving::server_status;
 use clap::ArgMatches;
 pub use ending::{Status, parse_status, script_status, session_status};
 pub use hexing::DigitFault;
@@ -24,6 +24,7 @@ pub use limits::limits_are_as_defined;
 use log::Log;
 pub use piping::{Piped, pipe, pipe_told};
 pub use scripting::script;
+pub use serving::{RanServer, answer_network};
 use std::alloc::{AllocError, Global};
 use std::io::{self, BufReader, ErrorKind};
 use std::net::{Net, TcpListener, TcpStream};
@@ -122,7 +123,7 @@ where
         + Net<Listener = TcpListener, Stream = TcpStream>,
 {
     match serve_arguments(rt.alloc(), matches) {
-        Ok(asked) => answer_network(rt, asked),
+        Ok(asked) => server_status(answer_network(rt, asked)?),
         Err(fault) => refuse(rt, fault),
     }
 }

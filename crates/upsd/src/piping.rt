@@ -4,7 +4,7 @@ ghost use Rattle.std.specs.Prelude.{◌≡◌, ◌≤◌, ℕ, List, [], length,
 ghost use Rattle.std.specs.Io.KnownBytes.{Consumes};
 ghost use Rattle.ups_args.specs.Limits.{local_offset};
 ghost use Rattle.ups_life.specs.declared.entry.Entry.{Entry};
-ghost use Rattle.ups_service.specs.Law.{nobody};
+ghost use Rattle.ups_service.specs.Law.{nobody, alone};
 ghost use Rattle.ups_manager.specs.Refusal.{refusal};
 ghost use Rattle.ups_session.specs.Acceptor.{acceptor, opened};
 ghost use Rattle.ups_session.specs.Session.{IsSession};
@@ -47,8 +47,8 @@ fn serve_digits<A: Allocator + Copy, R: Read, W: Write>(
 ) -> Result<End, SessionFault>
     ensures session { (now : Input) × (written : Output) × (input : List ℕ) × Consumes (bytes_left digits.old.high digits.old.fault (R.remaining digits.old.inner)) now.left input
         × IsSession (acceptor config.now) (λ live. live.ending) opened turns now input
-        (world unwritten epoch manager.old.settings nobody 0 manager.old.history)
-        (world written epoch manager.new.settings nobody 0 manager.new.history) result }
+        (world unwritten epoch manager.old.settings nobody 0 (alone manager.old.history))
+        (world written epoch manager.new.settings nobody 0 (alone manager.new.history)) result }
 {
     let mut gate = Epoch;
     let mut bytes = WatchedReader::new(digits);
@@ -81,12 +81,12 @@ pub fn pipe_told<A: Allocator + Copy, R: Read, W: Write>(
     requires allowed { refusal peers.now local_offset history_limit ≡ None }
     ensures session { hex ≡ false → (input : List ℕ) × (history : List (Entry A)) × Consumes reader.old.left reader.new.left input
         × IsSession (acceptor (config ae)) (λ live. live.ending) opened turns reader.new input
-        (world writer.old epoch (settings peers.now) nobody 0 [])
-        (world writer.new epoch (settings peers.now) nobody 0 history) result.ended }
+        (world writer.old epoch (settings peers.now) nobody 0 (alone []))
+        (world writer.new epoch (settings peers.now) nobody 0 (alone history)) result.ended }
     ensures digits { hex ≡ true → (now : Input) × (written : Output) × (input : List ℕ) × (history : List (Entry A)) × Consumes (bytes_left None None reader.old.left) now.left input
         × IsSession (acceptor (config ae)) (λ live. live.ending) opened turns now input
-        (world unwritten epoch (settings peers.now) nobody 0 [])
-        (world written epoch (settings peers.now) nobody 0 history) result.ended }
+        (world unwritten epoch (settings peers.now) nobody 0 (alone []))
+        (world written epoch (settings peers.now) nobody 0 (alone history)) result.ended }
 {
     let Ok(mut manager) = Manager::new(alloc, peers, KEEP, OFFSET, MAX_HISTORY) else {
         return Piped {
@@ -137,12 +137,12 @@ pub fn pipe<A: Allocator + Copy, R: Read, W: Write>(
     requires allowed { refusal peers.now local_offset history_limit ≡ None }
     ensures session { hex ≡ false → (input : List ℕ) × (history : List (Entry A)) × Consumes reader.old.left reader.new.left input
         × IsSession (acceptor (config ae)) (λ live. live.ending) opened turns reader.new input
-        (world writer.old epoch (settings peers.now) nobody 0 [])
-        (world writer.new epoch (settings peers.now) nobody 0 history) result }
+        (world writer.old epoch (settings peers.now) nobody 0 (alone []))
+        (world writer.new epoch (settings peers.now) nobody 0 (alone history)) result }
     ensures digits { hex ≡ true → (now : Input) × (written : Output) × (input : List ℕ) × (history : List (Entry A)) × Consumes (bytes_left None None reader.old.left) now.left input
         × IsSession (acceptor (config ae)) (λ live. live.ending) opened turns now input
-        (world unwritten epoch (settings peers.now) nobody 0 [])
-        (world written epoch (settings peers.now) nobody 0 history) result }
+        (world unwritten epoch (settings peers.now) nobody 0 (alone []))
+        (world written epoch (settings peers.now) nobody 0 (alone history)) result }
 {
     pipe_told(alloc, reader, writer, ae, peers, hex, turns).ended
 }

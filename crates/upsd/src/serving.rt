@@ -1,10 +1,12 @@
 //! Associations over TCP, and event reports.
 
-ghost use Rattle.std.specs.Prelude.{◌≡◌, ◌≤◌, length, None};
+ghost use Rattle.std.specs.Prelude.{◌≡◌, ◌≤◌, ◌+◌, [], length, None, IfOk, IfSome};
 ghost use Rattle.ups_args.specs.Limits.{workers_limit};
 ghost use Rattle.ups_manager.specs.Refusal.{refusal};
 ghost use Rattle.ups_life.specs.Limits.{history_limit, peer_limit};
+ghost use Rattle.ups_turn.specs.Pass.{passes_from};
 ghost use Rattle.upsd.specs.Limits.{turns_limit};
+ghost use Rattle.upsd.specs.Serving.{endless, settings_asked, RanAsAsked};
 
 use crate::ending::Status;
 use crate::limits::TURNS;
@@ -20,7 +22,18 @@ use ups_assoc::Config;
 use ups_life::MAX_HISTORY;
 use ups_manager::Manager;
 use ups_net::{Door, ServerOptions, run};
-use ups_turn::Desk;
+use ups_turn::{Desk, Pass};
+
+/// What a server leaves: whether its threads began, its desk, and the passes there.
+#[derive(Drop)]
+pub struct RanServer {
+    /// Whether its threads began. Where one could not be started, or memory ran out before, none did.
+    pub begun: bool,
+    /// The desk.
+    pub desk: Desk<Global>,
+    /// The passes of the workers, of the deliverer and of the sweeper, in this order.
+    pub passes: Vec<Pass<Global>>,
+}
 
 /// Listens where the command line says. With port 0 the port that was taken is printed, so that a client can be told.
 ///
@@ -49,6 +62,8 @@ fn options_of(alloc: Global, asked: ServeArguments<'_>) -> ServerOptions
     ensures workers { result.workers ≡ asked.entry.workers }
     ensures watchers { result.watchers ≡ asked.entry.watchers }
     ensures verbose { result.verbose ≡ asked.entry.verbose }
+    ensures associations { result.associations ≡ endless }
+    ensures rounds { result.rounds ≡ endless }
 {
     let ServeArguments {
         ae,
@@ -72,11 +87,12 @@ fn options_of(alloc: Global, asked: ServeArguments<'_>) -> ServerOptions
     }
 }
 
-/// Runs a server at a door, for as long as the program lives, and gives how the program ends: for lack of memory where
-/// a thread can't be started.
+/// Runs a server at a door, as the command line asks, for as long as the program lives, and hands back what it leaves: its
+/// manager has the settings that are asked for, and each of its threads has done its job as it is asked for, or none has
+/// begun.
 ///
-/// Errors: lack of memory before it begins.
-fn serve_on<R>(rt: &R, door: &Door, asked: ServeArguments<'_>) -> Result<Status, AllocError>
+/// Errors: lack of memory before the threads are started.
+fn serve_on<R>(rt: &R, door: &Door, asked: ServeArguments<'_>) -> Result<RanServer, AllocError>
 where
     R: Threads
         + Wait
@@ -89,6 +105,9 @@ where
     requires most { asked.workers ≤ workers_limit }
     requires few { length asked.peers.items ≤ peer_limit }
     requires allowed { refusal asked.peers.items asked.offset history_limit ≡ None }
+    ensures settings { IfOk result (λ server. server.desk.opening.settings ≡ settings_asked asked.entry) }
+    ensures empty { IfOk result (λ server. server.desk.opening.history ≡ []) }
+    ensures ran { IfOk result (λ server. RanAsAsked asked.entry server.begun (passes_from server.desk.table server.desk.opening 1 (asked.entry.workers + 2)) server.passes.items) }
 {
     let alloc = rt.alloc();
     let Ok(manager) = Manager::new(alloc, &asked.peers, asked.keep, asked.offset, MAX_HISTORY)
@@ -99,16 +118,21 @@ where
         return Err(AllocError);
     };
     let options = options_of(alloc, asked);
-    match run(rt, door, &desk, passes, &options) {
-        (true, _) => Ok(Status::Done),
-        (false, _) => Err(AllocError),
-    }
+    let (begun, passes) = run(rt, door, &desk, passes, &options);
+    Ok(RanServer {
+        begun,
+        desk,
+        passes,
+    })
 }
 
-/// Answers associations over TCP, as the command line asks, tells its fault, and gives how the program ends.
+/// Answers associations over TCP and delivers event reports, as the command line asks, for as long as the program lives,
+/// and hands back what the server leaves; None where it can't listen, which is told.
 ///
-/// Errors: lack of memory.
-pub(crate) fn answer_network<R>(rt: &R, asked: ServeArguments<'_>) -> Result<Status, AllocError>
+/// # Errors
+///
+/// Lack of memory before the threads are started.
+pub fn answer_network<R>(rt: &R, asked: ServeArguments<'_>) -> Result<Option<RanServer>, AllocError>
 where
     R: Threads
         + Wait
@@ -123,15 +147,31 @@ where
     requires most { asked.workers ≤ workers_limit }
     requires few { length asked.peers.items ≤ peer_limit }
     requires allowed { refusal asked.peers.items asked.offset history_limit ≡ None }
+    ensures settings { IfOk result (λ left. IfSome left (λ server. server.desk.opening.settings ≡ settings_asked asked.entry)) }
+    ensures empty { IfOk result (λ left. IfSome left (λ server. server.desk.opening.history ≡ [])) }
+    ensures ran { IfOk result (λ left. IfSome left (λ server. RanAsAsked asked.entry server.begun (passes_from server.desk.table server.desk.opening 1 (asked.entry.workers + 2)) server.passes.items)) }
 {
     match listen(rt, &asked) {
-        Ok(door) => serve_on(rt, &door, asked),
+        Ok(door) => Ok(Some(serve_on(rt, &door, asked)?)),
         Err(fault) => {
             let _ = eprintln!(rt;
                 "upsd: it can't listen on {}, port {}: {fault}",
                 asked.bind, asked.port
             );
-            Ok(Status::Stopped)
+            Ok(None)
         }
     }
+}
+
+/// How the program ends with what a server leaves: as stopped where it could not listen.
+///
+/// Errors: lack of memory, where its threads did not begin.
+pub(crate) fn server_status(left: Option<RanServer>) -> Result<Status, AllocError> {
+    let Some(server) = left else {
+        return Ok(Status::Stopped);
+    };
+    if !server.begun {
+        return Err(AllocError);
+    }
+    Ok(Status::Done)
 }

@@ -191,39 +191,3 @@ fn a_message_has_at_most_1048576_bytes(rt: HostRuntime) -> Result<(), Fail> {
     assert_eq!(rt; fault_at_the_end(&rt, 16_293)?, Some(AssocFault::TooLong));
     Ok(())
 }
-
-/// In each row a command, and whether it announces a data set. Behind the first ones: another data set type behind the
-/// first, or one behind an element of odd length; no data set type, a value of another length, a short header, a short
-/// value; other tags with the same digits.
-const ANNOUNCING: &str = "CREATE|yes
-CREATED|no
-00000008 02000000 0000|yes
-00000008 02000000 0201|yes
-00000008 02000000 0100|yes
-00000008 02000000 0001|yes
-00000008 02000000 0101|no
-00000008 02000000 0101 00000008 02000000 0100|no
-00000008 02000000 0100 00000008 02000000 0101|yes
-00000001 03000000 010203 00000008 02000000 0100|yes
-|no
-00000001 02000000 0100|no
-00000008 04000000 01000000|no
-00000008 00000000|no
-00000008 01000000 0100|no
-00000008 020000|no
-00000008 02000000 01|no
-00000001 0b000000 0100 00000008 02000000 0100|no
-00000001 ffffffff 0100 00000008 02000000 0100|no
-08000000 02000000 0100|no
-00000800 02000000 0100|no
-00080000 02000000 0100|no";
-
-#[test]
-fn a_data_set_is_announced_by_the_first_data_set_type(rt: HostRuntime) -> Result<(), Fail> {
-    for row in ANNOUNCING.lines() {
-        let (command, expected) = row.split_once('|').ok_or("a row")?;
-        let command = bytes_of(&rt, named(command))?;
-        assert_eq!(rt; data_follows(&command), expected == "yes", "at {row}");
-    }
-    Ok(())
-}

@@ -111,7 +111,7 @@ find none 00404005=- -> A900";
 /// Adds a UID, or `none`.
 fn add_step(text: &mut String, step: Option<StepUid>) -> Result<(), Fail> {
     match step {
-        Some(step) => add_bytes(text, step.as_bytes()),
+        Some(step) => Ok(add_bytes(text, step.as_bytes())?),
         None => Ok(text.push_str("none")?),
     }
 }
@@ -122,7 +122,7 @@ fn add_transaction(text: &mut String, transaction: Transaction) -> Result<(), Fa
     match transaction {
         Transaction::Absent => Ok(text.push_str("absent")?),
         Transaction::Malformed => Ok(text.push_str("malformed")?),
-        Transaction::Proper(uid) => add_bytes(text, uid.as_bytes()),
+        Transaction::Proper(uid) => Ok(add_bytes(text, uid.as_bytes())?),
     }
 }
 

@@ -362,7 +362,7 @@ fn is_entered(
     let text = chance.any_call(rt)?;
     let request = request_of(rt.alloc(), text.as_str())?;
     let entries = manager.history().len();
-    manager.submit(Call {
+    manager.submit(Entry {
         caller: 0,
         ae,
         moment,

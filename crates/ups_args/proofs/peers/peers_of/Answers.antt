@@ -1,6 +1,6 @@
 use Rattle.std.proofs.Common.{[], List, ℕ, Bor, rules, arith, length-append, ◌∙◌, ap, length}
 use Rattle.std.proofs.lemmas.List.{length-map}
-use Rattle.ups_life.specs.declared.entry.Peer.{Peer}
+use Rattle.ups_life.specs.declared.peer.Peer.{Peer}
 use Rattle.ups_manager.specs.Refusal.{is_twice}
 use Rattle.ups_args.proofs.Naming.{twice_on}
 use Rattle.ups_args.specs.Arguments.{NamesPeer}

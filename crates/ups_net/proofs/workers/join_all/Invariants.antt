@@ -1,12 +1,17 @@
-use Rattle.std.proofs.Common.{◌≡◌, ◌+◌, All, length, vec_capacity}
+use Rattle.std.proofs.Common.{◌≡◌, ◌≤◌, ◌+◌, ◌++◌, All, List, length, map, vec_capacity, Global}
 use Rattle.std.specs.Vec.Iter.{into_iter_items, into_iter_len}
-use Rattle.atomic_table.specs.Seated.{TableId}
+use Rattle.ups_net.specs.Working.{EndThreads}
+use Rattle.ups_turn.specs.Pass.{Standing}
+use Rattle.ups_net.specs.declared.options.ServerOptions.{ServerOptions}
 use Rattle.ups_net.proofs.workers.join_all.Given as goal
 
 abbrev pub invariant-loop-handle : goal.invariant-loop-handle
 invariant-loop-handle g l = record {
-  room : length l.passes.items + into_iter_len l.handle-iterator ≡ length l.initial.passes.items + into_iter_len l.initial.handle-iterator;
-  capacity : vec_capacity l.passes ≡ vec_capacity l.initial.passes;
-  stay : (table : TableId) → All (λ p. p.table ≡ table) l.fn.passes.items → All (λ h. h.promise.pass.value.table ≡ table) l.fn.handles.items
-      → All (λ p. p.table ≡ table) l.passes.items × All (λ h. h.promise.pass.value.table ≡ table) (into_iter_items l.handle-iterator);
+  room : length l.passes.items + into_iter_len l.handle-iterator ≤ vec_capacity l.passes;
+  capacity : vec_capacity l.passes ≡ vec_capacity l.fn.passes;
+  lock : All (λ h. h.promise.start.value.id ≡ l.token.of) (into_iter_items l.handle-iterator);
+  ends : (options : ServerOptions) → All (λ h. h.promise.options.value ≡ options) l.fn.handles.items
+      → (rest : List (Standing Global)) × (l.passes.items ≡ l.fn.passes.items ++ rest) × All (λ h. h.promise.options.value ≡ options) (into_iter_items l.handle-iterator)
+      × ((more : List (Standing Global)) → EndThreads options l.token.value (map (λ h. h.promise.pass.value) (into_iter_items l.handle-iterator)) more
+      → EndThreads options l.token.value (map (λ h. h.promise.pass.value) l.fn.handles.items) (rest ++ more));
 }

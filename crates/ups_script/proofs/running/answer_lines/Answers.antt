@@ -4,6 +4,7 @@ use Rattle.std.specs.Io.KnownBytes.{IsAtEnd}
 use Rattle.std.proofs.KnownBytes.{Consumes-nil}
 use Rattle.std.proofs.lemmas.Result.{err_from_is_err_and}
 use Rattle.ups_life.specs.Settings.{Settings}
+use Rattle.ups_script.specs.Lines.{HasMore}
 use Rattle.ups_script.specs.Running.{AnswersLine, Breaks}
 use Rattle.ups_script.proofs.Lasting.{none_yet, one_more, ended, too_many, failed, broken}
 use Rattle.ups_script.proofs.running.answer_lines.Goals as goal
@@ -59,4 +60,5 @@ returns-then-branch-2-clause-runs g c =
 pub returns-else-branch-2-clause-runs : goal.returns-else-branch-2-clause-runs
 returns-else-branch-2-clause-runs g c =
     let all : c.loop-count.count ≡ c.args.limit = omega arith in
-    too_many c.args.manager.now.settings c.loop-count.count c.args.limit _ _ _ _ _ _ _ c.loop-count.invariant.0 all c.is_at_end-2.ensures.kept
+    let more : HasMore (g.R.Read.remaining c.loop-count.reader) = search rules in
+    too_many c.args.manager.now.settings c.loop-count.count c.args.limit _ _ _ _ _ _ _ c.loop-count.invariant.0 all more c.is_at_end-2.ensures.kept

@@ -4,7 +4,7 @@ use Rattle.std.proofs.KnownBytes.{Consumes-nil}
 use Rattle.ups_session.specs.declared.watched_io.LastRead.TheVariants.{Gave}
 use Rattle.ups_session.specs.Acceptor.{acceptor, opened}
 use Rattle.ups_session.specs.WatchedIo.{Input}
-use Rattle.ups_service.specs.Law.{nobody}
+use Rattle.ups_service.specs.Law.{nobody, alone}
 use Rattle.ups_session.specs.World.{world}
 use Rattle.upsd.specs.Hexing.{bytes_left}
 use Rattle.upsd.specs.Piping.{config, epoch, settings, unwritten}
@@ -13,8 +13,8 @@ use Rattle.upsd.proofs.piping.pipe_told.Goals as goal
 
 pub returns-in_default : goal.returns-in_default
 returns-in_default g c =
-    let w = world {A = g.row.A.Denot} c.args.writer.now epoch (settings c.args.peers.now) nobody 0 [] in
-    let v = world {A = g.row.A.Denot} unwritten epoch (settings c.args.peers.now) nobody 0 [] in
+    let w = world {A = g.row.A.Denot} c.args.writer.now epoch (settings c.args.peers.now) nobody 0 (alone []) in
+    let v = world {A = g.row.A.Denot} unwritten epoch (settings c.args.peers.now) nobody 0 (alone []) in
     let now : Input = record { left = bytes_left None None c.args.reader.now.left; last = Gave } in
     record {
       session = λ h. ([], [], Consumes-nil _, unbegun (acceptor (config c.args.ae)) (λ live. live.ending) opened c.args.turns c.args.reader.now w);

@@ -2,7 +2,7 @@ use Rattle.std.proofs.Common.{◌≡◌, ℤ, w16, List, None, sym, ap, subst, �
 use Rattle.std.specs.List.{AllByRecursion}
 use Rattle.std.proofs.lemmas.Int.{to_z-of_z}
 use Rattle.ups_life.specs.declared.entry.Entry.{Entry}
-use Rattle.ups_life.specs.declared.entry.Peer.{Peer}
+use Rattle.ups_life.specs.declared.peer.Peer.{Peer}
 use Rattle.ups_life.specs.Settings.{Settings, IsOffset}
 use Rattle.ups_life.specs.Steps.{past}
 use Rattle.ups_manager.specs.declared.rows.HeldStep.{HeldStep}

@@ -6,7 +6,7 @@ use Rattle.ups_cycle.specs.declared.status.Status.{Status}
 use Rattle.ups_life.specs.Steps.{past}
 use Rattle.ups_life.proofs.Past.{past-push}
 use Rattle.ups_manager.specs.declared.rows.HeldStep.{HeldStep}
-use Rattle.ups_manager.specs.Deciding.{entry_of, after_effect, IsDecided}
+use Rattle.ups_manager.specs.Deciding.{after_change, IsDecided}
 use Rattle.ups_manager.specs.Faults.{status_of}
 use Rattle.ups_manager.specs.Held.{held_steps, IsSmallStep}
 use Rattle.ups_manager.specs.Kept.{Stands}
@@ -69,11 +69,10 @@ room g c = search rules
 
 history_is : (g : given.Over) (c : goal.After-apply g) → c.push_reserved.new.self.items ≡ c.self.inside.history.items ++ entry c.args.call.caller c.args.call.ae c.args.call.moment c.args.call.request ∷ []
 history_is g c =
-    c.push_reserved.ensures.items ∙ ap (λ (l : List (Entry g.row.A.Denot)). l ++ c.into_entry.result ∷ []) c.make_room.ensures.history
-    ∙ ap (λ (e : Entry g.row.A.Denot). c.self.inside.history.items ++ e ∷ []) c.into_entry.ensures
+    c.push_reserved.ensures.items ∙ ap (λ (l : List (Entry g.row.A.Denot)). l ++ c.args.call ∷ []) c.make_room.ensures.history
 
-steps_are : (g : given.Over) (c : goal.After-apply g) → c.apply.new.steps.items ≡ after_effect c.in-Ok.decision.effect c.self.inside.steps.items
-steps_are g c = c.apply.ensures ∙ ap (after_effect c.in-Ok.decision.effect) c.make_room.ensures.steps
+steps_are : (g : given.Over) (c : goal.After-apply g) → c.apply.new.steps.items ≡ after_change c.in-Ok.decision.steps_change c.self.inside.steps.items
+steps_are g c = c.apply.ensures ∙ ap (after_change c.in-Ok.decision.steps_change) c.make_room.ensures.steps
 
 pub returns-clause-legal_after : goal.returns-clause-legal_after
 returns-clause-legal_after g c =
@@ -88,7 +87,7 @@ invariant_of-self-2 g c =
       legal = returns-clause-legal_after g c;
       moments = moments_after m.history.items c.push_reserved.new.self.items c.args.call c.self.invariant.moments c.requires.moment (history_is g c);
       steps = steps_are g c ∙ (decided g c).steps
-          ∙ ap (λ (l : List (Entry g.row.A.Denot)). held_steps m.configuration l) (sym (ap past (history_is g c) ∙ past-push m.history.items (entry_of c.args.call)));
+          ∙ ap (λ (l : List (Entry g.row.A.Denot)). held_steps m.configuration l) (sym (ap past (history_is g c) ∙ past-push m.history.items c.args.call));
       small = subst (λ (l : List (HeldStep g.row.A.Denot)). AllByRecursion IsSmallStep l) (sym (steps_are g c)) (decided g c).small;
     }
 

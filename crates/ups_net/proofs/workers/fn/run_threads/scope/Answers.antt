@@ -1,54 +1,110 @@
+use Rattle.std.proofs.Common.{rules, ◌≡◌, ◌+◌, ◌++◌, ◌∷◌, [], All, List, length, map, true, false, refl, sym, ap, ◌∙◌, subst, arith, Some, None}
+use Rattle.std.proofs.lemmas.List.{length-append, length-map, append-nil}
+use Rattle.std.proofs.lemmas.List.Elements.{All-head, All-tail, All-push, All-same}
+use Rattle.std.specs.Vec.Iter.{into_iter_items}
+use Rattle.ups_net.specs.Working.{EndsThread, EndThreads}
+use Rattle.ups_net.proofs.Ending.{first_more, last_more, none_left, ran, ends_length, told_on, none_told, unless_off}
 use denote.Param.Send.{sendable}
 use Rattle.ups_turn.proofs.Crosses.{desk_crosses}
-use Rattle.ups_net.proofs.Crosses.{door_lent, word_lent, options_lent}
-use Rattle.std.proofs.Common.{rules, ◌≡◌, ◌+◌}
-use Rattle.std.proofs.lemmas.Grind.{elements}
+use Rattle.ups_net.proofs.Crosses.{door_lent, start_lent, options_lent, token_send}
 use Rattle.ups_net.proofs.workers.fn.run_threads.scope.Goals as goal
-use Rattle.ups_net.proofs.workers.fn.run_threads.scope.Goals.{then-all, else-all}
 
-pub loop-pass-preserved-then-not-all : goal.loop-pass-preserved-then-not-all
-loop-pass-preserved-then-not-all g c =
-    let first = c.loop-pass.invariant.rest 0 c.in-Some.pass in
+pub loop-pass-preserved-then-is_some : goal.loop-pass-preserved-then-is_some
+loop-pass-preserved-then-is_some g c =
+    let was = c.loop-pass.invariant in
+    let steps = c.in-Some.ensures.steps in
+    let left = subst (All (λ p. p.table ≡ c.captures.desk.now.table)) steps.0 was.rest in
+    let some = sym c.is_some.ensures ∙ c.if-is_some.true in
     record {
-      room = search rules;
       count = search rules;
       places = search rules;
-      rest = λ k d below. let h = c.loop-pass.invariant.rest (k + 1) d in grind rules;
-      stay = λ k d below. let h = c.loop-pass.invariant.stay k d in grind (rules, elements);
-      kept = search rules;
+      spare = search rules;
+      rest = All-tail (λ p. p.table ≡ c.captures.desk.now.table) c.in-Some.pass (into_iter_items c.next.new.self) left;
+      lock = was.lock;
+      options = was.options;
+      all = subst (λ u. (map (λ h. h.promise.pass.value) c.loop-pass.handles.items ++ u) ++ into_iter_items c.next.new.self ≡ into_iter_items c.into_iter-pass-iterator.result) (sym c.push_reserved-then-is_some.ensures.items)
+          (last_more (map (λ h. h.promise.pass.value) c.loop-pass.handles.items) c.in-Some.pass c.loop-pass.unbegun.items _ _ _ steps.0 was.all);
+      told = told_on c.loop-pass.off _ _ _ some was.told;
     }
 
-pub loop-pass-preserved-in-Ok : goal.loop-pass-preserved-in-Ok
-loop-pass-preserved-in-Ok g c =
-    let first = c.loop-pass.invariant.rest 0 c.in-Some.pass in
+pub loop-pass-preserved-in-Ok-spawn_with : goal.loop-pass-preserved-in-Ok-spawn_with
+loop-pass-preserved-in-Ok-spawn_with g c =
+    let was = c.loop-pass.invariant in
+    let steps = c.in-Some.ensures.steps in
+    let left = subst (All (λ p. p.table ≡ c.captures.desk.now.table)) steps.0 was.rest in
+    let h = c.in-Ok-spawn_with.handle in
+    let is = c.in-Ok-spawn_with.ensures.ok in
+    let none = none_told c.loop-pass.off _ _ (sym c.is_some.ensures ∙ c.if-is_some.false) was.told in
+    let pass : h.promise.pass.value ≡ c.in-Some.pass = ap (λ q. q.pass.value) is ∙ c.of.ensures in
+    let options : h.promise.options.value ≡ c.captures.options.now = ap (λ q. q.options.value) is ∙ c.of-in-loop-pass.ensures in
+    let start : h.promise.start.value.id ≡ c.captures.start.now.id = ap (λ q. q.start.value.id) is ∙ ap (λ l. l.id) c.of-in-loop-pass-2.ensures in
     record {
-      room = search rules;
       count = search rules;
       places = search rules;
-      rest = λ k d below. let h = c.loop-pass.invariant.rest (k + 1) d in grind rules;
-      stay = search rules;
-      kept = λ k d below. let h = c.loop-pass.invariant.kept k d in grind (rules, elements);
+      spare = search rules;
+      rest = All-tail (λ p. p.table ≡ c.captures.desk.now.table) c.in-Some.pass (into_iter_items c.next.new.self) left;
+      lock = All-same (λ h. h.promise.start.value.id ≡ c.captures.start.now.id) _ _ c.push_reserved-in-Ok-spawn_with.ensures.items (All-push (λ h. h.promise.start.value.id ≡ c.captures.start.now.id) c.loop-pass.handles.items h was.lock start);
+      options = All-same (λ h. h.promise.options.value ≡ c.captures.options.now) _ _ c.push_reserved-in-Ok-spawn_with.ensures.items (All-push (λ h. h.promise.options.value ≡ c.captures.options.now) c.loop-pass.handles.items h was.options options);
+      all = subst (λ l. (map (λ h. h.promise.pass.value) l ++ c.loop-pass.unbegun.items) ++ into_iter_items c.next.new.self ≡ into_iter_items c.into_iter-pass-iterator.result) (sym c.push_reserved-in-Ok-spawn_with.ensures.items)
+          (first_more (λ h. h.promise.pass.value) c.loop-pass.handles.items h c.loop-pass.unbegun.items _ _ _ none (steps.0 ∙ ap (λ p. p ∷ into_iter_items c.next.new.self) (sym pass)) was.all);
+      told = was.told;
     }
 
 pub loop-pass-preserved : goal.loop-pass-preserved
 loop-pass-preserved g c =
-    let first = c.loop-pass.invariant.rest 0 c.in-Some.pass in
+    let was = c.loop-pass.invariant in
+    let steps = c.in-Some.ensures.steps in
+    let left = subst (All (λ p. p.table ≡ c.captures.desk.now.table)) steps.0 was.rest in
+    let same : c.spawn_with-pass.result.0 ≡ c.in-Some.pass =
+    subst (λ b. EndsThread c.in-Err.refused.value.5.now b c.in-Err.refused.value.4 c.spawn_with-pass.result.0) (sym c.agrees.ensures ∙ c.tell-token.ensures.told) c.spawn_with-pass.ensures.ends ∙ ap (λ f. f.4) c.in-Err.ensures.err in
     record {
-      room = search rules;
       count = search rules;
       places = search rules;
-      rest = λ k d below. let h = c.loop-pass.invariant.rest (k + 1) d in grind rules;
-      stay = λ k d below. let h = c.loop-pass.invariant.stay k d in grind (rules, elements);
-      kept = search rules;
+      spare = search rules;
+      rest = All-tail (λ p. p.table ≡ c.captures.desk.now.table) c.in-Some.pass (into_iter_items c.next.new.self) left;
+      lock = was.lock;
+      options = was.options;
+      all = subst (λ u. (map (λ h. h.promise.pass.value) c.loop-pass.handles.items ++ u) ++ into_iter_items c.next.new.self ≡ into_iter_items c.into_iter-pass-iterator.result) (sym c.push_reserved-in-Err.ensures.items)
+          (last_more (map (λ h. h.promise.pass.value) c.loop-pass.handles.items) c.spawn_with-pass.result.0 c.loop-pass.unbegun.items _ _ _ (steps.0 ∙ ap (λ p. p ∷ into_iter_items c.next.new.self) (sym same)) was.all);
+      told = (c.tell-token.ensures.lock, c.tell-token.ensures.told);
     }
+
+pub put_back-requires-2 : goal.put_back-requires-2
+put_back-requires-2 g c =
+    let was = c.loop-pass.invariant in
+    let (rest, is, ends) = c.join_all.ensures.ends c.captures.options.now was.options in
+    let many = ends_length c.captures.options.now c.settle-token.result.value (map (λ h. h.promise.pass.value) c.loop-pass.handles.items) rest ends in
+    let mapped = length-map c.loop-pass.handles.items (λ h. h.promise.pass.value) in
+    let now = ap length is ∙ length-append c.captures.back.items rest in
+    record { room = search rules }
+
+pub push_reserved-requires-2 : goal.push_reserved-requires-2
+push_reserved-requires-2 g c =
+    let was = c.loop-pass.invariant in
+    let (rest, is, ends) = c.join_all.ensures.ends c.captures.options.now was.options in
+    let many = ends_length c.captures.options.now c.settle-token.result.value (map (λ h. h.promise.pass.value) c.loop-pass.handles.items) rest ends in
+    let mapped = length-map c.loop-pass.handles.items (λ h. h.promise.pass.value) in
+    let now = ap length is ∙ length-append c.captures.back.items rest in
+    let then = ap length c.put_back-2.ensures.all ∙ length-append c.join_all.new.passes.items c.loop-pass.unbegun.items in
+    search rules
 
 pub returns : goal.returns
 returns g c =
-    let swept : c.if-all.sweeper.table ≡ c.captures.desk.now.table = elim c.if-all.branch [ then-all w ↦ search rules | else-all w ↦ search rules ] in
-    record { all = search rules; stay = λ k d below. let h = c.join_all.ensures.stay c.captures.desk.now.table c.loop-pass.invariant.stay c.loop-pass.invariant.kept k d in grind (rules, elements) }
+    let was = c.loop-pass.invariant in
+    let none = none_left c.loop-pass.pass-iterator c.in-None.ensures.steps.0 in
+    let gave : into_iter_items c.into_iter-pass-iterator.result ≡ c.captures.passes.items = search rules in
+    let all = sym (append-nil _) ∙ (ap (λ l. (map (λ h. h.promise.pass.value) c.loop-pass.handles.items ++ c.loop-pass.unbegun.items) ++ l) (sym none) ∙ (was.all ∙ gave)) in
+    let (rest, is, ends) = c.join_all.ensures.ends c.captures.options.now was.options in
+    let begun = c.value-begun.ensures in
+    let ended = subst (λ b. EndThreads c.captures.options.now b (map (λ h. h.promise.pass.value) c.loop-pass.handles.items) rest) (sym begun) ends in
+    let back = c.push_reserved-2.ensures.items ∙ ap (λ l. l ++ c.sweep_begun-swept.result ∷ []) (c.put_back-2.ensures.all ∙ ap (λ l. l ++ c.loop-pass.unbegun.items) (is ∙ ap (λ l. l ++ rest) c.requires.empty.0)) in
+    record {
+      ran = ran c.captures.options.now c.value-begun.result.now (map (λ h. h.promise.pass.value) c.loop-pass.handles.items) c.loop-pass.unbegun.items rest c.captures.passes.items c.push_reserved-2.new.self.items c.captures.sweeper c.sweep_begun-swept.result
+          all ended back (λ b. unless_off c.loop-pass.off (λ t. t.value) c.settle-token.result.value _ _ c.settle-token.ensures.told was.told (sym begun ∙ b)) c.sweep_begun-swept.ensures.sweeps;
+    }
 
 pub spawn_with-requires-send-F : goal.spawn_with-requires-send-F
-spawn_with-requires-send-F g l κs within = search (options_lent, word_lent, door_lent, desk_crosses, sendable) depth 40 fits 5000
+spawn_with-requires-send-F g l κs within = search (options_lent, start_lent, door_lent, desk_crosses, sendable) depth 40 fits 5000
 
 pub spawn_with-requires-send-T : goal.spawn_with-requires-send-T
-spawn_with-requires-send-T g l κs within = search (sendable, desk_crosses) depth 30
+spawn_with-requires-send-T g l κs within = search (sendable, desk_crosses, token_send) depth 30
