@@ -1,0 +1,191 @@
+use crate::steps::{digit_of, step_of};
+use fixtures::Refusing;
+use std::alloc::{Allocator, Global};
+use std::fmt::Write;
+use std::test::Fail;
+use ups_cycle::StepState;
+use ups_events::{AckFault, Queue, Queues};
+use ups_life::{Event, EventKind, Report};
+
+/// The kind of a word.
+fn kind_of(word: &str) -> Result<EventKind, Fail> {
+    match word {
+        "state" => Ok(EventKind::StateReport),
+        "cancel" => Ok(EventKind::CancelRequested),
+        "progress" => Ok(EventKind::ProgressReport),
+        "assigned" => Ok(EventKind::Assigned),
+        _ => Err("no kind".into()),
+    }
+}
+
+/// The first letter of the word of a kind.
+fn letter_of(kind: EventKind) -> char {
+    match kind {
+        EventKind::StateReport => 's',
+        EventKind::CancelRequested => 'c',
+        EventKind::ProgressReport => 'p',
+        EventKind::Assigned => 'a',
+    }
+}
+
+/// A report of this kind of a step.
+fn report_of(alloc: Global, kind: &str, step: &str) -> Result<Report, Fail> {
+    Ok(Report {
+        kind: kind_of(kind)?,
+        step: step_of(alloc, step)?,
+        state: StepState::InProgress,
+        readiness: None,
+    })
+}
+
+/// Puts a report into a queue, for which room is made.
+fn put<A: Allocator + Copy>(queue: &mut Queue<A>, report: Report) -> Result<(), Fail> {
+    queue.reserve(1)?;
+    queue.put(0, report);
+    Ok(())
+}
+
+/// What an acknowledgement comes to.
+fn outcome(answer: Result<(), AckFault>) -> &'static str {
+    match answer {
+        Ok(()) => "done",
+        Err(AckFault::AckAhead) => "ahead",
+        Err(AckFault::AckStale) => "stale",
+    }
+}
+
+/// Does what a line says: what it comes to.
+fn act(alloc: Global, queue: &mut Queue<Global>, line: &str) -> Result<&'static str, Fail> {
+    let (verb, word) = line.split_once(' ').ok_or("a verb")?;
+    match verb {
+        "ack" => Ok(outcome(queue.ack(word.parse::<u64>()?))),
+        kind => {
+            put(queue, report_of(alloc, kind, word)?)?;
+            Ok("put")
+        }
+    }
+}
+
+/// Adds an event: its number, the letter of its kind, and the digit of its step.
+fn add_event(text: &mut String, event: &Event) -> Result<(), Fail> {
+    let letter = letter_of(event.kind);
+    let digit = digit_of(event.step);
+    write!(text, " {}{letter}{digit}", event.number)?;
+    Ok(())
+}
+
+/// The first nine events that are pending.
+fn events_of<A: Allocator + Copy>(alloc: Global, queue: &Queue<A>) -> Result<String, Fail> {
+    let mut text = String::new(alloc);
+    for event in &queue.pending(9)? {
+        add_event(&mut text, event)?;
+    }
+    Ok(text)
+}
+
+/// What is done, one line after the other, what it comes to, and which events are pending then.
+const CALLS: &str = "\
+state 1 = put 1s1
+cancel 1 = put 1s1 2c1
+state 2 = put 1s1 2c1 3s2
+state 1 = put 2c1 3s2 4s1
+progress 2 = put 2c1 3s2 4s1 5p2
+assigned 2 = put 2c1 3s2 4s1 5p2 6a2
+ack 7 = ahead 2c1 3s2 4s1 5p2 6a2
+ack 0 = stale 2c1 3s2 4s1 5p2 6a2
+ack 1 = done 2c1 3s2 4s1 5p2 6a2
+ack 1 = stale 2c1 3s2 4s1 5p2 6a2
+ack 4 = done 5p2 6a2
+state 1 = put 5p2 6a2 7s1
+state 1 = put 5p2 6a2 8s1
+ack 8 = done
+ack 8 = stale
+state 2 = put 9s2";
+
+#[test]
+fn a_later_state_report_supersedes_the_one_before(rt: HostRuntime) -> Result<(), Fail> {
+    let mut queue = Queue::new(rt.alloc());
+    for row in CALLS.lines() {
+        let (line, wanted) = row.split_once(" = ").ok_or("what it comes to")?;
+        let outcome = act(rt.alloc(), &mut queue, line)?;
+        let events = events_of(rt.alloc(), &queue)?;
+        let found = format!(in rt.alloc(); "{outcome}{events}")?;
+        assert!(rt; found.as_str() == wanted, "{line}: {found}");
+    }
+    Ok(())
+}
+
+/// Puts so many State Reports, of the steps 1 and 2 in turn, behind a request to cancel: which events are pending, and the
+/// greatest number.
+fn many(alloc: Global, count: u64) -> Result<(String, u64), Fail> {
+    let mut queue = Queue::new(alloc);
+    put(&mut queue, report_of(alloc, "cancel", "1")?)?;
+    let one = report_of(alloc, "state", "1")?;
+    let other = report_of(alloc, "state", "2")?;
+    for number in 0..count {
+        put(&mut queue, if number % 2 == 0 { one } else { other })?;
+    }
+    Ok((events_of(alloc, &queue)?, queue.made()))
+}
+
+#[test]
+fn what_is_superseded_leaves_the_queue_however_much_it_is(rt: HostRuntime) -> Result<(), Fail> {
+    let (events, made) = many(rt.alloc(), 1_000)?;
+    assert_eq!(rt; events.as_str(), " 1c1 1000s1 1001s2");
+    assert_eq!(rt; made, 1_001);
+    Ok(())
+}
+
+/// The queues of two peers, of whom the second is told of two reports and acknowledges the first: the events of both.
+fn told_to_one(alloc: Global) -> Result<(String, String), Fail> {
+    let mut queues = Queues::new(alloc, 2)?;
+    let reports = [
+        report_of(alloc, "cancel", "1")?,
+        report_of(alloc, "state", "1")?,
+    ];
+    queues.reserve(1, 2)?;
+    queues.tell(1, 7, &reports);
+    if queues.ack(1, 1).is_err() {
+        return Err("not acknowledged".into());
+    }
+    Ok((
+        events_of(alloc, queues.of_peer(0))?,
+        events_of(alloc, queues.of_peer(1))?,
+    ))
+}
+
+#[test]
+fn each_peer_has_a_queue_of_its_own(rt: HostRuntime) -> Result<(), Fail> {
+    let (one, other) = told_to_one(rt.alloc())?;
+    assert_eq!(rt; one.as_str(), "");
+    assert_eq!(rt; other.as_str(), " 2s1");
+    Ok(())
+}
+
+/// Makes room for an event and takes what is pending, with the growth of a number refused: whether none was, and what is
+/// pending in any case.
+fn pending_lacking(alloc: Global, growth: u64) -> Result<(bool, String), Fail> {
+    let heap = Refusing::new(alloc);
+    let mut queue = Queue::new(&heap);
+    put(&mut queue, report_of(alloc, "state", "1")?)?;
+    heap.refuse(growth);
+    let is_reserved = queue.reserve(100).is_ok();
+    let is_shown = queue.pending(9).is_ok();
+    heap.refuse(0);
+    Ok((is_reserved && is_shown, events_of(alloc, &queue)?))
+}
+
+#[test]
+fn a_queue_stays_where_a_growth_is_refused(rt: HostRuntime) -> Result<(), Fail> {
+    let mut refused = 0u64;
+    for growth in 1..20 {
+        let (is_whole, events) = pending_lacking(rt.alloc(), growth)?;
+        assert_eq!(rt; events.as_str(), " 1s1");
+        if !is_whole {
+            refused = growth;
+        }
+    }
+    // the map of steps, the list of events and the list that is shown grow at least once each, and all that doesn't is whole
+    assert!(rt; refused >= 3 && refused < 19, "{refused}");
+    Ok(())
+}

@@ -1,0 +1,272 @@
+ghost use Rattle.std.specs.Prelude.{◌≡◌, ◌<◌, true, length, IfOk};
+ghost use Rattle.ups_watch.specs.Table.{knows};
+
+use crate::steps::step_of;
+use fixtures::{Refusing, words};
+use std::alloc::{Allocator, Global};
+use std::test::Fail;
+use ups_dataset::DataSet;
+use ups_life::{Place, StepUid, Subscription};
+use ups_match::Keys;
+use ups_watch::{Cover, Watchers};
+
+/// The subscription of a letter: `L` with a deletion lock, `F` without.
+fn subscription_of(letter: &str) -> Result<Subscription, Fail> {
+    match letter {
+        "L" => Ok(Subscription::Locked),
+        "F" => Ok(Subscription::Free),
+        _ => Err("no subscription".into()),
+    }
+}
+
+/// The letter of a subscription; `-` where there is none.
+fn letter_of(subscription: Option<Subscription>) -> char {
+    match subscription {
+        Some(Subscription::Locked) => 'L',
+        Some(Subscription::Free) => 'F',
+        None => '-',
+    }
+}
+
+/// Adds the letters of subscriptions.
+fn add_letters(text: &mut String, cells: &[Option<Subscription>]) -> Result<(), Fail> {
+    for cell in cells {
+        text.push(letter_of(*cell))?;
+    }
+    Ok(())
+}
+
+/// How each peer is subscribed to the steps 1 and 2, as letters: none where a step isn't known.
+fn letters_of<A: Allocator + Copy>(alloc: Global, watchers: &Watchers<A>) -> Result<String, Fail> {
+    let mut text = String::new(alloc);
+    add_letters(&mut text, watchers.of_step(step_of(alloc, "1")?))?;
+    text.push(',')?;
+    add_letters(&mut text, watchers.of_step(step_of(alloc, "2")?))?;
+    Ok(text)
+}
+
+/// The place of a peer.
+fn peer_of<A: Allocator + Copy>(watchers: &Watchers<A>, digits: &str) -> Result<usize, Fail>
+    ensures { IfOk result (λ peer. peer < length watchers.now.covers) }
+{
+    let peer = digits.parse::<usize>()?;
+    if peer >= watchers.peers() {
+        return Err("no peer".into());
+    }
+    Ok(peer)
+}
+
+/// A step that is known.
+fn known_step<A: Allocator + Copy>(
+    alloc: Global,
+    watchers: &Watchers<A>,
+    number: &str,
+) -> Result<StepUid, Fail>
+    ensures { IfOk result (λ step. knows watchers.now step ≡ true) }
+{
+    let step = step_of(alloc, number)?;
+    if !watchers.knows(step) {
+        return Err("no step".into());
+    }
+    Ok(step)
+}
+
+/// Creates a step with attributes.
+fn create<A: Allocator + Copy>(
+    watchers: &mut Watchers<A>,
+    step: StepUid,
+    attributes: &DataSet<A>,
+) -> Result<(), Fail> {
+    watchers.reserve(1)?;
+    watchers.created(step, attributes);
+    Ok(())
+}
+
+/// Subscribes a peer to a step.
+fn subscribe(alloc: Global, watchers: &mut Watchers<Global>, words: &str) -> Result<(), Fail> {
+    let (peer, words) = words.split_once(' ').ok_or("a peer")?;
+    let (step, letter) = words.split_once(' ').ok_or("a step")?;
+    let peer = peer_of(watchers, peer)?;
+    let step = known_step(alloc, watchers, step)?;
+    watchers.subscribe(peer, step, subscription_of(letter)?);
+    Ok(())
+}
+
+/// Ends the subscription of a peer to a step, or with `all` each one.
+fn unsubscribe(alloc: Global, watchers: &mut Watchers<Global>, words: &str) -> Result<(), Fail> {
+    let (peer, place) = words.split_once(' ').ok_or("a peer")?;
+    let peer = peer_of(watchers, peer)?;
+    let place = match place {
+        "all" => Place::Everywhere,
+        step => Place::At(Some(step_of(alloc, step)?)),
+    };
+    watchers.unsubscribe(peer, place);
+    Ok(())
+}
+
+/// Gives a peer a global subscription that takes in each step, those to come alone.
+fn cover(watchers: &mut Watchers<Global>, words: &str) -> Result<(), Fail> {
+    let (peer, letter) = words.split_once(' ').ok_or("a peer")?;
+    let peer = peer_of(watchers, peer)?;
+    let cover = Cover {
+        keys: None,
+        subscription: subscription_of(letter)?,
+    };
+    watchers.global(peer, cover, &[]);
+    Ok(())
+}
+
+/// Does what a line says.
+fn act(alloc: Global, watchers: &mut Watchers<Global>, line: &str) -> Result<(), Fail> {
+    let (verb, words) = line.split_once(' ').ok_or("a verb")?;
+    match verb {
+        "create" => create(watchers, step_of(alloc, words)?, &DataSet::new(alloc)),
+        "remove" => {
+            watchers.removed(step_of(alloc, words)?);
+            Ok(())
+        }
+        "subscribe" => subscribe(alloc, watchers, words),
+        "unsubscribe" => unsubscribe(alloc, watchers, words),
+        "cover" => cover(watchers, words),
+        "suspend" => {
+            let peer = peer_of(watchers, words)?;
+            watchers.suspend(peer);
+            Ok(())
+        }
+        _ => Err("no verb".into()),
+    }
+}
+
+/// What is done, one line after the other, and how the three peers are subscribed to the steps 1 and 2 then.
+const CALLS: &str = "\
+create 1 = ---,
+subscribe 1 1 F = -F-,
+subscribe 1 1 L = -L-,
+cover 0 F = -L-,
+create 2 = -L-,F--
+subscribe 2 2 F = -L-,F-F
+suspend 0 = -L-,F-F
+remove 1 = ,F-F
+create 1 = ---,F-F
+cover 2 L = ---,F-F
+remove 1 = ,F-F
+create 1 = --L,F-F
+unsubscribe 0 2 = --L,--F
+subscribe 0 2 L = --L,L-F
+unsubscribe 2 all = ---,L--
+remove 1 = ,L--
+create 1 = ---,L--";
+
+#[test]
+fn peers_are_subscribed_as_they_ask(rt: HostRuntime) -> Result<(), Fail> {
+    let mut watchers = Watchers::new(rt.alloc(), 3)?;
+    for row in CALLS.lines() {
+        let (line, letters) = row.split_once(" = ").ok_or("letters")?;
+        act(rt.alloc(), &mut watchers, line)?;
+        let found = letters_of(rt.alloc(), &watchers)?;
+        assert!(rt; found.as_str() == letters, "{line}: {found}");
+    }
+    Ok(())
+}
+
+/// Deletion locks on a step of which one peer has a lock and another is subscribed without one: how many there are, and
+/// whether the step is kept as it is, without the subscription of the one, and with a lock of the other.
+fn locks_of(alloc: Global) -> Result<(usize, bool, bool, bool), Fail> {
+    let mut watchers = Watchers::new(alloc, 2)?;
+    create(&mut watchers, step_of(alloc, "1")?, &DataSet::new(alloc))?;
+    subscribe(alloc, &mut watchers, "0 1 L")?;
+    subscribe(alloc, &mut watchers, "1 1 F")?;
+    let step = known_step(alloc, &watchers, "1")?;
+    let one = peer_of(&watchers, "0")?;
+    let other = peer_of(&watchers, "1")?;
+    Ok((
+        watchers.locks(step),
+        watchers.is_kept(step),
+        watchers.is_kept_with(step, one, None),
+        watchers.is_kept_with(step, other, Some(Subscription::Locked)),
+    ))
+}
+
+#[test]
+fn a_lock_keeps_a_step_until_it_ends(rt: HostRuntime) -> Result<(), Fail> {
+    assert_eq!(rt; locks_of(rt.alloc())?, (1, true, false, true));
+    Ok(())
+}
+
+/// A table of one peer with a filter, a step that the filter takes in at its creation and one that it doesn't, and how a
+/// change of the second to what the first has subscribes the peer.
+fn filtered(alloc: Global) -> Result<String, Fail> {
+    let keys = Keys::of(words::set_of(alloc, "00741202=READS")?, 0)?;
+    let reads = words::set_of(alloc, "00741202=READS")?;
+    let other = words::set_of(alloc, "00741202=OTHER")?;
+    let mut watchers = Watchers::new(alloc, 1)?;
+    let peer = peer_of(&watchers, "0")?;
+    let cover = Cover {
+        keys: Some(keys),
+        subscription: Subscription::Free,
+    };
+    watchers.global(peer, cover, &[]);
+    create(&mut watchers, step_of(alloc, "1")?, &reads)?;
+    create(&mut watchers, step_of(alloc, "2")?, &other)?;
+    let mut text = letters_of(alloc, &watchers)?;
+    let step = known_step(alloc, &watchers, "2")?;
+    let newly = watchers.newly(step, &other, &reads)?;
+    if newly.len() <= watchers.peers() {
+        watchers.subscribe_each(step, &newly);
+    }
+    text.push(' ')?;
+    text.push_str(letters_of(alloc, &watchers)?.as_str())?;
+    Ok(text)
+}
+
+#[test]
+fn a_filter_follows_a_change(rt: HostRuntime) -> Result<(), Fail> {
+    let found = filtered(rt.alloc())?;
+    assert_eq!(rt; found.as_str(), "F,- F,F");
+    Ok(())
+}
+
+/// Makes a table of three peers, and then room for two steps with the growth of a number refused: whether that was made,
+/// and how the peers are subscribed to the step that was there before in any case.
+fn reserved_lacking(alloc: Global, growth: u64) -> Result<(bool, String), Fail> {
+    let heap = Refusing::new(alloc);
+    let mut watchers = Watchers::new(&heap, 3)?;
+    create(&mut watchers, step_of(alloc, "1")?, &DataSet::new(&heap))?;
+    let peer = peer_of(&watchers, "1")?;
+    let step = known_step(alloc, &watchers, "1")?;
+    watchers.subscribe(peer, step, Subscription::Locked);
+    heap.refuse(growth);
+    let is_reserved = watchers.reserve(2).is_ok();
+    heap.refuse(0);
+    if is_reserved && watchers.spare() < 2 {
+        return Err("no room".into());
+    }
+    Ok((is_reserved, letters_of(alloc, &watchers)?))
+}
+
+#[test]
+fn a_table_stays_where_a_growth_is_refused(rt: HostRuntime) -> Result<(), Fail> {
+    let mut refused = 0u64;
+    for growth in 1..20 {
+        let (is_whole, letters) = reserved_lacking(rt.alloc(), growth)?;
+        assert_eq!(rt; letters.as_str(), "-L-,");
+        if !is_whole {
+            refused = growth;
+        }
+    }
+    // two rows are made at least, and all that doesn't grow is whole
+    assert!(rt; refused >= 2 && refused < 19, "{refused}");
+    Ok(())
+}
+
+/// Whether a table of three peers is made with the growth of a number refused.
+fn is_made(alloc: Global, growth: u64) -> bool {
+    let heap = Refusing::new(alloc);
+    heap.refuse(growth);
+    Watchers::new(&heap, 3).is_ok()
+}
+
+#[test]
+fn a_table_takes_its_memory_at_once(rt: HostRuntime) {
+    assert!(rt; !is_made(rt.alloc(), 1) && is_made(rt.alloc(), 2));
+}

@@ -1,0 +1,158 @@
+ghost use Rattle.std.specs.Prelude.{◌≤◌, length, OnOk};
+
+use crate::steps::{digit_of, step_of};
+use fixtures::Refusing;
+use std::alloc::{Allocator, Global};
+use std::fmt::Write;
+use std::test::Fail;
+use ups_keep::{Due, Final};
+
+/// A step that is final since a moment.
+fn final_of(alloc: Global, words: &str) -> Result<Final, Fail> {
+    let (moment, step) = words.split_once(' ').ok_or("a moment")?;
+    Ok(Final {
+        moment: moment.parse::<u64>()?,
+        step: step_of(alloc, step)?,
+    })
+}
+
+/// Adds a step, for which room is made.
+fn add<A: Allocator + Copy>(due: &mut Due<A>, step: Final) -> Result<(), Fail> {
+    due.reserve(1)?;
+    due.add(step);
+    Ok(())
+}
+
+/// Does what a line says.
+fn act(alloc: Global, due: &mut Due<Global>, line: &str) -> Result<(), Fail> {
+    let (verb, words) = line.split_once(' ').ok_or("a verb")?;
+    match verb {
+        "add" => add(due, final_of(alloc, words)?),
+        "take" => {
+            due.take(&final_of(alloc, words)?);
+            Ok(())
+        }
+        "sweep" => {
+            due.sweep(words.parse::<u64>()?);
+            Ok(())
+        }
+        _ => Err("no verb".into()),
+    }
+}
+
+/// Adds a step: the moment since when it is final, and its digit.
+fn add_step(text: &mut String, step: &Final) -> Result<(), Fail> {
+    let digit = digit_of(step.step);
+    write!(text, " {}:{digit}", step.moment)?;
+    Ok(())
+}
+
+/// The steps that are final since a moment or longer.
+fn steps_up_to<A: Allocator + Copy>(
+    alloc: Global,
+    due: &Due<A>,
+    list: A,
+    moment: u64,
+) -> Result<String, Fail> {
+    let mut text = String::new(alloc);
+    for step in &due.up_to(list, moment)? {
+        add_step(&mut text, step)?;
+    }
+    Ok(text)
+}
+
+/// What is done, one line after the other, which steps wait then, and which of them are final since the moment 10.
+const CALLS: &str = "\
+add 10 1 = 10:1 / 10:1
+add 12 2 = 10:1 12:2 / 10:1
+add 11 3 = 10:1 11:3 12:2 / 10:1
+add 10 4 = 10:1 10:4 11:3 12:2 / 10:1 10:4
+take 10 4 = 10:1 11:3 12:2 / 10:1
+take 10 4 = 10:1 11:3 12:2 / 10:1
+take 11 1 = 10:1 11:3 12:2 / 10:1
+add 10 4 = 10:1 10:4 11:3 12:2 / 10:1 10:4
+sweep 9 = 10:1 10:4 11:3 12:2 / 10:1 10:4
+sweep 11 = 12:2 /
+add 9 5 = 9:5 12:2 / 9:5
+sweep 12 = /";
+
+/// Does what a line says, and tells which steps wait then.
+fn told(alloc: Global, due: &mut Due<Global>, line: &str) -> Result<String, Fail> {
+    act(alloc, due, line)?;
+    let all = steps_up_to(alloc, due, alloc, u64::MAX)?;
+    let old = steps_up_to(alloc, due, alloc, 10)?;
+    if due.is_any(10) == old.is_empty() {
+        return Err("is_any tells otherwise".into());
+    }
+    Ok(format!(in alloc; "{all} /{old}")?)
+}
+
+#[test]
+fn steps_wait_in_the_order_of_their_ends(rt: HostRuntime) -> Result<(), Fail> {
+    let mut due = Due::new(rt.alloc());
+    for row in CALLS.lines() {
+        let (line, wanted) = row.split_once(" =").ok_or("steps")?;
+        let found = told(rt.alloc(), &mut due, line)?;
+        assert!(rt; found.as_str() == wanted, "{line}: {found}");
+    }
+    Ok(())
+}
+
+/// Merges so many steps, the last of them the oldest, into a list of one; then keeps those that are not final since an odd
+/// moment.
+fn merged(alloc: Global, count: u64) -> Result<String, Fail> {
+    let mut due = Due::new(alloc);
+    add(&mut due, final_of(alloc, "50 1")?)?;
+    let step = step_of(alloc, "2")?;
+    let mut more = Vec::new(alloc);
+    for number in 0..count {
+        more.push(Final {
+            moment: 100 - number.min(100),
+            step,
+        })?;
+    }
+    due.reserve(more.len())?;
+    due.merge(&more);
+    due.retain(|step| step.moment % 2 == 0);
+    steps_up_to(alloc, &due, alloc, u64::MAX)
+}
+
+#[test]
+fn few_and_many_are_merged_in_order(rt: HostRuntime) -> Result<(), Fail> {
+    let few = merged(rt.alloc(), 4)?;
+    assert_eq!(rt; few.as_str(), " 50:1 98:2 100:2");
+    let many = merged(rt.alloc(), 40)?;
+    assert!(rt; many.starts_with(" 50:1 62:2 64:2"), "{many}");
+    assert!(rt; many.ends_with(" 98:2 100:2"), "{many}");
+    Ok(())
+}
+
+/// Makes room and lists the steps with the growth of a number refused: whether none was, and the steps in any case.
+fn listed_lacking(alloc: Global, growth: u64) -> Result<(bool, String), Fail> {
+    let heap = Refusing::new(alloc);
+    let mut due = Due::new(&heap);
+    add(&mut due, final_of(alloc, "10 1")?)?;
+    heap.refuse(growth);
+    let is_reserved = due.reserve(100).is_ok();
+    let is_listed = due.up_to(&heap, 10).is_ok();
+    heap.refuse(0);
+    Ok((
+        is_reserved && is_listed,
+        steps_up_to(alloc, &due, &heap, 10)?,
+    ))
+}
+
+#[test]
+fn a_list_stays_where_a_growth_is_refused(rt: HostRuntime) -> Result<(), Fail> {
+    let mut refused = 0u64;
+    for growth in 1..20 {
+        let (is_whole, steps) = listed_lacking(rt.alloc(), growth)?;
+        assert_eq!(rt; steps.as_str(), " 10:1");
+        if !is_whole {
+            refused = growth;
+        }
+    }
+    // the list itself grows once; the one that is handed out makes do where its first growth is refused
+    assert!(rt; refused >= 1 && refused < 19, "{refused}");
+    Ok(())
+}

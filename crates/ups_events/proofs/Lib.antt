@@ -1,0 +1,5 @@
+pub mod Followed
+mod NewQueues
+mod SlotLists
+mod Spending
+pub mod Tellings

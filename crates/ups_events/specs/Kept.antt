@@ -1,0 +1,57 @@
+-- How a queue is kept: its events in slots, some of which are spent, and an index of the State Reports by their steps.
+use Rattle.std.specs.Prelude.{◌≡◌, ◌≤◌, ◌<◌, ℕ, Bool, true, false, not, ◌||◌, nat_le, List, [], ◌∷◌, map, length, Some, slice_index_or, if◌then◌else◌}
+use Rattle.std.specs.List.{AllByRecursion}
+use Rattle.std.specs.Map.{lookup}
+use Rattle.std.specs.Str.{bytes_eq}
+use Rattle.ups_life.specs.declared.event.Event.{Event}
+use Rattle.ups_life.specs.declared.event.EventKind.{EventKind}
+use Rattle.ups_life.specs.Events.{is_state_report, is_report_of}
+use Rattle.ups_events.specs.declared.slots.Slot.{Slot}
+
+-- the events that are live, oldest first
+abbrev pub lives : List Slot → List Event
+lives [] = []
+lives (s ∷ ss) = if s.live then s.event ∷ lives ss else lives ss
+
+abbrev pub is_live : Slot → Bool
+is_live s = s.live
+
+-- a slot after each State Report of the step u was spent
+abbrev pub spent : List ℕ → Slot → Slot
+spent u s = if is_report_of u s.event then record { event = s.event; live = false } else s
+
+-- the slots as an event of this kind and step finds them: what it supersedes is spent
+abbrev pub made_way : EventKind → List ℕ → List Slot → List Slot
+made_way kind u ss = if is_state_report kind then map (spent u) ss else ss
+
+-- a slot at the front goes: it is spent, or its event is acknowledged
+abbrev pub goes : ℕ → Slot → Bool
+goes upto s = not s.live || nat_le s.event.number upto
+
+-- the slots without those at the front that go
+abbrev pub dropped : ℕ → List Slot → List Slot
+dropped upto [] = []
+dropped upto (s ∷ ss) = if goes upto s then dropped upto ss else s ∷ ss
+
+-- the numbers of events rise from slot to slot
+abbrev pub Rises : List Slot → Type 0
+Rises ss = (i j : ℕ) (d : Slot) → i < j → j < length ss → (slice_index_or ss i d).event.number < (slice_index_or ss j d).event.number
+
+-- the first number is above `low`, and each other one above that before it
+abbrev pub Rising : ℕ → List Slot → Type 0
+Rising low [] = Unit {0}
+Rising low (s ∷ ss) = (low < s.event.number) × Rising s.event.number ss
+
+-- no number is above `high`
+abbrev pub UpTo : ℕ → List Slot → Type 0
+UpTo high ss = AllByRecursion (λ (s : Slot). s.event.number ≤ high) ss
+
+-- the index has the number of each State Report that is live, by its step
+abbrev pub Indexed : List (List ℕ × ℕ) → List Slot → Type 0
+Indexed index ss = AllByRecursion (λ (s : Slot). s.live ≡ true → is_state_report s.event.kind ≡ true → lookup (bytes_eq s.event.step) index ≡ Some s.event.number) ss
+
+-- what a queue keeps to: numbers rise from what was acknowledged to what was made, and the index has each live State Report
+pub record Keeps (made acked : ℕ) (index : List (List ℕ × ℕ)) (ss : List Slot) : Type 0 where
+  pub rising : Rising acked ss
+  pub up_to : UpTo made ss
+  pub indexed : Indexed index ss

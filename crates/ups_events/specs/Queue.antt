@@ -1,0 +1,68 @@
+-- What a contract sees of the queue of a watcher: the events that it has not acknowledged, without each State Report that
+-- a later one of the same step supersedes (the profile's: PS3.4 CC.2.4 knows no acknowledgement but the response to a
+-- report).
+use Rattle.std.specs.Prelude.{◌≡◌, ◌≤◌, ◌+◌, ℕ, Bool, not, ◌&&◌, nat_lt, nat_le, List, [], ◌∷◌, ◌++◌, filter, slice_index_or, Option, None, Some, if◌then◌else◌}
+use Rattle.ups_life.specs.declared.event.Event.{Event}
+use Rattle.ups_life.specs.Events.{is_state_report, is_report_of}
+use Rattle.ups_events.specs.declared.fault.AckFault.{AckFault}
+use Rattle.ups_events.specs.declared.fault.AckFault.TheVariants.{AckAhead, AckStale}
+
+-- the greatest number made, the greatest acknowledged (each 0 where there is none), the events that are pending, oldest
+-- first, and for how many more there is room
+pub record Standing : Type 0 where
+  pub made : ℕ
+  pub acked : ℕ
+  pub events : List Event
+  pub spare : ℕ
+
+-- a later event supersedes an earlier one: both are State Reports of one step (PS3.4 CC.2.4, the profile's)
+abbrev pub supersedes : Event → Event → Bool
+supersedes later earlier = is_state_report earlier.kind && is_report_of earlier.step later
+
+-- the events that are pending after x was added to these: x goes last, and what it supersedes leaves
+abbrev pub added : List Event → Event → List Event
+added xs x = filter (λ y. not (supersedes x y)) xs ++ x ∷ []
+
+-- the events with a greater number than n
+abbrev pub above : ℕ → List Event → List Event
+above n xs = filter (λ (x : Event). nat_lt n x.number) xs
+
+-- the event x was added, with the next number
+pub record IsAdded (old : Standing) (x : Event) (new : Standing) : Type 0 where
+  pub made : new.made ≡ old.made + 1
+  pub number : x.number ≡ new.made
+  pub acked : new.acked ≡ old.acked
+  pub events : new.events ≡ added old.events x
+  pub spare : old.spare ≤ new.spare + 1
+
+-- the events up to a number were acknowledged
+pub record IsAcked (old : Standing) (upto : ℕ) (new : Standing) : Type 0 where
+  pub made : new.made ≡ old.made
+  pub acked : new.acked ≡ upto
+  pub events : new.events ≡ above upto old.events
+  pub spare : old.spare ≤ new.spare
+
+-- room was made for more events, and nothing else changed
+pub record IsReserved (old new : Standing) : Type 0 where
+  pub made : new.made ≡ old.made
+  pub acked : new.acked ≡ old.acked
+  pub events : new.events ≡ old.events
+  pub spare : old.spare ≤ new.spare
+
+-- no event was made yet
+pub record IsNew (q : Standing) : Type 0 where
+  pub made : q.made ≡ 0
+  pub acked : q.acked ≡ 0
+  pub events : q.events ≡ []
+
+-- why an acknowledgement up to a number is refused, if it is (the profile's)
+abbrev pub ack_fault : Standing → ℕ → Option AckFault
+ack_fault q upto = if nat_lt q.made upto then Some AckAhead else (if nat_le upto q.acked then Some AckStale else None)
+
+-- an empty queue that has no room: what stands for a place without a peer
+abbrev pub empty : Standing
+empty = record { made = 0; acked = 0; events = []; spare = 0 }
+
+-- the queue of the peer at a place
+abbrev pub queue_at : List Standing → ℕ → Standing
+queue_at qs p = slice_index_or qs p empty

@@ -1,0 +1,178 @@
+//! The queue of a watcher.
+
+ghost use Rattle.std.specs.Prelude.{◌≡◌, ◌<◌, ◌≤◌, ◌+◌, [], take, None, Some, IfOk, OnOk, OnErr, MatchResult};
+ghost use Rattle.ups_events.specs.Queue.{IsAdded, IsAcked, ack_fault};
+ghost use Rattle.ups_events.specs.Telling.{event_of};
+
+use crate::fault::AckFault;
+use crate::slots::{ReportNumbers, Slot, counted, drop_front, first_live, make_way, tidy};
+use std::alloc::{AllocError, Allocator};
+use std::collections::{HashMap, VecDeque};
+use std::marker::Model;
+use ups_life::{Event, Report};
+
+/// The events that a watcher has not acknowledged, oldest first, without each State Report that a later one of the same
+/// step supersedes (PS3.4 CC.2.4). They are numbered from 1, and numbers keep their gaps. A contract sees the greatest
+/// number made, the greatest acknowledged, the events, and for how many more there is room.
+#[derive(Drop)]
+pub struct Queue<A: Allocator + Copy> {
+    alloc: A,
+    made: u64,
+    acked: u64,
+    slots: VecDeque<Slot, A>,
+    index: ReportNumbers<A>,
+    /// No fewer than the slots that are spent.
+    spent: usize,
+}
+
+impl<A: Allocator + Copy> Model for Queue<A> {
+    ghost use Rattle.std.specs.Prelude.{◌-◌, ◌^◌, ◌≤◌, min};
+    ghost use Rattle.std.specs.HashMap.{spare};
+    ghost use Rattle.std.specs.VecDeque.{deque_len, deque_capacity};
+    ghost use Rattle.ups_events.specs.Queue.{Standing};
+
+    ghost Value = { Standing };
+
+    ghost use Rattle.ups_events.specs.Kept.{lives, Keeps};
+
+    ghost view = { λ q. record { made = q.made; acked = q.acked; events = lives q.slots.items; spare = min (deque_capacity q.slots - deque_len q.slots) (min (spare q.index) (2 ^ 64 - 1 - q.made)) } };
+
+    ghost invariant = { λ q. Keeps q.made q.acked q.index.entries q.slots.items × (q.acked ≤ q.made) };
+}
+
+impl<A: Allocator + Copy> Queue<A> {
+    /// An empty queue, of which no number was used. It takes no memory.
+    pub fn new(alloc: A) -> Queue<A>
+        ensures made { result.made ≡ 0 }
+        ensures acked { result.acked ≡ 0 }
+        ensures events { result.events ≡ [] }
+    {
+        Queue {
+            alloc,
+            made: 0,
+            acked: 0,
+            slots: VecDeque::new(alloc),
+            index: HashMap::new(alloc),
+            spent: 0,
+        }
+    }
+
+    /// Makes room for at least `more` further events.
+    ///
+    /// # Errors
+    ///
+    /// Where memory runs out. Events and numbers then stay as they are.
+    pub fn reserve(&mut self, more: usize) -> Result<(), AllocError>
+        ensures room { OnOk result (more ≤ self.new.spare) }
+        ensures keeps { self.old.spare ≤ self.new.spare }
+        ensures made { self.new.made ≡ self.old.made }
+        ensures acked { self.new.acked ≡ self.old.acked }
+        ensures events { self.new.events ≡ self.old.events }
+    {
+        let Queue {
+            made,
+            slots,
+            index,
+            ..
+        } = self;
+        if more as u64 > u64::MAX - *made {
+            return Err(AllocError);
+        }
+        index.reserve(more)?;
+        slots.reserve(more)
+    }
+
+    /// Adds a report of the entry at a place of the history as an event, with the next number. A State Report supersedes the
+    /// one of its step before (PS3.4 CC.2.4). It uses the room of one event, and takes no memory.
+    pub fn put(&mut self, entry: u64, report: Report)
+        requires room { 0 < self.old.spare }
+        ensures { IsAdded self.old (event_of (self.old.made + 1) entry report) self.new }
+    {
+        let Queue {
+            made,
+            acked,
+            slots,
+            index,
+            spent,
+            ..
+        } = self;
+        let number = *made + 1;
+        let superseded = make_way(slots, index, report.kind, report.step, number);
+        slots.push_back_reserved(Slot {
+            event: Event {
+                number,
+                entry,
+                kind: report.kind,
+                step: report.step,
+                state: report.state,
+                readiness: report.readiness,
+            },
+            live: true,
+        });
+        *made = number;
+        drop_front(slots, index, *acked);
+        *spent = tidy(slots, counted(*spent, superseded));
+    }
+
+    /// The greatest number made; 0 where none was.
+    pub fn made(&self) -> u64
+        ensures { result ≡ self.now.made }
+    {
+        self.made
+    }
+
+    /// The greatest number acknowledged; 0 where none was.
+    pub fn acked(&self) -> u64
+        ensures { result ≡ self.now.acked }
+    {
+        self.acked
+    }
+
+    /// The first `max` events that are pending, oldest first (PS3.4 CC.2.4).
+    ///
+    /// # Errors
+    ///
+    /// Where memory runs out.
+    pub fn pending(&self, max: u64) -> Result<Vec<Event, A>, AllocError>
+        ensures { IfOk result (λ v. v.items ≡ take max self.now.events) }
+    {
+        first_live(self.alloc, &self.slots, max)
+    }
+
+    /// Acknowledges the events up to a number, which leave. It takes no memory.
+    ///
+    /// # Errors
+    ///
+    /// AckAhead where no event has so great a number, else AckStale where this number, or a greater one, was acknowledged
+    /// before. The queue then stays as it is.
+    pub fn ack(&mut self, upto: u64) -> Result<(), AckFault>
+        ensures acked { OnOk result (IsAcked self.old upto self.new) }
+        ensures fault { MatchResult result (λ done. ack_fault self.old upto ≡ None) (λ fault. ack_fault self.old upto ≡ Some fault) }
+        ensures same { OnErr result (self.new ≡ self.old) }
+    {
+        if upto > self.made {
+            return Err(AckFault::AckAhead);
+        }
+        if upto <= self.acked {
+            return Err(AckFault::AckStale);
+        }
+        let Queue {
+            acked,
+            slots,
+            index,
+            ..
+        } = self;
+        drop_front(slots, index, upto);
+        *acked = upto;
+        Ok(())
+    }
+
+    /// For how many more events there is room.
+    pub fn spare(&self) -> u64
+        ensures { result ≡ self.now.spare }
+    {
+        let slots = self.slots.capacity() - self.slots.len();
+        let steps = self.index.capacity() - self.index.len();
+        (slots.min(steps) as u64).min(u64::MAX - self.made)
+    }
+}

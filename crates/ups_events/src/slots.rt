@@ -1,0 +1,222 @@
+//! The slots of a queue, and the index of its State Reports.
+
+ghost use Rattle.std.specs.Prelude.{◌≡◌, ◌<◌, ◌≤◌, ◌+◌, ◌&&◌, ◌++◌, ◌∷◌, [], ◌⊎◌, ℕ, List, true, map, filter, take, length, Some, IfOk, OnOk, None, MatchOption, slice_index_or, if◌then◌else◌};
+ghost use Rattle.std.specs.HashMap.{get, spare};
+ghost use Rattle.std.specs.Str.{bytes_eq};
+ghost use Rattle.std.specs.VecDeque.{deque_len, deque_capacity};
+ghost use Rattle.ups_life.specs.Events.{is_state_report, is_report_of};
+ghost use Rattle.ups_events.specs.Kept.{lives, is_live, spent, made_way, goes, dropped, Rises, Indexed, Keeps};
+
+use std::alloc::{AllocError, Allocator};
+use std::collections::{HashMap, VecDeque};
+use std::hash::{BuildHasherDefault, FoldHasher};
+use ups_life::{Event, EventKind, StepUid};
+
+/// So many spent slots are left where they are, beside half of all slots: few are not worth a walk over the others.
+const SPENT_LEFT: usize = 32;
+
+/// The number of the State Report of each step, where it is live.
+pub(crate) type ReportNumbers<A> = HashMap<StepUid, u64, BuildHasherDefault<FoldHasher>, A>;
+
+/// An event of a queue. It is live until it is spent: acknowledged, or superseded by a later State Report of its step.
+#[derive(Clone, Copy)]
+pub(crate) struct Slot {
+    pub(crate) event: Event,
+    pub(crate) live: bool,
+}
+
+/// Whether a report is a State Report (PS3.4 CC.2.4).
+fn is_state_report(kind: EventKind) -> bool
+    ensures { result ≡ is_state_report kind }
+{
+    match kind {
+        EventKind::StateReport => true,
+        EventKind::CancelRequested | EventKind::ProgressReport | EventKind::Assigned => false,
+    }
+}
+
+/// Whether an event is a State Report of this step (PS3.4 CC.2.4).
+fn is_report_of(step: StepUid, event: &Event) -> bool
+    ensures { result ≡ is_report_of step event.now }
+{
+    event.step.as_bytes() == step.as_bytes() && is_state_report(event.kind)
+}
+
+/// Spends the State Report of a step, whose number is known, if it is still there.
+fn spend<A: Allocator + Copy>(slots: &mut VecDeque<Slot, A>, number: u64, step: StepUid)
+    requires rises { Rises slots.old.items }
+    requires alone { (i : ℕ) → (d : Slot) → i < length slots.old.items → (slice_index_or slots.old.items i d).live ≡ true → is_report_of step (slice_index_or slots.old.items i d).event ≡ true → (slice_index_or slots.old.items i d).event.number ≡ number }
+    ensures slots { slots.new.items ≡ map (spent step) slots.old.items }
+    ensures len { deque_len slots.new ≡ deque_len slots.old }
+    ensures capacity { deque_capacity slots.new ≡ deque_capacity slots.old }
+{
+    let place = slots.partition_point(|slot| slot.event.number < number);
+    if let Some(slot) = slots.get_mut(place) {
+        if is_report_of(step, &slot.event) {
+            slot.live = false;
+        }
+    }
+}
+
+/// Gives a step the number of its new State Report, and spends the one before. Returns whether there was one.
+fn supersede<A: Allocator + Copy>(
+    slots: &mut VecDeque<Slot, A>,
+    index: &mut ReportNumbers<A>,
+    step: StepUid,
+    number: u64,
+) -> bool
+    requires rises { Rises slots.old.items }
+    requires indexed { Indexed index.old.entries slots.old.items }
+    requires room { 0 < spare index.old }
+    ensures slots { slots.new.items ≡ map (spent step) slots.old.items }
+    ensures len { deque_len slots.new ≡ deque_len slots.old }
+    ensures capacity { deque_capacity slots.new ≡ deque_capacity slots.old }
+    ensures index { (u : List ℕ) → get bytes_eq index.new u ≡ (if bytes_eq step u then Some number else get bytes_eq index.old u) }
+    ensures spare { spare index.old ≤ spare index.new + 1 }
+{
+    let Ok(earlier) = index.insert(step, number) else {
+        unreachable!();
+    };
+    match earlier {
+        Some(earlier) => {
+            spend(slots, earlier, step);
+            true
+        }
+        None => false,
+    }
+}
+
+/// Makes way for an event of this kind and number: a State Report supersedes the one of its step before. Returns whether
+/// there was one.
+pub(crate) fn make_way<A: Allocator + Copy>(
+    slots: &mut VecDeque<Slot, A>,
+    index: &mut ReportNumbers<A>,
+    kind: EventKind,
+    step: StepUid,
+    number: u64,
+) -> bool
+    requires rises { Rises slots.old.items }
+    requires indexed { Indexed index.old.entries slots.old.items }
+    requires room { 0 < spare index.old }
+    ensures slots { slots.new.items ≡ made_way kind step slots.old.items }
+    ensures len { deque_len slots.new ≡ deque_len slots.old }
+    ensures capacity { deque_capacity slots.new ≡ deque_capacity slots.old }
+    ensures index { (u : List ℕ) → get bytes_eq index.new u ≡ (if is_state_report kind && bytes_eq step u then Some number else get bytes_eq index.old u) }
+    ensures spare { spare index.old ≤ spare index.new + 1 }
+{
+    if is_state_report(kind) {
+        supersede(slots, index, step, number)
+    } else {
+        false
+    }
+}
+
+/// Whether a slot at the front goes: it is spent, or its event is acknowledged.
+fn goes(slot: &Slot, upto: u64) -> bool
+    ensures { result ≡ goes upto slot.now }
+{
+    !slot.live || slot.event.number <= upto
+}
+
+/// The slot at the front, if it goes.
+fn going<A: Allocator + Copy>(slots: &VecDeque<Slot, A>, upto: u64) -> Option<Slot>
+    ensures { MatchOption result (dropped upto slots.now.items ≡ slots.now.items) (λ s. (goes upto s ≡ true) × ((rest : List Slot) × (slots.now.items ≡ s ∷ rest))) }
+{
+    match slots.front() {
+        Some(slot) if goes(slot, upto) => Some(*slot),
+        _ => None,
+    }
+}
+
+/// Takes the State Report of a slot that goes out of the index. One that is spent isn't there any more: the index has the
+/// number of the one that superseded it.
+fn forget<A: Allocator + Copy>(index: &mut ReportNumbers<A>, slot: &Slot)
+    ensures index { (u : List ℕ) → get bytes_eq index.new u ≡ (if slot.now.live && is_report_of u slot.now.event then None else get bytes_eq index.old u) }
+    ensures spare { spare index.old ≤ spare index.new }
+{
+    if slot.live && is_state_report(slot.event.kind) {
+        index.remove(&slot.event.step);
+    }
+}
+
+/// Drops the slots at the front that go: those that are spent, and those of the events up to a number.
+pub(crate) fn drop_front<A: Allocator + Copy>(
+    slots: &mut VecDeque<Slot, A>,
+    index: &mut ReportNumbers<A>,
+    upto: u64,
+)
+    ensures slots { slots.new.items ≡ dropped upto slots.old.items }
+    ensures keeps { (made : ℕ) → (acked : ℕ) → Keeps made acked index.old.entries slots.old.items → Keeps made acked index.new.entries slots.new.items }
+    ensures len { deque_len slots.new ≤ deque_len slots.old }
+    ensures capacity { deque_capacity slots.new ≡ deque_capacity slots.old }
+    ensures spare { spare index.old ≤ spare index.new }
+{
+    while let Some(slot) = going(slots, upto) {
+        slots.pop_front();
+        forget(index, &slot);
+    }
+}
+
+/// Throws away the slots that are spent.
+fn compact<A: Allocator + Copy>(slots: &mut VecDeque<Slot, A>)
+    ensures slots { slots.new.items ≡ filter is_live slots.old.items }
+    ensures len { deque_len slots.new ≤ deque_len slots.old }
+    ensures capacity { deque_capacity slots.new ≡ deque_capacity slots.old }
+{
+    slots.retain(|slot| slot.live);
+}
+
+/// How many slots may be spent after an event came that superseded another one, or none.
+pub(crate) fn counted(spent: usize, superseded: bool) -> usize {
+    if superseded {
+        spent.saturating_add(1)
+    } else {
+        spent
+    }
+}
+
+/// Throws away the slots that are spent, where these may be more than half of all; there are no more of them than `spent`.
+/// Returns how many there may be afterwards.
+pub(crate) fn tidy<A: Allocator + Copy>(slots: &mut VecDeque<Slot, A>, spent: usize) -> usize
+    ensures slots { (slots.new.items ≡ slots.old.items) ⊎ (slots.new.items ≡ filter is_live slots.old.items) }
+    ensures len { deque_len slots.new ≤ deque_len slots.old }
+    ensures capacity { deque_capacity slots.new ≡ deque_capacity slots.old }
+{
+    if spent < SPENT_LEFT || spent - SPENT_LEFT < slots.len() / 2 {
+        return spent;
+    }
+    compact(slots);
+    0
+}
+
+/// Adds the event of a slot, unless it is spent.
+///
+/// Errors: where memory runs out.
+fn add_live<A: Allocator + Copy>(found: &mut Vec<Event, A>, slot: &Slot) -> Result<(), AllocError>
+    ensures { OnOk result (found.new.items ≡ found.old.items ++ lives (slot.now ∷ [])) }
+{
+    if slot.live {
+        found.push(slot.event)?;
+    }
+    Ok(())
+}
+
+/// The first `max` events that are live, oldest first. It looks at the slots up to the last of these.
+///
+/// Errors: where memory runs out.
+pub(crate) fn first_live<A: Allocator + Copy>(
+    alloc: A,
+    slots: &VecDeque<Slot, A>,
+    max: u64,
+) -> Result<Vec<Event, A>, AllocError>
+    ensures { IfOk result (λ v. v.items ≡ take max (lives slots.now.items)) }
+{
+    let mut found = Vec::new(alloc);
+    for place in 0..slots.len() {
+        if found.len() as u64 >= max {
+            return Ok(found);
+        }
+        add_live(&mut found, &slots[place])?;
+    }
+    Ok(found)
+}

@@ -1,0 +1,8 @@
+pub mod Blanks
+pub mod Cells
+pub mod Filling
+pub mod Seen
+pub mod Newly
+pub mod Peers
+pub mod Agreement
+pub mod Keeping

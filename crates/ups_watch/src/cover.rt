@@ -1,0 +1,122 @@
+//! Global subscriptions, and the steps that they take in.
+
+ghost use Rattle.std.specs.Prelude.{◌≡◌, ◌<◌, ℕ, None, IfOk, length, slice_index_or};
+ghost use Rattle.ups_watch.specs.Covers.{are_met, covered, covering_in, is_newly_met, newly_covered, covers_left};
+
+use crate::row::{Row, cell_at};
+use std::alloc::{AllocError, Allocator};
+use ups_dataset::DataSet;
+use ups_life::{Place, Subscription};
+use ups_match::{Keys, Matcher, Probe};
+
+/// The global subscription of a peer, filtered or not (PS3.4 CC.2.3).
+#[derive(Drop)]
+pub struct Cover<A: Allocator + Copy> {
+    /// The keys that a step has to match; None where the subscription takes in every step.
+    pub keys: Option<Keys<A>>,
+    /// How the peer is subscribed to a step that is taken in.
+    pub subscription: Subscription,
+}
+
+/// Whether a step with these attributes matches the keys of a global subscription, if it has any.
+fn are_met<A: Allocator + Copy>(keys: &Option<Keys<A>>, attributes: &DataSet<A>) -> bool
+    ensures { result ≡ are_met keys.now attributes.now }
+{
+    match keys {
+        None => true,
+        Some(keys) => Probe::new().matches(keys, attributes),
+    }
+}
+
+/// How a peer with this global subscription is subscribed to a step that is created with these attributes.
+fn covered<A: Allocator + Copy>(
+    cover: &Option<Cover<A>>,
+    attributes: &DataSet<A>,
+) -> Option<Subscription>
+    ensures { result ≡ covered cover.now attributes.now }
+{
+    match cover {
+        Some(cover) if are_met(&cover.keys, attributes) => Some(cover.subscription),
+        _ => None,
+    }
+}
+
+/// Fills the row of a step that is created with these attributes: each peer is subscribed as its global subscription says.
+pub(crate) fn fill<A: Allocator + Copy>(
+    row: &mut Row<A>,
+    covers: &[Option<Cover<A>>],
+    attributes: &DataSet<A>,
+)
+    requires width { length row.old ≡ length covers.now }
+    ensures cells { (p : ℕ) → slice_index_or row.new p None ≡ covering_in covers.now p attributes.now }
+    ensures width { length row.new ≡ length covers.now }
+{
+    for (peer, cover) in covers.iter().enumerate() {
+        row.set(peer, covered(cover, attributes));
+    }
+}
+
+/// Ends the global subscription of a peer whose subscriptions end everywhere; where they end at one step, it stays.
+pub(crate) fn end_cover<A: Allocator + Copy>(
+    covers: &mut Vec<Option<Cover<A>>, A>,
+    place: &Place,
+    peer: usize,
+)
+    requires { peer < length covers.old.items }
+    ensures { covers.new.items ≡ covers_left place.now peer covers.old.items }
+{
+    match place {
+        Place::At(_) => {}
+        Place::Everywhere => covers[peer] = None,
+    }
+}
+
+/// Whether a step matches the keys of a global subscription after a change of its attributes and did not match them before.
+fn is_newly_met<A: Allocator + Copy>(
+    keys: &Option<Keys<A>>,
+    before: &DataSet<A>,
+    after: &DataSet<A>,
+) -> bool
+    ensures { result ≡ is_newly_met keys.now before.now after.now }
+{
+    match keys {
+        None => false,
+        Some(keys) => { Probe::new().matches(keys, after) && !Probe::new().matches(keys, before) }
+    }
+}
+
+/// How a peer with this global subscription, subscribed so far as `current` says, is to be subscribed to a step by a change
+/// of its attributes; None where the change does not subscribe it.
+fn newly_covered<A: Allocator + Copy>(
+    cover: &Option<Cover<A>>,
+    current: Option<Subscription>,
+    before: &DataSet<A>,
+    after: &DataSet<A>,
+) -> Option<Subscription>
+    ensures { result ≡ newly_covered cover.now current before.now after.now }
+{
+    match (cover, current) {
+        (Some(cover), None) if is_newly_met(&cover.keys, before, after) => Some(cover.subscription),
+        _ => None,
+    }
+}
+
+/// How each peer, subscribed so far as its cell says, is to be subscribed to a step by a change of its attributes.
+///
+/// Errors: where memory runs out.
+pub(crate) fn newly_all<A: Allocator + Copy>(
+    alloc: A,
+    covers: &[Option<Cover<A>>],
+    cells: &[Option<Subscription>],
+    before: &DataSet<A>,
+    after: &DataSet<A>,
+) -> Result<Vec<Option<Subscription>, A>, AllocError>
+    ensures newly { IfOk result (λ v. (p : ℕ) → slice_index_or v.items p None ≡ newly_covered (slice_index_or covers.now p None) (slice_index_or cells.now p None) before.now after.now) }
+    ensures width { IfOk result (λ v. length v.items ≡ length covers.now) }
+{
+    let mut found = Vec::with_capacity(alloc, covers.len())?;
+    for (peer, cover) in covers.iter().enumerate() {
+        found.push(newly_covered(cover, cell_at(cells, peer), before, after))?;
+    }
+    Ok(found)
+}

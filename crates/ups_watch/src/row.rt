@@ -1,0 +1,117 @@
+//! The subscriptions of all peers to one step.
+
+ghost use Rattle.std.specs.Prelude.{◌≡◌, ◌<◌, None, IfOk, length, nat_eq, replicate, slice_index_or, slice_set, if◌then◌else◌};
+ghost use Rattle.ups_watch.specs.Table.{is_locked, is_kept};
+
+use std::alloc::{AllocError, Allocator};
+use std::marker::Model;
+use ups_life::Subscription;
+
+/// The subscriptions of all peers to one step: a cell for each peer, at the place of the peer. A contract sees the list of
+/// the cells.
+#[derive(Drop)]
+pub(crate) struct Row<A: Allocator + Copy> {
+    cells: Vec<Option<Subscription>, A>,
+}
+
+impl<A: Allocator + Copy> Model for Row<A> {
+    ghost use Rattle.std.specs.Prelude.{List, Option};
+    ghost use Rattle.ups_life.specs.declared.watching.Subscription.{Subscription};
+
+    ghost Value = { List (Option Subscription) };
+
+    ghost view = { λ r. r.cells.items };
+}
+
+impl<A: Allocator + Copy> Row<A> {
+    /// A row for so many peers, none of whom is subscribed.
+    ///
+    /// Errors: where memory runs out.
+    pub fn blank(alloc: A, width: usize) -> Result<Row<A>, AllocError>
+        ensures { IfOk result (λ r. r ≡ replicate width None) }
+    {
+        let cells = vec![in alloc; None; width]?;
+        Ok(Row { cells })
+    }
+
+    /// The cells, lent.
+    pub fn as_slice(&self) -> &[Option<Subscription>]
+        ensures { result.now ≡ self.now }
+    {
+        self.cells.as_slice()
+    }
+
+    /// Writes how a peer is subscribed.
+    pub fn set(&mut self, peer: usize, subscription: Option<Subscription>)
+        requires { peer < length self.old }
+        ensures { self.new ≡ slice_set self.old peer subscription }
+    {
+        self.cells[peer] = subscription;
+    }
+
+    /// Ends the subscription of a peer, if the row has a cell for it.
+    pub fn clear(&mut self, peer: usize)
+        ensures { self.new ≡ slice_set self.old peer None }
+    {
+        if peer < self.cells.len() {
+            self.cells[peer] = None;
+        }
+    }
+}
+
+/// How a peer is subscribed; None too where there is no cell for it.
+pub(crate) fn cell_at(cells: &[Option<Subscription>], peer: usize) -> Option<Subscription>
+    ensures { result ≡ slice_index_or cells.now peer None }
+{
+    if peer < cells.len() {
+        cells[peer]
+    } else {
+        None
+    }
+}
+
+/// Whether a peer that is subscribed so has a deletion lock (PS3.4 CC.2.3).
+pub(crate) fn is_locked(cell: Option<Subscription>) -> bool
+    ensures { result ≡ is_locked cell }
+{
+    match cell {
+        Some(Subscription::Locked) => true,
+        _ => false,
+    }
+}
+
+/// Whether one of the peers has a deletion lock.
+pub(crate) fn is_kept(cells: &[Option<Subscription>]) -> bool
+    ensures { result ≡ is_kept cells.now }
+{
+    cells.iter().any(|cell| is_locked(*cell))
+}
+
+/// What the cell at a place is where the one at `peer` is replaced.
+fn cell_with(
+    place: usize,
+    cell: Option<Subscription>,
+    peer: usize,
+    subscription: Option<Subscription>,
+) -> Option<Subscription>
+    ensures { result ≡ (if nat_eq peer place then subscription else cell) }
+{
+    if place == peer { subscription } else { cell }
+}
+
+/// Whether one of the peers would have a deletion lock, were the peer subscribed so.
+pub(crate) fn is_kept_with(
+    cells: &[Option<Subscription>],
+    peer: usize,
+    subscription: Option<Subscription>,
+) -> bool
+    requires { peer < length cells.now }
+    ensures { result ≡ is_kept (slice_set cells.now peer subscription) }
+{
+    for (place, cell) in cells.iter().enumerate() {
+        if is_locked(cell_with(place, *cell, peer, subscription)) {
+            return true;
+        }
+    }
+    false
+}
