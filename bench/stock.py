@@ -14,7 +14,7 @@ itself. It prints a line for each trial that doesn't agree, and in the end how m
                  its performer, queried, and watched by a subscription to it or to all
     the watcher  is a peer of the server that listens here. It takes the server's associations, answers each
                  N-EVENT-REPORT with 0000, and compares the reports with PS3.4 section CC.2.4: the step, the type, the
-                 data set and the order
+                 data set and the order. A State Report may be left out where a later one of its step came in time
 """
 
 import argparse
@@ -45,6 +45,7 @@ WATCH = "1.2.840.10008.5.1.4.34.6.2"
 EVENT = b"1.2.840.10008.5.1.4.34.6.4"
 GLOBAL = "1.2.840.10008.5.1.4.34.5"
 CONTEXTS = {PUSH: 1, PULL: 3, WATCH: 5}
+STATE_REPORT = 1  # an Event Type ID
 
 # what is tried: a name, the words, the exit status, what is read among what is told, and the line of the server's log
 TRIALS = [
@@ -438,15 +439,22 @@ def live(server, syntax, tally, name):
 
 
 def watch(watcher, tally, name):
-    """The reports of that life."""
-    wanted = [(what, event) for what, *_, events in LIFE for event in events]
-    holds(lambda: len(watcher.reports) >= len(wanted), LIMIT)
+    """The reports of that life: all in order, but for State Reports that later ones of their steps superseded in time."""
+    wanted = [(what, (number, uid, plain(attributes))) for what, *_, events in LIFE for number, uid, attributes in events]
+    holds(lambda: watcher.reports[-1:] == [wanted[-1][1]], LIMIT)
     time.sleep(2)  # for those that should not come, and for the release
-    for at, (what, (number, uid, attributes)) in enumerate(wanted):
-        found = watcher.reports[at] if at < len(watcher.reports) else None
-        event = number, uid, plain(attributes)
-        tally.tell(f"{name}, report {at + 1} ({what})", None if found == event else f"it is {found} and not {event}")
-    tally.tell(f"{name}, further reports", watcher.reports[len(wanted):])
+    left, faults, later = list(watcher.reports), [], set()
+    for what, event in reversed(wanted):
+        came = left[-1:] == [event]
+        is_state, found = event[0] == STATE_REPORT, left[-1] if left else None
+        faults.append((what, None if came or is_state and event[1] in later else f"it is {found} and not {event}"))
+        if came:
+            left.pop()
+        if is_state:
+            later.add(event[1])
+    for at, (what, fault) in enumerate(reversed(faults)):
+        tally.tell(f"{name}, report {at + 1} ({what})", fault)
+    tally.tell(f"{name}, further reports", left)
     tally.tell(f"{name}, associations of the watcher", "; ".join(watcher.faults) or not watcher.released and "none was released")
 
 
