@@ -1,0 +1,10 @@
+pub mod Among
+pub mod Asking
+pub mod Finals
+pub mod Holding
+pub mod Keeping
+pub mod Living
+pub mod Outside
+pub mod Queueing
+pub mod Serving
+pub mod StepFacts

@@ -1,0 +1,4 @@
+pub mod Held
+pub mod Live
+pub mod Seen
+pub mod Taken

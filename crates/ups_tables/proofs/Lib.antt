@@ -1,0 +1,13 @@
+pub mod Fitness
+pub mod Follows
+pub mod Frees
+pub mod Placed
+pub mod Saying
+pub mod Removing
+pub mod Taking
+pub mod Titled
+pub mod Carried
+pub mod Arms
+pub mod Roomy
+pub mod Keyed
+pub mod Planned

@@ -1,0 +1,40 @@
+use Rattle.std.proofs.Common.{length, sym, subst, ◌∙◌}
+use Rattle.std.specs.Prelude.{OnOk}
+use Rattle.ups_life.specs.Steps.{past}
+use Rattle.ups_events.specs.Queue.{queue_at}
+use Rattle.ups_tables.specs.declared.plan.Plan.{Plan}
+use Rattle.ups_tables.specs.Planned.{IsPlan, room_for}
+use Rattle.ups_tables.proofs.Arms.{within}
+use Rattle.ups_tables.proofs.Roomy.{room_create, room_change, room_set, room_one, room_single}
+use Rattle.ups_tables.proofs.entering.room_for_plan.Goals as goal
+
+pub make_room_to_subscribe-requires-clause-peer : goal.make_room_to_subscribe-requires-clause-peer
+make_room_to_subscribe-requires-clause-peer g c = let p = subst (λ (x : Plan g.row.A.Denot). IsPlan c.args.configuration.now (past c.args.history.now) c.args.entry.now c.args.tables.now x) c.in-Single.is c.requires.plan in within c.args.configuration.now c.args.history.now c.args.entry.now c.args.tables.now c.requires.stands c.requires.legal c.in-Single.peer p.receiver p.place
+
+pub make_room_to_subscribe-requires-in-Global-clause-peer : goal.make_room_to_subscribe-requires-in-Global-clause-peer
+make_room_to_subscribe-requires-in-Global-clause-peer g c = let p = subst (λ (x : Plan g.row.A.Denot). IsPlan c.args.configuration.now (past c.args.history.now) c.args.entry.now c.args.tables.now x) c.in-Global.is c.requires.plan in within c.args.configuration.now c.args.history.now c.args.entry.now c.args.tables.now c.requires.stands c.requires.legal c.in-Global.peer p.receiver p.place
+
+pub returns-in-Create-clause-room : goal.returns-in-Create-clause-room
+returns-in-Create-clause-room g c =
+    subst (λ (x : Plan g.row.A.Denot). OnOk c.make_room_to_create.result (room_for c.make_room_to_create.new.tables x)) (sym c.in-Create.is)
+    (room_create c.make_room_to_create.result c.make_room_to_create.new.tables c.len.result (length c.in-Create.news.items) (c.len.ensures ∙ c.in-Create.news.ok.0) c.make_room_to_create.ensures.steps c.make_room_to_create.ensures.used c.make_room_to_create.ensures.rows c.make_room_to_create.ensures.events)
+
+pub returns-in-Change-clause-room : goal.returns-in-Change-clause-room
+returns-in-Change-clause-room g c =
+    subst (λ (x : Plan g.row.A.Denot). OnOk c.make_room_to_change.result (room_for c.make_room_to_change.new.tables x)) (sym c.in-Change.is)
+    (room_change c.make_room_to_change.result c.make_room_to_change.new.tables c.in-Change.step c.len-in-Change.result (length c.in-Change.news.items) (c.len-in-Change.ensures ∙ c.in-Change.news.ok.0) c.make_room_to_change.ensures.due c.make_room_to_change.ensures.news)
+
+pub returns-in-Set-clause-room : goal.returns-in-Set-clause-room
+returns-in-Set-clause-room g c =
+    subst (λ (x : Plan g.row.A.Denot). OnOk c.make_room_to_change-in-Set.result (room_for c.make_room_to_change-in-Set.new.tables x)) (sym c.in-Set.is)
+    (room_set c.make_room_to_change-in-Set.result c.make_room_to_change-in-Set.new.tables c.in-Set.step c.len-in-Set.result (length c.in-Set.news.items) c.len-in-Set-2.result (length c.in-Set.first.items) c.as_slice.result.now c.in-Set.newly.items (c.len-in-Set.ensures ∙ c.in-Set.news.ok.0) (c.len-in-Set-2.ensures ∙ c.in-Set.first.ok.0) c.as_slice.ensures.value c.make_room_to_change-in-Set.ensures.due c.make_room_to_change-in-Set.ensures.news c.make_room_to_change-in-Set.ensures.first)
+
+pub returns-in-Single-clause-room : goal.returns-in-Single-clause-room
+returns-in-Single-clause-room g c =
+    subst (λ (x : Plan g.row.A.Denot). OnOk c.make_room_to_subscribe.result (room_for c.make_room_to_subscribe.new.tables x)) (sym c.in-Single.is)
+    (room_single c.make_room_to_subscribe.result c.make_room_to_subscribe.new.tables.due.spare (queue_at c.make_room_to_subscribe.new.tables.queues c.in-Single.peer).spare c.len-in-Single.result (length c.in-Single.news.items) (c.len-in-Single.ensures ∙ c.in-Single.news.ok.0) c.make_room_to_subscribe.ensures.one c.make_room_to_subscribe.ensures.events)
+
+pub returns-in-Global-clause-room : goal.returns-in-Global-clause-room
+returns-in-Global-clause-room g c =
+    subst (λ (x : Plan g.row.A.Denot). OnOk c.make_room_to_subscribe-in-Global.result (room_for c.make_room_to_subscribe-in-Global.new.tables x)) (sym c.in-Global.is)
+    (room_one c.make_room_to_subscribe-in-Global.result c.make_room_to_subscribe-in-Global.new.tables.due.spare (queue_at c.make_room_to_subscribe-in-Global.new.tables.queues c.in-Global.peer).spare c.len-in-Global.result (length c.in-Global.news.items) c.len-in-Global-2.result (length c.in-Global.freed.items) (c.len-in-Global.ensures ∙ c.in-Global.news.ok.0) (c.len-in-Global-2.ensures ∙ c.in-Global.freed.ok.0) c.make_room_to_subscribe-in-Global.ensures.due c.make_room_to_subscribe-in-Global.ensures.events)

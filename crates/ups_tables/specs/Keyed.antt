@@ -1,0 +1,28 @@
+-- The steps that the tables hold, each with its UID, as the definitions have them.
+use Rattle.std.specs.Prelude.{ℕ, List, map, Option, None, Some}
+use Rattle.std.specs.Option.{option_map}
+use Rattle.ups_life.specs.declared.row.Row.{Row}
+use Rattle.ups_life.specs.declared.row.Holder.{Holder}
+use Rattle.ups_live.specs.declared.rows.HeldStep.{HeldStep}
+use Rattle.ups_tables.specs.declared.steps.Held.{Held}
+
+-- what is held of a step, with its UID
+abbrev pub whole : {A : Type 0} → List ℕ → Held A → HeldStep A
+whole step held = record { step = step; row = held.row; holder = held.holder }
+
+-- the step that stands in the table under its UID
+abbrev pub as_step : {A : Type 0} → List ℕ × Held A → HeldStep A
+as_step e = whole e.0 e.1
+
+-- the steps of the table, in their order
+abbrev pub as_steps : {A : Type 0} → List (List ℕ × Held A) → List (HeldStep A)
+as_steps es = map as_step es
+
+-- the row of a step, by what is held of it; None where nothing is
+abbrev pub row_held : {A : Type 0} → Option (Held A) → Option (Row A)
+row_held {A} o = option_map (λ (h : Held A). h.row) o
+
+-- who has claimed a step, by what is held of it (PS3.4 CC.2.1); None where nobody has, or nothing is held
+abbrev pub holder_held : {A : Type 0} → Option (Held A) → Option Holder
+holder_held None = None
+holder_held (Some h) = h.holder

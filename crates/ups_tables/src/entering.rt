@@ -1,0 +1,106 @@
+//! How a request that is accepted enters the history and the tables: with room for all of it, or not at all.
+
+ghost use Rattle.std.specs.Prelude.{◌≡◌, ◌<◌, ◌++◌, ◌∷◌, [], true, IfOk, OnOk, OnErr};
+ghost use Rattle.ups_life.specs.Steps.{past};
+ghost use Rattle.ups_life.specs.History.{legal};
+ghost use Rattle.ups_live.specs.Seen.{Once};
+ghost use Rattle.ups_tables.specs.Effects.{Reserved};
+ghost use Rattle.ups_tables.specs.Planned.{IsPlan, room_for};
+ghost use Rattle.ups_tables.specs.Stands.{Stands};
+
+use crate::carrying::carry_out;
+use crate::plan::Plan;
+use crate::room::{
+    make_room_to_change, make_room_to_create, make_room_to_free, make_room_to_subscribe,
+};
+use crate::tables::Tables;
+use std::alloc::{AllocError, Allocator};
+use ups_life::{Configuration, Entry};
+
+/// The tables of a history with nothing in it.
+///
+/// # Errors
+///
+/// Where memory runs out.
+pub fn begin<A: Allocator + Copy>(
+    alloc: A,
+    configuration: &Configuration<A>,
+) -> Result<Tables<A>, AllocError>
+    requires { Once configuration.now.peers }
+    ensures { IfOk result (λ t. Stands configuration.now [] t) }
+{
+    let peers = configuration.peers();
+    let count = peers.len();
+    let tables = Tables::new(alloc, count)?;
+    Ok(tables)
+}
+
+/// Makes room for all that a plan is to make of the tables.
+///
+/// # Errors
+///
+/// Where memory runs out. The tables then say the same as before.
+pub fn room_for_plan<A: Allocator + Copy>(
+    configuration: &Configuration<A>,
+    history: &[Entry<A>],
+    tables: &mut Tables<A>,
+    entry: &Entry<A>,
+    plan: &Plan<A>,
+) -> Result<(), AllocError>
+    requires stands { Stands configuration.now history.now tables.old }
+    requires legal { legal configuration.now (entry.now ∷ past history.now) ≡ true }
+    requires plan { IsPlan configuration.now (past history.now) entry.now tables.old plan.now }
+    ensures room { OnOk result (room_for tables.new plan.now) }
+    ensures same { Reserved tables.old tables.new }
+{
+    match plan {
+        Plan::Create { news, .. } => make_room_to_create(tables, news.len()),
+        Plan::Change { step, news, .. } => make_room_to_change(tables, *step, news.len(), &[], 0),
+        Plan::Set {
+            step,
+            news,
+            newly,
+            first,
+            ..
+        } => make_room_to_change(tables, *step, news.len(), newly.as_slice(), first.len()),
+        Plan::Single { peer, news, .. } => make_room_to_subscribe(tables, *peer, news.len(), 0),
+        Plan::Global {
+            peer,
+            freed,
+            news,
+            ..
+        } => make_room_to_subscribe(tables, *peer, news.len(), freed.len()),
+        Plan::End { .. } => make_room_to_free(tables, 0),
+        Plan::EndAll { freed, .. } => make_room_to_free(tables, freed.len()),
+        Plan::Suspend { .. } => Ok(()),
+        Plan::Ack { .. } => Ok(()),
+        Plan::Sweep { .. } => Ok(()),
+        Plan::Idle => Ok(()),
+    }
+}
+
+/// Enters a request that is accepted, by its plan: room is made for all of it, and then it is carried out.
+///
+/// # Errors
+///
+/// Where memory runs out. The history is then as before, and the tables say the same as before.
+pub fn enter<A: Allocator + Copy>(
+    configuration: &Configuration<A>,
+    history: &mut Vec<Entry<A>, A>,
+    tables: &mut Tables<A>,
+    entry: Entry<A>,
+    plan: Plan<A>,
+) -> Result<(), AllocError>
+    requires stands { Stands configuration.now history.old.items tables.old }
+    requires legal { legal configuration.now (entry ∷ past history.old.items) ≡ true }
+    requires plan { IsPlan configuration.now (past history.old.items) entry tables.old plan }
+    ensures done { OnOk result (history.new.items ≡ history.old.items ++ entry ∷ []) }
+    ensures refused { OnErr result (history.new.items ≡ history.old.items) }
+    ensures same { OnErr result (Reserved tables.old tables.new) }
+    ensures stands { Stands configuration.now history.new.items tables.new }
+{
+    room_for_plan(configuration, history.as_slice(), tables, &entry, &plan)?;
+    history.reserve(1)?;
+    carry_out(configuration, history, tables, entry, plan);
+    Ok(())
+}

@@ -1,0 +1,37 @@
+//! The tables of the service: what is known of a history of accepted requests without looking at it again. A request that is
+//! accepted is planned first, then room is made for what it makes of the tables, and then it is carried out, which takes no
+//! memory and can't fail (PS3.4 annex CC).
+#![tactic(auto)]
+
+mod acting;
+mod carrying;
+mod choosing;
+mod entering;
+mod freeing;
+mod peers;
+mod plan;
+mod room;
+mod settling;
+mod step_plans;
+mod steps;
+mod sweeping;
+mod tables;
+mod watch_plans;
+
+pub use acting::{
+    acknowledge_upto, change, change_alone, create, end_everywhere, end_single, subscribe_all,
+    subscribe_single, suspend, sweep,
+};
+pub use carrying::carry_out;
+pub use entering::{begin, enter, room_for_plan};
+pub use freeing::{freed_everywhere, freed_steps};
+pub use peers::place_of;
+pub use plan::Plan;
+pub use room::{
+    make_room_to_change, make_room_to_create, make_room_to_free, make_room_to_subscribe,
+};
+pub use step_plans::plan_step;
+pub use steps::Held;
+pub use sweeping::plan_sweep;
+pub use tables::Tables;
+pub use watch_plans::{plan_end, plan_subscription, plan_suspend};

@@ -1,0 +1,164 @@
+//! Room for what a request makes of the tables, so that it can be carried out without memory.
+
+ghost use Rattle.std.specs.Prelude.{◌≡◌, ◌≤◌, ◌<◌, ℕ, None, is_some, true, length, slice_index_or, OnOk};
+ghost use Rattle.std.specs.HashSet as set;
+ghost use Rattle.indexmap.specs.IndexMap.{spare};
+ghost use Rattle.ups_events.specs.Queue.{queue_at, IsReserved};
+ghost use Rattle.ups_tables.specs.Fit.{how, Fits};
+ghost use Rattle.ups_tables.specs.Effects.{Reserved, RoomFor};
+
+use crate::tables::Tables;
+use std::alloc::{AllocError, Allocator};
+use ups_events::Queues;
+use ups_life::{StepUid, Subscription};
+use ups_watch::Watchers;
+
+/// Makes room for so many more events of a peer, where it is wanted.
+///
+/// Errors: where memory runs out.
+fn reserve_if<A: Allocator + Copy>(
+    queues: &mut Queues<A>,
+    wanted: bool,
+    peer: usize,
+    more: usize,
+) -> Result<(), AllocError>
+    requires { peer < length queues.old }
+    ensures room { OnOk result (wanted ≡ true → more ≤ (queue_at queues.new peer).spare) }
+    ensures same { (p : ℕ) → IsReserved (queue_at queues.old p) (queue_at queues.new p) }
+    ensures peers { length queues.new ≡ length queues.old }
+{
+    if wanted {
+        return queues.reserve(peer, more);
+    }
+    Ok(())
+}
+
+/// Makes room for so many more events of each peer that is subscribed; `cells` are the subscriptions, by the places of peers.
+///
+/// Errors: where memory runs out.
+fn reserve_cells<A: Allocator + Copy>(
+    queues: &mut Queues<A>,
+    cells: &[Option<Subscription>],
+    more: usize,
+) -> Result<(), AllocError>
+    requires { length cells.now ≤ length queues.old }
+    ensures room { OnOk result (RoomFor (λ p. is_some (slice_index_or cells.now p None)) more queues.new) }
+    ensures same { (p : ℕ) → IsReserved (queue_at queues.old p) (queue_at queues.new p) }
+    ensures peers { length queues.new ≡ length queues.old }
+{
+    for (peer, cell) in cells.iter().enumerate() {
+        reserve_if(queues, cell.is_some(), peer, more)?;
+    }
+    Ok(())
+}
+
+/// Makes room for so many more events of each peer that has a global subscription.
+///
+/// Errors: where memory runs out.
+fn reserve_covered<A: Allocator + Copy>(
+    queues: &mut Queues<A>,
+    watchers: &Watchers<A>,
+    more: usize,
+) -> Result<(), AllocError>
+    requires { length watchers.now.covers ≤ length queues.old }
+    ensures room { OnOk result (RoomFor (λ p. is_some (slice_index_or watchers.now.covers p None)) more queues.new) }
+    ensures same { (p : ℕ) → IsReserved (queue_at queues.old p) (queue_at queues.new p) }
+    ensures peers { length queues.new ≡ length queues.old }
+{
+    for peer in 0..watchers.peers() {
+        reserve_if(queues, watchers.has_cover(peer), peer, more)?;
+    }
+    Ok(())
+}
+
+/// Makes room for one step more, and for so many more events of each peer that has a global subscription: it may be subscribed
+/// to the step (PS3.4 CC.2.3).
+///
+/// # Errors
+///
+/// Where memory runs out. The tables then say the same as before.
+pub fn make_room_to_create<A: Allocator + Copy>(
+    tables: &mut Tables<A>,
+    news: usize,
+) -> Result<(), AllocError>
+    requires { Fits tables.old }
+    ensures steps { OnOk result (0 < spare tables.new.steps) }
+    ensures used { OnOk result (0 < set.spare tables.new.used) }
+    ensures rows { OnOk result (0 < tables.new.watchers.spare) }
+    ensures events { OnOk result (RoomFor (λ p. is_some (slice_index_or tables.new.watchers.covers p None)) news tables.new.queues) }
+    ensures same { Reserved tables.old tables.new }
+    ensures fits { Fits tables.new }
+{
+    tables.steps.reserve(1)?;
+    tables.used.reserve(1)?;
+    tables.watchers.reserve(1)?;
+    reserve_covered(&mut tables.queues, &tables.watchers, news)
+}
+
+/// Makes room for `news` more events of each peer that is subscribed to a step, for `first` more of each peer that `newly`
+/// subscribes to it, at the place of the peer, and for the wait of the step.
+///
+/// # Errors
+///
+/// Where memory runs out. The tables then say the same as before.
+pub fn make_room_to_change<A: Allocator + Copy>(
+    tables: &mut Tables<A>,
+    step: StepUid,
+    news: usize,
+    newly: &[Option<Subscription>],
+    first: usize,
+) -> Result<(), AllocError>
+    requires fits { Fits tables.old }
+    requires width { length newly.now ≤ length tables.old.watchers.covers }
+    ensures due { OnOk result (0 < tables.new.due.spare) }
+    ensures news { OnOk result (RoomFor (λ p. is_some (how tables.new p step)) news tables.new.queues) }
+    ensures first { OnOk result (RoomFor (λ p. is_some (slice_index_or newly.now p None)) first tables.new.queues) }
+    ensures same { Reserved tables.old tables.new }
+    ensures fits { Fits tables.new }
+{
+    tables.due.reserve(1)?;
+    reserve_cells(&mut tables.queues, tables.watchers.of_step(step), news)?;
+    reserve_cells(&mut tables.queues, newly, first)
+}
+
+/// Makes room for `news` more events of a peer, and for the waits of `freed` steps, or of one where there are none.
+///
+/// # Errors
+///
+/// Where memory runs out. The tables then say the same as before.
+pub fn make_room_to_subscribe<A: Allocator + Copy>(
+    tables: &mut Tables<A>,
+    peer: usize,
+    news: usize,
+    freed: usize,
+) -> Result<(), AllocError>
+    requires fits { Fits tables.old }
+    requires peer { peer < length tables.old.watchers.covers }
+    ensures due { OnOk result (freed ≤ tables.new.due.spare) }
+    ensures one { OnOk result (0 < tables.new.due.spare) }
+    ensures events { OnOk result (news ≤ (queue_at tables.new.queues peer).spare) }
+    ensures same { Reserved tables.old tables.new }
+    ensures fits { Fits tables.new }
+{
+    tables.due.reserve(freed.max(1))?;
+    reserve_if(&mut tables.queues, true, peer, news)
+}
+
+/// Makes room for the waits of so many steps, or of one where there are none.
+///
+/// # Errors
+///
+/// Where memory runs out. The tables then say the same as before.
+pub fn make_room_to_free<A: Allocator + Copy>(
+    tables: &mut Tables<A>,
+    freed: usize,
+) -> Result<(), AllocError>
+    requires { Fits tables.old }
+    ensures due { OnOk result (freed ≤ tables.new.due.spare) }
+    ensures one { OnOk result (0 < tables.new.due.spare) }
+    ensures same { Reserved tables.old tables.new }
+    ensures fits { Fits tables.new }
+{
+    let steps = freed.max(1);
+    tables.due.reserve(steps)
+}

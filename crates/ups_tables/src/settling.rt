@@ -1,0 +1,157 @@
+//! How the list of the steps that wait for their removal follows deletion locks and states: a step waits where it is final and
+//! no peer has a deletion lock on it (PS3.4 CC.2.3).
+
+ghost use Rattle.std.specs.Prelude.{◌≡◌, ◌≤◌, ◌<◌, ◌+◌, ◌&&◌, ℕ, not, List, None, Some, is_some, true, false, length, if◌then◌else◌};
+ghost use Rattle.std.specs.Option.{option_or};
+ghost use Rattle.std.specs.Str.{bytes_eq};
+ghost use Rattle.ups_life.specs.Distinct.{Distinct};
+ghost use Rattle.ups_life.specs.Watching.{is_among};
+ghost use Rattle.ups_keep.specs.Waits.{steps_of, waits, unless_kept};
+ghost use Rattle.ups_watch.specs.Table.{cells_of, is_kept, is_locked, knows, watching};
+
+use std::alloc::Allocator;
+use ups_keep::{Due, Final};
+use ups_life::{StepUid, Subscription};
+use ups_watch::Watchers;
+
+/// Since when a step waits that became final then, or isn't final: it doesn't while a peer keeps it.
+pub(crate) fn waiting_since(kept: bool, final_at: Option<u64>) -> Option<u64>
+    ensures { result ≡ unless_kept kept final_at }
+{
+    if kept { None } else { final_at }
+}
+
+/// Whether two are the same moment, or both none.
+fn is_same(before: Option<u64>, after: Option<u64>) -> bool
+    ensures { result ≡ true → before ≡ after }
+{
+    match (before, after) {
+        (Some(before), Some(after)) => before == after,
+        (None, None) => true,
+        _ => false,
+    }
+}
+
+/// Takes a step out of the list, if it waits.
+fn take_if<A: Allocator + Copy>(due: &mut Due<A>, step: StepUid, before: Option<u64>)
+    requires once { Distinct (steps_of due.old.steps) }
+    requires before { waits step due.old.steps ≡ before }
+    ensures waits { (u : List ℕ) → waits u due.new.steps ≡ (if bytes_eq step u then None else waits u due.old.steps) }
+    ensures once { Distinct (steps_of due.new.steps) }
+    ensures spare { due.old.spare ≤ due.new.spare }
+{
+    match before {
+        Some(moment) => due.take(&Final { moment, step }),
+        None => {}
+    }
+}
+
+/// Adds a step that did not wait, if it waits now. There is room for it.
+fn add_if<A: Allocator + Copy>(due: &mut Due<A>, step: StepUid, after: Option<u64>)
+    requires once { Distinct (steps_of due.old.steps) }
+    requires absent { waits step due.old.steps ≡ None }
+    requires room { 0 < due.old.spare }
+    ensures waits { (u : List ℕ) → waits u due.new.steps ≡ (if bytes_eq step u then after else waits u due.old.steps) }
+    ensures once { Distinct (steps_of due.new.steps) }
+{
+    match after {
+        Some(moment) => due.add(Final { moment, step }),
+        None => {}
+    }
+}
+
+/// Lets the list follow a step that has waited since `before`, if at all, and waits since `after` now. There is room for it.
+pub(crate) fn settle<A: Allocator + Copy>(
+    due: &mut Due<A>,
+    step: StepUid,
+    before: Option<u64>,
+    after: Option<u64>,
+)
+    requires once { Distinct (steps_of due.old.steps) }
+    requires before { waits step due.old.steps ≡ before }
+    requires room { 0 < due.old.spare }
+    ensures waits { (u : List ℕ) → waits u due.new.steps ≡ (if bytes_eq step u then after else waits u due.old.steps) }
+    ensures once { Distinct (steps_of due.new.steps) }
+{
+    if is_same(before, after) {
+        return;
+    }
+    take_if(due, step, before);
+    add_if(due, step, after);
+}
+
+/// Takes out all steps on which a peer has a deletion lock. It goes over the list once.
+pub(crate) fn drop_kept<A: Allocator + Copy>(due: &mut Due<A>, watchers: &Watchers<A>)
+    requires once { Distinct (steps_of due.old.steps) }
+    ensures waits { (u : List ℕ) → waits u due.new.steps ≡ unless_kept (is_kept (cells_of watchers.now u)) (waits u due.old.steps) }
+    ensures once { Distinct (steps_of due.new.steps) }
+    ensures spare { due.old.spare ≤ due.new.spare }
+{
+    due.retain(|step| !watchers.is_kept(step.step));
+}
+
+/// Takes out all steps on which a peer has a deletion lock, where one was given; where none was, none of them is in the list.
+fn drop_kept_if<A: Allocator + Copy>(due: &mut Due<A>, watchers: &Watchers<A>, locks: bool)
+    requires once { Distinct (steps_of due.old.steps) }
+    requires unlocked { locks ≡ false → (u : List ℕ) → is_kept (cells_of watchers.now u) ≡ true → waits u due.old.steps ≡ None }
+    ensures waits { (u : List ℕ) → waits u due.new.steps ≡ unless_kept (is_kept (cells_of watchers.now u)) (waits u due.old.steps) }
+    ensures once { Distinct (steps_of due.new.steps) }
+    ensures spare { due.old.spare ≤ due.new.spare }
+{
+    if locks {
+        drop_kept(due, watchers);
+    }
+}
+
+/// Adds many steps that did not wait so far. There is room for them.
+fn add_freed<A: Allocator + Copy>(due: &mut Due<A>, freed: &[Final])
+    requires once { Distinct (steps_of due.old.steps) }
+    requires freed { Distinct (steps_of freed.now) }
+    requires apart { (u : List ℕ) → is_some (waits u freed.now) ≡ true → waits u due.old.steps ≡ None }
+    requires room { length freed.now ≤ due.old.spare }
+    ensures waits { (u : List ℕ) → waits u due.new.steps ≡ option_or (waits u due.old.steps) (waits u freed.now) }
+    ensures once { Distinct (steps_of due.new.steps) }
+{
+    due.merge(freed);
+}
+
+/// Whether a peer that is subscribed so has a deletion lock (PS3.4 CC.2.3).
+fn is_lock(subscription: Option<Subscription>) -> bool
+    ensures { result ≡ is_locked subscription }
+{
+    match subscription {
+        Some(Subscription::Locked) => true,
+        _ => false,
+    }
+}
+
+/// Lets the list follow many steps at once, to which a peer was subscribed so: those that are kept by it now are taken out, and
+/// those freed by it are added. There is room for them.
+pub(crate) fn settle_many<A: Allocator + Copy>(
+    due: &mut Due<A>,
+    watchers: &Watchers<A>,
+    subscription: Option<Subscription>,
+    freed: &[Final],
+)
+    requires once { Distinct (steps_of due.old.steps) }
+    requires freed { Distinct (steps_of freed.now) }
+    requires apart { (u : List ℕ) → is_some (waits u freed.now) ≡ true → waits u due.old.steps ≡ None }
+    requires unlocked { is_locked subscription ≡ false → (u : List ℕ) → is_kept (cells_of watchers.now u) ≡ true → waits u due.old.steps ≡ None }
+    requires room { length freed.now ≤ due.old.spare }
+    ensures waits { (u : List ℕ) → waits u due.new.steps ≡ option_or (unless_kept (is_kept (cells_of watchers.now u)) (waits u due.old.steps)) (waits u freed.now) }
+    ensures once { Distinct (steps_of due.new.steps) }
+{
+    drop_kept_if(due, watchers, is_lock(subscription));
+    add_freed(due, freed);
+}
+
+/// Removes these steps from the table of subscriptions, with all subscriptions to them.
+pub(crate) fn forget<A: Allocator + Copy>(watchers: &mut Watchers<A>, steps: &[Final])
+    ensures watching { (p : ℕ) → (u : List ℕ) → watching watchers.new p u ≡ (if is_among u (steps_of steps.now) then None else watching watchers.old p u) }
+    ensures known { (u : List ℕ) → knows watchers.new u ≡ (not (is_among u (steps_of steps.now)) && knows watchers.old u) }
+    ensures covers { watchers.new.covers ≡ watchers.old.covers }
+{
+    for step in steps {
+        watchers.removed(step.step);
+    }
+}

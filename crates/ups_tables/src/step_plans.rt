@@ -1,0 +1,122 @@
+//! The plan of a request that creates or changes a step (PS3.4 CC.2.1, CC.2.2, CC.2.5, CC.2.6).
+
+ghost use Rattle.std.specs.Prelude.{◌≡◌, ◌∷◌, [], ℕ, true, is_some, None, Some, length, slice_index_or, IfOk};
+ghost use Rattle.std.specs.Option.{option_copied, option_or, unwrap_or};
+ghost use Rattle.ups_cycle.specs.declared.status.Status.TheVariants.{Success};
+ghost use Rattle.ups_life.specs.Steps.{past, step_of, row_after, nothing};
+ghost use Rattle.ups_life.specs.Verdict.{verdict};
+ghost use Rattle.ups_life.specs.History.{repeats};
+ghost use Rattle.ups_live.specs.Held.{claims_it};
+ghost use Rattle.ups_watch.specs.Covers.{newly_covered};
+ghost use Rattle.ups_tables.specs.Fit.{how};
+ghost use Rattle.ups_tables.specs.Held.{held_at};
+ghost use Rattle.ups_tables.specs.Keyed.{row_held, holder_held};
+ghost use Rattle.ups_tables.specs.Planned.{IsPlan};
+ghost use Rattle.ups_tables.specs.Stands.{Stands};
+
+use crate::plan::Plan;
+use crate::steps::Held;
+use crate::tables::Tables;
+use std::alloc::{AllocError, Allocator};
+use ups_dataset::DataSet;
+use ups_life::{Configuration, Entry, Report, Request, Row, StepUid, Subscription};
+use ups_live::{news, report_now};
+
+/// One report.
+///
+/// Errors: where memory runs out.
+pub(crate) fn alone<A: Allocator + Copy>(
+    alloc: A,
+    report: Report,
+) -> Result<Vec<Report, A>, AllocError>
+    ensures { IfOk result (λ v. v.items ≡ report ∷ []) }
+{
+    let mut reports = Vec::new(alloc);
+    reports.push(report)?;
+    Ok(reports)
+}
+
+/// What is held of a step.
+pub(crate) fn find<A: Allocator + Copy>(tables: &Tables<A>, step: StepUid) -> Option<&Held<A>>
+    ensures { option_copied result ≡ held_at step tables.now.steps.entries }
+{
+    tables.steps.get(&step)
+}
+
+/// The row of a step, by what is held of it.
+fn row_of<A: Allocator + Copy>(held: Option<&Held<A>>) -> Option<&Row<A>>
+    ensures { option_copied result ≡ row_held (option_copied held.entry) }
+{
+    match held {
+        Some(held) => Some(&held.row),
+        None => None,
+    }
+}
+
+/// How a change of the attributes of a step subscribes each peer, at the place of the peer, by what was held of the step.
+///
+/// Errors: where memory runs out.
+fn newly_of<A: Allocator + Copy>(
+    tables: &Tables<A>,
+    step: StepUid,
+    before: Option<&Row<A>>,
+    after: &DataSet<A>,
+) -> Result<Vec<Option<Subscription>, A>, AllocError>
+    requires { is_some (option_copied before) ≡ true }
+    ensures newly { IfOk result (λ v. (p : ℕ) → slice_index_or v.items p None ≡ newly_covered (slice_index_or tables.now.watchers.covers p None) (how tables.now p step) (unwrap_or (option_copied before.entry) nothing).attributes after.now) }
+    ensures width { IfOk result (λ v. length v.items ≡ length tables.now.watchers.covers) }
+{
+    match before {
+        Some(row) => tables.watchers.newly(step, &row.attributes, after),
+        None => unreachable!(),
+    }
+}
+
+/// The plan of a request that creates or changes a step, and that its state allows, by what is to be held of the step then.
+///
+/// # Errors
+///
+/// Where memory runs out.
+pub fn plan_step<A: Allocator + Copy>(
+    alloc: A,
+    configuration: &Configuration<A>,
+    history: &[Entry<A>],
+    tables: &Tables<A>,
+    entry: &Entry<A>,
+    step: StepUid,
+    held: Held<A>,
+) -> Result<Plan<A>, AllocError>
+    requires stands { Stands configuration.now history.now tables.now }
+    requires step { step_of entry.now.request ≡ Some step }
+    requires allowed { verdict (row_held (held_at step tables.now.steps.entries)) (repeats (past history.now) entry.now.request) entry.now.request ≡ Success }
+    requires row { held.row ≡ row_after configuration.now.offset entry.now.moment (unwrap_or (row_held (held_at step tables.now.steps.entries)) nothing) entry.now.request }
+    requires holder { held.holder ≡ option_or (claims_it entry.now) (holder_held (held_at step tables.now.steps.entries)) }
+    ensures { IfOk result (λ p. IsPlan configuration.now (past history.now) entry.now tables.now p) }
+{
+    let found = find(tables, step);
+    let before = row_of(found);
+    let told = news(alloc, step, before, &held.row, &entry.request)?;
+    match &entry.request {
+        Request::Create { .. } => Ok(Plan::Create {
+            step,
+            held,
+            news: told,
+        }),
+        Request::Set { .. } => {
+            let newly = newly_of(tables, step, before, &held.row.attributes)?;
+            let first = alone(alloc, report_now(step, &held.row))?;
+            Ok(Plan::Set {
+                step,
+                held,
+                news: told,
+                newly,
+                first,
+            })
+        }
+        _ => Ok(Plan::Change {
+            step,
+            held,
+            news: told,
+        }),
+    }
+}

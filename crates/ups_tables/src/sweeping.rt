@@ -1,0 +1,45 @@
+//! The plan of a sweep, which removes the steps that are final for as long as final steps are kept, and that no peer has a
+//! deletion lock on. That it is a request, and how long they are kept, is the profile's.
+
+ghost use Rattle.std.specs.Prelude.{◌≡◌, IfOk};
+ghost use Rattle.ups_life.specs.declared.request.Reply.TheVariants.{Swept};
+ghost use Rattle.ups_life.specs.declared.request.Request.TheVariants.{Sweep};
+ghost use Rattle.ups_life.specs.Steps.{past};
+ghost use Rattle.ups_life.specs.History.{decided};
+ghost use Rattle.ups_tables.specs.Planned.{IsPlan, swept_by};
+ghost use Rattle.ups_tables.specs.Stands.{Stands};
+
+use crate::plan::Plan;
+use crate::tables::Tables;
+use std::alloc::{AllocError, Allocator};
+use ups_life::{Configuration, Entry};
+
+/// The plan of a sweep. The reply to it tells how many steps the plan removes. Where no step waits long enough it takes
+/// neither time nor memory, however many steps are held.
+///
+/// # Errors
+///
+/// Where memory runs out.
+pub fn plan_sweep<A: Allocator + Copy>(
+    alloc: A,
+    configuration: &Configuration<A>,
+    history: &[Entry<A>],
+    tables: &Tables<A>,
+    entry: &Entry<A>,
+) -> Result<Plan<A>, AllocError>
+    requires stands { Stands configuration.now history.now tables.now }
+    requires request { entry.now.request ≡ Sweep }
+    ensures plan { IfOk result (λ p. IsPlan configuration.now (past history.now) entry.now tables.now p) }
+    ensures count { IfOk result (λ p. decided configuration.now (past history.now) entry.now Sweep ≡ Swept (swept_by p)) }
+{
+    let keep = u64::from(configuration.keep());
+    if entry.moment < keep {
+        return Ok(Plan::Idle);
+    }
+    let moment = entry.moment - keep;
+    if !tables.due.is_any(moment) {
+        return Ok(Plan::Idle);
+    }
+    let due = tables.due.up_to(alloc, moment)?;
+    Ok(Plan::Sweep { due, moment })
+}

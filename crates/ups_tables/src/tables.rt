@@ -1,0 +1,56 @@
+//! The tables, and those of a history with nothing in it.
+
+ghost use Rattle.std.specs.Prelude.{◌≡◌, [], ℕ, List, None, replicate, IfOk};
+ghost use Rattle.ups_events.specs.Telling.{empty_line};
+ghost use Rattle.ups_tables.specs.Fit.{how, queue, Fits};
+
+use crate::steps::Held;
+use indexmap::IndexMap;
+use std::alloc::{AllocError, Allocator};
+use std::collections::HashSet;
+use std::hash::{BuildHasherDefault, FoldHasher};
+use ups_events::Queues;
+use ups_keep::Due;
+use ups_life::StepUid;
+use ups_watch::Watchers;
+
+/// What is known of a history of accepted requests. A peer is named by its place in the list of peers.
+#[derive(Drop)]
+pub struct Tables<A: Allocator + Copy> {
+    /// The steps held, in order of creation, each under its UID.
+    pub steps: IndexMap<StepUid, Held<A>, BuildHasherDefault<FoldHasher>, A>,
+    /// The UIDs of all steps that were ever created: none is used again (PS3.4 CC.2.5).
+    pub used: HashSet<StepUid, BuildHasherDefault<FoldHasher>, A>,
+    /// The global subscription of each peer, and how each peer is subscribed to each step held (PS3.4 CC.2.3).
+    pub watchers: Watchers<A>,
+    /// The events of each peer that it has not acknowledged (PS3.4 CC.2.4).
+    pub queues: Queues<A>,
+    /// The steps that wait for their removal: they are final, and no peer has a deletion lock on them (PS3.4 CC.2.3).
+    pub due: Due<A>,
+}
+
+impl<A: Allocator + Copy> Tables<A> {
+    /// The tables of a history with nothing in it, for so many peers.
+    ///
+    /// # Errors
+    ///
+    /// Where memory runs out.
+    pub fn new(alloc: A, peers: usize) -> Result<Tables<A>, AllocError>
+        ensures steps { IfOk result (λ t. t.steps.entries ≡ []) }
+        ensures used { IfOk result (λ t. t.used.keys ≡ []) }
+        ensures covers { IfOk result (λ t. t.watchers.covers ≡ replicate peers None) }
+        ensures hows { IfOk result (λ t. (p : ℕ) → (u : List ℕ) → how t p u ≡ None) }
+        ensures queues { IfOk result (λ t. (p : ℕ) → queue t p ≡ empty_line) }
+        ensures fits { IfOk result (λ t. Fits t) }
+    {
+        let watchers = Watchers::new(alloc, peers)?;
+        let queues = Queues::new(alloc, peers)?;
+        Ok(Tables {
+            steps: IndexMap::new(alloc),
+            used: HashSet::new(alloc),
+            watchers,
+            queues,
+            due: Due::new(alloc),
+        })
+    }
+}
