@@ -79,6 +79,25 @@ struct Outcome {
     callers: Vec<u32, Global>,
 }
 
+/// Closes a desk whose passes are these two: its manager.
+fn closed_with(
+    alloc: Global,
+    desk: Desk<Global>,
+    one: Pass<Global>,
+    two: Pass<Global>,
+) -> Result<Manager<Global>, Fail>
+    requires one { one.table ≡ desk.table }
+    requires two { two.table ≡ desk.table }
+{
+    let mut passes = Vec::new(alloc);
+    passes.push(one)?;
+    passes.push(two)?;
+    match desk.close(passes) {
+        Ok(manager) => Ok(manager),
+        Err(_) => Err("not closed".into()),
+    }
+}
+
 fn outcome_of_race<R: Threads + Wait + Sync>(rt: &R, alloc: Global) -> Result<Outcome, Fail> {
     let ae = title("PERFORM1")?;
     let manager = with_steps(alloc, ae)?;
@@ -93,11 +112,7 @@ fn outcome_of_race<R: Threads + Wait + Sync>(rt: &R, alloc: Global) -> Result<Ou
     };
     let ((mut one, first), (mut two, second)) = race(rt, alloc, &desk, one, two, ae);
     let met = desk.meet(&mut one, &mut two);
-    passes.push(one)?;
-    passes.push(two)?;
-    let Ok(manager) = desk.close(passes) else {
-        return Err("not closed".into());
-    };
+    let manager = closed_with(alloc, desk, one, two)?;
     Ok(Outcome {
         one: first,
         two: second,

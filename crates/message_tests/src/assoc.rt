@@ -1,5 +1,4 @@
 mod associations;
 mod fragments;
-mod large;
 mod memory;
 mod pieces;

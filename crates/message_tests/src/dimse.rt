@@ -1,5 +1,6 @@
 //! Command sets where memory is short. What they say is seen by the rows of `rows/command_sets.rows`.
 
+use fixtures::rows::{cut, number};
 use fixtures::{Refusing, bytes_of};
 use std::alloc::Global;
 use std::test::Fail;
@@ -74,14 +75,17 @@ fn refused_growths(rt: &impl AllocGlobal, digits: &str) -> Result<(u64, u64, boo
     Ok((reading, writing, same))
 }
 
+/// Whether a row says how many growths it takes to read its command set. To write it takes more than one.
+fn is_refused_in_turn(rt: &impl AllocGlobal, row: &str) -> Result<bool, Fail> {
+    let (growths, digits) = cut(row, "|")?;
+    let (reading, writing, is_same) = refused_growths(rt, digits)?;
+    Ok(reading == number(growths)? && writing > 1 && is_same)
+}
+
 #[test]
 fn a_refused_growth_is_want_of_memory(rt: HostRuntime) -> Result<(), Fail> {
     for row in COMMANDS.lines() {
-        let (growths, digits) = row.split_once('|').ok_or("a row")?;
-        let (reading, writing, same) = refused_growths(&rt, digits)?;
-        assert_eq!(rt; reading, growths.parse::<u64>()?, "at {row}");
-        assert!(rt; writing > 1, "at {row}");
-        assert!(rt; same, "at {row}");
+        assert!(rt; is_refused_in_turn(&rt, row)?, "at {row}");
     }
     Ok(())
 }

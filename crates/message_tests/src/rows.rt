@@ -1,6 +1,4 @@
-//! Rows of tests, and the command sets that several of them have.
-
-use std::test::Fail;
+//! The command sets that several tests have.
 
 /// The command set of an N-CREATE request, which announces a data set, as a text for `bytes_of`.
 pub(crate) const CREATE: &str =
@@ -9,10 +7,3 @@ pub(crate) const CREATE: &str =
 /// The command set of the response to it, which announces none.
 pub(crate) const CREATED: &str =
     "00000000 04000000 5a000000 00000200 1a000000 PUSH 00000001 02000000 4081 00002001 02000000 0100 00000008 02000000 0101 00000009 02000000 0000 00000010 08000000 \"1.2.3.4\" 00";
-
-/// The three parts of a row, which `|` parts.
-pub(crate) fn parts(row: &str) -> Result<(&str, &str, &str), Fail> {
-    let (first, rest) = row.split_once('|').ok_or("a row")?;
-    let (second, third) = rest.split_once('|').ok_or("a row")?;
-    Ok((first, second, third))
-}

@@ -34,13 +34,15 @@ enum Verb {
     Set,
     Get,
     Find,
+    Words,
 }
 
 /// What a line asks, by whom and when.
 ///
 /// A line is the number of the caller, the title of the application entity, the moment, the verb, the step, its new state
 /// and the Transaction UID, `-` where there is none, and behind a bar the attributes: with a bar between two of them, and
-/// those of an item behind a slash. A new step has the usual attributes under them.
+/// those of an item behind a slash. A new step has the usual attributes under them. Behind the verb `words` the step and
+/// what follows it say nothing, and behind the bar stand the words of a request, as the histories have them.
 #[derive(Clone, Copy)]
 struct Line {
     caller: u32,
@@ -60,6 +62,7 @@ fn verb_of(word: &str) -> Verb {
         "cancel" => Verb::Cancel,
         "set" => Verb::Set,
         "find" => Verb::Find,
+        "words" => Verb::Words,
         _ => Verb::Get,
     }
 }
@@ -177,6 +180,7 @@ fn ask_of<A: Allocator + Copy>(alloc: A, line: &Line, attributes: &str) -> Resul
     let own = match line.verb {
         Verb::Create => a_step(alloc)?,
         Verb::Find => return Ok(Ask::Find(keys_of(alloc, attributes)?)),
+        Verb::Words => return Ok(Ask::Do(histories::request_of(alloc, attributes)?)),
         Verb::Get => {
             return Ok(Ask::Get {
                 step: Some(line.step),
@@ -240,10 +244,11 @@ fn put_set<A: Allocator + Copy>(
     Ok(())
 }
 
-/// Returns a reply as a text: its status, and the sets that it shows.
+/// Returns a reply as a text: its status, and the sets that it shows, or how many steps a sweep removes.
 fn told<A: Allocator + Copy>(rt: &impl AllocGlobal, reply: &Reply<A>) -> Result<String, Fail> {
     let mut text = format!(in rt.alloc(); "{:04X}", status_of(reply))?;
     match reply {
+        Reply::Swept(count) => text.push_str(format!(in rt.alloc(); "+{count}")?.as_str())?,
         Reply::Set(_, set) => put_set(rt, &mut text, set)?,
         Reply::Sets(sets) => {
             for set in sets.as_slice() {
@@ -311,8 +316,9 @@ fn attributes_in<A: Allocator + Copy>(request: &Request<A>) -> Option<&DataSet<A
 fn entry_of<A: Allocator + Copy>(rt: &impl AllocGlobal, entry: &Entry<A>) -> Result<String, Fail> {
     let (verb, state, uid) = words_of(&entry.request);
     let (state, uid) = (text_of(state)?, text_of(uid)?);
-    let step = entry.request.step().ok_or("a step")?;
-    let (ae, step) = (text_of(entry.ae.as_bytes())?, text_of(step.as_bytes())?);
+    let step = entry.request.step();
+    let step = step.as_ref().map_or(b"-".as_slice(), StepUid::as_bytes);
+    let (ae, step) = (text_of(entry.ae.as_bytes())?, text_of(step)?);
     let mut text = format!(in rt.alloc();
         "{} {ae} {} {verb} {step} {state} {uid}|",
         entry.caller, entry.moment

@@ -1,6 +1,8 @@
-//! Tests of the live tables: subscriptions, the queues of events, the steps that wait for their removal.
+//! Tests of the live tables: the steps held, subscriptions, the queues of events, the steps that wait for their removal.
 #![tactic(auto)]
 
+#[cfg(test)]
+mod held;
 #[cfg(test)]
 mod queues;
 #[cfg(test)]

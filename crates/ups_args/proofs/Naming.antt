@@ -3,7 +3,7 @@ use Rattle.std.proofs.Common.{◌≡◌, ℕ, ℤ, Bool, true, false, ◌||◌, 
 use Rattle.std.specs.Str.{bytes_eq}
 use Rattle.std.proofs.lemmas.Slice.Eq.{bytes_eq-Decides}
 use Rattle.ups_life.specs.declared.peer.Peer.{Peer}
-use Rattle.ups_manager.specs.Refusal.{is_named, is_twice, is_bad_offset, refusal}
+use Rattle.ups_settings.specs.Refusal.{is_named, is_twice, is_bad_offset, refusal}
 use Rattle.ups_life.specs.Limits.{history_limit}
 use Rattle.ups_args.specs.Limits.{local_offset}
 

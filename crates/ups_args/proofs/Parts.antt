@@ -13,7 +13,7 @@ use Rattle.std.proofs.lemmas.Str.Pattern.{NoCharPasses-char, drop_at_char, IsSpl
 use Rattle.std.proofs.Math.Seq.{get_or-append_seam, take-suc, drop-cons}
 use Rattle.ups_life.specs.declared.peer.Peer.{Peer}
 use Rattle.ups_pdu.specs.Title.{SpellsAe}
-use Rattle.ups_manager.specs.Refusal.{is_twice}
+use Rattle.ups_settings.specs.Refusal.{is_twice}
 use Rattle.ups_args.specs.Arguments.{IsPort, IsAddress, SaysAddress, SaysLock, SaysPlace, NamesPeer, NamesPlace, EachNames, NamePeers, StopsAt, ending_of}
 
 both_true : (a b : Bool) → a ≡ true → b ≡ true → (a && b) ≡ true

@@ -5,8 +5,8 @@ use Rattle.clap.specs.declared.parser.matches.Found.{Found}
 use Rattle.clap.specs.Matches.{matched_of, one_text, raw_values}
 use Rattle.ups_life.specs.declared.peer.Peer.{Peer}
 use Rattle.ups_life.specs.Limits.{peer_limit}
-use Rattle.ups_manager.specs.Refusal.{is_bad_offset, is_named, is_twice}
-use Rattle.ups_net.specs.declared.watcher.Watcher.{Watcher}
+use Rattle.ups_settings.specs.Refusal.{is_bad_offset, is_named, is_twice}
+use Rattle.ups_settings.specs.declared.watcher.Watcher.{Watcher}
 use Rattle.ups_pdu.specs.Title.{SpellsAe}
 use Rattle.ups_args.specs.declared.fault.ArgumentFault.{ArgumentFault}
 use Rattle.ups_args.specs.declared.fault.ArgumentFault.TheVariants as faults

@@ -4,15 +4,15 @@ ghost use Rattle.std.specs.Prelude.{◌≡◌, ◌≤◌, Bool, false, length, m
 ghost use Rattle.ups_args.specs.Arguments.{FailToName, NamePeers, NamesPeer, NamesPlace, NameWatchers, SaysLock, SaysPlace};
 ghost use Rattle.ups_life.specs.declared.peer.Peer.{Peer};
 ghost use Rattle.ups_life.specs.Limits.{peer_limit};
-ghost use Rattle.ups_manager.specs.Refusal.{is_named, is_twice};
+ghost use Rattle.ups_settings.specs.Refusal.{is_named, is_twice};
 
 use crate::addresses::{Address, address_of};
 use crate::fault::ArgumentFault;
 use clap::{Arg, ArgAction};
 use std::alloc::{Allocator, Global};
 use ups_life::{MAX_PEERS, Peer};
-use ups_net::Watcher;
 use ups_pdu::Ae;
+use ups_settings::Watcher;
 
 /// The words that name peers.
 pub(crate) fn peer_words<'a>(alloc: Global) -> Arg<'a> {

@@ -5,7 +5,7 @@ ghost use Rattle.clap.specs.Matches.{first_value, found_of};
 ghost use Rattle.ups_args.specs.Arguments.{IsFlag, NamePeers, argument_words};
 ghost use Rattle.ups_args.specs.Limits.{local_offset};
 ghost use Rattle.ups_life.specs.Limits.{history_limit, peer_limit};
-ghost use Rattle.ups_manager.specs.Refusal.{refusal};
+ghost use Rattle.ups_settings.specs.Refusal.{refusal};
 ghost use Rattle.ups_pdu.specs.Title.{SpellsAe};
 
 use crate::fault::ArgumentFault;

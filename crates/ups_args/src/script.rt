@@ -4,7 +4,7 @@ ghost use Rattle.std.specs.Prelude.{◌≡◌, ◌≤◌, codes, length, None, I
 ghost use Rattle.clap.specs.Matches.{first_value, found_of};
 ghost use Rattle.ups_args.specs.Arguments.{NamePeers, SaysKeep, SaysOffset, argument_words};
 ghost use Rattle.ups_life.specs.Limits.{history_limit, peer_limit};
-ghost use Rattle.ups_manager.specs.Refusal.{refusal};
+ghost use Rattle.ups_settings.specs.Refusal.{refusal};
 
 use crate::fault::ArgumentFault;
 use crate::peers::{peer_words, peers_of};

@@ -5,7 +5,7 @@ ghost use Rattle.clap.specs.Matches.{first_value, found_of};
 ghost use Rattle.ups_args.specs.Arguments.{IsFlag, NamePeers, NameWatchers, SaysBind, SaysKeep, SaysOffset, SaysPort, SaysTimeout, SaysWorkers, SaysWorkersOrNot, argument_words};
 ghost use Rattle.ups_args.specs.Limits.{workers_limit};
 ghost use Rattle.ups_life.specs.Limits.{history_limit, peer_limit};
-ghost use Rattle.ups_manager.specs.Refusal.{refusal};
+ghost use Rattle.ups_settings.specs.Refusal.{refusal};
 ghost use Rattle.ups_pdu.specs.Title.{SpellsAe};
 
 use crate::fault::ArgumentFault;
@@ -16,8 +16,8 @@ use crate::title::{ae_of, ae_word};
 use clap::{Arg, ArgAction, ArgMatches, Command};
 use std::alloc::{AllocError, Global};
 use ups_life::Peer;
-use ups_net::Watcher;
 use ups_pdu::Ae;
+use ups_settings::Watcher;
 
 /// The options of a server: where it listens, and how it serves.
 fn with_network<'a>(alloc: Global, command: Command<'a>) -> Result<Command<'a>, AllocError> {

@@ -1,72 +1,86 @@
 -- What is decided of an acknowledgement.
-use Rattle.std.proofs.Common.{◌≡◌, ◌⊎◌, inl, inr, ℕ, Bool, true, false, cond, List, ◌∷◌, length, Result, Ok, Err, refl, sym, ap, subst, ◌∙◌}
-use Rattle.std.specs.Prelude.{nat_lt, nat_le, MatchResult}
-use Rattle.std.specs.List.{AllByRecursion}
+use Rattle.std.proofs.Common.{◌≡◌, ◌<◌, arith, true≢false, ℕ, zero, suc, Bool, true, false, cond, List, Option, None, Some, refl, sym, ap, ◌∙◌}
+use Rattle.std.specs.Prelude.{nat_lt, nat_le}
+use Rattle.std.proofs.lemmas.Bool.Decides.{nat_tests}
+use Rattle.ups_cycle.specs.declared.status.Status.TheVariants.{Success}
 use Rattle.ups_life.specs.declared.entry.Entry.{Entry}
 use Rattle.ups_life.specs.declared.request.Request.{Request}
 use Rattle.ups_life.specs.declared.request.Request.TheVariants.{Ack}
 use Rattle.ups_life.specs.declared.request.Reply.{Reply}
 use Rattle.ups_life.specs.declared.request.Reply.TheVariants.{Status as Answered, AckAhead, AckStale}
-use Rattle.ups_cycle.specs.declared.status.Status.TheVariants.{Success, ResourceLimitation}
+use Rattle.ups_life.specs.declared.peer.Peer.{Peer}
 use Rattle.ups_life.specs.Settings.{Settings}
+use Rattle.ups_life.specs.History.{acknowledged, decided, accepts}
 use Rattle.ups_life.specs.Steps.{past}
-use Rattle.ups_life.specs.Events.{acked, events}
-use Rattle.ups_life.specs.History.{accepts, acknowledged, decided}
-use Rattle.ups_manager.specs.declared.deciding.Decision.{Decision}
-use Rattle.ups_manager.specs.declared.deciding.StepsChange.{StepsChange}
-use Rattle.ups_manager.specs.declared.deciding.StepsChange.TheVariants.{Nothing}
+use Rattle.ups_events.specs.declared.fault.AckFault.TheVariants.{AckAhead as AheadFault, AckStale as StaleFault}
+use Rattle.ups_events.specs.Queue.{ack_fault, queue_at}
+use Rattle.ups_events.specs.Queue as lists
+use Rattle.ups_live.specs.Live.{is_of_no_step, Queue, empty_queue}
+use Rattle.ups_live.proofs.Asking.{ack_by}
+use Rattle.ups_tables.specs.declared.tables.Tables.{Tables}
+use Rattle.ups_tables.specs.Fit.{queue}
+use Rattle.ups_tables.specs.Places.{place_in, by_place}
+use Rattle.ups_tables.specs.Stands.{Stands, as_queue}
+use Rattle.ups_tables.specs.Planned.{PlansAck}
+use Rattle.ups_service.specs.Law.{SmallReply}
 use Rattle.ups_manager.specs.declared.deciding.Kind.TheVariants.{OfEvents}
-use Rattle.ups_manager.specs.declared.rows.HeldStep.{HeldStep}
-use Rattle.ups_manager.specs.Deciding.{kind_of, after_change, IsDecided, IsRefused}
-use Rattle.ups_manager.specs.Held.{held_steps, IsSmallStep}
-use Rattle.ups_life.specs.declared.request.Ask.TheVariants.{Do}
-use Rattle.ups_service.specs.Law.{is_granted, OrLacking, Answers, SmallReply, entry}
-use Rattle.ups_manager.proofs.Entering.{refuses, lacks}
-use Rattle.ups_manager.proofs.Holding.{ack_leaves}
+use Rattle.ups_manager.specs.Deciding.{kind_of}
+use Rattle.ups_manager.proofs.Watches.{to_live}
 
--- what is due: by how many events were made for who asks, and up to which it has acknowledged them
-abbrev due : {A : Type 0} → Settings → List (Entry A) → List ℕ → ℕ → Reply A
-due s es ae n = acknowledged (length (events s es ae)) (acked es ae) n
+pub of_events : {A : Type 0} (r : Request A) (n : ℕ) → kind_of r ≡ OfEvents n → r ≡ Ack n
+of_events (Ack upto) n h = let same : upto ≡ n = cc in ap (λ k. Ack k) same
+of_events r n h = absurd cc
 
-ack_decided : {A : Type 0} (s : Settings) (es : List (Entry A)) (caller : ℕ) (ae : List ℕ) (moment : ℕ) (r : Request A) (n : ℕ) → kind_of r ≡ OfEvents n → decided s es (entry caller ae moment r) r ≡ due s es ae n
-ack_decided {A} s es caller ae moment (Ack upto) n h = let same : upto ≡ n = cc in ap (λ m. due s es ae m) same
-ack_decided s es caller ae moment r n h = absurd cc
+pub events_of_no_step : {A : Type 0} (r : Request A) (n : ℕ) → kind_of r ≡ OfEvents n → is_of_no_step r ≡ true
+events_of_no_step (Ack upto) n h = refl
+events_of_no_step r n h = absurd cc
 
--- it is granted, and small
-pub granted : (A : Type 0) (made before upto : ℕ) → is_granted (acknowledged {A = A} made before upto) ≡ true
-granted A made before upto = at (nat_lt made upto) (nat_le upto before)
+-- it is what the queue of who asks says, of how many events were made and up to which they are acknowledged
+pub ack_decided : {A : Type 0} (s : Settings) (history : List (Entry A)) (e : Entry A) (t : Tables A) (n : ℕ) (peers : List Peer) (place : Option ℕ) (made acked : ℕ) (x : Reply A) → Stands s history t → kind_of e.request ≡ OfEvents n → peers ≡ s.peers → place ≡ place_in peers e.ae
+    → made ≡ (by_place empty_queue (λ p. as_queue (queue t p)) place).made → acked ≡ (by_place empty_queue (λ p. as_queue (queue t p)) place).acked → x ≡ acknowledged made acked n
+    → decided s (past history) e e.request ≡ x
+ack_decided {A} s history e t n peers place made acked x st kind named at m a reply =
+    let q : Option ℕ → Queue = λ o. by_place empty_queue (λ p. as_queue (queue t p)) o in
+    let here : place ≡ place_in s.peers e.ae = at ∙ ap (λ (ps : List Peer). place_in ps e.ae) named in
+    ap (decided s (past history) e) (of_events e.request n kind) ∙ ack_by s e (past history) _ _ _ _ _ _ (to_live s (past history) t st.lives) n
+    ∙ sym (reply ∙ ap (λ k. acknowledged {A = A} k acked n) (m ∙ ap (λ o. (q o).made) here) ∙ ap (λ k. acknowledged {A = A} (q (place_in s.peers e.ae)).made k n) (a ∙ ap (λ o. (q o).acked) here))
+
+-- who is no peer has nothing to acknowledge
+pub never_acked : (A : Type 0) (n : ℕ) → accepts (acknowledged {A = A} 0 0 n) ≡ true → ⊥
+never_acked A zero h = absurd cc
+never_acked A (suc n) h =
+    let pos : 0 < suc n = omega arith in
+    let t : nat_lt 0 (suc n) ≡ true = grind (arith, nat_tests, pos) in
+    true≢false (sym (ap (λ b. accepts {A = A} (cond b AckAhead (cond (nat_le (suc n) 0) AckStale (Answered Success)))) (sym t) ∙ h))
+
+pub acked_none : (A : Type 0) (t : Tables A) (n : ℕ) (place : Option ℕ) (made acked : ℕ) (x : Reply A) → place ≡ None → made ≡ (by_place empty_queue (λ p. as_queue (queue t p)) place).made → acked ≡ (by_place empty_queue (λ p. as_queue (queue t p)) place).acked
+    → x ≡ acknowledged made acked n → accepts x ≡ true → ⊥
+acked_none A t n place made acked x none m a reply ok =
+    never_acked A n (ap (λ k. accepts (acknowledged {A = A} k 0 n)) (sym (m ∙ ap (λ o. (by_place empty_queue (λ p. as_queue (queue t p)) o).made) none))
+    ∙ ap (λ k. accepts (acknowledged {A = A} made k n)) (sym (a ∙ ap (λ o. (by_place empty_queue (λ p. as_queue (queue t p)) o).acked) none)) ∙ ap accepts (sym reply) ∙ ok)
+
+-- what is accepted is taken
+accepted_taken : (A : Type 0) (made acked n : ℕ) → accepts (acknowledged {A = A} made acked n) ≡ true → (q : lists.Standing) → q.made ≡ made → q.acked ≡ acked → ack_fault q n ≡ None
+accepted_taken A made acked n h q m a = rw (m, a) (by (nat_lt made n) (nat_le n acked) h)
   where
-    at : (a b : Bool) → is_granted {A = A} (cond a AckAhead (cond b AckStale (Answered Success))) ≡ true
-    at true b = refl
-    at false true = refl
-    at false false = refl
+    by : (x y : Bool) → accepts {A = A} (cond x AckAhead (cond y AckStale (Answered Success))) ≡ true → cond x (Some AheadFault) (cond y (Some StaleFault) None) ≡ None
+    by true y h = absurd cc
+    by false true h = absurd cc
+    by false false h = refl
 
-small : (A : Type 0) (made before upto : ℕ) → SmallReply (acknowledged {A = A} made before upto)
+pub ack_plan : {A : Type 0} (s : Settings) (e : Entry A) (t : Tables A) (n : ℕ) (peers : List Peer) (place : Option ℕ) (peer made acked : ℕ) (x : Reply A) → kind_of e.request ≡ OfEvents n → peers ≡ s.peers → place ≡ place_in peers e.ae → place ≡ Some peer
+    → made ≡ (by_place empty_queue (λ p. as_queue (queue t p)) place).made → acked ≡ (by_place empty_queue (λ p. as_queue (queue t p)) place).acked → x ≡ acknowledged made acked n → accepts x ≡ true → PlansAck s e t peer n
+ack_plan {A} s e t n peers place peer made acked x kind named at is m a reply ok = record {
+  place = ap (λ (ps : List Peer). place_in ps e.ae) (sym named) ∙ sym at ∙ is;
+  request = of_events e.request n kind;
+  allowed = accepted_taken A made acked n (ap accepts (sym reply) ∙ ok) (queue_at t.queues peer) (sym (m ∙ ap (λ o. (by_place empty_queue (λ p. as_queue (queue t p)) o).made) is)) (sym (a ∙ ap (λ o. (by_place empty_queue (λ p. as_queue (queue t p)) o).acked) is));
+}
+
+-- the reply is small
+pub small : (A : Type 0) (made before upto : ℕ) → SmallReply (acknowledged {A = A} made before upto)
 small A made before upto = at (nat_lt made upto) (nat_le upto before)
   where
     at : (a b : Bool) → SmallReply {A = A} (cond a AckAhead (cond b AckStale (Answered Success)))
     at true b = tt
     at false true = tt
     at false false = tt
-
--- what is decided by a reply that is due, or tells that memory ran out
-pub ack_answers : {A : Type 0} (s : Settings) (history : List (Entry A)) (hs : List (HeldStep A)) (call : Entry A) (n : ℕ) (reply : Reply A) (r : Result (Decision A) (Reply A)) → kind_of call.request ≡ OfEvents n → hs ≡ held_steps s (past history)
-    → AllByRecursion IsSmallStep hs → OrLacking ResourceLimitation (due s (past history) call.ae n) reply
-    → MatchResult r (λ d. (d.reply ≡ reply) × (d.steps_change ≡ Nothing) × (accepts reply ≡ true)) (λ x. (x ≡ reply) × (accepts reply ≡ false)) → MatchResult r (IsDecided s history hs call) (IsRefused s history call)
-ack_answers {A} s history hs call n reply (Ok d) kind kept all_small (inl is) (same, none, ok) = record {
-  reply = ack_decided s (past history) call.caller call.ae call.moment call.request n kind ∙ sym is ∙ sym same;
-  accepted = ap accepts same ∙ ok;
-  steps = ap (λ (e : StepsChange A). after_change e hs) none ∙ kept ∙ sym (ack_leaves s (past history) call.caller call.ae call.moment call.request n kind);
-  small = subst (λ (e : StepsChange A). AllByRecursion IsSmallStep (after_change e hs)) (sym none) all_small;
-}
-ack_answers {A} s history hs call n reply (Ok d) kind kept all_small (inr (owed, is)) (same, none, ok) = let never : false ≡ true = sym (ap accepts is) ∙ ok in absurd cc
-ack_answers {A} s history hs call n reply (Err x) kind kept all_small (inl is) (same, refused) = record {
-  answer = inl (refuses s history call x (ack_decided s (past history) call.caller call.ae call.moment call.request n kind ∙ sym is ∙ sym same) (ap accepts same ∙ refused));
-  nothing = ap accepts same ∙ refused;
-  small = subst SmallReply (sym (same ∙ is)) (small A (length (events s (past history) call.ae)) (acked (past history) call.ae) n);
-}
-ack_answers {A} s history hs call n reply (Err x) kind kept all_small (inr (owed, is)) (same, refused) = record {
-  answer = subst (λ (y : Reply A). Answers s history call.caller call.ae call.moment (Do call.request) y) (sym (same ∙ is)) (lacks s history call (due s (past history) call.ae n) (ack_decided s (past history) call.caller call.ae call.moment call.request n kind) owed);
-  nothing = ap accepts same ∙ refused;
-  small = subst SmallReply (sym (same ∙ is)) tt;
-}

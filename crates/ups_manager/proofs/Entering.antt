@@ -1,38 +1,44 @@
--- What is decided of a request that creates or changes a step, and what a manager holds then.
-use Rattle.std.proofs.Common.{◌≡◌, All, ◌⊎◌, inl, inr, ℕ, ℤ, ◌<◌, Bool, true, false, cond, ◌&&◌, List, [], ◌∷◌, ◌++◌, length, Option, None, Some, refl, sym, ap, subst, ◌∙◌, arith}
-use Rattle.std.specs.Prelude.{nat_lt, not}
+-- What is answered by what is decided, and what is decided of a request that creates or changes a step.
+use Rattle.std.proofs.Common.{◌≡◌, All, inl, inr, ℕ, ℤ, ◌<◌, Bool, true, false, cond, ◌&&◌, List, [], ◌∷◌, ◌++◌, length, Option, None, Some, refl, sym, ap, subst, ◌∙◌, arith}
+use Rattle.std.specs.Prelude.{nat_lt, nat_le, not}
 use Rattle.std.specs.Option.{option_or, unwrap_or}
 use Rattle.std.specs.List.{AllByRecursion}
 use Rattle.std.proofs.lemmas.Bool.Decides.{nat_tests}
 use Rattle.std.proofs.lemmas.List.{append-nil}
 use Rattle.std.proofs.lemmas.List.Elements.{All-cons, All-append}
+use Rattle.ups_cycle.specs.declared.status.Status.{Status}
+use Rattle.ups_cycle.specs.declared.status.Status.TheVariants.{Success, ResourceLimitation, UnknownInstance}
+use Rattle.ups_cycle.specs.Statuses.{is_done}
 use Rattle.ups_life.specs.declared.entry.Entry.{Entry}
 use Rattle.ups_life.specs.declared.request.Request.{Request}
-use Rattle.ups_life.specs.declared.request.Request.TheVariants.{Create, Change, AskCancel, Set}
+use Rattle.ups_life.specs.declared.request.Request.TheVariants.{Create, Change, AskCancel, Set, Subscribe, Unsubscribe, Suspend, Ack, Sweep}
 use Rattle.ups_life.specs.declared.request.Ask.TheVariants.{Do}
 use Rattle.ups_life.specs.declared.request.Reply.{Reply}
 use Rattle.ups_life.specs.declared.request.Reply.TheVariants.{Status as Answered, Swept}
 use Rattle.ups_life.specs.declared.row.Row.{Row}
-use Rattle.ups_cycle.specs.declared.status.Status.{Status}
-use Rattle.ups_cycle.specs.declared.status.Status.TheVariants.{Success, ResourceLimitation, UnknownInstance}
 use Rattle.ups_life.specs.Settings.{Settings, IsMoment}
-use Rattle.ups_life.specs.Steps.{past, step_of, row_after, nothing}
+use Rattle.ups_life.specs.Steps.{past, used, step_of, row_after, nothing}
 use Rattle.ups_life.specs.Watching.{known}
 use Rattle.ups_life.specs.Verdict.{verdict}
 use Rattle.ups_life.specs.History.{accepts, legal, reply, sized, in_room, is_sized, fits, repeats, row_then, decided}
-use Rattle.ups_cycle.specs.Statuses.{is_done}
-use Rattle.ups_life.proofs.Past.{past-push, length-past}
-use Rattle.ups_manager.specs.declared.deciding.Decision.{Decision}
-use Rattle.ups_manager.specs.declared.deciding.Kind.TheVariants.{OfStep}
-use Rattle.ups_manager.specs.declared.rows.HeldStep.{HeldStep}
-use Rattle.ups_manager.specs.Deciding.{kind_of, IsDecided}
-use Rattle.ups_manager.specs.Held.{held_steps, step_at, row_in, row_of_step, holder_in, claimed_by, put_step, IsSmallStep}
-use Rattle.ups_manager.specs.declared.submitting.SubmitFault.{SubmitFault}
-use Rattle.ups_manager.specs.declared.submitting.SubmitFault.TheVariants.{Refused, Memory}
-use Rattle.ups_manager.specs.Faults.{status_of, RowFails, StepFails, RoomFails}
+use Rattle.ups_life.proofs.Past.{length-past}
+use Rattle.ups_live.specs.declared.rows.HeldStep.{HeldStep}
+use Rattle.ups_live.specs.Held.{held_steps, step_at, row_in, row_of_step, holder_in, claims_it, put_step}
+use Rattle.ups_live.proofs.Holding.{row_in-held_steps, row_of_step-held_steps, held_steps-after}
+use Rattle.ups_steps.specs.declared.held.Held.{Held}
+use Rattle.ups_tables.specs.declared.tables.Tables.{Tables}
+use Rattle.ups_tables.specs.Held.{held_at}
+use Rattle.ups_tables.specs.Keyed.{whole, as_steps, row_held, holder_held}
+use Rattle.ups_tables.proofs.Keyed.{row_found, holder_found}
 use Rattle.ups_service.specs.Law.{is_granted, OrLacking, Answers, SmallReply, is_legal, entry, entered}
 use Rattle.ups_service.proofs.Legality.{no_room}
-use Rattle.ups_manager.proofs.Holding.{row_in-held_steps, row_of_step-held_steps, held_steps-after}
+use Rattle.ups_manager.specs.declared.deciding.Decision.{Decision}
+use Rattle.ups_manager.specs.declared.deciding.Kind.TheVariants.{OfStep}
+use Rattle.ups_manager.specs.declared.submitting.SubmitFault.{SubmitFault}
+use Rattle.ups_manager.specs.declared.submitting.SubmitFault.TheVariants.{Refused, Memory}
+use Rattle.ups_manager.specs.Deciding.{kind_of, repeats_in, IsDecided}
+use Rattle.ups_manager.specs.Faults.{status_of, RowFails, StepFails}
+use Rattle.ups_manager.specs.Held.{IsSmallStep}
 use Rattle.ups_manager.proofs.Small.{small_after, small_put}
 
 -- A REPLY
@@ -51,23 +57,15 @@ lacks {A} s history call x is granted =
     at true = inl refl
     at false = inr (granted, refl)
 
-done_granted : (A : Type 0) (x : Reply A) → accepts x ≡ true → is_granted x ≡ true
+pub done_granted : (A : Type 0) (x : Reply A) → accepts x ≡ true → is_granted x ≡ true
 done_granted A (Answered status) h = h
-done_granted A (Swept count) h = refl
+done_granted A (Swept count) h = h
 done_granted A x h = absurd cc
 
-room_of : {A : Type 0} (limit : ℕ) (history : List (Entry A)) (f : SubmitFault) → RoomFails limit history f → status_of f ≡ ResourceLimitation
-room_of limit history (Refused status) h = h.0
-room_of limit history Memory h = refl
-
 -- where there is no room
-pub answers_full : {A : Type 0} (s : Settings) (history : List (Entry A)) (call : Entry A) (x : Reply A) (limit : ℕ) (f : SubmitFault) → decided s (past history) call call.request ≡ x → accepts x ≡ true → RoomFails limit history f
-    → Answers s history call.caller call.ae call.moment (Do call.request) (Answered (status_of f))
-answers_full {A} s history call x limit f is ok h =
-    subst (λ y. Answers s history call.caller call.ae call.moment (Do call.request) (Answered y)) (sym (room_of limit history f h)) (lacks s history call x is (done_granted A x ok))
-
-pub room_not_done : {A : Type 0} (limit : ℕ) (history : List (Entry A)) (f : SubmitFault) → RoomFails limit history f → is_done (status_of f) ≡ false
-room_not_done limit history f h = ap is_done (room_of limit history f h)
+pub answers_full : {A : Type 0} (s : Settings) (history : List (Entry A)) (call : Entry A) (x : Reply A) → decided s (past history) call call.request ≡ x → accepts x ≡ true
+    → Answers s history call.caller call.ae call.moment (Do call.request) (Answered ResourceLimitation)
+answers_full {A} s history call x is ok = lacks s history call x is (done_granted A x ok)
 
 pub none_entered : {A : Type 0} (history : List (Entry A)) (call : Entry A) (x : Reply A) → accepts x ≡ false → history ≡ history ++ entered call.caller call.ae call.moment (Do call.request) x
 none_entered history call x n = sym (ap (λ b. history ++ cond b (call ∷ []) []) n ∙ append-nil history)
@@ -88,23 +86,41 @@ succeeds {A} s history call x is room =
     no true = refl
     no false = refl
 
--- the history stays legal
-pub legal_after : {A : Type 0} (s : Settings) (history new : List (Entry A)) (call : Entry A) (x : Reply A) → is_legal s history → new ≡ history ++ call ∷ [] → decided s (past history) call call.request ≡ x → accepts x ≡ true
-    → length history < s.limit → is_legal s new
-legal_after s history new call x so is decided ok room =
-    ap (λ l. legal s (past l)) is ∙ ap (legal s) (past-push history call) ∙ ap (λ y. accepts y && legal s (past history)) (succeeds s history call x decided room)
-    ∙ ap (λ b. b && legal s (past history)) ok ∙ so
+-- the history stays legal with the call behind the others
+pub legal_with : {A : Type 0} (s : Settings) (history : List (Entry A)) (call : Entry A) (x : Reply A) → is_legal s history → decided s (past history) call call.request ≡ x → accepts x ≡ true → length history < s.limit
+    → legal s (call ∷ past history) ≡ true
+legal_with s history call x so decided ok room =
+    ap (λ y. accepts y && legal s (past history)) (succeeds s history call x decided room) ∙ ap (λ b. b && legal s (past history)) ok ∙ so
 
 pub small_done : (A : Type 0) (x : Reply A) → accepts x ≡ true → SmallReply x
 small_done A (Answered status) h = tt
 small_done A (Swept count) h = tt
 small_done A x h = absurd cc
 
--- what is decided of slices is decided of what they lend
-pub of_slices : {A : Type 0} (s : Settings) (slice history : List (Entry A)) (steps hs : List (HeldStep A)) (call : Entry A) (d : Decision A) → slice ≡ history → steps ≡ hs → IsDecided s slice steps call d → IsDecided s history hs call d
-of_slices s slice history steps hs call d whole all is = subst (λ l. IsDecided s l hs call d) whole (subst (λ l. IsDecided s slice l call d) all is)
+-- a history that is not full has room
+pub has_room : {A : Type 0} (limit : ℕ) (slice history : List (Entry A)) (full : Bool) → slice ≡ history → full ≡ nat_le limit (length slice) → full ≡ false → length history < limit
+has_room {A} limit slice history full same is room = left limit (length history) (ap (λ (l : List (Entry A)). nat_le limit (length l)) (sym same) ∙ sym is ∙ room)
+  where
+    left : (m n : ℕ) → nat_le m n ≡ false → n < m
+    left m n h = grind (arith, nat_tests)
+
+-- what is decided of a slice is decided of what it lends
+pub of_slice : {A : Type 0} (s : Settings) (slice history : List (Entry A)) (t : Tables A) (call : Entry A) (d : Decision A) → slice ≡ history → IsDecided s slice t call d → IsDecided s history t call d
+of_slice {A} s slice history t call d same is = subst (λ (l : List (Entry A)). IsDecided s l t call d) same is
 
 -- A REQUEST THAT CREATES OR CHANGES A STEP
+
+-- whether it repeats a UID is known by those that were used
+pub repeats_is : {A : Type 0} (was_used : List ℕ → Bool) (es : List (Entry A)) (r : Request A) → ((u : List ℕ) → was_used u ≡ used es u) → repeats_in was_used r ≡ repeats es r
+repeats_is was_used es (Create step set) h = h step
+repeats_is was_used es (Change step to t) h = refl
+repeats_is was_used es (AskCancel step reasons) h = refl
+repeats_is was_used es (Set step t set) h = refl
+repeats_is was_used es (Subscribe target receiver lock) h = refl
+repeats_is was_used es (Unsubscribe place receiver) h = refl
+repeats_is was_used es (Suspend receiver) h = refl
+repeats_is was_used es (Ack upto) h = refl
+repeats_is was_used es Sweep h = refl
 
 step_decided : {A : Type 0} (s : Settings) (es : List (Entry A)) (caller : ℕ) (ae : List ℕ) (moment : ℕ) (r : Request A) → kind_of r ≡ OfStep
     → decided s es (entry caller ae moment r) r ≡ Answered (sized r (row_then s es (entry caller ae moment r)).attributes (verdict (known s es (step_of r)) (repeats es r) r))
@@ -119,7 +135,7 @@ pub record Accepted {A : Type 0} (s : Settings) (history : List (Entry A)) (hs :
   pub step : step_of call.request ≡ Some x.step
   pub allowed : verdict (row_in x.step hs) (repeats (past history) call.request) call.request ≡ Success
   pub row : x.row ≡ row_after s.offset call.moment (unwrap_or (row_in x.step hs) nothing) call.request
-  pub holder : x.holder ≡ option_or (claimed_by call) (holder_in (step_at x.step hs))
+  pub holder : x.holder ≡ option_or (claims_it call) (holder_in (step_at x.step hs))
   pub fits : is_sized call.request ≡ true → fits x.row.attributes ≡ true
 
 unless_too_large : (sized fit : Bool) → (sized ≡ true → fit ≡ true) → cond (sized && not fit) ResourceLimitation Success ≡ Success
@@ -153,7 +169,7 @@ steps_after {A} s history hs call x so kept a =
     ∙ sym (held_steps-after s call es x so a.step
     (ap (λ l. verdict (row_in x.step l) (repeats es call.request) call.request) (sym kept) ∙ a.allowed)
     (a.row ∙ ap (λ l. row_after s.offset call.moment (unwrap_or (row_in x.step l) nothing) call.request) kept)
-    (a.holder ∙ ap (λ l. option_or (claimed_by call) (holder_in (step_at x.step l))) kept))
+    (a.holder ∙ ap (λ l. option_or (claims_it call) (holder_in (step_at x.step l))) kept))
 
 pub small_kept : {A : Type 0} (s : Settings) (history : List (Entry A)) (hs : List (HeldStep A)) (call : Entry A) (x : HeldStep A) → AllByRecursion IsSmallStep hs → Accepted s history hs call x → AllByRecursion IsSmallStep (put_step x hs)
 small_kept s history hs call x all a = small_put x hs (small_after s call.moment hs x (repeats (past history) call.request) call.request a.step all a.allowed a.row a.fits) all
@@ -217,17 +233,26 @@ pub step_not_done : {A : Type 0} (offset : ℤ) (moment : ℕ) (row : Option (Ro
 step_not_done offset moment row used r f (inl h) = ap (λ x. is_done (status_of x)) h.0 ∙ h.1
 step_not_done offset moment row used r f (inr h) = ap is_done (lack_of offset moment (unwrap_or row nothing) r f h.1)
 
-pub accepted : {A : Type 0} (s : Settings) (history : List (Entry A)) (hs : List (HeldStep A)) (call : Entry A) (x : HeldStep A) (offset : ℤ) → offset ≡ s.offset
-    → step_of call.request ≡ Some x.step → verdict (row_in x.step hs) (repeats (past history) call.request) call.request ≡ Success
-    → x.row ≡ row_after offset call.moment (unwrap_or (row_in x.step hs) nothing) call.request → x.holder ≡ option_or (claimed_by call) (holder_in (step_at x.step hs))
-    → (is_sized call.request ≡ true → fits x.row.attributes ≡ true) → Accepted s history hs call x
-accepted s history hs call x offset zone step allowed row holder fits = record {
-  step = step;
-  allowed = allowed;
-  row = row ∙ ap (λ z. row_after z call.moment (unwrap_or (row_in x.step hs) nothing) call.request) zone;
-  holder = holder;
+-- what is allowed by the row in the table, and made of it, is accepted
+pub accepted : {A : Type 0} (s : Settings) (history : List (Entry A)) (es : List (List ℕ × Held A)) (call : Entry A) (step : List ℕ) (held : Held A) (offset : ℤ) → offset ≡ s.offset
+    → step_of call.request ≡ Some step → verdict (row_held (held_at step es)) (repeats (past history) call.request) call.request ≡ Success
+    → held.row ≡ row_after offset call.moment (unwrap_or (row_held (held_at step es)) nothing) call.request → held.holder ≡ option_or (claims_it call) (holder_held (held_at step es))
+    → (is_sized call.request ≡ true → fits held.row.attributes ≡ true) → Accepted s history (as_steps es) call (whole step held)
+accepted {A} s history es call step held offset zone on allowed row holder fits = record {
+  step = on;
+  allowed = ap (λ (k : Option (Row A)). verdict k (repeats (past history) call.request) call.request) (sym (row_found step es)) ∙ allowed;
+  row = row ∙ ap (λ z. row_after z call.moment (unwrap_or (row_held (held_at step es)) nothing) call.request) zone
+      ∙ ap (λ (k : Option (Row A)). row_after s.offset call.moment (unwrap_or k nothing) call.request) (row_found step es);
+  holder = holder ∙ ap (option_or (claims_it call)) (holder_found step es);
   fits = fits;
 }
+
+-- what fails by the row in the table fails by the steps held
+pub fails : {A : Type 0} (offset : ℤ) (moment : ℕ) (es : List (List ℕ × Held A)) (step : List ℕ) (used : Bool) (r : Request A) (f : SubmitFault) → step_of r ≡ Some step
+    → StepFails offset moment (row_held (held_at step es)) used r f → StepFails offset moment (row_of_step (step_of r) (as_steps es)) used r f
+fails {A} offset moment es step used r f on h = subst (λ (o : Option (Row A)). StepFails offset moment o used r f) (row_found step es ∙ sym (ap (λ o. row_of_step o (as_steps es)) on)) h
+
+-- MOMENTS
 
 -- each moment in a history has a date
 abbrev pub HaveDates : {A : Type 0} → List (Entry A) → Type 0

@@ -3,23 +3,24 @@ use Rattle.std.proofs.Common.{◌≡◌, ℕ, ◌≤◌, Bool, true, false, cond
 use Rattle.std.specs.List.{AllByRecursion}
 use Rattle.std.specs.Option.{option_map}
 use Rattle.std.proofs.lemmas.List.{length-append}
-use Rattle.ups_dataset.specs.declared.tag.Tag.{Tag}
 use Rattle.ups_pdu.specs.declared.syntax.TransferSyntax.TheVariants.{Explicit}
+use Rattle.ups_dataset.specs.declared.tag.Tag.{Tag}
 use Rattle.ups_dataset.specs.Data.{El, is_listed}
 use Rattle.ups_dataset.specs.Written.{written, written_element}
-use Rattle.ups_life.specs.declared.entry.Entry.{Entry}
-use Rattle.ups_life.specs.declared.request.Reply.{Reply}
-use Rattle.ups_life.specs.declared.request.Reply.TheVariants.{Status as Answered}
 use Rattle.ups_cycle.specs.declared.state.StepState.{StepState}
 use Rattle.ups_cycle.specs.declared.state.StepState.TheVariants.{Scheduled, InProgress, Completed, Canceled}
 use Rattle.ups_cycle.specs.declared.status.Status.TheVariants.{UnknownInstance}
+use Rattle.ups_life.specs.declared.entry.Entry.{Entry}
+use Rattle.ups_life.specs.declared.request.Reply.{Reply}
+use Rattle.ups_life.specs.declared.request.Reply.TheVariants.{Status as Answered}
 use Rattle.ups_life.specs.Settings.{Settings}
 use Rattle.ups_life.specs.Watching.{known}
 use Rattle.ups_life.specs.History.{got, shown, shown_of}
-use Rattle.ups_manager.specs.declared.rows.HeldStep.{HeldStep}
-use Rattle.ups_manager.specs.Held.{held_steps, slack, IsSmallStep, step_at}
+use Rattle.ups_live.specs.declared.rows.HeldStep.{HeldStep}
+use Rattle.ups_live.specs.Held.{held_steps, step_at}
+use Rattle.ups_live.proofs.Holding.{row_in-held_steps}
 use Rattle.ups_service.specs.Law.{IsSmall, SmallReply, is_granted}
-use Rattle.ups_manager.proofs.Holding.{row_in-held_steps}
+use Rattle.ups_manager.specs.Held.{slack, IsSmallStep}
 use Rattle.ups_manager.proofs.Small.{small_at}
 
 slack_bound : (st : StepState) → slack st ≤ 40

@@ -1,14 +1,14 @@
 mod Acknowledging
 pub mod Alone
+pub mod Crosses
 mod Entering
 mod Finding
 mod Fitting
-pub mod Holding
+mod Keyed
 mod Known
 mod Matches
 mod Offsets
 mod Outsiders
-mod Putting
 mod Small
 mod Watchers
 mod Watches

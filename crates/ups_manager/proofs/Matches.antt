@@ -1,5 +1,5 @@
 -- What is found among the steps, and which they are.
-use Rattle.std.proofs.Common.{◌≡◌, ℕ, ◌<◌, ◌+◌, Bool, true, false, if◌then◌else◌, List, [], ◌∷◌, ◌++◌, length, map, filter, take, get_or, Result, Ok, Err, IfOk, Vec, refl, sym, ap, ◌∙◌, inl, inr}
+use Rattle.std.proofs.Common.{◌≡◌, ℕ, ◌<◌, ◌+◌, Bool, true, false, if◌then◌else◌, List, [], ◌∷◌, ◌++◌, length, map, filter, take, get_or, refl, sym, ap, ◌∙◌, inl, inr}
 use Rattle.std.specs.List.{AllByRecursion}
 use Rattle.std.proofs.lemmas.List.{take_more, map-append}
 use Rattle.ups_dataset.specs.Data.{El, answer}
@@ -9,9 +9,9 @@ use Rattle.ups_life.specs.Steps.{row}
 use Rattle.ups_life.specs.Watching.{held}
 use Rattle.ups_life.specs.Settings.{Settings}
 use Rattle.ups_life.specs.Worklist.{rows, found, worklist}
+use Rattle.ups_live.specs.declared.rows.HeldStep.{HeldStep}
+use Rattle.ups_live.specs.Held.{held_step, held_steps, attributes_in}
 use Rattle.ups_manager.specs.Finding.{IsAmong, AreFound}
-use Rattle.ups_manager.specs.declared.rows.HeldStep.{HeldStep}
-use Rattle.ups_manager.specs.Held.{held_step, held_steps, attributes_in}
 
 -- what keys are answered by one row
 abbrev pub answer_of : (List El → Bool) → List El → List El → List (List El)
@@ -56,11 +56,6 @@ uids_of s es (u ∷ us) = ap (λ l. u ∷ l) (uids_of s es us)
 
 pub uids_are : {A : Type 0} (s : Settings) (es : List (Entry A)) (hs steps : List (HeldStep A)) → hs ≡ held_steps s es → steps ≡ hs → map (λ (h : HeldStep A). h.step) steps ≡ held s es
 uids_are {A} s es hs steps kept all = ap (map (λ (h : HeldStep A). h.step)) (all ∙ kept) ∙ uids_of s es (held s es)
-
-pub uids_if_ok : {A E : Type 0} (s : Settings) (es : List (Entry A)) (hs steps : List (HeldStep A)) (r : Result (Vec (List ℕ) A) E) → hs ≡ held_steps s es → steps ≡ hs
-    → IfOk r (λ v. v.items ≡ map (λ (h : HeldStep A). h.step) steps) → IfOk r (λ v. v.items ≡ held s es)
-uids_if_ok s es hs steps (Ok v) kept all is = is ∙ uids_are s es hs steps kept all
-uids_if_ok s es hs steps (Err e) kept all is = is
 
 -- those of a list that pass a test are some of it, in its order, and each passes
 still_among : {X : Type 0} (some : List X) (x : X) (all : List X) → IsAmong some all → IsAmong some (x ∷ all)

@@ -12,22 +12,23 @@ use Rattle.ups_dataset.specs.Tag.{number, is_tag}
 use Rattle.ups_dataset.specs.Data.{El, put, elements_of}
 use Rattle.ups_dataset.specs.Valid.{depth_elements}
 use Rattle.ups_dataset.specs.Written.{written, written_element}
-use Rattle.ups_life.specs.declared.request.Request.{Request}
-use Rattle.ups_life.specs.declared.request.Request.TheVariants.{Create, Change, AskCancel, Set}
-use Rattle.ups_life.specs.declared.request.Transaction.{Transaction}
-use Rattle.ups_life.specs.declared.row.Row.{Row}
 use Rattle.ups_cycle.specs.declared.state.StepState.{StepState}
 use Rattle.ups_cycle.specs.declared.state.StepState.TheVariants.{Scheduled, InProgress, Completed, Canceled}
 use Rattle.ups_cycle.specs.declared.status.Status.{Status}
 use Rattle.ups_cycle.specs.declared.status.Status.TheVariants.{Success, WrongTransactionUid}
+use Rattle.ups_cycle.specs.Cycle.{claim_status, complete_status, discontinue_status, wrong_status}
+use Rattle.ups_life.specs.declared.request.Request.{Request}
+use Rattle.ups_life.specs.declared.request.Request.TheVariants.{Create, Change, AskCancel, Set}
+use Rattle.ups_life.specs.declared.request.Transaction.{Transaction}
+use Rattle.ups_life.specs.declared.row.Row.{Row}
 use Rattle.ups_life.specs.Settings.{Settings}
 use Rattle.ups_life.specs.Steps.{step_of, state_element, row_after, nothing}
 use Rattle.ups_life.specs.Verdict.{verdict, if_held, change_status, is_proper, is_right, is_performed, is_discontinued}
-use Rattle.ups_cycle.specs.Cycle.{claim_status, complete_status, discontinue_status, wrong_status}
 use Rattle.ups_life.specs.Limits.{row_limit}
 use Rattle.ups_life.specs.History.{fits, is_sized}
-use Rattle.ups_manager.specs.declared.rows.HeldStep.{HeldStep}
-use Rattle.ups_manager.specs.Held.{slack, HasSmallRow, IsSmallStep, step_at, row_in, put_step}
+use Rattle.ups_live.specs.declared.rows.HeldStep.{HeldStep}
+use Rattle.ups_live.specs.Held.{step_at, row_in, put_step}
+use Rattle.ups_manager.specs.Held.{slack, HasSmallRow, IsSmallStep}
 
 -- an element that is put adds its own bytes at most
 pub put_length : (x : El) (set : List El) → length (written Explicit (put x set)) ≤ length (written Explicit set) + length (written_element Explicit x)

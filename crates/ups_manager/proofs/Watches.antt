@@ -1,25 +1,52 @@
--- What a watcher is subscribed to, of the steps that a manager has.
-use Rattle.std.proofs.Common.{◌≡◌, ℕ, List, map, ap, ◌∙◌, sym, subst}
+-- What a watcher is subscribed to, by the tables of a manager.
+use Rattle.std.proofs.Common.{◌≡◌, refl, ℕ, List, Option, None, Result, Ok, Err, IfOk, Vec, ap, ◌∙◌, sym, subst}
 use Rattle.std.specs.Prelude.{Some}
 use Rattle.std.specs.List.{filter_map, AllByRecursion}
+use Rattle.std.specs.Map.{keys_of}
 use Rattle.ups_life.specs.declared.entry.Entry.{Entry}
+use Rattle.ups_life.specs.declared.peer.Peer.{Peer}
 use Rattle.ups_life.specs.declared.watching.Watched.{Watched}
 use Rattle.ups_life.specs.Settings.{Settings}
 use Rattle.ups_life.specs.Steps.{past}
-use Rattle.ups_life.specs.Watching.{watch, watched_step, watched}
-use Rattle.ups_life.specs.Events.{events, view, present}
+use Rattle.ups_life.specs.Watching.{watched_step, watched}
+use Rattle.ups_life.specs.Events.{events, view, present, pending}
 use Rattle.ups_life.proofs.Viewing.{watched_views}
-use Rattle.ups_manager.specs.declared.rows.HeldStep.{HeldStep}
-use Rattle.ups_manager.specs.Held.{held_steps}
-use Rattle.ups_manager.proofs.Matches.{uids_are}
+use Rattle.ups_live.specs.Live.{IsLive, Queue, empty_queue, final, locked}
+use Rattle.ups_live.proofs.Asking.{watched_by}
+use Rattle.ups_tables.specs.declared.tables.Tables.{Tables}
+use Rattle.ups_tables.specs.Fit.{how, queue, uses}
+use Rattle.ups_tables.specs.Places.{place_in, by_place}
+use Rattle.ups_tables.specs.Stands.{Stands, Lives, as_queue, cover_of, how_of, queue_of}
+use Rattle.ups_manager.proofs.Keyed.{keys_held_are}
 
-pub watched_is : {A : Type 0} (s : Settings) (history entries : List (Entry A)) (hs steps : List (HeldStep A)) (us lent : List (List ℕ)) (w : List ℕ) (found : List Watched) → hs ≡ held_steps s (past history) → steps ≡ hs → entries ≡ history
-    → us ≡ map (λ (h : HeldStep A). h.step) steps → lent ≡ us → found ≡ filter_map (λ u. watched_step u (watch s (past entries) w u)) lent → found ≡ watched s (past history) w
-watched_is {A} s history entries hs steps us lent w found kept all same named are is =
+-- the tables are live
+pub to_live : {A : Type 0} (s : Settings) (es : List (Entry A)) (t : Tables A) → Lives s es t → IsLive s es (cover_of s.peers t) (how_of s.peers t) (final s es) (locked s es) (queue_of s.peers t) (uses t)
+to_live s es t l = record { covers = l.covers; pairs = l.pairs; finals = λ u. refl; locks = λ u. refl; queues = l.queues; used = l.used }
+
+pub watched_is : {A : Type 0} (s : Settings) (history : List (Entry A)) (t : Tables A) (us lent : List (List ℕ)) (peers : List Peer) (place : Option ℕ) (w : List ℕ) (found : List Watched) → Stands s history t
+    → us ≡ keys_of t.steps.entries → lent ≡ us → peers ≡ s.peers → place ≡ place_in peers w → found ≡ filter_map (λ u. watched_step u (by_place None (λ p. how t p u) place)) lent → found ≡ watched s (past history) w
+watched_is {A} s history t us lent peers place w found st keys are named at is =
     is
-    ∙ ap (λ (es : List (Entry A)). filter_map (λ u. watched_step u (watch s (past es) w u)) lent) same
-    ∙ ap (filter_map (λ (u : List ℕ). watched_step u (watch s (past history) w u))) (are ∙ named ∙ uids_are s (past history) hs steps kept all)
+    ∙ ap (λ (o : Option ℕ). filter_map (λ u. watched_step u (by_place None (λ p. how t p u) o)) lent) (at ∙ ap (λ (ps : List Peer). place_in ps w) named)
+    ∙ ap (filter_map (λ (u : List ℕ). watched_step u (how_of s.peers t w u))) (are ∙ keys ∙ keys_held_are s history t st)
+    ∙ watched_by s (past history) _ _ _ _ _ _ (to_live s (past history) t st.lives) w
 
 -- of each the view shows what is so
 pub views_are : {A : Type 0} (s : Settings) (es : List (Entry A)) (w : List ℕ) (found : List Watched) → found ≡ watched s es w → AllByRecursion (λ (x : Watched). view (events s es w) x.step ≡ Some (present s es x.step)) found
 views_are s es w found is = subst (λ (l : List Watched). AllByRecursion (λ (x : Watched). view (events s es w) x.step ≡ Some (present s es x.step)) l) (sym is) (watched_views s es w)
+
+-- where memory sufficed
+pub watched_if_ok : {A E : Type 0} (s : Settings) (history : List (Entry A)) (t : Tables A) (us lent : List (List ℕ)) (peers : List Peer) (place : Option ℕ) (w : List ℕ) (r : Result (Vec Watched A) E) → Stands s history t
+    → us ≡ keys_of t.steps.entries → lent ≡ us → peers ≡ s.peers → place ≡ place_in peers w → IfOk r (λ v. v.items ≡ filter_map (λ u. watched_step u (by_place None (λ p. how t p u) place)) lent) → IfOk r (λ v. v.items ≡ watched s (past history) w)
+watched_if_ok s history t us lent peers place w (Ok v) st keys are named at is = watched_is s history t us lent peers place w v.items st keys are named at is
+watched_if_ok s history t us lent peers place w (Err e) st keys are named at is = is
+
+pub views_if_ok : {A E : Type 0} (s : Settings) (es : List (Entry A)) (w : List ℕ) (r : Result (Vec Watched A) E) → IfOk r (λ v. v.items ≡ watched s es w) → IfOk r (λ v. AllByRecursion (λ (x : Watched). view (events s es w) x.step ≡ Some (present s es x.step)) v.items)
+views_if_ok s es w (Ok v) is = views_are s es w v.items is
+views_if_ok s es w (Err e) is = is
+
+-- what is pending
+pub pending_is : {A : Type 0} (s : Settings) (history : List (Entry A)) (t : Tables A) (peers : List Peer) (place : Option ℕ) (w : List ℕ) → Stands s history t → peers ≡ s.peers → place ≡ place_in peers w
+    → (by_place empty_queue (λ p. as_queue (queue t p)) place).events ≡ pending s (past history) w
+pending_is s history t peers place w st named at =
+    ap (λ (o : Option ℕ). (by_place empty_queue (λ p. as_queue (queue t p)) o).events) (at ∙ ap (λ (ps : List Peer). place_in ps w) named) ∙ ap (λ (k : Queue). k.events) (st.lives.queues w)

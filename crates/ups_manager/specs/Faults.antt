@@ -1,18 +1,17 @@
 -- Why a request is not entered: it is refused, with which status, or memory ran out.
-use Rattle.std.specs.Prelude.{◌≡◌, ◌<◌, ◌≤◌, ◌⊎◌, ℕ, ℤ, Bool, true, false, List, length, Option}
+use Rattle.std.specs.Prelude.{◌≡◌, ◌<◌, ◌⊎◌, ℕ, ℤ, Bool, true, false, Option}
 use Rattle.std.specs.Option.{unwrap_or}
 use Rattle.ups_dataset.specs.Limits.{max_depth}
 use Rattle.ups_dataset.specs.Data.{elements_of}
 use Rattle.ups_dataset.specs.Valid.{depth_elements}
-use Rattle.ups_life.specs.declared.entry.Entry.{Entry}
-use Rattle.ups_life.specs.declared.request.Request.{Request}
-use Rattle.ups_life.specs.declared.row.Row.{Row}
 use Rattle.ups_cycle.specs.declared.status.Status.{Status}
 use Rattle.ups_cycle.specs.declared.status.Status.TheVariants.{Success, ResourceLimitation}
+use Rattle.ups_cycle.specs.Statuses.{is_done}
+use Rattle.ups_life.specs.declared.request.Request.{Request}
+use Rattle.ups_life.specs.declared.row.Row.{Row}
 use Rattle.ups_life.specs.Steps.{given, nothing, row_after}
 use Rattle.ups_life.specs.Verdict.{verdict}
 use Rattle.ups_life.specs.History.{fits, is_sized}
-use Rattle.ups_cycle.specs.Statuses.{is_done}
 use Rattle.ups_manager.specs.declared.submitting.SubmitFault.{SubmitFault}
 use Rattle.ups_manager.specs.declared.submitting.SubmitFault.TheVariants.{Refused, Memory}
 
@@ -37,8 +36,3 @@ abbrev pub StepFails : {A : Type 0} → ℤ → ℕ → Option (Row A) → Bool 
 StepFails offset moment row used request fault =
     ((fault ≡ Refused (verdict row used request)) × (is_done (verdict row used request) ≡ false))
     ⊎ ((verdict row used request ≡ Success) × RowFails offset moment (unwrap_or row nothing) request fault)
-
--- no more entries may be made
-abbrev pub RoomFails : {A : Type 0} → ℕ → List (Entry A) → SubmitFault → Type 0
-RoomFails limit history (Refused status) = (status ≡ ResourceLimitation) × (limit ≤ length history)
-RoomFails limit history Memory = length history < limit

@@ -1,31 +1,28 @@
-//! What is decided of a call, by the history and the steps that are held.
+//! What is decided of a call, by the tables, and what it is to make of them.
 
-ghost use Rattle.std.specs.Prelude.{◌≡◌, ◌<◌, Option, not, ◌&&◌, filter, map, length, true, false, MatchResult, IfOk, OnOk, All, ◌∷◌, ◌++◌, [], if◌then◌else◌, vec_len, vec_capacity};
+ghost use Rattle.std.specs.Prelude.{◌≡◌, true, false, MatchResult, IfOk};
 ghost use Rattle.std.specs.Option.{option_copied};
-ghost use Rattle.ups_cycle.specs.declared.status.Status.{Status};
-ghost use Rattle.ups_cycle.specs.declared.status.Status.TheVariants.{ResourceLimitation};
-ghost use Rattle.ups_life.specs.Settings.{IsMoment, IsOffset};
+ghost use Rattle.ups_cycle.specs.Statuses.{is_done};
+ghost use Rattle.ups_life.specs.Settings.{IsMoment};
 ghost use Rattle.ups_life.specs.Steps.{past};
 ghost use Rattle.ups_life.specs.Verdict.{verdict};
-ghost use Rattle.ups_life.specs.Watching.{is_among, is_due};
-ghost use Rattle.ups_life.specs.Events.{acked, events};
-ghost use Rattle.ups_life.specs.History.{receiver_of, of_peer, of_lock, accepts, acknowledged};
-ghost use Rattle.ups_manager.specs.declared.deciding.StepsChange.TheVariants.{Nothing};
-ghost use Rattle.ups_manager.specs.declared.deciding.Kind.TheVariants.{OfStep, OfWatcher, OfTime};
-ghost use Rattle.ups_manager.specs.Deciding.{kind_of, after_change, IsDecided, IsRefused};
-ghost use Rattle.ups_manager.specs.Held.{row_of_step};
+ghost use Rattle.ups_life.specs.History.{receiver_of, of_peer, of_lock, status, accepts, acknowledged};
+ghost use Rattle.ups_tables.specs.Planned.{IsPlan};
+ghost use Rattle.ups_tables.specs.Stands.{Stands as TablesStand};
+ghost use Rattle.ups_manager.specs.declared.deciding.Kind.TheVariants.{OfStep, OfWatcher, OfEvents, OfTime};
+ghost use Rattle.ups_manager.specs.Deciding.{kind_of, IsDecided, IsRefused};
 ghost use Rattle.ups_manager.specs.Kept.{Stands};
-ghost use Rattle.ups_service.specs.Law.{OrLacking};
 
-use crate::rows::{HeldStep, find, put, row_of};
+use crate::peers::{acked_at, made_at};
+use crate::rows::known;
 use crate::submitting::step_for;
 use std::alloc::{AllocError, Allocator};
 use ups_cycle::Status;
-use ups_life::{
-    ChangeFault, Configuration, Entry, Peer, Reply, Request, Row, StepUid, acked, is_due, is_peer,
-    may_lock, plain_events, verdict,
-};
+use ups_life::{Configuration, Entry, Peer, Reply, Request, Row, is_peer, may_lock, verdict};
 use ups_pdu::Ae;
+use ups_tables::{
+    Plan, Tables, place_of, plan_end, plan_step, plan_subscription, plan_suspend, plan_sweep,
+};
 
 /// What a request is of.
 #[derive(Clone, Copy, Debug, PartialEq, Eq)]
@@ -40,24 +37,14 @@ pub(crate) enum Kind {
     OfTime,
 }
 
-/// What becomes of the steps held.
-#[derive(Drop)]
-pub(crate) enum StepsChange<A: Allocator + Copy> {
-    /// This one stands in the place of the one with its UID, or behind the others.
-    Put(HeldStep<A>),
-    /// Nothing.
-    Nothing,
-    /// These are removed.
-    Remove(Vec<StepUid, A>),
-}
-
-/// The reply to a call that is accepted, and what it makes of the steps held.
+/// The reply to a call that is accepted, and the plan of what it makes of the tables.
 #[derive(Drop)]
 pub(crate) struct Decision<A: Allocator + Copy> {
     pub reply: Reply<A>,
-    pub steps_change: StepsChange<A>,
+    pub plan: Plan<A>,
 }
 
+/// What a request is of.
 fn kind_of<A: Allocator + Copy>(request: &Request<A>) -> Kind
     ensures { result ≡ kind_of request.now }
 {
@@ -74,36 +61,6 @@ fn kind_of<A: Allocator + Copy>(request: &Request<A>) -> Kind
     }
 }
 
-/// Whether a step is one of these.
-fn is_among(step: StepUid, steps: &[StepUid]) -> bool
-    ensures { result ≡ is_among step steps.now }
-{
-    steps
-        .iter()
-        .any(|other| other.as_bytes() == step.as_bytes())
-}
-
-/// Removes these steps from those that are held.
-fn remove<A: Allocator + Copy>(held: &mut Vec<HeldStep<A>, A>, steps: &[StepUid])
-    ensures { held.new.items ≡ filter (λ h. not (is_among h.step steps.now)) held.old.items }
-{
-    held.retain(|step| !is_among(step.step, steps));
-}
-
-impl<A: Allocator + Copy> StepsChange<A> {
-    /// Makes it so.
-    pub fn apply(self, steps: &mut Vec<HeldStep<A>, A>)
-        requires { vec_len steps.old < vec_capacity steps.old }
-        ensures { steps.new.items ≡ after_change self steps.old.items }
-    {
-        match self {
-            StepsChange::Put(held) => put(steps, held),
-            StepsChange::Nothing => {}
-            StepsChange::Remove(due) => remove(steps, due.as_slice()),
-        }
-    }
-}
-
 /// What is decided of a request that creates or changes a step.
 ///
 /// Errors: the reply with which it is refused, or which tells that memory ran out.
@@ -111,31 +68,28 @@ fn decide_step<A: Allocator + Copy>(
     alloc: A,
     configuration: &Configuration<A>,
     history: &[Entry<A>],
-    steps: &[HeldStep<A>],
+    tables: &Tables<A>,
     call: &Entry<A>,
 ) -> Result<Decision<A>, Reply<A>>
     requires moment { IsMoment call.now.moment }
-    requires stands { Stands configuration.now history.now steps.now }
+    requires stands { Stands configuration.now history.now tables.now }
     requires kind { kind_of call.now.request ≡ OfStep }
-    ensures { MatchResult result (IsDecided configuration.now history.now steps.now call.now) (IsRefused configuration.now history.now call.now) }
+    ensures { MatchResult result (IsDecided configuration.now history.now tables.now call.now) (IsRefused configuration.now history.now call.now) }
 {
+    let Some(step) = call.request.step() else {
+        return Err(Reply::Status(Status::UnknownInstance));
+    };
     let offset = configuration.offset();
-    match step_for(alloc, offset, history, steps, call) {
-        Ok(held) => Ok(Decision {
+    let held = match step_for(alloc, offset, history, tables, call, step) {
+        Ok(held) => held,
+        Err(fault) => return Err(Reply::Status(fault.status())),
+    };
+    match plan_step(alloc, configuration, history, tables, call, step, held) {
+        Ok(plan) => Ok(Decision {
             reply: Reply::Status(Status::Success),
-            steps_change: StepsChange::Put(held),
+            plan,
         }),
-        Err(fault) => Err(Reply::Status(fault.status())),
-    }
-}
-
-/// What is held of a step; None where it is not held, or none.
-fn known<A: Allocator + Copy>(steps: &[HeldStep<A>], step: Option<StepUid>) -> Option<&Row<A>>
-    ensures { option_copied result ≡ row_of_step step steps.now }
-{
-    match step {
-        Some(step) => row_of(find(steps, step)),
-        None => None,
+        Err(_) => Err(Reply::Status(Status::ResourceLimitation)),
     }
 }
 
@@ -172,94 +126,79 @@ fn watcher_status<A: Allocator + Copy>(
     of_peer(peers, request.receiver(), status)
 }
 
-/// What is decided of a request for a watcher. It changes no step.
+/// The plan of a request for a watcher that is accepted.
 ///
-/// Errors: the reply with which it is refused.
-fn decide_watcher<A: Allocator + Copy>(
+/// Errors: where memory runs out.
+fn plan_watcher<A: Allocator + Copy>(
+    alloc: A,
     configuration: &Configuration<A>,
     history: &[Entry<A>],
-    steps: &[HeldStep<A>],
+    tables: &Tables<A>,
+    call: &Entry<A>,
+) -> Result<Plan<A>, AllocError>
+    requires stands { TablesStand configuration.now history.now tables.now }
+    requires kind { kind_of call.now.request ≡ OfWatcher }
+    requires accepted { is_done (status configuration.now (past history.now) call.now) ≡ true }
+    ensures { IfOk result (λ p. IsPlan configuration.now (past history.now) call.now tables.now p) }
+{
+    match &call.request {
+        Request::Subscribe {
+            target,
+            receiver,
+            lock,
+        } => plan_subscription(
+            alloc,
+            configuration,
+            history,
+            tables,
+            call,
+            target,
+            *receiver,
+            *lock,
+        ),
+        Request::Unsubscribe { place, receiver } => plan_end(
+            alloc,
+            configuration,
+            history,
+            tables,
+            call,
+            *place,
+            *receiver,
+        ),
+        Request::Suspend { receiver } => {
+            Ok(plan_suspend(configuration, history, tables, call, *receiver))
+        }
+        _ => unreachable!(),
+    }
+}
+
+/// What is decided of a request for a watcher.
+///
+/// Errors: the reply with which it is refused, or which tells that memory ran out.
+fn decide_watcher<A: Allocator + Copy>(
+    alloc: A,
+    configuration: &Configuration<A>,
+    history: &[Entry<A>],
+    tables: &Tables<A>,
     call: &Entry<A>,
 ) -> Result<Decision<A>, Reply<A>>
-    requires stands { Stands configuration.now history.now steps.now }
+    requires stands { Stands configuration.now history.now tables.now }
     requires kind { kind_of call.now.request ≡ OfWatcher }
-    ensures { MatchResult result (IsDecided configuration.now history.now steps.now call.now) (IsRefused configuration.now history.now call.now) }
+    ensures { MatchResult result (IsDecided configuration.now history.now tables.now call.now) (IsRefused configuration.now history.now call.now) }
 {
-    let row = known(steps, call.request.named_step());
+    let row = known(tables, call.request.named_step());
     let status = watcher_status(configuration.peers(), row, &call.request);
     if status.is_done() {
-        Ok(Decision {
-            reply: Reply::Status(status),
-            steps_change: StepsChange::Nothing,
-        })
+        match plan_watcher(alloc, configuration, history, tables, call) {
+            Ok(plan) => Ok(Decision {
+                reply: Reply::Status(status),
+                plan,
+            }),
+            Err(_) => Err(Reply::Status(Status::ResourceLimitation)),
+        }
     } else {
         Err(Reply::Status(status))
     }
-}
-
-/// Adds a step, where it is due.
-///
-/// Errors: where memory runs out.
-fn add_due<A: Allocator + Copy>(
-    found: &mut Vec<StepUid, A>,
-    step: StepUid,
-    due: bool,
-) -> Result<(), AllocError>
-    ensures { OnOk result (found.new.items ≡ found.old.items ++ (if due then step ∷ [] else [])) }
-{
-    if due {
-        found.push(step)?;
-    }
-    Ok(())
-}
-
-/// The steps that a sweep at a moment removes.
-///
-/// Errors: those of `is_due`.
-fn due_steps<A: Allocator + Copy>(
-    alloc: A,
-    configuration: &Configuration<A>,
-    history: &[Entry<A>],
-    moment: u64,
-    steps: &[HeldStep<A>],
-) -> Result<Vec<StepUid, A>, ChangeFault>
-    requires moments { All (λ e. IsMoment e.moment) history.now }
-    requires offset { IsOffset configuration.now.offset }
-    ensures { IfOk result (λ v. v.items ≡ filter (is_due configuration.now (past history.now) moment) (map (λ h. h.step) steps.now)) }
-{
-    let mut found = Vec::new(alloc);
-    for held in steps {
-        let due = is_due(alloc, configuration, history, moment, held.step)?;
-        add_due(&mut found, held.step, due)?;
-    }
-    Ok(found)
-}
-
-/// What is decided of a sweep: which of the steps held it removes.
-///
-/// Errors: the reply that it removes none, or that memory ran out.
-fn decide_sweep<A: Allocator + Copy>(
-    alloc: A,
-    configuration: &Configuration<A>,
-    history: &[Entry<A>],
-    steps: &[HeldStep<A>],
-    call: &Entry<A>,
-) -> Result<Decision<A>, Reply<A>>
-    requires stands { Stands configuration.now history.now steps.now }
-    requires kind { kind_of call.now.request ≡ OfTime }
-    ensures { MatchResult result (IsDecided configuration.now history.now steps.now call.now) (IsRefused configuration.now history.now call.now) }
-{
-    let Ok(due) = due_steps(alloc, configuration, history, call.moment, steps) else {
-        return Err(Reply::Status(Status::ResourceLimitation));
-    };
-    let count = due.len() as u64;
-    if count == 0 {
-        return Err(Reply::Swept(count));
-    }
-    Ok(Decision {
-        reply: Reply::Swept(count),
-        steps_change: StepsChange::Remove(due),
-    })
 }
 
 /// What an acknowledgement up to a number is answered, where so many events were made, and they were acknowledged before
@@ -276,24 +215,6 @@ fn acknowledged<A: Allocator + Copy>(made: u64, before: u64, upto: u64) -> Reply
     }
 }
 
-/// What an acknowledgement up to a number is answered, where there is room for it; 0213 where memory runs out.
-fn ack_reply<A: Allocator + Copy>(
-    alloc: A,
-    configuration: &Configuration<A>,
-    history: &[Entry<A>],
-    ae: Ae,
-    upto: u64,
-) -> Reply<A>
-    requires moments { All (λ e. IsMoment e.moment) history.now }
-    requires offset { IsOffset configuration.now.offset }
-    ensures { OrLacking ResourceLimitation (acknowledged (length (events configuration.now (past history.now) ae)) (acked (past history.now) ae) upto) result }
-{
-    match plain_events(alloc, configuration, history, ae) {
-        Ok(events) => acknowledged(events.len() as u64, acked(history, ae), upto),
-        Err(_) => Reply::Status(Status::ResourceLimitation),
-    }
-}
-
 /// Whether a reply accepts a request.
 fn accepts<A: Allocator + Copy>(reply: &Reply<A>) -> bool
     ensures { result ≡ accepts reply.now }
@@ -305,20 +226,62 @@ fn accepts<A: Allocator + Copy>(reply: &Reply<A>) -> bool
     }
 }
 
-/// What is decided by a reply to a request that changes no step.
+/// What is decided of an acknowledgement up to a number. Who is no peer has no event to acknowledge.
 ///
-/// Errors: the reply, where it accepts nothing.
-fn without_change<A: Allocator + Copy>(reply: Reply<A>) -> Result<Decision<A>, Reply<A>>
-    ensures { MatchResult result (λ d. (d.reply ≡ reply) × (d.steps_change ≡ Nothing) × (accepts reply ≡ true)) (λ r. (r ≡ reply) × (accepts reply ≡ false)) }
+/// Errors: the reply with which it is refused.
+fn decide_ack<A: Allocator + Copy>(
+    configuration: &Configuration<A>,
+    history: &[Entry<A>],
+    tables: &Tables<A>,
+    call: &Entry<A>,
+    upto: u64,
+) -> Result<Decision<A>, Reply<A>>
+    requires stands { Stands configuration.now history.now tables.now }
+    requires kind { kind_of call.now.request ≡ OfEvents upto }
+    ensures { MatchResult result (IsDecided configuration.now history.now tables.now call.now) (IsRefused configuration.now history.now call.now) }
 {
+    let place = place_of(configuration.peers(), call.ae);
+    let made = made_at(tables, place);
+    let acked = acked_at(tables, place);
+    let reply = acknowledged(made, acked, upto);
     if accepts(&reply) {
+        let Some(peer) = place else {
+            unreachable!();
+        };
         Ok(Decision {
             reply,
-            steps_change: StepsChange::Nothing,
+            plan: Plan::Ack { peer, upto },
         })
     } else {
         Err(reply)
     }
+}
+
+/// What is decided of a sweep: which of the steps held it removes.
+///
+/// Errors: the reply that it removes none, or that memory ran out.
+fn decide_sweep<A: Allocator + Copy>(
+    alloc: A,
+    configuration: &Configuration<A>,
+    history: &[Entry<A>],
+    tables: &Tables<A>,
+    call: &Entry<A>,
+) -> Result<Decision<A>, Reply<A>>
+    requires stands { Stands configuration.now history.now tables.now }
+    requires kind { kind_of call.now.request ≡ OfTime }
+    ensures { MatchResult result (IsDecided configuration.now history.now tables.now call.now) (IsRefused configuration.now history.now call.now) }
+{
+    let Ok(plan) = plan_sweep(alloc, configuration, history, tables, call) else {
+        return Err(Reply::Status(Status::ResourceLimitation));
+    };
+    let count = plan.swept() as u64;
+    if count == 0 {
+        return Err(Reply::Swept(count));
+    }
+    Ok(Decision {
+        reply: Reply::Swept(count),
+        plan,
+    })
 }
 
 /// What is decided of a call, where there is room for it.
@@ -328,19 +291,17 @@ pub(crate) fn decide<A: Allocator + Copy>(
     alloc: A,
     configuration: &Configuration<A>,
     history: &[Entry<A>],
-    steps: &[HeldStep<A>],
+    tables: &Tables<A>,
     call: &Entry<A>,
 ) -> Result<Decision<A>, Reply<A>>
     requires moment { IsMoment call.now.moment }
-    requires stands { Stands configuration.now history.now steps.now }
-    ensures { MatchResult result (IsDecided configuration.now history.now steps.now call.now) (IsRefused configuration.now history.now call.now) }
+    requires stands { Stands configuration.now history.now tables.now }
+    ensures { MatchResult result (IsDecided configuration.now history.now tables.now call.now) (IsRefused configuration.now history.now call.now) }
 {
     match kind_of(&call.request) {
-        Kind::OfStep => decide_step(alloc, configuration, history, steps, call),
-        Kind::OfWatcher => decide_watcher(configuration, history, steps, call),
-        Kind::OfEvents(upto) => {
-            without_change(ack_reply(alloc, configuration, history, call.ae, upto))
-        }
-        Kind::OfTime => decide_sweep(alloc, configuration, history, steps, call),
+        Kind::OfStep => decide_step(alloc, configuration, history, tables, call),
+        Kind::OfWatcher => decide_watcher(alloc, configuration, history, tables, call),
+        Kind::OfEvents(upto) => decide_ack(configuration, history, tables, call, upto),
+        Kind::OfTime => decide_sweep(alloc, configuration, history, tables, call),
     }
 }

@@ -16,39 +16,37 @@ ghost use Rattle.ups_life.specs.Watching.{held, watched};
 ghost use Rattle.ups_life.specs.Events.{events, view, present};
 ghost use Rattle.ups_life.specs.History.{got};
 ghost use Rattle.ups_life.specs.Worklist.{rows, worklist};
-ghost use Rattle.ups_manager.specs.declared.fault.ManagerFault.TheVariants.{Memory};
+ghost use Rattle.ups_settings.specs.declared.fault.ManagerFault.TheVariants.{Memory};
 ghost use Rattle.ups_manager.specs.Finding.{IsFind};
 ghost use Rattle.ups_manager.specs.Held.{holder_of};
 ghost use Rattle.ups_service.specs.Law.{OrLacking, Answers, SmallReply, entered, is_legal};
-ghost use Rattle.ups_manager.specs.Refusal.{refusal};
+ghost use Rattle.ups_settings.specs.Refusal.{refusal};
 ghost use Rattle.ups_service.specs.Reporting.{reports_to};
 
 use crate::deciding::decide;
-use crate::fault::ManagerFault;
+use crate::peers::{first_pending, watched_in};
 use crate::reporting::reports_of;
-use crate::rows::{HeldStep, find, uids_of};
-use crate::starting::refusal;
-use crate::submitting::make_room;
+use crate::rows::{find, uids_of};
+use crate::submitting::is_full;
 use crate::worklist::matches_among;
 use std::alloc::{AllocError, Allocator};
 use std::marker::Model;
 use ups_cycle::Status;
 use ups_dataset::Tag;
-use ups_life::{
-    Ask, Configuration, Entry, Holder, Peer, Reply, StepUid, Watched, plain_pending, shown,
-    watched_among,
-};
+use ups_life::{Ask, Configuration, Entry, Holder, Peer, Reply, StepUid, Watched, shown};
 use ups_match::{Keys, Matcher, Probe};
 use ups_pdu::Ae;
+use ups_settings::{ManagerFault, refusal};
+use ups_tables::{Tables, begin, enter, place_of};
 
-/// The manager: the history of accepted requests, and the steps that are held. A contract sees it
+/// The manager: the history of accepted requests, and tables of what is so after them. A contract sees it
 /// as what was fixed at the start and the history, oldest first.
 #[derive(Drop)]
 pub struct Manager<A: Allocator + Copy> {
     alloc: A,
     configuration: Configuration<A>,
     history: Vec<Entry<A>, A>,
-    steps: Vec<HeldStep<A>, A>,
+    tables: Tables<A>,
 }
 
 impl<A: Allocator + Copy> Model for Manager<A> {
@@ -95,11 +93,13 @@ impl<A: Allocator + Copy> Manager<A> {
             return Err(fault);
         }
         let named = Vec::from_slice(alloc, peers)?;
+        let configuration = Configuration::new(named, keep, offset, limit);
+        let tables = begin(alloc, &configuration)?;
         Ok(Manager {
             alloc,
-            configuration: Configuration::new(named, keep, offset, limit),
+            configuration,
             history: Vec::new(alloc),
-            steps: Vec::new(alloc),
+            tables,
         })
     }
 
@@ -149,12 +149,12 @@ impl<A: Allocator + Copy> Manager<A> {
     pub fn held(&self) -> Result<Vec<StepUid, A>, AllocError>
         ensures { IfOk result (λ v. v.items ≡ held self.now.settings (past self.now.history)) }
     {
-        uids_of(self.alloc, self.steps.as_slice())
+        uids_of(self.alloc, &self.tables)
     }
 
     /// The steps that a watcher is subscribed to, in order of creation, each with how it is (PS3.4 CC.2.3); none for an
     /// application entity that is no peer. What the watcher has learned of each from its events is so: the last State
-    /// Report shows the present state and readiness. It is slow: for each step held it walks the history.
+    /// Report shows the present state and readiness.
     ///
     /// # Errors
     ///
@@ -163,18 +163,9 @@ impl<A: Allocator + Copy> Manager<A> {
         ensures watched { IfOk result (λ v. v.items ≡ watched self.now.settings (past self.now.history) ae) }
         ensures view { IfOk result (λ v. AllByRecursion (λ (x : Watched). view (events self.now.settings (past self.now.history) ae) x.step ≡ Some (present self.now.settings (past self.now.history) x.step)) v.items) }
     {
-        let Manager {
-            alloc,
-            configuration,
-            history,
-            steps,
-        } = self;
-        let uids = uids_of(*alloc, steps.as_slice())?;
-        let entries = history.as_slice();
-        match watched_among(*alloc, configuration, entries, ae, uids.as_slice()) {
-            Ok(watched) => Ok(watched),
-            Err(_) => Err(AllocError),
-        }
+        let uids = uids_of(self.alloc, &self.tables)?;
+        let place = place_of(self.configuration.peers(), ae);
+        watched_in(self.alloc, &self.tables, place, uids.as_slice())
     }
 
     /// What an N-GET is answered (PS3.4 CC.2.7): C307 for a step that is not held, 0213 where memory runs
@@ -184,11 +175,11 @@ impl<A: Allocator + Copy> Manager<A> {
         ensures small { SmallReply result }
         ensures legal { is_legal self.now.settings self.now.history }
     {
-        let steps = self.steps.as_slice();
+        let tables = &self.tables;
         let Some(step) = step else {
             return Reply::Status(Status::UnknownInstance);
         };
-        let Some(held) = find(steps, step) else {
+        let Some(held) = find(tables, step) else {
             return Reply::Status(Status::UnknownInstance);
         };
         match shown(&held.row.attributes, attributes) {
@@ -208,7 +199,7 @@ impl<A: Allocator + Copy> Manager<A> {
         ensures asked { M.asked matcher.new ≤ M.asked matcher.old + length (held self.now.settings (past self.now.history)) }
         ensures legal { is_legal self.now.settings self.now.history }
     {
-        match matches_among(self.alloc, self.steps.as_slice(), keys, matcher) {
+        match matches_among(self.alloc, &self.tables, keys, matcher) {
             Ok(sets) => Reply::Sets(sets),
             Err(_) => Reply::Status(Status::OutOfResources),
         }
@@ -216,23 +207,18 @@ impl<A: Allocator + Copy> Manager<A> {
 
     /// Of the events that a watcher has not acknowledged, without each State Report that a later one of the same step
     /// supersedes, the first `max`, oldest first, each with its Event Information (PS3.4 CC.2.4); none for an application
-    /// entity that is no peer. 0213 where memory runs out. It is slow: it walks the history.
+    /// entity that is no peer. 0213 where memory runs out.
     pub fn pending(&self, ae: Ae, max: u64) -> Reply<A>
         ensures answer { OrLacking ResourceLimitation (Reports (reports_to self.now.settings self.now.history max ae)) result }
         ensures small { SmallReply result }
         ensures legal { is_legal self.now.settings self.now.history }
     {
-        let Manager {
-            alloc,
-            configuration,
-            history,
-            ..
-        } = self;
-        let entries = history.as_slice();
-        let Ok(events) = plain_pending(*alloc, configuration, entries, ae, max) else {
+        let place = place_of(self.configuration.peers(), ae);
+        let Ok(events) = first_pending(self.alloc, &self.tables, place, max) else {
             return Reply::Status(Status::ResourceLimitation);
         };
-        match reports_of(*alloc, entries, events.as_slice()) {
+        let entries = self.history.as_slice();
+        match reports_of(self.alloc, entries, events.as_slice()) {
             Ok(reports) => Reply::Reports(reports),
             Err(_) => Reply::Status(Status::ResourceLimitation),
         }
@@ -243,7 +229,7 @@ impl<A: Allocator + Copy> Manager<A> {
     pub fn holder(&self, step: StepUid) -> Option<Holder>
         ensures holder { result ≡ holder_of self.now.settings (past self.now.history) step }
     {
-        match find(self.steps.as_slice(), step) {
+        match find(&self.tables, step) {
             Some(held) => held.holder,
             None => None,
         }
@@ -264,24 +250,20 @@ impl<A: Allocator + Copy> Manager<A> {
             alloc,
             configuration,
             history,
-            steps,
+            tables,
         } = self;
-        let decided = decide(
-            *alloc,
-            configuration,
-            history.as_slice(),
-            steps.as_slice(),
-            &call,
-        );
+        let entries = history.as_slice();
+        let decided = decide(*alloc, configuration, entries, tables, &call);
         let decision = match decided {
             Ok(decision) => decision,
             Err(reply) => return reply,
         };
-        if let Err(fault) = make_room(configuration.limit(), history, steps) {
-            return Reply::Status(fault.status());
+        if is_full(configuration, entries) {
+            return Reply::Status(Status::ResourceLimitation);
         }
-        history.push_reserved(call);
-        decision.steps_change.apply(steps);
+        let Ok(()) = enter(configuration, history, tables, call, decision.plan) else {
+            return Reply::Status(Status::ResourceLimitation);
+        };
         decision.reply
     }
 

@@ -1,51 +1,27 @@
-//! The steps that are held.
+//! The steps that are held, by the tables.
 
-ghost use Rattle.std.specs.Prelude.{◌≡◌, ◌<◌, map, IfOk, vec_len, vec_capacity};
-ghost use Rattle.std.specs.Option.{option_copied, option_map};
-ghost use Rattle.ups_manager.specs.Held.{step_at, step_place, put_step};
+ghost use Rattle.std.specs.Prelude.{◌≡◌, IfOk};
+ghost use Rattle.std.specs.Map.{keys_of};
+ghost use Rattle.std.specs.Option.{option_copied};
+ghost use Rattle.ups_live.specs.Held.{row_of_step};
+ghost use Rattle.ups_tables.specs.Fit.{uses};
+ghost use Rattle.ups_tables.specs.Held.{held_at};
+ghost use Rattle.ups_tables.specs.Keyed.{as_steps, row_held};
 
 use std::alloc::{AllocError, Allocator};
-use ups_life::{Holder, Row, StepUid};
-
-/// A step that is held.
-#[derive(Drop)]
-pub(crate) struct HeldStep<A: Allocator + Copy> {
-    pub step: StepUid,
-    pub row: Row<A>,
-    /// Who has claimed it.
-    pub holder: Option<Holder>,
-}
-
-/// How many steps stand before this one; all of them where it is not held.
-fn place_of<A: Allocator + Copy>(steps: &[HeldStep<A>], step: StepUid) -> usize
-    ensures { result ≡ step_place step steps.now }
-{
-    for (place, held) in steps.iter().enumerate() {
-        if held.step == step {
-            return place;
-        }
-    }
-    steps.len()
-}
+use ups_life::{Row, StepUid};
+use ups_tables::{Held, Tables};
 
 /// What is held of a step; None where it is not held.
-pub(crate) fn find<A: Allocator + Copy>(
-    steps: &[HeldStep<A>],
-    step: StepUid,
-) -> Option<&HeldStep<A>>
-    ensures { option_copied result ≡ step_at step steps.now }
+pub(crate) fn find<A: Allocator + Copy>(tables: &Tables<A>, step: StepUid) -> Option<&Held<A>>
+    ensures { option_copied result ≡ held_at step tables.now.steps.entries }
 {
-    for held in steps {
-        if held.step == step {
-            return Some(held);
-        }
-    }
-    None
+    tables.steps.get(step)
 }
 
 /// What is held of a step, without who holds it.
-pub(crate) fn row_of<A: Allocator + Copy>(held: Option<&HeldStep<A>>) -> Option<&Row<A>>
-    ensures { option_copied result ≡ option_map (λ h. h.row) (option_copied held.entry) }
+pub(crate) fn row_of<A: Allocator + Copy>(held: Option<&Held<A>>) -> Option<&Row<A>>
+    ensures { option_copied result ≡ row_held (option_copied held.entry) }
 {
     match held {
         Some(held) => Some(&held.row),
@@ -53,31 +29,34 @@ pub(crate) fn row_of<A: Allocator + Copy>(held: Option<&HeldStep<A>>) -> Option<
     }
 }
 
-/// The UIDs of steps, in their order.
+/// The row of a step; None where it is not held, or none.
+pub(crate) fn known<A: Allocator + Copy>(
+    tables: &Tables<A>,
+    step: Option<StepUid>,
+) -> Option<&Row<A>>
+    ensures { option_copied result ≡ row_of_step step (as_steps tables.now.steps.entries) }
+{
+    match step {
+        Some(step) => row_of(find(tables, step)),
+        None => None,
+    }
+}
+
+/// The UIDs of the steps held, in order of creation.
 ///
 /// Errors: where memory runs out.
 pub(crate) fn uids_of<A: Allocator + Copy>(
     alloc: A,
-    steps: &[HeldStep<A>],
+    tables: &Tables<A>,
 ) -> Result<Vec<StepUid, A>, AllocError>
-    ensures { IfOk result (λ v. v.items ≡ map (λ h. h.step) steps.now) }
+    ensures { IfOk result (λ v. v.items ≡ keys_of tables.now.steps.entries) }
 {
-    let mut uids = Vec::with_capacity(alloc, steps.len())?;
-    for held in steps {
-        uids.push(held.step)?;
-    }
-    Ok(uids)
+    tables.steps.uids(alloc)
 }
 
-/// Puts a step in the place of the one with its UID, or else behind the others.
-pub(crate) fn put<A: Allocator + Copy>(steps: &mut Vec<HeldStep<A>, A>, held: HeldStep<A>)
-    requires { vec_len steps.old < vec_capacity steps.old }
-    ensures { steps.new.items ≡ put_step held steps.old.items }
+/// Whether a UID was used: a step with it was created, whether it is held or not.
+pub(crate) fn is_used<A: Allocator + Copy>(tables: &Tables<A>, step: StepUid) -> bool
+    ensures { result ≡ uses tables.now step }
 {
-    let place = place_of(steps, held.step);
-    if place < steps.len() {
-        steps[place] = held;
-    } else {
-        steps.push_reserved(held);
-    }
+    tables.used.contains(&step)
 }

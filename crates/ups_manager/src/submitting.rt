@@ -1,25 +1,29 @@
 //! Whether a request is entered, and what is held of its step then.
 
-ghost use Rattle.std.specs.Prelude.{◌≡◌, ◌<◌, Some, true, false, length, IfOk, IfErr, OnOk, vec_len, vec_capacity};
+ghost use Rattle.std.specs.Prelude.{◌≡◌, ℕ, nat_le, List, length, true, false, IfOk, IfErr, OnOk};
 ghost use Rattle.std.specs.Option.{unwrap_or, option_or, option_copied};
 ghost use Rattle.ups_cycle.specs.declared.status.Status.TheVariants.{Success};
+ghost use Rattle.ups_cycle.specs.Statuses.{is_done};
 ghost use Rattle.ups_life.specs.Settings.{IsMoment, IsOffset};
-ghost use Rattle.ups_life.specs.Steps.{past, step_of, row_after, nothing};
+ghost use Rattle.ups_life.specs.Steps.{past, used, row_after, nothing};
 ghost use Rattle.ups_life.specs.Verdict.{verdict};
 ghost use Rattle.ups_life.specs.History.{is_sized, fits, repeats};
-ghost use Rattle.ups_cycle.specs.Statuses.{is_done};
+ghost use Rattle.ups_live.specs.Held.{claims_it};
+ghost use Rattle.ups_tables.specs.Fit.{uses};
+ghost use Rattle.ups_tables.specs.Held.{held_at};
+ghost use Rattle.ups_tables.specs.Keyed.{row_held, holder_held};
 ghost use Rattle.ups_manager.specs.declared.submitting.SubmitFault.TheVariants.{Refused};
-ghost use Rattle.ups_manager.specs.declared.deciding.Kind.TheVariants.{OfStep};
-ghost use Rattle.ups_manager.specs.Deciding.{kind_of};
-ghost use Rattle.ups_manager.specs.Faults.{status_of, RowFails, StepFails, RoomFails};
-ghost use Rattle.ups_manager.specs.Held.{step_at, row_in, row_of_step, holder_in, claimed_by};
+ghost use Rattle.ups_manager.specs.Deciding.{repeats_in};
+ghost use Rattle.ups_manager.specs.Faults.{status_of, RowFails, StepFails};
 
-use crate::rows::{HeldStep, find, row_of};
+use crate::rows::{find, is_used, row_of};
 use std::alloc::Allocator;
 use ups_cycle::{Status, StepState};
 use ups_life::{
-    ChangeFault, Entry, Holder, MAX_ROW_BYTES, Request, Row, Transaction, change, repeats, verdict,
+    ChangeFault, Configuration, Entry, Holder, MAX_ROW_BYTES, Request, Row, StepUid, Transaction,
+    change, verdict,
 };
+use ups_tables::{Held, Tables};
 
 /// Why a request is not entered.
 #[derive(Clone, Copy, Debug, PartialEq, Eq)]
@@ -42,7 +46,27 @@ impl SubmitFault {
     }
 }
 
-/// Looks whether a request is allowed, by what is held of its step and by the history, where there is room
+/// Whether a history has as many entries as it may have, so that no request is entered.
+pub(crate) fn is_full<A: Allocator + Copy>(
+    configuration: &Configuration<A>,
+    history: &[Entry<A>],
+) -> bool
+    ensures { result ≡ nat_le configuration.now.limit (length history.now) }
+{
+    configuration.limit() <= history.len() as u64
+}
+
+/// Whether a request creates a step under a UID that was used.
+fn repeats<A: Allocator + Copy>(request: &Request<A>, tables: &Tables<A>) -> bool
+    ensures { result ≡ repeats_in (λ u. uses tables.now u) request.now }
+{
+    match request {
+        Request::Create { step, .. } => is_used(tables, *step),
+        _ => false,
+    }
+}
+
+/// Looks whether a request is allowed, by what is held of its step and by the UIDs that were used, where there is room
 /// (PS3.4 CC.2.1, CC.2.2, CC.2.5, CC.2.6).
 ///
 /// Errors: the status with which it is refused.
@@ -50,12 +74,14 @@ fn decide<A: Allocator + Copy>(
     row: Option<&Row<A>>,
     history: &[Entry<A>],
     request: &Request<A>,
+    tables: &Tables<A>,
 ) -> Result<(), SubmitFault>
+    requires { (u : List ℕ) → uses tables.now u ≡ used (past history.now) u }
     ensures allowed { OnOk result (verdict (option_copied row.entry) (repeats (past history.now) request.now) request.now ≡ Success) }
     ensures refused { IfErr result (λ fault. fault ≡ Refused (verdict (option_copied row.entry) (repeats (past history.now) request.now) request.now)) }
     ensures error { IfErr result (λ fault. is_done (verdict (option_copied row.entry) (repeats (past history.now) request.now) request.now) ≡ false) }
 {
-    let status = verdict(row, repeats(history, request), request);
+    let status = verdict(row, repeats(request, tables), request);
     if status.is_done() {
         Ok(())
     } else {
@@ -107,11 +133,8 @@ fn row_for<A: Allocator + Copy>(
 }
 
 /// Who holds a step after a call on it that was accepted.
-fn holder_after<A: Allocator + Copy>(
-    before: Option<&HeldStep<A>>,
-    call: &Entry<A>,
-) -> Option<Holder>
-    ensures { result ≡ option_or (claimed_by call.now) (holder_in (option_copied before.entry)) }
+fn holder_after<A: Allocator + Copy>(before: Option<&Held<A>>, call: &Entry<A>) -> Option<Holder>
+    ensures { result ≡ option_or (claims_it call.now) (holder_held (option_copied before.entry)) }
 {
     if let Request::Change {
         state: StepState::InProgress,
@@ -127,56 +150,30 @@ fn holder_after<A: Allocator + Copy>(
     before?.holder
 }
 
-/// What is held of the step of a call after it, which creates or changes a step.
+/// What is held of a step after a call that creates or changes it.
 ///
-/// Errors: the status with which it is refused; Memory.
+/// Errors: the status with which the call is refused; Memory.
 pub(crate) fn step_for<A: Allocator + Copy>(
     alloc: A,
     offset: i16,
     history: &[Entry<A>],
-    steps: &[HeldStep<A>],
+    tables: &Tables<A>,
     call: &Entry<A>,
-) -> Result<HeldStep<A>, SubmitFault>
+    step: StepUid,
+) -> Result<Held<A>, SubmitFault>
     requires moment { IsMoment call.now.moment }
     requires offset { IsOffset offset }
-    requires kind { kind_of call.now.request ≡ OfStep }
-    ensures step { IfOk result (λ h. step_of call.now.request ≡ Some h.step) }
-    ensures allowed { IfOk result (λ h. verdict (row_in h.step steps.now) (repeats (past history.now) call.now.request) call.now.request ≡ Success) }
-    ensures row { IfOk result (λ h. h.row ≡ row_after offset call.now.moment (unwrap_or (row_in h.step steps.now) nothing) call.now.request) }
-    ensures holder { IfOk result (λ h. h.holder ≡ option_or (claimed_by call.now) (holder_in (step_at h.step steps.now))) }
+    requires used { (u : List ℕ) → uses tables.now u ≡ used (past history.now) u }
+    ensures allowed { OnOk result (verdict (row_held (held_at step tables.now.steps.entries)) (repeats (past history.now) call.now.request) call.now.request ≡ Success) }
+    ensures row { IfOk result (λ h. h.row ≡ row_after offset call.now.moment (unwrap_or (row_held (held_at step tables.now.steps.entries)) nothing) call.now.request) }
+    ensures holder { IfOk result (λ h. h.holder ≡ option_or (claims_it call.now) (holder_held (held_at step tables.now.steps.entries))) }
     ensures fits { IfOk result (λ h. is_sized call.now.request ≡ true → fits h.row.attributes ≡ true) }
-    ensures fault { IfErr result (StepFails offset call.now.moment (row_of_step (step_of call.now.request) steps.now) (repeats (past history.now) call.now.request) call.now.request) }
+    ensures fault { IfErr result (StepFails offset call.now.moment (row_held (held_at step tables.now.steps.entries)) (repeats (past history.now) call.now.request) call.now.request) }
 {
-    let Some(step) = call.request.step() else {
-        return Err(SubmitFault::Refused(Status::UnknownInstance));
-    };
-    let held = find(steps, step);
+    let held = find(tables, step);
     let row = row_of(held);
-    decide(row, history, &call.request)?;
+    decide(row, history, &call.request, tables)?;
     let row = row_for(alloc, row, &call.request, call.moment, offset)?;
     let holder = holder_after(held, call);
-    Ok(HeldStep { step, row, holder })
-}
-
-/// Makes room for one more request and one more step.
-///
-/// Errors: 0213 where the history is full; Memory.
-pub(crate) fn make_room<A: Allocator + Copy>(
-    limit: u64,
-    history: &mut Vec<Entry<A>, A>,
-    steps: &mut Vec<HeldStep<A>, A>,
-) -> Result<(), SubmitFault>
-    ensures limit { OnOk result (length history.old.items < limit) }
-    ensures room { OnOk result ((vec_len history.new < vec_capacity history.new) × (vec_len steps.new < vec_capacity steps.new)) }
-    ensures fault { IfErr result (RoomFails limit history.old.items) }
-    ensures history { history.new.items ≡ history.old.items }
-    ensures steps { steps.new.items ≡ steps.old.items }
-{
-    if history.len() as u64 >= limit {
-        return Err(SubmitFault::Refused(Status::ResourceLimitation));
-    }
-    if history.reserve(1).is_err() || steps.reserve(1).is_err() {
-        return Err(SubmitFault::Memory);
-    }
-    Ok(())
+    Ok(Held { row, holder })
 }

@@ -2,13 +2,14 @@
 
 ghost use Rattle.std.specs.Prelude.{◌≡◌, ◌<◌, ◌≤◌, ◌-◌, ◌+◌, ◌^◌, ◌++◌, [], ◌∷◌, length, map, filter, IfOk, OnOk, if◌then◌else◌};
 ghost use Rattle.ups_dataset.specs.Data.{answer};
-ghost use Rattle.ups_manager.specs.Held.{attributes_in};
+ghost use Rattle.ups_live.specs.Held.{attributes_in};
+ghost use Rattle.ups_tables.specs.Keyed.{as_steps};
 
-use crate::rows::HeldStep;
 use std::alloc::{AllocError, Allocator};
 use ups_dataset::DataSet;
 use ups_life::Sets;
 use ups_match::{Keys, Matcher};
+use ups_tables::Tables;
 
 /// Adds what keys are answered by a row, where it matches them.
 ///
@@ -29,21 +30,21 @@ fn add_match<A: Allocator + Copy, M: Matcher>(
     Ok(())
 }
 
-/// What keys are answered by the steps that match them, in their order.
+/// What keys are answered by the steps held that match them, in order of creation.
 ///
 /// Errors: where memory runs out.
 pub(crate) fn matches_among<A: Allocator + Copy, M: Matcher>(
     alloc: A,
-    steps: &[HeldStep<A>],
+    tables: &Tables<A>,
     keys: &Keys<A>,
     matcher: &mut M,
 ) -> Result<Sets<A>, AllocError>
-    requires { M.asked matcher.old + length steps.now < 2 ^ 64 }
-    ensures found { IfOk result (λ sets. sets ≡ map (λ r. answer r keys.now.attributes) (filter (M.says keys.now) (attributes_in steps.now))) }
-    ensures asked { M.asked matcher.new ≤ M.asked matcher.old + length steps.now }
+    requires { M.asked matcher.old < 2 ^ 63 }
+    ensures found { IfOk result (λ sets. sets ≡ map (λ r. answer r keys.now.attributes) (filter (M.says keys.now) (attributes_in (as_steps tables.now.steps.entries)))) }
+    ensures asked { M.asked matcher.new ≤ M.asked matcher.old + length tables.now.steps.entries }
 {
     let mut found = Sets::new(alloc);
-    for held in steps {
+    for (_, held) in tables.steps.iter() {
         add_match(&mut found, &held.row.attributes, keys, matcher)?;
     }
     Ok(found)

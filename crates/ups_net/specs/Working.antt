@@ -4,7 +4,7 @@ use Rattle.ups_net.specs.Delivering.{DeliversRounds}
 use Rattle.ups_net.specs.Serving.{ServesAssociations}
 use Rattle.ups_net.specs.Sweeping.{Sweeps}
 use Rattle.ups_net.specs.declared.options.ServerOptions.{ServerOptions}
-use Rattle.ups_net.specs.declared.watcher.Watcher.{Watcher}
+use Rattle.ups_settings.specs.declared.watcher.Watcher.{Watcher}
 use Rattle.ups_turn.specs.Pass.{Standing}
 
 -- a worker has served so many associations, and the deliverer has made so many rounds

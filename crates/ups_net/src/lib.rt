@@ -13,7 +13,6 @@ mod rounds;
 mod serving;
 mod socket;
 mod sweeping;
-mod watcher;
 mod wire;
 mod workers;
 
@@ -25,6 +24,6 @@ pub use options::ServerOptions;
 pub use serving::serve_one;
 pub use socket::tune;
 pub use sweeping::sweep;
-pub use watcher::Watcher;
+pub use ups_settings::Watcher;
 pub use wire::{Deadline, Wire, WireReader, WireWriter};
 pub use workers::{run, work};

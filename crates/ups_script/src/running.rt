@@ -5,7 +5,7 @@ ghost use Rattle.std.specs.Io.KnownBytes.{Appends};
 ghost use Rattle.ups_life.specs.declared.entry.Entry.{Entry};
 ghost use Rattle.ups_life.specs.Limits.{history_limit, peer_limit};
 ghost use Rattle.ups_lines.specs.Words.{words_of};
-ghost use Rattle.ups_manager.specs.Refusal.{refusal};
+ghost use Rattle.ups_settings.specs.Refusal.{refusal};
 ghost use Rattle.ups_script.specs.declared.fault.ScriptFault.TheVariants.{Memory};
 ghost use Rattle.ups_script.specs.declared.telling.Told.{Told};
 ghost use Rattle.ups_script.specs.Limits.{max_lines};

@@ -1,6 +1,6 @@
 -- The law of a service: what it answers by a history, what it enters there, and what others may enter between.
 -- Histories stand here as they are shown, oldest first.
-use Rattle.std.specs.Prelude.{◌≡◌, ◌≢◌, ◌≤◌, ◌+◌, ◌⊎◌, ℕ, nat_lt, Bool, true, List, [], ◌∷◌, ◌++◌, length, All, MatchBool}
+use Rattle.std.specs.Prelude.{◌≡◌, ◌≢◌, ◌≤◌, ◌+◌, ◌⊎◌, ℕ, nat_lt, Bool, true, false, List, [], ◌∷◌, ◌++◌, length, All, MatchBool}
 use Rattle.ups_pdu.specs.declared.syntax.TransferSyntax.TheVariants.{Explicit}
 use Rattle.ups_dataset.specs.Data.{El}
 use Rattle.ups_dataset.specs.Written.{written}
@@ -44,19 +44,18 @@ abbrev pub lacking : {A : Type 0} → Ask A → Status
 lacking (Find keys) = OutOfResources
 lacking ask = ResourceLimitation
 
--- the reply accepts a request, shows a set, or tells what was found, how much a sweep removes, which events are pending or
--- how they stand to an acknowledgement: to these alone memory is owed
+-- the reply accepts a request, shows a set, or tells what was found or which events are pending: in the place of these alone
+-- may lack of memory be told. That a sweep removes nothing, or that an acknowledgement runs ahead or was made, takes no memory
 abbrev pub is_granted : {A : Type 0} → Reply A → Bool
 is_granted (Answered status) = is_done status
 is_granted (Shown status set) = true
 is_granted (Found sets) = true
-is_granted (Swept count) = true
-is_granted AckAhead = true
-is_granted AckStale = true
+is_granted (Swept count) = nat_lt 0 count
+is_granted AckAhead = false
+is_granted AckStale = false
 is_granted (Reports reports) = true
 
--- the reply that is due; or memory ran out, where a request would have been accepted, or a set shown or found: what is
--- refused anyway has its own number
+-- the reply that is due; or memory ran out, where that one is granted: what is refused anyway has its own number
 abbrev pub OrLacking : {A : Type 0} → Status → Reply A → Reply A → Type 0
 OrLacking lack due reply = (reply ≡ due) ⊎ ((is_granted due ≡ true) × (reply ≡ Answered lack))
 

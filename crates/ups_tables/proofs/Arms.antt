@@ -19,7 +19,7 @@ use Rattle.ups_live.proofs.Among.{among_push, among_filter}
 use Rattle.ups_live.proofs.Finals.{not_held, final_create}
 use Rattle.ups_events.specs.Queue as lists
 use Rattle.ups_watch.specs.declared.cover.Cover.{Cover}
-use Rattle.ups_tables.specs.declared.steps.Held.{Held}
+use Rattle.ups_steps.specs.declared.held.Held.{Held}
 use Rattle.ups_tables.specs.declared.tables.Tables.{Tables}
 use Rattle.ups_tables.specs.Held.{held_at}
 use Rattle.ups_tables.specs.Effects.{RoomFor}

@@ -6,7 +6,6 @@ use Rattle.std.specs.Str.{bytes_eq}
 use Rattle.std.proofs.lemmas.Grind.{get_or-set_at}
 use Rattle.std.proofs.lemmas.List.{length-set, get_or-set_other}
 use Rattle.std.proofs.lemmas.Bool.Decides.{nat_tests}
-use Rattle.indexmap.proofs.CallerLemmas.{insert_entry-new}
 use Rattle.ups_dataset.specs.Data.{El}
 use Rattle.ups_life.specs.declared.entry.Entry.{Entry}
 use Rattle.ups_life.specs.declared.peer.Peer.{Peer}
@@ -42,7 +41,8 @@ use Rattle.ups_live.proofs.Asking.{chosen_one}
 use Rattle.ups_events.specs.Telling.{Line, told, acked_to}
 use Rattle.ups_watch.specs.declared.cover.Cover.{Cover}
 use Rattle.ups_watch.specs.Covers.{covered}
-use Rattle.ups_tables.specs.declared.steps.Held.{Held}
+use Rattle.ups_steps.specs.declared.held.Held.{Held}
+use Rattle.ups_steps.proofs.Putting.{put_new}
 use Rattle.ups_tables.specs.declared.tables.Tables.{Tables}
 use Rattle.ups_tables.specs.Held.{held_at, put_held}
 use Rattle.ups_tables.specs.Fit.{how, queue, uses, Fits}
@@ -106,7 +106,7 @@ module _ {A : Type 0} (s : Settings) (history after : List (Entry A)) (e : Entry
       let c1 : IsCreated (length (past history)) step held lent t t' = subst (λ (n : ℕ). IsCreated n step held lent t t') here_is c0 in
       let c : IsCreated (length (past history)) step held (news s (past history) e step) t t' = subst (λ (xs : List Report). IsCreated (length (past history)) step held xs t t') (same ∙ p.on.news) c1 in
       stands s history after e t t' old is l
-      (c.steps ∙ sym (insert_entry-new bytes_eq t.steps step held (fresh_step step held told p)) ∙ ap (put_held step held) old.steps ∙ put_entries step held (held_steps s (past history)) ∙ ap entries_of p.on.steps)
+      (c.steps ∙ sym (put_new step held t.steps.entries (fresh_step step held told p)) ∙ ap (put_held step held) old.steps ∙ put_entries step held (held_steps s (past history)) ∙ ap entries_of p.on.steps)
       (ap length c.covers) fits
       (from_live s (e ∷ past history) t' _ _
       (after_create s e (past history) step p.attributes (cover_of s.peers t) (cover_of s.peers t') (how_of s.peers t) (how_of s.peers t') (final s (past history)) (final s (past history)) (locked s (past history))

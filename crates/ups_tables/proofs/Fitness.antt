@@ -29,7 +29,7 @@ use Rattle.std.proofs.lemmas.Bool.{cases_lt}
 use Rattle.ups_watch.specs.declared.cover.Cover.{Cover}
 use Rattle.ups_watch.specs.Covers.{covered}
 use Rattle.ups_tables.specs.Effects.{Reserved, RoomFor}
-use Rattle.ups_tables.specs.declared.steps.Held.{Held}
+use Rattle.ups_steps.specs.declared.held.Held.{Held}
 use Rattle.ups_tables.specs.declared.tables.Tables.{Tables}
 use Rattle.ups_tables.specs.Held.{held_at, final_of, put_held}
 use Rattle.ups_tables.specs.Fit.{how, cells, kept, kept_if, final_at, holds, Fits, AreFreed}
@@ -253,24 +253,6 @@ kept_before t t' old peer s chosen free then u h = old.waiting u ∙ by (kept t 
     by false e false g = absurd (true≢false (sym g ∙ e))
 
 -- A SWEEP
-
-pub same_filter : {X : Type 0} (p q : List ℕ → Bool) (es : List (List ℕ × X)) → ((u : List ℕ) → is_some (lookup (bytes_eq u) es) ≡ true → p u ≡ q u) → filter (λ (e : List ℕ × X). p e.0) es ≡ filter (λ (e : List ℕ × X). q e.0) es
-same_filter p q [] same = refl
-same_filter {X} p q (x ∷ xs) same =
-    ap (λ b. cond b (x ∷ filter (λ (e : List ℕ × X). p e.0) xs) (filter (λ (e : List ℕ × X). p e.0) xs)) (same x.0 (ap (λ b. is_some (cond b (Some x.1) (lookup (bytes_eq x.0) xs))) (text_is_itself x.0)))
-    ∙ ap (λ r. cond (q x.0) (x ∷ r) r) (same_filter p q xs (λ u h. same u (by u (bytes_eq u x.0) h)))
-  where
-    by : (u : List ℕ) (b : Bool) → is_some (lookup (bytes_eq u) xs) ≡ true → is_some (cond b (Some x.1) (lookup (bytes_eq u) xs)) ≡ true
-    by u true h = refl
-    by u false h = h
-
--- of the steps held those are known that don't go
-pub still_known : {A : Type 0} (t : Tables A) (old : Fits t) (due : List (List ℕ)) (knew : List ℕ → Bool) → ((u : List ℕ) → knew u ≡ (not (is_among u due) && knows t.watchers u)) → (u : List ℕ) → holds t u ≡ true → knew u ≡ not (is_among u due)
-still_known t old due knew says u here = says u ∙ ap (λ b. not (is_among u due) && b) (old.known u ∙ here) ∙ whole (not (is_among u due))
-  where
-    whole : (b : Bool) → (b && true) ≡ b
-    whole true = refl
-    whole false = refl
 
 passed : (o : Option ℕ) (m : ℕ) (b : Bool) → is_some (only_where (λ k. leb k m) o) ≡ b → only_where (λ k. not (leb k m)) o ≡ cond b None o
 passed None m true e = refl

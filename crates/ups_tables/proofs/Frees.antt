@@ -14,7 +14,7 @@ use Rattle.ups_life.proofs.Texts.{same_text, text_is_itself}
 use Rattle.ups_keep.specs.declared.due.Final.{Final}
 use Rattle.ups_keep.specs.Waits.{steps_of, waits, final_since}
 use Rattle.ups_keep.proofs.Waiting.{is_false, other_text, waits_append, distinct_append, distinct_to}
-use Rattle.ups_tables.specs.declared.steps.Held.{Held}
+use Rattle.ups_steps.specs.declared.held.Held.{Held}
 use Rattle.ups_tables.specs.declared.tables.Tables.{Tables}
 use Rattle.ups_tables.specs.Held.{held_at, final_of}
 use Rattle.ups_tables.specs.Fit.{kept, kept_if, freed_if, final_at, holds, AreFreed}

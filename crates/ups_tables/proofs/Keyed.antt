@@ -11,7 +11,7 @@ use Rattle.ups_life.proofs.Texts.{same_text}
 use Rattle.ups_keep.proofs.Waiting.{other_text}
 use Rattle.ups_live.specs.declared.rows.HeldStep.{HeldStep}
 use Rattle.ups_live.specs.Held.{held_steps, step_at, row_in, holder_in}
-use Rattle.ups_tables.specs.declared.steps.Held.{Held}
+use Rattle.ups_steps.specs.declared.held.Held.{Held}
 use Rattle.ups_tables.specs.declared.tables.Tables.{Tables}
 use Rattle.ups_tables.specs.Held.{held_at}
 use Rattle.ups_tables.specs.Keyed.{whole, as_step, as_steps, row_held, holder_held}
@@ -47,16 +47,3 @@ holder_found {A} u es = by (held_at u es) ∙ ap holder_in (found_at u es)
     by : (o : Option (Held A)) → holder_held o ≡ holder_in (option_map (whole u) o)
     by None = refl
     by (Some h) = refl
-
--- what stands at a place
-pub length_kept : {A : Type 0} (es : List (List ℕ × Held A)) → length (as_steps es) ≡ length es
-length_kept [] = refl
-length_kept (e ∷ es) = ap suc (length_kept es)
-
-pub all_kept : {A : Type 0} (es : List (List ℕ × Held A)) (i : ℕ) → i ≡ length es → take i (as_steps es) ≡ as_steps es
-all_kept es i is = take_all i (as_steps es) (let l = length_kept es in omega (arith, l, is))
-
-pub stands_at : {A : Type 0} (es : List (List ℕ × Held A)) (i : ℕ) (u : List ℕ) (h : Held A) → slice_get es i ≡ Some (u, h) → (i < length (as_steps es)) × (whole u h ≡ get_or (as_steps es) i (whole u h))
-stands_at [] i u h at = absurd cc
-stands_at (e ∷ es) zero u h at = let same : e ≡ (u, h) = cc in (omega arith, ap (λ x. as_step x) (sym same))
-stands_at (e ∷ es) (suc i) u h at = let r = stands_at es i u h at in (let l = r.0 in omega (arith, l), r.1)

@@ -4,7 +4,6 @@ pub mod Frees
 pub mod Placed
 pub mod Saying
 pub mod Removing
-pub mod Taking
 pub mod Titled
 pub mod Carried
 pub mod Arms

@@ -36,7 +36,7 @@ use Rattle.ups_live.proofs.Among.{among_filter, distinct_filter}
 use Rattle.ups_live.proofs.Holding.{step_at-held_steps, row_in-held_steps}
 use Rattle.ups_live.proofs.Living.{newly-met}
 use Rattle.ups_live.proofs.StepFacts.{Allowed, steps_are, row_is, was_row, news_are, set_held, not_of_watch}
-use Rattle.ups_tables.specs.declared.steps.Held.{Held}
+use Rattle.ups_steps.specs.declared.held.Held.{Held}
 use Rattle.ups_tables.specs.declared.tables.Tables.{Tables}
 use Rattle.ups_tables.specs.Held.{held_at}
 use Rattle.ups_tables.specs.Fit.{how, holds, AreFreed}

@@ -1,6 +1,7 @@
 -- The steps that wait for their removal are those that a sweep removes, by the definitions.
-use Rattle.std.proofs.Common.{◌≡◌, ◌≤◌, ◌<◌, ◌+◌, ℕ, Bool, true, false, not, ◌&&◌, cond, leb, List, [], ◌∷◌, length, Option, None, Some, refl, sym, ap, subst, ◌∙◌, arith, true≢false, leb-true, le-leb}
-use Rattle.std.specs.Prelude.{is_some}
+use Rattle.std.proofs.Common.{◌≡◌, ◌≤◌, ◌<◌, ◌+◌, ℕ, Bool, true, false, not, ◌&&◌, cond, leb, List, [], ◌∷◌, length, Option, None, Some, suc, refl, sym, ap, subst, ◌∙◌, arith, true≢false, leb-true, le-leb}
+use Rattle.std.proofs.lemmas.Bool.Decides.{nat_tests}
+use Rattle.std.specs.Prelude.{is_some, nat_lt}
 use Rattle.ups_life.specs.declared.entry.Entry.{Entry}
 use Rattle.ups_life.specs.declared.request.Reply.TheVariants.{Swept}
 use Rattle.ups_life.specs.declared.request.Request.TheVariants.{Sweep}
@@ -8,9 +9,9 @@ use Rattle.ups_life.specs.Distinct.{Distinct}
 use Rattle.ups_life.specs.Settings.{Settings}
 use Rattle.ups_life.specs.Steps.{past}
 use Rattle.ups_life.specs.Watching.{is_among, removed, has_passed}
-use Rattle.ups_life.specs.History.{decided}
+use Rattle.ups_life.specs.History.{accepts, decided}
 use Rattle.ups_keep.specs.declared.due.Final.{Final}
-use Rattle.ups_keep.specs.Due.{up_to}
+use Rattle.ups_keep.specs.Due.{up_to, is_any}
 use Rattle.ups_keep.specs.Waits.{steps_of, unless_kept, only_where}
 use Rattle.ups_keep.proofs.Dues.{none_before}
 use Rattle.ups_keep.proofs.Waiting.{is_false, same_test, among_waits, waits_kept, distinct_kept}
@@ -51,6 +52,14 @@ passes (Some n) false keep m = some_if (leb n m) n ∙ sym (leb_both n m keep) �
 steps_many : (xs : List Final) → length (steps_of xs) ≡ length xs
 steps_many [] = refl
 steps_many (x ∷ xs) = let r = steps_many xs in omega (arith, r)
+
+-- where the first waits long enough, some do
+some_due : (m : ℕ) (xs : List Final) → is_any m xs ≡ true → nat_lt 0 (length (up_to m xs)) ≡ true
+some_due m [] none = absurd (true≢false (sym none))
+some_due m (x ∷ xs) first = ap (λ b. nat_lt 0 (length (cond b (x ∷ up_to m xs) (up_to m xs)))) first ∙ positive (length (up_to m xs))
+  where
+    positive : (n : ℕ) → nat_lt 0 (suc n) ≡ true
+    positive n = let h : 0 < suc n = omega arith in grind (arith, nat_tests, h)
 
 -- PLANS THAT REMOVE NOTHING
 
@@ -116,3 +125,9 @@ module _ {A : Type 0} (s : Settings) (history : List (Entry A)) (t : Tables A) (
     -- so the answer is 0
     pub idle_counts : PlansIdle s e t → decided s (past history) e Sweep ≡ Swept 0
     idle_counts p = sweep_by s e (past history) [] st.legal tt (λ u. sym (none_due p u))
+
+    -- where a step waits long enough, the sweep removes some
+    pub some_swept : (moment : ℕ) → e.request ≡ Sweep → moment + s.keep ≡ e.moment → is_any moment t.due.steps ≡ true → accepts (decided s (past history) e Sweep) ≡ true
+    some_swept moment request is any =
+        let plan : PlansSweep s e t (up_to moment t.due.steps) moment = record { request = request; since = is; due_are = refl } in
+        ap accepts (sweep_counts (up_to moment t.due.steps) moment plan) ∙ some_due moment t.due.steps any

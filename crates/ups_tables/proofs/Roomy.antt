@@ -22,7 +22,6 @@ use Rattle.ups_tables.specs.declared.plan.Plan.{Plan}
 use Rattle.ups_tables.specs.declared.plan.Plan.TheVariants.{Create as ToCreate, Change as ToChange, Set as ToSet, Single as ToSingle, Global as ToGlobal, End as ToEnd, EndAll as ToEndAll, Suspend as ToSuspend, Ack as ToAck, Sweep as ToSweep, Idle as ToIdle}
 use Rattle.ups_tables.specs.Held.{held_at, final_of, is_used}
 use Rattle.ups_tables.specs.Effects.{Reserved, RoomFor}
-use Rattle.indexmap.specs.IndexMap.{spare}
 use Rattle.std.specs.HashSet as sets
 use Rattle.ups_tables.specs.Fit.{how, queue, kept, kept_if, final_at, Fits, AreFreed}
 use Rattle.ups_tables.specs.Places.{place_in, by_place}
@@ -104,7 +103,7 @@ pub on_both : {X E : Type 0} (x : Result X E) (P Q : Type 0) → OnOk x P → On
 on_both (Ok v) P Q p q = (p, q)
 on_both (Err e) P Q p q = tt
 
-pub room_create : {A X E : Type 0} (x : Result X E) (t : Tables A) (n m : ℕ) → n ≡ m → OnOk x (0 < spare t.steps) → OnOk x (0 < sets.spare t.used) → OnOk x (0 < t.watchers.spare) → OnOk x (RoomFor (λ p. is_some (get_or t.watchers.covers p None)) n t.queues) → OnOk x (RoomToCreate t m)
+pub room_create : {A X E : Type 0} (x : Result X E) (t : Tables A) (n m : ℕ) → n ≡ m → OnOk x (0 < t.steps.spare) → OnOk x (0 < sets.spare t.used) → OnOk x (0 < t.watchers.spare) → OnOk x (RoomFor (λ p. is_some (get_or t.watchers.covers p None)) n t.queues) → OnOk x (RoomToCreate t m)
 room_create (Ok v) t n m is a b c d = record { steps_room = a; used_room = b; rows_room = c; events_room = subst (λ k. RoomFor (λ p. is_some (get_or t.watchers.covers p None)) k t.queues) is d }
 room_create (Err e) t n m is a b c d = tt
 

@@ -17,7 +17,7 @@ use Rattle.ups_live.proofs.Holding.{step_at-held_steps}
 use Rattle.ups_watch.specs.declared.cover.Cover.{Cover}
 use Rattle.ups_watch.specs.Rows.{Cells}
 use Rattle.ups_watch.specs.Table.{is_kept}
-use Rattle.ups_tables.specs.declared.steps.Held.{Held}
+use Rattle.ups_steps.specs.declared.held.Held.{Held}
 use Rattle.ups_tables.specs.declared.tables.Tables.{Tables}
 use Rattle.ups_tables.specs.Held.{held_at, final_of, put_held}
 use Rattle.ups_tables.specs.Fit.{how, cells, kept, holds, queue}

@@ -7,14 +7,13 @@ use Rattle.ups_life.specs.declared.watching.Subscription.{Subscription}
 use Rattle.ups_life.specs.declared.watching.Place.{Place}
 use Rattle.ups_life.specs.Watching.{is_at, is_among}
 use Rattle.std.specs.HashSet as sets
-use Rattle.indexmap.specs.IndexMap.{spare}
 use Rattle.ups_events.specs.Queue.{queue_at, IsReserved}
 use Rattle.ups_events.specs.Queue as lists
 use Rattle.ups_events.specs.Telling.{told, acked_to}
 use Rattle.ups_watch.specs.declared.cover.Cover.{Cover}
 use Rattle.ups_watch.specs.Covers.{covers_left}
 use Rattle.ups_watch.specs.Table.{covering, knows}
-use Rattle.ups_tables.specs.declared.steps.Held.{Held}
+use Rattle.ups_steps.specs.declared.held.Held.{Held}
 use Rattle.ups_tables.specs.declared.tables.Tables.{Tables}
 use Rattle.ups_tables.specs.Held.{put_held}
 use Rattle.ups_tables.specs.Fit.{how, cells, queue, uses}
@@ -93,7 +92,7 @@ pub record Reserved {A : Type 0} (t t' : Tables A) : Type 0 where
   pub queues : (p : ℕ) → IsReserved (queue_at t.queues p) (queue_at t'.queues p)
   pub peers : length t'.queues ≡ length t.queues
   pub due : t'.due.steps ≡ t.due.steps
-  pub room_steps : spare t.steps ≤ spare t'.steps
+  pub room_steps : t.steps.spare ≤ t'.steps.spare
   pub room_used : sets.spare t.used ≤ sets.spare t'.used
   pub room_rows : t.watchers.spare ≤ t'.watchers.spare
   pub room_due : t.due.spare ≤ t'.due.spare

@@ -1,23 +1,8 @@
 -- The steps that are held, each under its UID, and the UIDs that were used.
-use Rattle.std.specs.Prelude.{ℕ, Bool, List, Option, None, Some}
+pub use Rattle.ups_steps.specs.Held.{held_at, final_of, put_held}
+use Rattle.std.specs.Prelude.{ℕ, Bool, List}
 use Rattle.std.specs.List.{list_any}
-use Rattle.std.specs.Map.{lookup}
 use Rattle.std.specs.Str.{bytes_eq}
-use Rattle.indexmap.specs.IndexMap.{insert_entry}
-use Rattle.ups_tables.specs.declared.steps.Held.{Held}
-
--- what is held of u; None where u is not held
-abbrev pub held_at : {A : Type 0} → List ℕ → List (List ℕ × Held A) → Option (Held A)
-held_at u hs = lookup (bytes_eq u) hs
-
--- when the state of a step became final, by what is held of it; None where it is not final, or not held
-abbrev pub final_of : {A : Type 0} → Option (Held A) → Option ℕ
-final_of None = None
-final_of (Some h) = h.row.final_at
-
--- the steps held after this is held of u: in the place of what was held of it, or behind the others where nothing was
-abbrev pub put_held : {A : Type 0} → List ℕ → Held A → List (List ℕ × Held A) → List (List ℕ × Held A)
-put_held u h hs = insert_entry bytes_eq hs u h
 
 -- the UID u is one of those used
 abbrev pub is_used : List ℕ → List (List ℕ) → Bool

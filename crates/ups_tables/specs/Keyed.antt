@@ -4,7 +4,7 @@ use Rattle.std.specs.Option.{option_map}
 use Rattle.ups_life.specs.declared.row.Row.{Row}
 use Rattle.ups_life.specs.declared.row.Holder.{Holder}
 use Rattle.ups_live.specs.declared.rows.HeldStep.{HeldStep}
-use Rattle.ups_tables.specs.declared.steps.Held.{Held}
+use Rattle.ups_steps.specs.declared.held.Held.{Held}
 
 -- what is held of a step, with its UID
 abbrev pub whole : {A : Type 0} → List ℕ → Held A → HeldStep A

@@ -2,7 +2,6 @@
 -- its newest entry first.
 use Rattle.std.specs.Prelude.{◌≡◌, ◌≤◌, ◌<◌, ◌+◌, ℕ, Bool, true, false, List, [], ◌∷◌, map, Option, None, Some, is_some, length, slice_index_or, if◌then◌else◌}
 use Rattle.std.specs.HashSet as sets
-use Rattle.indexmap.specs.IndexMap.{spare}
 use Rattle.ups_dataset.specs.Data.{El}
 use Rattle.ups_life.specs.declared.entry.Entry.{Entry}
 use Rattle.ups_life.specs.declared.event.Report.{Report}
@@ -22,7 +21,7 @@ use Rattle.ups_keep.specs.declared.due.Final.{Final}
 use Rattle.ups_keep.specs.Due.{up_to}
 use Rattle.ups_events.specs.Queue.{ack_fault, queue_at}
 use Rattle.ups_watch.specs.declared.cover.Cover.{Cover}
-use Rattle.ups_tables.specs.declared.steps.Held.{Held}
+use Rattle.ups_steps.specs.declared.held.Held.{Held}
 use Rattle.ups_tables.specs.declared.tables.Tables.{Tables}
 use Rattle.ups_tables.specs.declared.plan.Plan.{Plan}
 use Rattle.ups_tables.specs.declared.plan.Plan.TheVariants.{Create as ToCreate, Change as ToChange, Set as ToSet, Single as ToSingle, Global as ToGlobal, End as ToEnd, EndAll as ToEndAll, Suspend as ToSuspend, Ack as ToAck, Sweep as ToSweep, Idle as ToIdle}
@@ -152,7 +151,7 @@ swept_by plan = 0
 -- to create a step: for the step and its UID, for its row of subscriptions, and for so many events of each peer with a global
 -- subscription
 pub record RoomToCreate {A : Type 0} (t : Tables A) (news : ℕ) : Type 0 where
-  pub steps_room : 0 < spare t.steps
+  pub steps_room : 0 < t.steps.spare
   pub used_room : 0 < sets.spare t.used
   pub rows_room : 0 < t.watchers.spare
   pub events_room : RoomFor (λ p. is_some (slice_index_or t.watchers.covers p None)) news t.queues

@@ -13,7 +13,7 @@ use Rattle.ups_live.specs.Live as words
 use Rattle.ups_live.specs.Seen.{Once}
 use Rattle.ups_events.specs.Telling.{Line}
 use Rattle.ups_watch.specs.declared.cover.Cover.{Cover}
-use Rattle.ups_tables.specs.declared.steps.Held.{Held}
+use Rattle.ups_steps.specs.declared.held.Held.{Held}
 use Rattle.ups_tables.specs.declared.tables.Tables.{Tables}
 use Rattle.ups_tables.specs.Fit.{how, queue, uses, Fits}
 use Rattle.ups_tables.specs.Places.{place_in, by_place}

@@ -3,7 +3,6 @@
 
 ghost use Rattle.std.specs.Prelude.{◌≡◌, ◌≤◌, ◌<◌, ℕ, List, None, Some, is_some, true, length, slice_index_or, ◌∷◌, []};
 ghost use Rattle.std.specs.HashSet as set;
-ghost use Rattle.indexmap.specs.IndexMap.{spare};
 ghost use Rattle.ups_life.specs.declared.watching.Place.TheVariants.{At, Everywhere};
 ghost use Rattle.ups_life.specs.Watching.{is_among};
 ghost use Rattle.ups_keep.specs.Due.{up_to};
@@ -14,11 +13,12 @@ ghost use Rattle.ups_tables.specs.Fit.{how, holds, Fits, AreFreed};
 ghost use Rattle.ups_tables.specs.Effects.{IsCreated, IsChanged, IsSubscribed, IsUnsubscribed, IsSuspended, IsAcked, IsSwept, RoomFor};
 
 use crate::settling::{forget, settle, settle_many, waiting_since};
-use crate::steps::{Held, final_at, push, put, take_out, use_uid};
 use crate::tables::Tables;
+use crate::used::use_uid;
 use std::alloc::Allocator;
 use ups_keep::Final;
 use ups_life::{Place, Report, StepUid, Subscription};
+use ups_steps::Held;
 use ups_watch::Cover;
 
 /// Creates a step (PS3.4 CC.2.5). Each peer is subscribed to it as its global subscription says, and is told the news where it
@@ -33,7 +33,7 @@ pub fn create<A: Allocator + Copy>(
     requires fits { Fits tables.old }
     requires fresh { held_at step tables.old.steps.entries ≡ None }
     requires unfinished { held.row.final_at ≡ None }
-    requires room_steps { 0 < spare tables.old.steps }
+    requires room_steps { 0 < tables.old.steps.spare }
     requires room_used { 0 < set.spare tables.old.used }
     requires room_rows { 0 < tables.old.watchers.spare }
     requires room_events { RoomFor (λ p. is_some (slice_index_or tables.old.watchers.covers p None)) (length news.now) tables.old.queues }
@@ -45,7 +45,7 @@ pub fn create<A: Allocator + Copy>(
     tables
         .queues
         .tell_each(tables.watchers.of_step(step), entry, news);
-    push(&mut tables.steps, step, held);
+    tables.steps.push(step, held);
     tables.watchers.peers();
 }
 
@@ -72,7 +72,7 @@ pub fn change<A: Allocator + Copy>(
     ensures fits { Fits tables.new }
 {
     let kept = tables.watchers.is_kept(step);
-    let before = waiting_since(kept, final_at(&tables.steps, step));
+    let before = waiting_since(kept, tables.steps.final_at(step));
     tables
         .queues
         .tell_each(tables.watchers.of_step(step), entry, news);
@@ -81,7 +81,7 @@ pub fn change<A: Allocator + Copy>(
     let kept_now = tables.watchers.is_kept(step);
     let after = waiting_since(kept_now, held.row.final_at);
     settle(&mut tables.due, step, before, after);
-    put(&mut tables.steps, step, held);
+    tables.steps.put(step, held);
     tables.watchers.peers();
 }
 
@@ -121,7 +121,7 @@ pub fn subscribe_single<A: Allocator + Copy>(
     ensures effect { IsSubscribed entry peer subscription None (step ∷ []) news.now tables.old tables.new }
     ensures fits { Fits tables.new }
 {
-    let since = final_at(&tables.steps, step);
+    let since = tables.steps.final_at(step);
     let kept = tables.watchers.is_kept(step);
     let before = waiting_since(kept, since);
     tables.watchers.subscribe(peer, step, subscription);
@@ -167,7 +167,7 @@ pub fn end_single<A: Allocator + Copy>(tables: &mut Tables<A>, peer: usize, step
     ensures effect { IsUnsubscribed peer (At (Some step)) tables.old tables.new }
     ensures fits { Fits tables.new }
 {
-    let since = final_at(&tables.steps, step);
+    let since = tables.steps.final_at(step);
     let kept = tables.watchers.is_kept(step);
     let before = waiting_since(kept, since);
     tables.watchers.unsubscribe(peer, Place::At(Some(step)));
@@ -225,7 +225,7 @@ pub fn sweep<A: Allocator + Copy>(tables: &mut Tables<A>, due: &[Final], moment:
     ensures fits { Fits tables.new }
 {
     forget(&mut tables.watchers, due);
-    take_out(&mut tables.steps, &tables.watchers, due);
+    tables.steps.remove(due);
     tables.due.sweep(moment);
     tables.watchers.peers();
 }

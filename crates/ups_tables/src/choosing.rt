@@ -118,11 +118,7 @@ pub(crate) fn chosen_steps<A: Allocator + Copy>(
     ensures { IfOk result (λ v. v.items ≡ steps_in (taken_in target.now (as_steps tables.now.steps.entries))) }
 {
     let mut found = Vec::new(alloc);
-    let count = tables.steps.len();
-    for place in 0..count {
-        let Some((step, held)) = tables.steps.get_index(place) else {
-            unreachable!();
-        };
+    for (step, held) in tables.steps.iter() {
         let taken = takes_in(target, *step, &held.row.attributes);
         add_step(&mut found, *step, taken)?;
     }
@@ -140,11 +136,7 @@ pub(crate) fn chosen_reports<A: Allocator + Copy>(
     ensures { IfOk result (λ v. v.items ≡ map report_of_row (taken_in target.now (as_steps tables.now.steps.entries))) }
 {
     let mut found = Vec::new(alloc);
-    let count = tables.steps.len();
-    for place in 0..count {
-        let Some((step, held)) = tables.steps.get_index(place) else {
-            unreachable!();
-        };
+    for (step, held) in tables.steps.iter() {
         let taken = takes_in(target, *step, &held.row.attributes);
         add_report(&mut found, *step, &held.row, taken)?;
     }

@@ -2,14 +2,12 @@
 //! CC.2.3).
 
 ghost use Rattle.std.specs.Prelude.{◌≡◌, ◌<◌, ◌++◌, ℕ, List, Option, None, Some, true, length, IfOk, OnOk};
-ghost use Rattle.std.specs.Map.{keys_of};
 ghost use Rattle.ups_life.specs.declared.watching.Subscription.{Subscription};
 ghost use Rattle.ups_life.specs.Distinct.{Distinct};
 ghost use Rattle.ups_life.specs.Watching.{is_among};
 ghost use Rattle.ups_keep.specs.Waits.{final_since};
 ghost use Rattle.ups_tables.specs.Fit.{holds, freed_if, Fits, AreFreed};
 
-use crate::steps::final_at;
 use crate::tables::Tables;
 use std::alloc::{AllocError, Allocator};
 use ups_keep::Final;
@@ -34,7 +32,7 @@ fn freed_since<A: Allocator + Copy>(
     if tables.watchers.is_kept_with(step, peer, subscription) {
         return None;
     }
-    final_at(&tables.steps, step)
+    tables.steps.final_at(step)
 }
 
 /// Adds a step, where it would wait.
@@ -80,18 +78,6 @@ pub fn freed_steps<A: Allocator + Copy>(
     Ok(found)
 }
 
-/// The UIDs of the steps held, in order of creation.
-///
-/// Errors: where memory runs out.
-fn all_steps<A: Allocator + Copy>(
-    alloc: A,
-    tables: &Tables<A>,
-) -> Result<Vec<StepUid, A>, AllocError>
-    ensures { IfOk result (λ v. v.items ≡ keys_of tables.now.steps.entries) }
-{
-    tables.steps.keys().copied().collect(alloc)
-}
-
 /// The steps that are freed where all subscriptions of a peer end, each with the moment since which it waits then.
 ///
 /// # Errors
@@ -106,7 +92,6 @@ pub fn freed_everywhere<A: Allocator + Copy>(
     requires peer { peer < length tables.now.watchers.covers }
     ensures { IfOk result (λ v. AreFreed tables.now peer None (λ u. true) v.items) }
 {
-    tables.steps.len();
-    let steps = all_steps(alloc, tables)?;
+    let steps = tables.steps.uids(alloc)?;
     freed_steps(alloc, tables, peer, None, &steps)
 }

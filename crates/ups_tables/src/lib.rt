@@ -13,9 +13,9 @@ mod plan;
 mod room;
 mod settling;
 mod step_plans;
-mod steps;
 mod sweeping;
 mod tables;
+mod used;
 mod watch_plans;
 
 pub use acting::{
@@ -31,7 +31,7 @@ pub use room::{
     make_room_to_change, make_room_to_create, make_room_to_free, make_room_to_subscribe,
 };
 pub use step_plans::plan_step;
-pub use steps::Held;
 pub use sweeping::plan_sweep;
 pub use tables::Tables;
+pub use ups_steps::Held;
 pub use watch_plans::{plan_end, plan_subscription, plan_suspend};

@@ -4,10 +4,10 @@
 ghost use Rattle.std.specs.Prelude.{◌≡◌};
 ghost use Rattle.ups_tables.specs.Planned.{swept_by};
 
-use crate::steps::Held;
 use std::alloc::Allocator;
 use ups_keep::Final;
 use ups_life::{Report, StepUid, Subscription};
+use ups_steps::Held;
 use ups_watch::Cover;
 
 /// What a request is to make of the tables.

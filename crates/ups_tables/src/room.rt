@@ -2,7 +2,6 @@
 
 ghost use Rattle.std.specs.Prelude.{◌≡◌, ◌≤◌, ◌<◌, ℕ, None, is_some, true, length, slice_index_or, OnOk};
 ghost use Rattle.std.specs.HashSet as set;
-ghost use Rattle.indexmap.specs.IndexMap.{spare};
 ghost use Rattle.ups_events.specs.Queue.{queue_at, IsReserved};
 ghost use Rattle.ups_tables.specs.Fit.{how, Fits};
 ghost use Rattle.ups_tables.specs.Effects.{Reserved, RoomFor};
@@ -82,7 +81,7 @@ pub fn make_room_to_create<A: Allocator + Copy>(
     news: usize,
 ) -> Result<(), AllocError>
     requires { Fits tables.old }
-    ensures steps { OnOk result (0 < spare tables.new.steps) }
+    ensures steps { OnOk result (0 < tables.new.steps.spare) }
     ensures used { OnOk result (0 < set.spare tables.new.used) }
     ensures rows { OnOk result (0 < tables.new.watchers.spare) }
     ensures events { OnOk result (RoomFor (λ p. is_some (slice_index_or tables.new.watchers.covers p None)) news tables.new.queues) }

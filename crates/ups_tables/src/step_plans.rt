@@ -15,12 +15,12 @@ ghost use Rattle.ups_tables.specs.Planned.{IsPlan};
 ghost use Rattle.ups_tables.specs.Stands.{Stands};
 
 use crate::plan::Plan;
-use crate::steps::Held;
 use crate::tables::Tables;
 use std::alloc::{AllocError, Allocator};
 use ups_dataset::DataSet;
 use ups_life::{Configuration, Entry, Report, Request, Row, StepUid, Subscription};
 use ups_live::{news, report_now};
+use ups_steps::Held;
 
 /// One report.
 ///
@@ -34,13 +34,6 @@ pub(crate) fn alone<A: Allocator + Copy>(
     let mut reports = Vec::new(alloc);
     reports.push(report)?;
     Ok(reports)
-}
-
-/// What is held of a step.
-pub(crate) fn find<A: Allocator + Copy>(tables: &Tables<A>, step: StepUid) -> Option<&Held<A>>
-    ensures { option_copied result ≡ held_at step tables.now.steps.entries }
-{
-    tables.steps.get(&step)
 }
 
 /// The row of a step, by what is held of it.
@@ -93,7 +86,7 @@ pub fn plan_step<A: Allocator + Copy>(
     requires holder { held.holder ≡ option_or (claims_it entry.now) (holder_held (held_at step tables.now.steps.entries)) }
     ensures { IfOk result (λ p. IsPlan configuration.now (past history.now) entry.now tables.now p) }
 {
-    let found = find(tables, step);
+    let found = tables.steps.get(step);
     let before = row_of(found);
     let told = news(alloc, step, before, &held.row, &entry.request)?;
     match &entry.request {

@@ -1,11 +1,11 @@
 //! The plan of a sweep, which removes the steps that are final for as long as final steps are kept, and that no peer has a
 //! deletion lock on. That it is a request, and how long they are kept, is the profile's.
 
-ghost use Rattle.std.specs.Prelude.{◌≡◌, IfOk};
+ghost use Rattle.std.specs.Prelude.{◌≡◌, true, IfOk, OnErr};
 ghost use Rattle.ups_life.specs.declared.request.Reply.TheVariants.{Swept};
 ghost use Rattle.ups_life.specs.declared.request.Request.TheVariants.{Sweep};
 ghost use Rattle.ups_life.specs.Steps.{past};
-ghost use Rattle.ups_life.specs.History.{decided};
+ghost use Rattle.ups_life.specs.History.{accepts, decided};
 ghost use Rattle.ups_tables.specs.Planned.{IsPlan, swept_by};
 ghost use Rattle.ups_tables.specs.Stands.{Stands};
 
@@ -14,12 +14,11 @@ use crate::tables::Tables;
 use std::alloc::{AllocError, Allocator};
 use ups_life::{Configuration, Entry};
 
-/// The plan of a sweep. The reply to it tells how many steps the plan removes. Where no step waits long enough it takes
-/// neither time nor memory, however many steps are held.
+/// The plan of a sweep. The reply to it tells how many steps the plan removes.
 ///
 /// # Errors
 ///
-/// Where memory runs out.
+/// Where memory runs out, and there is a step to remove: that there is none takes no memory.
 pub fn plan_sweep<A: Allocator + Copy>(
     alloc: A,
     configuration: &Configuration<A>,
@@ -31,6 +30,7 @@ pub fn plan_sweep<A: Allocator + Copy>(
     requires request { entry.now.request ≡ Sweep }
     ensures plan { IfOk result (λ p. IsPlan configuration.now (past history.now) entry.now tables.now p) }
     ensures count { IfOk result (λ p. decided configuration.now (past history.now) entry.now Sweep ≡ Swept (swept_by p)) }
+    ensures lacks { OnErr result (accepts (decided configuration.now (past history.now) entry.now Sweep) ≡ true) }
 {
     let keep = u64::from(configuration.keep());
     if entry.moment < keep {

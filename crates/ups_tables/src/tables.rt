@@ -4,21 +4,20 @@ ghost use Rattle.std.specs.Prelude.{◌≡◌, [], ℕ, List, None, replicate, I
 ghost use Rattle.ups_events.specs.Telling.{empty_line};
 ghost use Rattle.ups_tables.specs.Fit.{how, queue, Fits};
 
-use crate::steps::Held;
-use indexmap::IndexMap;
 use std::alloc::{AllocError, Allocator};
 use std::collections::HashSet;
 use std::hash::{BuildHasherDefault, FoldHasher};
 use ups_events::Queues;
 use ups_keep::Due;
 use ups_life::StepUid;
+use ups_steps::Steps;
 use ups_watch::Watchers;
 
 /// What is known of a history of accepted requests. A peer is named by its place in the list of peers.
 #[derive(Drop)]
 pub struct Tables<A: Allocator + Copy> {
     /// The steps held, in order of creation, each under its UID.
-    pub steps: IndexMap<StepUid, Held<A>, BuildHasherDefault<FoldHasher>, A>,
+    pub steps: Steps<A>,
     /// The UIDs of all steps that were ever created: none is used again (PS3.4 CC.2.5).
     pub used: HashSet<StepUid, BuildHasherDefault<FoldHasher>, A>,
     /// The global subscription of each peer, and how each peer is subscribed to each step held (PS3.4 CC.2.3).
@@ -46,7 +45,7 @@ impl<A: Allocator + Copy> Tables<A> {
         let watchers = Watchers::new(alloc, peers)?;
         let queues = Queues::new(alloc, peers)?;
         Ok(Tables {
-            steps: IndexMap::new(alloc),
+            steps: Steps::new(alloc),
             used: HashSet::new(alloc),
             watchers,
             queues,

@@ -14,7 +14,7 @@ use crate::choosing::{chosen_reports, chosen_steps, cover_to, granted, single_st
 use crate::freeing::{freed_everywhere, freed_steps};
 use crate::peers::place_of;
 use crate::plan::Plan;
-use crate::step_plans::{alone, find};
+use crate::step_plans::alone;
 use crate::tables::Tables;
 use std::alloc::{AllocError, Allocator};
 use ups_life::{Configuration, Entry, Place, StepUid, Target};
@@ -42,7 +42,7 @@ fn plan_single<A: Allocator + Copy>(
     ensures { IfOk result (λ p. IsPlan configuration.now (past history.now) entry.now tables.now p) }
 {
     let subscription = granted(configuration.peers(), receiver, lock);
-    let Some(held) = find(tables, step) else {
+    let Some(held) = tables.steps.get(step) else {
         unreachable!();
     };
     let news = alone(alloc, report_now(step, &held.row))?;

@@ -1,5 +1,5 @@
 -- What a desk has when all its passes are back.
-use Rattle.std.proofs.Common.{◌≡◌, ⊎_elim, ℕ, suc, false, true≢false, List, [], ◌∷◌, ◌++◌, length, map, Some, None, refl, sym, ap, ◌∙◌, subst, arith}
+use Rattle.std.proofs.Common.{◌≡◌, ⊎_elim, ℕ, suc, ◌-◌, ◌<◌, Bool, false, true≢false, List, [], ◌∷◌, ◌++◌, length, map, slice_index_or, slice_set, Some, None, refl, sym, ap, ◌∙◌, subst, arith}
 use Rattle.std.specs.Prelude.{◌+◌, ◌≤◌, ◌==◌, cond, sum_by, count_by, Option, All}
 use Rattle.std.proofs.lemmas.List.Folds.{fold-map}
 use Rattle.std.proofs.lemmas.List.Elements.{All-nil, All-cons, All-head, All-tail}
@@ -101,3 +101,20 @@ module _ {A : Type 0} where
       all_parts (λ p. IsPassNumber o.seats p.number) ps (subst (All (λ p. IsPassNumber o.seats p.number)) parts ended.numbers),
       λ x. subst (λ n. n ≤ 1) (ap (count_by (λ (p : Part A). p.number == x)) parts ∙ count-parts x ps) (ended.apart x),
     )
+
+-- what a place that was emptied says
+pub emptied : (filled : List Bool) → slice_index_or (slice_set filled 0 false) 0 false ≡ false
+emptied [] = refl
+emptied (b ∷ bs) = refl
+
+-- what is taken of one that stands alone
+pub taken_alone : {X : Type 0} (slots : List (Option X)) (n : ℕ) (m : X) (popped : Option (Option X)) → slots ≡ Some m ∷ [] → length slots ≡ n → ((d : Option X) → 0 < n → popped ≡ Some (slice_index_or slots (n - 1) d)) → popped ≡ Some (Some m)
+taken_alone {X} slots n m popped alone many value =
+    let one : n ≡ 1 = sym many ∙ ap length alone in
+    value None (omega (arith, one)) ∙ ap (λ (k : ℕ). Some (slice_index_or slots (k - 1) None)) one ∙ ap (λ (l : List (Option X)). Some (slice_index_or l 0 None)) alone
+
+pub not_some_none : {X : Type 0} (m : X) (popped : Option (Option X)) (inner : Option X) → popped ≡ Some (Some m) → popped ≡ Some inner → inner ≡ None → ⊥
+not_some_none m popped inner is was none = absurd cc
+
+pub not_none : {X : Type 0} (m : X) (popped : Option (Option X)) → popped ≡ Some (Some m) → popped ≡ None → ⊥
+not_none m popped is none = absurd cc

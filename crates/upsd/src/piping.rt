@@ -5,7 +5,7 @@ ghost use Rattle.std.specs.Io.KnownBytes.{Consumes};
 ghost use Rattle.ups_args.specs.Limits.{local_offset};
 ghost use Rattle.ups_life.specs.declared.entry.Entry.{Entry};
 ghost use Rattle.ups_service.specs.Law.{nobody, alone};
-ghost use Rattle.ups_manager.specs.Refusal.{refusal};
+ghost use Rattle.ups_settings.specs.Refusal.{refusal};
 ghost use Rattle.ups_session.specs.Acceptor.{acceptor, opened};
 ghost use Rattle.ups_session.specs.Session.{IsSession};
 ghost use Rattle.ups_session.specs.WatchedIo.{Input, Output};

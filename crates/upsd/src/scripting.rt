@@ -1,7 +1,7 @@
 //! A script from a reader, and the replies to a writer.
 
 ghost use Rattle.std.specs.Prelude.{◌≡◌, ◌≤◌, ◌⊎◌, List, [], length, None, Result, Err, IfErr};
-ghost use Rattle.ups_manager.specs.Refusal.{refusal};
+ghost use Rattle.ups_settings.specs.Refusal.{refusal};
 ghost use Rattle.ups_script.specs.declared.fault.ScriptFault.{ScriptFault};
 ghost use Rattle.ups_script.specs.declared.fault.ScriptFault.TheVariants.{Memory};
 ghost use Rattle.ups_script.specs.Limits.{max_lines};

@@ -1,5 +1,6 @@
-use crate::rows::{CREATE, CREATED, parts};
+use crate::rows::{CREATE, CREATED};
 use fixtures::bytes_of;
+use fixtures::rows::{cut, cut_twice};
 use std::alloc::{Allocator, Global};
 use std::test::*;
 use ups_assoc::*;
@@ -40,8 +41,7 @@ pub(crate) fn named(word: &str) -> &str {
 
 /// The fragment of a text: its context, its control header and what stands in it.
 fn fragment(rt: &impl AllocGlobal, text: &str) -> Result<Pdv<Global>, Fail> {
-    let (id, rest) = text.split_once(' ').ok_or("a context")?;
-    let (control, content) = rest.split_once(' ').ok_or("a header")?;
+    let (id, control, content) = cut_twice(text, " ", " ")?;
     let bytes = bytes_of(rt, named(content))?;
     pdv(
         rt.alloc(),
@@ -57,7 +57,7 @@ fn is_message(
     message: &RawMessage<Global>,
     text: &str,
 ) -> Result<bool, Fail> {
-    let (id, command, body) = parts(text)?;
+    let (id, command, body) = cut_twice(text, "|", "|")?;
     let command = bytes_of(rt, named(command))?;
     if message.context != id.parse::<u8>()? || message.command.as_slice() != command.as_slice() {
         return Ok(false);
@@ -86,12 +86,27 @@ fn is_answered(
     }
 }
 
+/// Whether a fragment is answered as a row says: the fragment, `=` and its answer.
+fn is_step(
+    rt: &impl AllocGlobal,
+    assembler: &mut Assembler<Global>,
+    step: &str,
+) -> Result<bool, Fail> {
+    let (text, expected) = cut(step, "=")?;
+    is_answered(rt, assembler, &fragment(rt, text)?, expected)
+}
+
+/// An assembler where contexts 1 and 5 are accepted.
+fn an_assembler(alloc: Global) -> Result<Assembler<Global>, Fail> {
+    let ([one], [five]) = (context(1), context(5));
+    Ok(Assembler::new(alloc, &[one, five])?)
+}
+
 /// Whether each fragment of a row is answered as the row says, where contexts 1 and 5 are accepted.
 fn are_answered(rt: &impl AllocGlobal, row: &str) -> Result<bool, Fail> {
-    let mut assembler = Assembler::new(rt.alloc(), &[context(1)[0], context(5)[0]])?;
+    let mut assembler = an_assembler(rt.alloc())?;
     for step in row.split(", ") {
-        let (text, expected) = step.split_once('=').ok_or("a step")?;
-        if !is_answered(rt, &mut assembler, &fragment(rt, text)?, expected)? {
+        if !is_step(rt, &mut assembler, step)? {
             return Ok(false);
         }
     }
@@ -130,6 +145,17 @@ fn each_fragment_is_answered(rt: HostRuntime) -> Result<(), Fail> {
     Ok(())
 }
 
+/// Whether a fragment makes no message whole.
+fn is_more(
+    rt: &impl AllocGlobal,
+    assembler: &mut Assembler<Global>,
+    control: u8,
+    byte: u8,
+) -> Result<bool, Fail> {
+    let fragment = pdv(rt.alloc(), 255, control, &[byte])?;
+    Ok(assembler.feed(&fragment)?.is_none())
+}
+
 /// Feeds bytes in fragments of one byte each, with this control header but for the last, which has another; none makes a
 /// message whole.
 fn feed_each(
@@ -140,26 +166,30 @@ fn feed_each(
     last: u8,
 ) -> Result<(), Fail> {
     for (place, byte) in bytes.iter().enumerate() {
-        let control = if place + 1 == bytes.len() {
-            last
-        } else {
-            control
-        };
-        let fragment = pdv(rt.alloc(), 255, control, &[*byte])?;
-        if assembler.feed(&fragment)?.is_some() {
+        let is_last = place + 1 == bytes.len();
+        if !is_more(rt, assembler, if is_last { last } else { control }, *byte)? {
             return Err("a message before its end".into());
         }
     }
     Ok(())
 }
 
+/// Whether the command set CREATE, and six bytes of data behind it, are a message once they are told to be at their end.
+fn is_whole_of_bytes(
+    rt: &impl AllocGlobal,
+    assembler: &mut Assembler<Global>,
+    command: &[u8],
+) -> Result<bool, Fail> {
+    feed_each(rt, assembler, command, 1, 3)?;
+    feed_each(rt, assembler, b"abcdef", 0, 0)?;
+    is_step(rt, assembler, "255 2 =255|CREATE|\"abcdef\"")
+}
+
 #[test]
 fn fragments_of_one_byte_give_the_message(rt: HostRuntime) -> Result<(), Fail> {
     let mut assembler = Assembler::new(rt.alloc(), &context(255))?;
-    feed_each(&rt, &mut assembler, &bytes_of(&rt, CREATE)?, 1, 3)?;
-    feed_each(&rt, &mut assembler, b"abcdef", 0, 0)?;
-    let last = pdv(rt.alloc(), 255, 2, b"")?;
-    assert!(rt; is_answered(&rt, &mut assembler, &last, "255|CREATE|\"abcdef\"")?);
+    let command = bytes_of(&rt, CREATE)?;
+    assert!(rt; is_whole_of_bytes(&rt, &mut assembler, &command)?);
     Ok(())
 }
 
@@ -169,12 +199,7 @@ fn fault_at_the_end(rt: &impl AllocGlobal, more: usize) -> Result<Option<AssocFa
     let zeros = [0; 16_384];
     let mut assembler = Assembler::new(rt.alloc(), &context(1))?;
     let fragment = pdv(rt.alloc(), 1, 0, &zeros)?;
-    let is_begun = is_answered(
-        rt,
-        &mut assembler,
-        &self::fragment(rt, "1 3 CREATE")?,
-        "more",
-    )?;
+    let is_begun = is_step(rt, &mut assembler, "1 3 CREATE=more")?;
     for _ in 0..63 {
         if !is_begun || assembler.feed(&fragment)?.is_some() {
             return Err("a message before its end".into());

@@ -1,6 +1,7 @@
 use super::fragments::{context, named};
-use crate::rows::{CREATE, parts};
+use crate::rows::CREATE;
 use fixtures::bytes_of;
+use fixtures::rows::{self, cut_twice};
 use std::alloc::Global;
 use std::test::*;
 use ups_assoc::*;
@@ -75,43 +76,66 @@ const PIECES: &str = "CREATED|- 32|26 command, 26 command, 26 command, 24 comman
 \"12\"|\"\" 8|2 command last, 0 data last
 \"12\"|- 8|2 command last";
 
+/// Whether a row says what its command and data set are cut into.
+fn are_pieces_of(rt: &impl AllocGlobal, row: &str) -> Result<bool, Fail> {
+    let (command, how, expected) = cut_twice(row, "|", "|")?;
+    let (body, max) = rows::cut(how, " ")?;
+    let pdus = cut_of(rt, named(command), body, max.parse::<u32>()?)?;
+    are_pieces(rt, &pdus, expected)
+}
+
 #[test]
 fn each_piece_is_as_long_as_the_peer_takes(rt: HostRuntime) -> Result<(), Fail> {
     for row in PIECES.lines() {
-        let (command, how, expected) = parts(row)?;
-        let (body, max) = how.split_once(' ').ok_or("a length")?;
-        let pdus = cut_of(&rt, named(command), body, max.parse::<u32>()?)?;
-        assert!(rt; are_pieces(&rt, &pdus, expected)?, "at {row}");
+        assert!(rt; are_pieces_of(&rt, row)?, "at {row}");
     }
     Ok(())
 }
 
-/// Whether fragments give one message, and this.
-fn give(
-    rt: &impl AllocGlobal,
-    pdus: &[Pdu<Global>],
-    command: &str,
-    body: &str,
+/// Whether a fragment makes a message whole, and it is this; an error where it is another.
+fn is_given(
+    assembler: &mut Assembler<Global>,
+    pdu: &Pdu<Global>,
+    command: &[u8],
+    body: &[u8],
 ) -> Result<bool, Fail> {
-    let (command, body) = (bytes_of(rt, command)?, bytes_of(rt, body)?);
-    let mut assembler = Assembler::new(rt.alloc(), &context(1))?;
+    let Some(message) = assembler.feed(pdv_in(pdu)?)? else {
+        return Ok(false);
+    };
+    let is_so = match &message.body {
+        Some(found) => message.command.as_slice() == command && found.as_slice() == body,
+        None => false,
+    };
+    if !is_so {
+        return Err("another message".into());
+    }
+    Ok(true)
+}
+
+/// Whether the last of some PDUs alone makes a message whole, and it is this.
+fn give(alloc: Global, pdus: &[Pdu<Global>], command: &[u8], body: &[u8]) -> Result<bool, Fail> {
+    let mut assembler = Assembler::new(alloc, &context(1))?;
     let mut found = false;
     for pdu in pdus {
-        if let Some(message) = assembler.feed(pdv_in(pdu)?)? {
-            if found || message.command.as_slice() != command.as_slice() {
-                return Ok(false);
-            }
-            found = message.body.ok_or("a data set")?.as_slice() == body.as_slice();
+        if found {
+            return Ok(false);
         }
+        found = is_given(&mut assembler, pdu, command, body)?;
     }
     Ok(found)
 }
 
+/// Whether a message that is cut for a peer is put together again.
+fn is_whole_again(rt: &impl AllocGlobal, command: &[u8], max: u32) -> Result<bool, Fail> {
+    let pdus = cut_of(rt, CREATE, "\"0123456789\"", max)?;
+    give(rt.alloc(), &pdus, command, b"0123456789")
+}
+
 #[test]
 fn what_is_cut_is_put_together_again(rt: HostRuntime) -> Result<(), Fail> {
+    let command = bytes_of(&rt, CREATE)?;
     for max in [0, 8, 9, 11, 12, 16_384] {
-        let pdus = cut_of(&rt, CREATE, "\"0123456789\"", max)?;
-        assert!(rt; give(&rt, &pdus, CREATE, "\"0123456789\"")?, "at {max}");
+        assert!(rt; is_whole_again(&rt, &command, max)?, "at {max}");
     }
     Ok(())
 }

@@ -1,16 +1,16 @@
-//! Histories of requests of all kinds, made by chance: what a manager tells by its steps is what the plain programs tell
+//! Histories of requests of all kinds, made by chance: what a manager tells by its tables is what the plain programs tell
 //! by walking the entries.
 
 use super::plain::{Dice, KEYS, found_by_both, settings_of};
 use fixtures::title;
 use fixtures::words::message_of;
-use std::alloc::Global;
+use std::alloc::{Allocator, Global};
 use std::process::Abort;
 use std::test::Fail;
 use ups_cycle::StepState;
 use ups_life::{
-    Ask, Entry, Event, EventKind, EventReport, MAX_MOMENT, Peer, Place, Reply, Request, Target,
-    Watched, acked, plain_events, plain_held, plain_watches, read_request,
+    Ask, Entry, Event, EventKind, EventReport, MAX_MOMENT, Peer, Place, Reply, Request, StepUid,
+    Target, Watched, acked, plain_events, plain_held, plain_watches, read_request,
 };
 use ups_manager::*;
 use ups_pdu::Ae;
@@ -333,7 +333,7 @@ impl<'a> Chance<'a> {
 }
 
 /// Returns the request that a text is.
-fn request_of(alloc: Global, text: &str) -> Result<Request<Global>, Fail> {
+pub(super) fn request_of<A: Allocator + Copy>(alloc: A, text: &str) -> Result<Request<A>, Fail> {
     if text == "sweep" {
         return Ok(Request::Sweep);
     }
@@ -420,12 +420,38 @@ fn count_entries(counts: &mut [u64; COUNTED], entries: &[Entry<Global>]) {
     }
 }
 
+/// Returns the title of the entry that claims a step. Each entry was accepted, so a step has one such entry at most.
+fn claimed_by(entries: &[Entry<Global>], step: StepUid) -> Option<Ae> {
+    for entry in entries {
+        match entry.request {
+            Request::Change {
+                step: Some(claimed),
+                state: StepState::InProgress,
+                ..
+            } if claimed == step => return Some(entry.ae),
+            _ => {}
+        }
+    }
+    None
+}
+
+/// Whether a manager tells of each of these steps that who has claimed it holds it.
+fn are_held_by_claim(manager: &Manager<Global>, steps: &[StepUid]) -> bool {
+    steps.iter().all(|step| {
+        let holder = manager.holder(*step);
+        holder.map(|holder| holder.ae) == claimed_by(manager.history(), *step)
+    })
+}
+
 /// Returns how many steps are held, by a manager and by the plain program.
 fn held_by_both(rt: &impl AllocGlobal, manager: &Manager<Global>) -> Result<usize, Fail> {
     let settings = settings_of(rt.alloc(), manager)?;
     let held = plain_held(rt.alloc(), &settings, manager.history())?;
     if manager.held()?.as_slice() != held.as_slice() {
         return Err("the plain program holds other steps".into());
+    }
+    if !are_held_by_claim(manager, held.as_slice()) {
+        return Err("a step is held by somebody else".into());
     }
     Ok(held.len())
 }
@@ -578,7 +604,7 @@ fn compare_history(
 }
 
 /// Returns a manager with three peers, of which two may lock steps.
-fn a_manager(alloc: Global) -> Result<Manager<Global>, Fail> {
+pub(super) fn a_manager<A: Allocator + Copy>(alloc: A) -> Result<Manager<A>, Fail> {
     let peers = [
         Peer {
             ae: title("W1")?,

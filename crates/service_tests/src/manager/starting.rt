@@ -44,9 +44,11 @@ WATCH1,WATCH2,WATCH11 0 10 0 -> keep 60 offset 0 limit 10 entries 0 peers WATCH1
 WATCH1,WATCH1 0 10 1 -> TwicePeer true
  0 0 1 -> BadLimit true
  900 10 1 -> BadOffset true
-# There is no manager where its one growth is refused
+# There is no manager where one of its growths is refused: the lists of peers, of their subscriptions and of their queues
 WATCH1,WATCH2 0 10 1 -> Memory false
-WATCH1,WATCH2 0 10 2 -> keep 60 offset 0 limit 10 entries 0 peers WATCH1 WATCH2 true";
+WATCH1,WATCH2 0 10 2 -> Memory false
+WATCH1,WATCH2 0 10 3 -> Memory false
+WATCH1,WATCH2 0 10 4 -> keep 60 offset 0 limit 10 entries 0 peers WATCH1 WATCH2 true";
 
 /// Returns the peers of these titles, none of which may lock.
 fn peers_of(alloc: Global, titles: &str) -> Result<Vec<Peer>, Fail> {

@@ -1,7 +1,7 @@
 use Rattle.std.proofs.Common.{[], List, ℕ, Bor, rules, arith, length-append, ◌∙◌, ap, length}
 use Rattle.std.proofs.lemmas.List.{length-map}
 use Rattle.ups_life.specs.declared.peer.Peer.{Peer}
-use Rattle.ups_manager.specs.Refusal.{is_twice}
+use Rattle.ups_settings.specs.Refusal.{is_twice}
 use Rattle.ups_args.proofs.Naming.{twice_on}
 use Rattle.ups_args.specs.Arguments.{NamesPeer}
 use Rattle.ups_args.proofs.Parts.{one_further, all_named, stops_here}

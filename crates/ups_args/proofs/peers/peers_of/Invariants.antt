@@ -1,5 +1,5 @@
 use Rattle.std.proofs.Common.{◌≡◌, ◌≤◌, false, length, map, take, Bor, ℕ, List}
-use Rattle.ups_manager.specs.Refusal.{is_twice}
+use Rattle.ups_settings.specs.Refusal.{is_twice}
 use Rattle.ups_args.specs.Arguments.{NamePeers}
 use Rattle.ups_args.proofs.peers.peers_of.Given as goal
 

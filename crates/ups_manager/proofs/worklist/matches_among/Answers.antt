@@ -1,14 +1,20 @@
-use Rattle.std.proofs.Common.{◌++◌, ap, sym, ◌∙◌, arith, List}
-use Rattle.ups_dataset.specs.Data.{El}
-use Rattle.ups_manager.proofs.Matches.{answer_of, found_more}
+use Rattle.std.proofs.Common.{◌++◌, ap, sym, ◌∙◌, arith, length, List, map, filter}
+use Rattle.ups_dataset.specs.Data.{El, answer}
+use Rattle.ups_live.specs.Held.{attributes_in}
+use Rattle.ups_steps.proofs.Walking.{next_picked}
+use Rattle.ups_tables.specs.Keyed.{as_steps}
 use Rattle.ups_manager.proofs.worklist.matches_among.Goals as goal
 
 pub add_match-requires : goal.add_match-requires
-add_match-requires g c = omega (arith, c.loop-held.invariant.count, c.loop-held-test.true, c.requires)
+add_match-requires g c = omega (arith, c.loop-held.invariant.count, c.requires, c.iter-held-items.ensures.fits)
 
 pub loop-held-preserved : goal.loop-held-preserved
-loop-held-preserved g c = record {
-  found = c.in_ok-add_match.ensures.found ∙ ap (λ (l : List (List El)). l ++ answer_of (g.M.Matcher.says c.args.keys.now) c.args.keys.now.attributes c.held-item.result.row.attributes) c.loop-held.invariant.found
-      ∙ sym (found_more (g.M.Matcher.says c.args.keys.now) c.args.keys.now.attributes c.args.steps.now c.loop-held.held-index c.held-item.result c.loop-held-test.true c.held-item.is);
-  count = omega (arith, c.add_match.ensures.count, c.loop-held.invariant.count);
-}
+loop-held-preserved g c =
+    let says = g.M.Matcher.says c.args.keys.now in
+    let tells = λ (r : List El). answer r c.args.keys.now.attributes in
+    let rest = attributes_in (as_steps c.next.new.self) in
+    record {
+      found = ap (λ l. l ++ map tells (filter says rest)) c.in_ok-add_match.ensures.found ∙ next_picked tells says c.in-Some.held.now.row.attributes rest c.loop-held.found
+          ∙ ap (λ es. c.loop-held.found ++ map tells (filter says (attributes_in (as_steps es)))) (sym c.in-Some.ensures.steps) ∙ c.loop-held.invariant.found;
+      count = let more = ap length c.in-Some.ensures.steps in omega (arith, c.add_match.ensures.count, c.loop-held.invariant.count, more);
+    }

@@ -20,7 +20,7 @@ tell_each-requires-clause-room g c = λ p h.
 
 pub returns-clause-effect : goal.returns-clause-effect
 returns-clause-effect g c = record {
-  steps = c.push.ensures;
+  steps = c.push.ensures.entries;
   used = c.use_uid.ensures;
   covers = c.created.ensures.covers;
   hows = c.created.ensures.watching;
@@ -30,6 +30,6 @@ returns-clause-effect g c = record {
 
 pub returns-clause-fits : goal.returns-clause-fits
 returns-clause-fits g c =
-    fits_created c.args.tables.now _ c.args.step c.args.held c.requires.fits c.requires.fresh c.requires.unfinished c.push.ensures
+    fits_created c.args.tables.now _ c.args.step c.args.held c.requires.fits c.requires.fresh c.requires.unfinished c.push.ensures.entries
     (λ p u e. c.created.ensures.watching p u ∙ ap (λ b. cond b (covering c.args.tables.now.watchers p c.args.held.row.attributes) (watching c.args.tables.now.watchers p u)) e)
     c.created.ensures.known (c.tell_each.ensures.peers ∙ c.requires.fits.queues ∙ sym (ap length c.created.ensures.covers)) c.peers.ensures.width refl

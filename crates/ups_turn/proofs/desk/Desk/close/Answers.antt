@@ -1,6 +1,23 @@
-use Rattle.std.proofs.Common.{arith}
-use Rattle.ups_turn.proofs.Closes.{not_there, closed_settings, closed_callers, closed_passes, closed_numbers}
+use Rattle.std.proofs.Common.{◌≡◌, ℕ, Bool, false, List, slice_index_or, ap, ◌∙◌, arith}
+use Rattle.std.specs.Slots.{slots_filled}
+use Rattle.ups_turn.proofs.Closes.{not_there, emptied, closed_settings, closed_callers, closed_passes, closed_numbers}
 use Rattle.ups_turn.proofs.desk.Desk.close.Goals as goal
+
+pub take-slot-requires : goal.take-slot-requires
+take-slot-requires g c =
+    let closed = c.close_with-closed.ensures in
+    let one = closed.counts.1 ∙ c.self.invariant.1 in
+    (omega (arith, one), closed.values.1 0 (omega arith) (omega (arith, one)))
+
+pub free-requires : goal.free-requires
+free-requires g c = λ k low.
+    let one = c.close_with-closed.ensures.counts.1 ∙ c.self.invariant.1 in
+    let others = c.take-slot.ensures.others in
+    let first : k ≡ 0 = omega (arith, low, others.2, one) in
+    ap (λ (n : ℕ). slice_index_or (slots_filled c.take-slot.new.self.slots) n false) first ∙ ap (λ (filled : List Bool). slice_index_or filled 0 false) others.1 ∙ emptied (slots_filled c.close_with-closed.result.slots)
+
+pub returns-clause-all : goal.returns-clause-all
+returns-clause-all g c = rw (← c.self.view_is) (let n = c.args.passes.ok.0 in let l = c.len.ensures in let same = c.if-len-self.false in let seats = c.self.invariant.2 in omega arith)
 
 pub unreachable-requires : goal.unreachable-requires
 unreachable-requires g c =

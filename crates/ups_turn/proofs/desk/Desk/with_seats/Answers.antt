@@ -12,3 +12,6 @@ new-requires g c =
     begins (record { manager = c.of.result; seats = c.from.result }) _ _ (subst (λ (m : State _). is_legal m.settings m.history) (sym e) c.history.ensures.legal) (subst (λ (m : State _). m.settings.limit < 2 ^ 64) (sym e) small) n
     (ap (λ k. k ∷ 0 ∷ 0 ∷ []) (ap length (c.history.ensures.shown ∙ ap (λ (m : State _). m.history) (sym e))))
     (c.push_reserved.ensures.items ∙ (λ j. c.in-Ok-with_capacity.ensures.items j ++ Some (sym e j) ∷ []))
+
+pub back-requires : goal.back-requires
+back-requires g c = (c.args.manager, c.in-Err.ensures.err ∙ c.push_reserved.ensures.items ∙ (λ j. c.in-Ok-with_capacity.ensures.items j ++ Some c.args.manager ∷ []))

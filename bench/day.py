@@ -1,0 +1,283 @@
+#!/usr/bin/env python3
+"""Measures what a request costs `upsd serve` as the day goes on: a day in fast motion over TCP, with watchers.
+
+    bench/day.py [PROGRAM] [--sizes 1000 10000] [--away] [--keep SECONDS] [--limit SECONDS]
+
+It starts the server on a free port of this machine with ten peers. Three of them watch: one all steps, with a deletion lock
+that it ends later; one by a filter that takes in each tenth step; one single steps. These three listen here and take their
+reports. With `--away` the first of them never listens, so that its reports stay pending all day. Steps are then created,
+found, claimed, set twice and finished, until so many requests were accepted; the server sweeps by itself.
+
+At each size it measures, over 100 requests of each kind, the processor time that the workers of the server take from the
+request to its answer, by /proc, as the median and the 99th percentile in microseconds. Meanwhile, and in three seconds more, a
+sweep each second removes what was finished, and a round each second reports it: "sweeping" and "reporting" are what one of each
+costs. Then come ten seconds in which nobody asks anything: what a sweep and a round cost in them, and which part of a processor
+the server uses in all; the longest time from a change to the report of it at the second watcher; the steps held; and the
+resident memory. It ends by itself, and with status 1 where the server didn't get as far within the limit (default 900 seconds).
+
+The thread that sweeps is the first of the process, as `serve` has it. The deliverer is the one of the others that has run most
+before anybody asks for anything.
+"""
+
+import argparse
+import os
+import socket
+import statistics
+import struct
+import sys
+import threading
+import time
+
+sys.path.insert(0, os.path.dirname(os.path.abspath(__file__)))
+from pipe import EXPLICIT, PULL, PUSH, RELEASE, act, associate, command, create, find, get, item, message, pdu, set_attributes, us
+from serve import FOLLOWS, PULL_ON, PUSH_ON, Peer, a_step, claim, progress, told
+from stock import Server
+
+WATCH = b"1.2.840.10008.5.1.4.34.6.2"
+WATCH_ON = 5
+GLOBAL = b"1.2.840.10008.5.1.4.34.5"
+FILTERED = b"1.2.840.10008.5.1.4.34.5.1"
+COUNT = 100  # requests of each kind that are measured
+LOCKED = 500  # lives of steps between the beginning of a lock of everything and its end
+
+
+class Watcher:
+    """A peer that listens: it answers each report with 0000, and remembers when the last one of a step came."""
+
+    def __init__(self, title):
+        self.title, self.arrived, self.reports = title, {}, 0
+        self.listener = socket.create_server(("127.0.0.1", 0))
+        self.place = f"127.0.0.1:{self.listener.getsockname()[1]}"
+        threading.Thread(target=self.listen, daemon=True).start()
+
+    def listen(self):
+        while True:
+            peer = Incoming(self.listener.accept()[0])
+            try:
+                for step in peer.reports():
+                    self.reports += 1
+                    self.arrived[step] = time.monotonic()
+            except (EOFError, OSError):
+                pass
+            peer.socket.close()
+
+
+class Incoming(Peer):
+    """An association that the server asks for."""
+
+    def __init__(self, connected):
+        self.socket, self.left = connected, b""
+
+    def reports(self):
+        """The steps of the reports, each of which is answered."""
+        kind, body = self.pdu()
+        user = item(0x51, struct.pack(">I", 16384)) + item(0x52, b"1.2.3")
+        accepted = item(0x21, bytes([1, 0, 0, 0]) + item(0x40, EXPLICIT))
+        self.socket.sendall(pdu(2, body[:68] + item(0x10, b"1.2.840.10008.3.1.1.1") + accepted + item(0x50, user)))
+        while True:
+            kind, body = self.pdu()
+            if kind == 5:
+                self.socket.sendall(pdu(6, bytes(4)))
+                return
+            if kind != 4:
+                return
+            if body[5] & 1:
+                elements = body[6:]
+                found = {}
+                while elements:
+                    number, length = struct.unpack("<xxHI", elements[:8])
+                    found[number], elements = elements[8:8 + length], elements[8 + length:]
+            if body[5] & 2 and not body[5] & 1:
+                answer = [(0x0002, found[0x0002]), (0x0100, us(0x8100)), (0x0120, found[0x0110]), (0x0800, us(0x0101)),
+                          (0x0900, us(0)), (0x1000, found[0x1000]), (0x1002, found[0x1002])]
+                self.socket.sendall(message(1, command(answer)))
+                yield found[0x1000].rstrip(b"\0")
+
+
+class Asker(Peer):
+    """An association with a context for watching too."""
+
+    def __init__(self, port):
+        self.socket = socket.create_connection(("127.0.0.1", port), 60)
+        self.socket.setsockopt(socket.IPPROTO_TCP, socket.TCP_NODELAY, 1)
+        self.left, self.accepted = b"", 0
+        self.socket.sendall(associate([(PUSH, EXPLICIT), (PULL, EXPLICIT), (WATCH, EXPLICIT)]))
+        assert self.pdu()[0] == 2, "not accepted"
+
+    def do(self, request):
+        """Asks for what is to be accepted."""
+        status = self.ask(request)
+        assert status in (0, 1), f"{status:04X}"
+        self.accepted += 1
+
+    def count(self, request):
+        """How many answers a query has before its last."""
+        self.socket.sendall(request)
+        answers = 0
+        while self.answer() == FOLLOWS:
+            answers += 1
+        return answers
+
+
+def subscribe(place, title, lock, more=b""):
+    lock = told(0x0074, 0x1230, b"LO", lock)
+    return act(WATCH_ON, 1, place, 3, more + lock + told(0x0074, 0x1234, b"AE", title))
+
+
+def unsubscribe(place, title):
+    return act(WATCH_ON, 1, place, 4, told(0x0074, 0x1234, b"AE", title))
+
+
+def instance(number):
+    return b"1.2.0.%d" % number
+
+
+TRANSACTION = b"2.25.1"
+SET = told(0x0008, 0x1195, b"UI", TRANSACTION) + told(0x0074, 0x1204, b"LO", b"CT READ")
+PERFORMED = told(0x0008, 0x1195, b"UI", TRANSACTION) + told(0x0074, 0x1000, b"CS", b"CANCELED")
+
+
+def kinds(number):
+    """The requests of a step's life, in order, by name."""
+    step = instance(number)
+    asked = told(0x0008, 0x0018, b"UI", b"") + told(0x0010, 0x0020, b"LO", b"P%d" % (number % 10))
+    yield "create", create(PUSH_ON, 1, step, a_step(b"P%d" % (number % 10)))
+    yield "find", find(PULL_ON, 1, asked + told(0x0074, 0x1000, b"CS", b"COMPLETED"))
+    yield "get", get(PUSH_ON, 1, step)
+    yield "watch", subscribe(step, b"SINGLE", b"FALSE")
+    yield "claim", claim(1, step, TRANSACTION)
+    yield "set", progress(1, step, TRANSACTION)
+    yield "set again", set_attributes(PULL_ON, 1, step, SET)
+    yield "unwatch", unsubscribe(step, b"SINGLE")
+    yield "finish", act(PULL_ON, 1, step, 1, PERFORMED)
+
+
+OTHERS = ["sweeping", "reporting", "sweep", "round", "idle", "lag", "held", "memory"]
+ACCEPTED = {"create", "watch", "claim", "set", "set again", "unwatch", "finish"}
+
+
+def used_by(pid, task):
+    """The nanoseconds that a thread has run; 0 where it has ended."""
+    try:
+        with open(f"/proc/{pid}/task/{task}/schedstat", encoding="ascii") as it:
+            return int(it.read().split()[0])
+    except OSError:
+        return 0
+
+
+def resident(pid):
+    with open(f"/proc/{pid}/status", encoding="ascii") as lines:
+        return next(int(line.split()[1]) * 1024 for line in lines if line.startswith("VmRSS"))
+
+
+class Day:
+    def __init__(self, server, away):
+        self.server, self.pid = server, server.process.pid
+        time.sleep(3)
+        others = [task for task in os.listdir(f"/proc/{self.pid}/task") if task != str(self.pid)]
+        self.deliverer = max(others, key=lambda task: used_by(self.pid, task))
+        self.workers = [task for task in others if task != self.deliverer]
+        self.asker, self.number, self.away = Asker(server.port), 0, away
+
+    def used(self):
+        """The nanoseconds that the sweeper, the deliverer and the workers have run."""
+        return (used_by(self.pid, self.pid), used_by(self.pid, self.deliverer), self.worked())
+
+    def worked(self):
+        return sum(used_by(self.pid, task) for task in self.workers)
+
+    def live(self, times=None):
+        """The life of one step; what each request took."""
+        self.number += 1
+        for name, request in kinds(self.number):
+            before = self.worked()
+            if name in ACCEPTED:
+                self.asker.do(request)
+            else:
+                self.asker.ask(request)
+            if times is not None:
+                times.setdefault(name, []).append((self.worked() - before) / 1000)
+        if self.number % LOCKED == 0 and not self.away:
+            # a lock ends, so that what is finished can be swept, and later begins again
+            if self.number // LOCKED % 2:
+                self.asker.do(unsubscribe(GLOBAL, b"EVERY"))
+            else:
+                self.asker.do(subscribe(GLOBAL, b"EVERY", b"TRUE"))
+
+    def settle(self):
+        """Waits until the deliverer has told what is to be told, for half a minute at most."""
+        for _ in range(30):
+            before = used_by(self.pid, self.deliverer)
+            time.sleep(1)
+            if used_by(self.pid, self.deliverer) - before < 1_000_000:
+                return
+
+    def measure(self, watcher):
+        """What each request took, and then the other cells of the line, as texts."""
+        self.settle()
+        times, began, before = {}, time.monotonic(), self.used()
+        for _ in range(COUNT):
+            self.live(times)
+        time.sleep(3)
+        seconds = time.monotonic() - began
+        busy = [(now - then) / 1000 / seconds for now, then in zip(self.used(), before)]
+        time.sleep(5)
+        before = self.used()
+        time.sleep(10)
+        idle = [(now - then) / 1000 / 10 for now, then in zip(self.used(), before)]
+        lag, held = self.lag(watcher), self.held()
+        return times, [f"{busy[0]:,.0f} us", f"{busy[1]:,.0f} us", f"{idle[0]:,.0f} us", f"{idle[1]:,.0f} us",
+                       f"{sum(idle) / 1e6:.2%}", f"{lag:.2f} s", f"{held:,}", f"{resident(self.pid) / 1e6:,.1f} MB"]
+
+    def held(self):
+        """How many steps are held: those that a query for all of them finds."""
+        return self.asker.count(find(PULL_ON, 1, told(0x0008, 0x0018, b"UI", b"")))
+
+    def lag(self, watcher):
+        """The longest time from a change to its report, of five."""
+        longest = 0.0
+        for _ in range(5):
+            self.number += 1
+            step = instance(self.number)
+            self.asker.do(create(PUSH_ON, 1, step, a_step(b"FILTERED")))
+            changed, deadline = time.monotonic(), time.monotonic() + 30
+            while step not in watcher.arrived and time.monotonic() < deadline:
+                time.sleep(0.01)
+            longest = max(longest, watcher.arrived.get(step, deadline) - changed)
+        return longest
+
+
+def main():
+    about, _, more = __doc__.partition("\n\n")
+    asked = argparse.ArgumentParser(description=about, epilog=more, formatter_class=argparse.RawDescriptionHelpFormatter)
+    asked.add_argument("program", nargs="?", default="crates/upsd/out/upsd")
+    asked.add_argument("--sizes", nargs="+", type=int, default=[1_000, 10_000])
+    asked.add_argument("--away", action="store_true", help="the watcher of all steps never listens")
+    asked.add_argument("--keep", default="1", help="how long the server keeps a finished step, in seconds (1)")
+    asked.add_argument("--limit", type=int, default=900, help="seconds (900)")
+    given = asked.parse_args()
+    watchers = [Watcher(title) for title in ("EVERY", "FILTER", "SINGLE")]
+    places = [it.place for it in watchers]
+    if given.away:
+        places[0] = "127.0.0.1:1"
+    peers = [f"EVERY={places[0]},lock", f"FILTER={places[1]}", f"SINGLE={places[2]}"] + [f"PEER{i}=127.0.0.1:1" for i in range(7)]
+    deadline = time.monotonic() + given.limit
+    print(f"| accepted | {' | '.join(name for name, _ in kinds(0))} | {' | '.join(OTHERS)} |", flush=True)
+    with Server([given.program], "--associations", "4", "--keep", given.keep, *peers) as server:
+        day = Day(server, given.away)
+        day.asker.do(subscribe(GLOBAL, b"EVERY", b"TRUE"))
+        day.asker.do(subscribe(FILTERED, b"FILTER", b"FALSE", told(0x0010, 0x0020, b"LO", b"FILTERED")))
+        for size in given.sizes:
+            while day.asker.accepted < size:
+                day.live()
+                if time.monotonic() > deadline:
+                    sys.exit(f"only {day.asker.accepted} requests were accepted in time")
+            accepted = day.asker.accepted
+            times, others = day.measure(watchers[1])
+            cells = [f"{statistics.median(it):,.0f}, {sorted(it)[-2]:,.0f} us" for it in times.values()]
+            print(f"| {accepted:,} | {' | '.join(cells + others)} |", flush=True)
+        day.asker.release()
+
+
+if __name__ == "__main__":
+    main()

@@ -1,0 +1,178 @@
+use crate::steps::{digit_of, step_of};
+use fixtures::Refusing;
+use std::alloc::{Allocator, Global};
+use std::fmt::Write;
+use std::test::Fail;
+use ups_cycle::StepState;
+use ups_dataset::DataSet;
+use ups_keep::Final;
+use ups_life::{Row, StepUid};
+use ups_steps::{Held, Steps};
+
+/// What is held of a step that became final at a moment.
+fn held_since<A: Allocator + Copy>(alloc: A, moment: u64) -> Held<A> {
+    Held {
+        row: Row {
+            attributes: DataSet::new(alloc),
+            state: StepState::Completed,
+            transaction: None,
+            final_at: Some(moment),
+        },
+        holder: None,
+    }
+}
+
+/// Adds a step that is not held, for which room is made.
+fn push<A: Allocator + Copy>(
+    alloc: A,
+    steps: &mut Steps<A>,
+    step: StepUid,
+    moment: u64,
+) -> Result<(), Fail> {
+    if steps.get(step).is_some() {
+        return Err("held already".into());
+    }
+    steps.reserve(1)?;
+    steps.push(step, held_since(alloc, moment));
+    Ok(())
+}
+
+/// Puts a moment in the place of that of a step that is held.
+fn put<A: Allocator + Copy>(
+    alloc: A,
+    steps: &mut Steps<A>,
+    step: StepUid,
+    moment: u64,
+) -> Result<(), Fail> {
+    if steps.get(step).is_none() {
+        return Err("not held".into());
+    }
+    steps.put(step, held_since(alloc, moment));
+    Ok(())
+}
+
+/// Removes the steps of these numbers.
+fn remove(alloc: Global, steps: &mut Steps<Global>, numbers: &str) -> Result<(), Fail> {
+    let mut gone = Vec::new(alloc);
+    for number in numbers.split(' ') {
+        gone.push(Final {
+            moment: 0,
+            step: step_of(alloc, number)?,
+        })?;
+    }
+    steps.remove(&gone);
+    Ok(())
+}
+
+/// Does what a line says.
+fn act(alloc: Global, steps: &mut Steps<Global>, line: &str) -> Result<(), Fail> {
+    let (verb, words) = line.split_once(' ').ok_or("a verb")?;
+    if verb == "remove" {
+        return remove(alloc, steps, words);
+    }
+    let (number, moment) = words.split_once(' ').ok_or("a moment")?;
+    let step = step_of(alloc, number)?;
+    let moment = moment.parse::<u64>()?;
+    match verb {
+        "push" => push(alloc, steps, step, moment),
+        "put" => put(alloc, steps, step, moment),
+        _ => Err("no verb".into()),
+    }
+}
+
+/// Adds a step: the moment since when it is final, and its digit.
+fn add_step(text: &mut String, step: StepUid, since: Option<u64>) -> Result<(), Fail> {
+    let moment = since.ok_or("a moment")?;
+    write!(text, " {moment}:{}", digit_of(step))?;
+    Ok(())
+}
+
+/// The steps held, in the order of the walk over them.
+fn steps_held<A: Allocator + Copy>(alloc: Global, steps: &Steps<A>) -> Result<String, Fail> {
+    let mut text = String::new(alloc);
+    for (step, held) in steps.iter() {
+        add_step(&mut text, *step, held.row.final_at)?;
+    }
+    Ok(text)
+}
+
+/// The steps whose UIDs are listed, by what is found under them.
+fn steps_listed<A: Allocator + Copy>(
+    alloc: Global,
+    steps: &Steps<A>,
+    list: A,
+) -> Result<String, Fail> {
+    let mut text = String::new(alloc);
+    for step in &steps.uids(list)? {
+        add_step(&mut text, *step, steps.final_at(*step))?;
+    }
+    Ok(text)
+}
+
+/// What is done, one line after the other, and which steps are held then. Places are free after each removal but the second
+/// and the last, which close them up.
+const CALLS: &str = "\
+push 1 10 = 10:1
+push 2 20 = 10:1 20:2
+push 3 30 = 10:1 20:2 30:3
+push 4 40 = 10:1 20:2 30:3 40:4
+remove 2 = 10:1 30:3 40:4
+put 1 11 = 11:1 30:3 40:4
+remove 1 4 9 = 30:3
+push 1 12 = 30:3 12:1
+remove 3 = 12:1
+push 3 31 = 12:1 31:3
+push 5 50 = 12:1 31:3 50:5
+remove 3 = 12:1 50:5
+remove 1 5 =";
+
+/// Does what a line says, and tells which steps are held then.
+fn told(alloc: Global, steps: &mut Steps<Global>, line: &str) -> Result<String, Fail> {
+    act(alloc, steps, line)?;
+    let held = steps_held(alloc, steps)?;
+    if steps_listed(alloc, steps, alloc)?.as_str() != held.as_str() {
+        return Err("the list is another".into());
+    }
+    if held.split(':').count() != steps.len().saturating_add(1) {
+        return Err("the count is another".into());
+    }
+    Ok(held)
+}
+
+#[test]
+fn steps_stay_in_the_order_of_their_creation(rt: HostRuntime) -> Result<(), Fail> {
+    let mut steps = Steps::new(rt.alloc());
+    for row in CALLS.lines() {
+        let (line, wanted) = row.split_once(" =").ok_or("steps")?;
+        let found = told(rt.alloc(), &mut steps, line)?;
+        assert!(rt; found.as_str() == wanted, "{line}: {found}");
+    }
+    Ok(())
+}
+
+/// Makes room and lists the steps with the growth of a number refused: whether none was, and the steps in any case.
+fn listed_lacking(alloc: Global, growth: u64) -> Result<(bool, String), Fail> {
+    let heap = Refusing::new(alloc);
+    let mut steps = Steps::new(&heap);
+    push(&heap, &mut steps, step_of(alloc, "1")?, 10)?;
+    heap.refuse(growth);
+    let is_reserved = steps.reserve(100).is_ok();
+    let is_listed = steps.uids(&heap).is_ok();
+    heap.refuse(0);
+    Ok((is_reserved && is_listed, steps_held(alloc, &steps)?))
+}
+
+#[test]
+fn steps_stay_where_a_growth_is_refused(rt: HostRuntime) -> Result<(), Fail> {
+    let mut refused = 0u64;
+    for growth in 1..20 {
+        let (is_whole, steps) = listed_lacking(rt.alloc(), growth)?;
+        assert_eq!(rt; steps.as_str(), " 10:1");
+        if !is_whole {
+            refused = growth;
+        }
+    }
+    // the places grow, and the index over them
+    assert!(rt; refused >= 2 && refused < 19, "{refused}");
+    Ok(())
+}

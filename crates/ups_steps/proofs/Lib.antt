@@ -1,0 +1,4 @@
+mod Placing
+pub mod Putting
+mod Taking
+pub mod Walking

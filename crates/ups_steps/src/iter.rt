@@ -1,0 +1,66 @@
+//! The iterator over the steps held.
+
+ghost use Rattle.std.specs.Prelude.{◌≡◌, ◌<◌, ◌^◌, length};
+ghost use Rattle.std.specs.Iterator.{at_most};
+ghost use Rattle.std.specs.List.{IsDistinct};
+ghost use Rattle.std.specs.Map.{keys_of};
+ghost use Rattle.std.specs.Map.Iter.{TakesFirst, deref_pair};
+ghost use Rattle.std.specs.Str.{bytes_eq};
+ghost use Rattle.ups_steps.specs.Places.{held_in};
+
+use crate::held::Held;
+use crate::places::Places;
+use indexmap::map;
+use std::alloc::Allocator;
+use std::marker::Model;
+use ups_life::StepUid;
+
+/// The steps held, in order of creation, each as its UID and what is held of it. A contract sees those that are left.
+#[derive(Drop)]
+pub struct Iter<'a, A: Allocator + Copy> {
+    places: map::Iter<'a, StepUid, Option<Held<A>>>,
+}
+
+impl<'a, A: Allocator + Copy> Model for Iter<'a, A> {
+    ghost use Rattle.std.specs.Prelude.{List, ℕ};
+    ghost use Rattle.ups_steps.specs.declared.held.Held.{Held as HeldOf};
+    ghost use Rattle.ups_steps.specs.Places.{held_in};
+
+    ghost Value = { List (List ℕ × HeldOf A) };
+
+    ghost use Rattle.std.specs.Coded.{codes};
+    ghost use Rattle.ups_dataset.specs.Code.{set_code};
+
+    ghost coded = { Prim.hlevel (set_code, codes) };
+
+    ghost view = { λ i. held_in i.places };
+}
+
+impl<'a, A: Allocator + Copy> Iter<'a, A> {
+    pub(crate) fn over(places: &'a Places<A>) -> Iter<'a, A>
+        ensures rest { result ≡ held_in places.now.entries }
+        ensures unique { IsDistinct bytes_eq (keys_of places.now.entries) }
+        ensures fits { length places.now.entries < 2 ^ 63 }
+    {
+        Iter {
+            places: places.iter(),
+        }
+    }
+}
+
+impl<'a, A: Allocator + Copy> Iterator for Iter<'a, A> {
+    type Item = (&'a StepUid, &'a Held<A>);
+
+    ghost next_gives = { TakesFirst deref_pair };
+
+    ghost remaining = { λ s. at_most (length s) };
+
+    fn next(&mut self) -> Option<(&'a StepUid, &'a Held<A>)> {
+        while let Some((step, place)) = self.places.next() {
+            if let Some(held) = place {
+                return Some((step, held));
+            }
+        }
+        None
+    }
+}

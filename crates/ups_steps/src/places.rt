@@ -1,0 +1,106 @@
+//! The places of steps, in order of creation. The place of a step that was removed stays, and is free.
+
+ghost use Rattle.std.specs.Prelude.{◌≡◌, ◌≤◌, ◌<◌, ◌+◌, ◌^◌, ◌++◌, ◌∷◌, [], not, None, is_some, true, filter, length, if◌then◌else◌};
+ghost use Rattle.std.specs.Option.{option_copied};
+ghost use Rattle.std.specs.Str.{bytes_eq};
+ghost use Rattle.indexmap.specs.IndexMap.{spare};
+ghost use Rattle.ups_life.specs.Watching.{is_among};
+ghost use Rattle.ups_keep.specs.Waits.{steps_of};
+ghost use Rattle.ups_steps.specs.Held.{held_at, put_held};
+ghost use Rattle.ups_steps.specs.Places.{held_in};
+
+use crate::held::Held;
+use indexmap::IndexMap;
+use std::alloc::Allocator;
+use std::hash::{BuildHasherDefault, FoldHasher};
+use ups_keep::Final;
+use ups_life::StepUid;
+
+/// Each place, under the UID of the step that was put there; None where the place is free.
+pub(crate) type Places<A> = IndexMap<StepUid, Option<Held<A>>, BuildHasherDefault<FoldHasher>, A>;
+
+/// What is held of a step; None where it is not held.
+pub(crate) fn find<A: Allocator + Copy>(places: &Places<A>, step: StepUid) -> Option<&Held<A>>
+    ensures { option_copied result ≡ held_at step (held_in places.now.entries) }
+{
+    places.len();
+    match places.get(&step) {
+        Some(place) => place.as_ref(),
+        None => None,
+    }
+}
+
+/// Puts a step that is not held behind the others. There is room for it.
+pub(crate) fn add<A: Allocator + Copy>(places: &mut Places<A>, step: StepUid, held: Held<A>)
+    requires fresh { held_at step (held_in places.old.entries) ≡ None }
+    requires room { 0 < spare places.old }
+    ensures steps { held_in places.new.entries ≡ held_in places.old.entries ++ (step, held) ∷ [] }
+    ensures spare { spare places.old ≤ spare places.new + 1 }
+    ensures len { length places.new.entries ≤ length places.old.entries + 1 }
+    ensures small { length places.new.entries < 2 ^ 63 }
+{
+    // A free place under its UID would stand before those of steps that are older. No UID is used again, so there is none.
+    places.shift_remove(&step);
+    let Ok(_) = places.insert(step, Some(held)) else {
+        unreachable!();
+    };
+    places.len();
+}
+
+/// Puts what is held of a step in the place of what was held of it.
+pub(crate) fn replace<A: Allocator + Copy>(places: &mut Places<A>, step: StepUid, held: Held<A>)
+    requires { is_some (held_at step (held_in places.old.entries)) ≡ true }
+    ensures steps { held_in places.new.entries ≡ put_held step held (held_in places.old.entries) }
+    ensures spare { spare places.new ≡ spare places.old }
+    ensures len { length places.new.entries ≡ length places.old.entries }
+{
+    places.len();
+    let Some(place) = places.get_mut(&step) else {
+        unreachable!();
+    };
+    *place = Some(held);
+}
+
+/// Frees the place of a step, and tells whether the step was held.
+fn free<A: Allocator + Copy>(places: &mut Places<A>, step: StepUid) -> bool
+    ensures steps { held_in places.new.entries ≡ filter (λ e. not (bytes_eq step e.0)) (held_in places.old.entries) }
+    ensures count { length (held_in places.new.entries) + (if result then 1 else 0) ≡ length (held_in places.old.entries) }
+    ensures spare { spare places.new ≡ spare places.old }
+    ensures len { length places.new.entries ≡ length places.old.entries }
+{
+    places.len();
+    match places.get_mut(&step) {
+        Some(place) => place.take().is_some(),
+        None => false,
+    }
+}
+
+/// Frees the places of these steps. Before that `count` places hold a step; how many do after it is returned.
+pub(crate) fn free_each<A: Allocator + Copy>(
+    places: &mut Places<A>,
+    steps: &[Final],
+    count: usize,
+) -> usize
+    requires { count ≡ length (held_in places.old.entries) }
+    ensures steps { held_in places.new.entries ≡ filter (λ e. not (is_among e.0 (steps_of steps.now))) (held_in places.old.entries) }
+    ensures count { result ≡ length (held_in places.new.entries) }
+    ensures spare { spare places.new ≡ spare places.old }
+    ensures len { length places.new.entries ≡ length places.old.entries }
+{
+    let mut left = count;
+    for step in steps {
+        if free(places, step.step) {
+            left -= 1;
+        }
+    }
+    left
+}
+
+/// Closes up the free places. It goes over all places once.
+pub(crate) fn close_up<A: Allocator + Copy>(places: &mut Places<A>)
+    ensures steps { held_in places.new.entries ≡ held_in places.old.entries }
+    ensures spare { spare places.old ≤ spare places.new }
+    ensures len { length places.new.entries ≡ length (held_in places.old.entries) }
+{
+    places.retain(|_, place| place.is_some());
+}

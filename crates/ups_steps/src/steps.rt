@@ -1,0 +1,154 @@
+//! The table of the steps held.
+
+ghost use Rattle.std.specs.Prelude.{◌≡◌, ◌≤◌, ◌<◌, ◌+◌, ◌++◌, ◌∷◌, [], ◌^◌, not, ℕ, List, None, is_some, true, filter, length, IfOk, OnOk};
+ghost use Rattle.std.specs.List.{IsDistinct};
+ghost use Rattle.std.specs.Map.{keys_of};
+ghost use Rattle.std.specs.Map.Iter.{ShowsInOrder, deref_pair};
+ghost use Rattle.std.specs.Option.{option_copied};
+ghost use Rattle.std.specs.Str.{bytes_eq};
+ghost use Rattle.ups_life.specs.Watching.{is_among};
+ghost use Rattle.ups_keep.specs.Waits.{steps_of};
+ghost use Rattle.ups_steps.specs.declared.held.Held.{Held as HeldOf};
+ghost use Rattle.ups_steps.specs.Held.{held_at, final_of, put_held};
+
+use crate::held::Held;
+use crate::iter::Iter;
+use crate::places::{Places, add, close_up, find, free_each, replace};
+use indexmap::IndexMap;
+use std::alloc::{AllocError, Allocator};
+use std::marker::Model;
+use ups_keep::Final;
+use ups_life::StepUid;
+
+/// The steps held, in order of creation, each under its UID. A step that is removed leaves its place free, so that none of the
+/// others is moved; the free places are closed up where they are more than half of all.
+///
+/// A contract sees the steps, and how many more there is room for. Room is made by `reserve` alone: what else changes the table
+/// needs no memory, and can't fail.
+#[derive(Drop)]
+pub struct Steps<A: Allocator + Copy> {
+    places: Places<A>,
+    count: usize,
+}
+
+impl<A: Allocator + Copy> Model for Steps<A> {
+    ghost use Rattle.indexmap.specs.IndexMap.{spare};
+    ghost use Rattle.ups_steps.specs.Places.{held_in};
+    ghost use Rattle.ups_steps.specs.Table.{Standing, Keeps};
+
+    ghost Value = { Standing A };
+
+    ghost use Rattle.std.specs.Coded.{codes};
+    ghost use Rattle.ups_dataset.specs.Code.{set_code};
+
+    ghost coded = { Prim.hlevel (set_code, codes) };
+
+    ghost view = { λ s. record { entries = held_in s.places.entries; spare = spare s.places } };
+
+    ghost invariant = { λ s. Keeps s.places.entries s.count };
+}
+
+impl<A: Allocator + Copy> Steps<A> {
+    /// A table in which no step is held. Room is made by `reserve`.
+    pub fn new(alloc: A) -> Steps<A>
+        ensures { result.entries ≡ [] }
+    {
+        Steps {
+            places: IndexMap::new(alloc),
+            count: 0,
+        }
+    }
+
+    /// Makes room for so many more steps.
+    ///
+    /// # Errors
+    ///
+    /// Where memory runs out. The steps held stay, and so does the room that there was.
+    pub fn reserve(&mut self, more: usize) -> Result<(), AllocError>
+        ensures room { OnOk result (more ≤ self.new.spare) }
+        ensures keeps { self.old.spare ≤ self.new.spare }
+        ensures entries { self.new.entries ≡ self.old.entries }
+    {
+        self.places.reserve(more)
+    }
+
+    /// How many steps are held.
+    pub fn len(&self) -> usize
+        ensures len { result ≡ length self.now.entries }
+    {
+        self.count
+    }
+
+    /// What is held of a step; None where it is not held.
+    pub fn get(&self, step: StepUid) -> Option<&Held<A>>
+        ensures { option_copied result ≡ held_at step self.now.entries }
+    {
+        find(&self.places, step)
+    }
+
+    /// When the state of a step became final; None where it is not final, or the step is not held.
+    pub fn final_at(&self, step: StepUid) -> Option<u64>
+        ensures { result ≡ final_of (held_at step self.now.entries) }
+    {
+        match self.get(step) {
+            Some(held) => held.row.final_at,
+            None => None,
+        }
+    }
+
+    /// The steps held, in order of creation. It goes over the free places too, which are no more than half of all.
+    pub fn iter(&self) -> Iter<'_, A>
+        ensures rest { result ≡ self.now.entries }
+        ensures runs { ShowsInOrder (deref_pair {K = List ℕ} {X = HeldOf A}) }
+        ensures unique { IsDistinct bytes_eq (keys_of self.now.entries) }
+        ensures fits { length self.now.entries < 2 ^ 63 }
+    {
+        Iter::over(&self.places)
+    }
+
+    /// The UIDs of the steps held, in order of creation.
+    ///
+    /// # Errors
+    ///
+    /// Where memory runs out.
+    pub fn uids(&self, alloc: A) -> Result<Vec<StepUid, A>, AllocError>
+        ensures uids { IfOk result (λ v. v.items ≡ keys_of self.now.entries) }
+        ensures unique { IsDistinct bytes_eq (keys_of self.now.entries) }
+    {
+        self.iter().map(|(step, _)| *step).collect(alloc)
+    }
+
+    /// Adds a step that is not held, behind the others. It takes one place of the room.
+    pub fn push(&mut self, step: StepUid, held: Held<A>)
+        requires fresh { held_at step self.old.entries ≡ None }
+        requires room { 0 < self.old.spare }
+        ensures entries { self.new.entries ≡ self.old.entries ++ (step, held) ∷ [] }
+        ensures spare { self.old.spare ≤ self.new.spare + 1 }
+    {
+        let Steps { places, count } = self;
+        add(places, step, held);
+        *count += 1;
+    }
+
+    /// Puts what is held of a step in the place of what was held of it.
+    pub fn put(&mut self, step: StepUid, held: Held<A>)
+        requires { is_some (held_at step self.old.entries) ≡ true }
+        ensures entries { self.new.entries ≡ put_held step held self.old.entries }
+        ensures spare { self.new.spare ≡ self.old.spare }
+    {
+        replace(&mut self.places, step, held);
+    }
+
+    /// Removes each of these steps that is held.
+    pub fn remove(&mut self, steps: &[Final])
+        ensures entries { self.new.entries ≡ filter (λ e. not (is_among e.0 (steps_of steps.now))) self.old.entries }
+        ensures spare { self.old.spare ≤ self.new.spare }
+    {
+        let Steps { places, count } = self;
+        *count = free_each(places, steps, *count);
+        let free = places.len() - *count;
+        if free > *count {
+            close_up(places);
+        }
+    }
+}
