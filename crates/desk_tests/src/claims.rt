@@ -11,13 +11,19 @@ use ups_manager::Manager;
 use ups_pdu::Ae;
 use ups_turn::{Desk, Pass};
 
+/// Creates the steps.
+fn create_steps(alloc: Global, manager: &mut Manager<Global>, ae: Ae) -> Result<(), Fail> {
+    for number in 0..STEPS {
+        let step = step_of(alloc, number).ok_or("a step")?;
+        enter(manager, ae, creation(alloc, step).ok_or("a request")?);
+    }
+    Ok(())
+}
+
 /// A manager that holds the steps.
 fn with_steps(alloc: Global, ae: Ae) -> Result<Manager<Global>, Fail> {
     let mut manager = Manager::new(alloc, &[], 60, 0, 1_000)?;
-    for number in 0..STEPS {
-        let step = step_of(alloc, number).ok_or("a step")?;
-        enter(&mut manager, ae, creation(alloc, step).ok_or("a request")?);
-    }
+    create_steps(alloc, &mut manager, ae)?;
     Ok(manager)
 }
 
@@ -79,13 +85,13 @@ struct Outcome {
     callers: Vec<u32, Global>,
 }
 
-/// Closes a desk whose passes are these two: its manager.
-fn closed_with(
+/// Closes a desk whose passes are these two: the callers of the history that it leaves.
+fn callers_at_close(
     alloc: Global,
     desk: Desk<Global>,
     one: Pass<Global>,
     two: Pass<Global>,
-) -> Result<Manager<Global>, Fail>
+) -> Result<Vec<u32, Global>, Fail>
     requires one { one.table ≡ desk.table }
     requires two { two.table ≡ desk.table }
 {
@@ -93,9 +99,31 @@ fn closed_with(
     passes.push(one)?;
     passes.push(two)?;
     match desk.close(passes) {
-        Ok(manager) => Ok(manager),
+        Ok(manager) => callers_of(alloc, &manager),
         Err(_) => Err("not closed".into()),
     }
+}
+
+/// Lets two passes of a desk claim each step at the same time, and meet, and closes the desk.
+fn outcome_at<R: Threads + Wait + Sync>(
+    rt: &R,
+    alloc: Global,
+    ae: Ae,
+    desk: Desk<Global>,
+    one: Pass<Global>,
+    two: Pass<Global>,
+) -> Result<Outcome, Fail>
+    requires one { one.table ≡ desk.table }
+    requires two { two.table ≡ desk.table }
+{
+    let ((mut one, first), (mut two, second)) = race(rt, alloc, &desk, one, two, ae);
+    let met = desk.meet(&mut one, &mut two);
+    Ok(Outcome {
+        one: first,
+        two: second,
+        met,
+        callers: callers_at_close(alloc, desk, one, two)?,
+    })
 }
 
 fn outcome_of_race<R: Threads + Wait + Sync>(rt: &R, alloc: Global) -> Result<Outcome, Fail> {
@@ -110,15 +138,7 @@ fn outcome_of_race<R: Threads + Wait + Sync>(rt: &R, alloc: Global) -> Result<Ou
     let Some(one) = passes.pop() else {
         return Err("no pass".into());
     };
-    let ((mut one, first), (mut two, second)) = race(rt, alloc, &desk, one, two, ae);
-    let met = desk.meet(&mut one, &mut two);
-    let manager = closed_with(alloc, desk, one, two)?;
-    Ok(Outcome {
-        one: first,
-        two: second,
-        met,
-        callers: callers_of(alloc, &manager)?,
-    })
+    outcome_at(rt, alloc, ae, desk, one, two)
 }
 
 #[test]

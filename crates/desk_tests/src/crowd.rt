@@ -237,17 +237,32 @@ fn known_to(rt: &impl AllocGlobal, manager: &Manager<Global>) -> Result<Known, F
     })
 }
 
+/// What a crowd leaves in a manager, and what the manager knows.
+fn left_and_known(
+    rt: &impl AllocGlobal,
+    manager: &Manager<Global>,
+    tally: &Tally,
+) -> Result<(Left, Known), Fail> {
+    Ok((left_in(rt.alloc(), manager, tally)?, known_to(rt, manager)?))
+}
+
+/// The same of the manager that a desk leaves on which all passes have called.
+fn left_and_known_after<R: Threads + Wait + Sync + AllocGlobal>(
+    rt: &R,
+) -> Result<(Left, Known), Fail> {
+    let tally = Tally::new();
+    let manager = manager_after(rt, rt.alloc(), &tally)?;
+    left_and_known(rt, &manager, &tally)
+}
+
 #[test]
 fn eight_passes_of_a_thousand_calls_each_leave_one_legal_history(
     rt: HostRuntime,
 ) -> Result<(), Fail> {
-    let tally = Tally::new();
-    let manager = manager_after(&rt, rt.alloc(), &tally)?;
-    let left = left_in(rt.alloc(), &manager, &tally)?;
+    let (left, known) = left_and_known_after(&rt)?;
     assert_eq!(rt; left.odd, 0);
     assert_eq!(rt; left.passes, PASSES);
     assert_eq!(rt; left.steps, STEPS);
-    let known = known_to(&rt, &manager)?;
     assert_eq!(rt;
         known,
         Known {

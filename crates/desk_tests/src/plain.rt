@@ -8,9 +8,10 @@ use fixtures::{described, title};
 use std::alloc::{AllocError, Global};
 use std::test::Fail;
 use ups_dataset::DataSet;
-use ups_life::{Configuration, Reply, StepUid, Watched, plain_find, plain_held, plain_watches};
+use ups_life::{Configuration, Reply, StepUid, Watched};
 use ups_manager::Manager;
 use ups_match::Probe;
+use ups_plain::{plain_find, plain_held, plain_watches};
 
 /// What was fixed at the start of a manager.
 fn configuration_of(

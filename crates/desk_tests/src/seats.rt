@@ -54,12 +54,28 @@ fn statuses<R: Wait>(
     (created, claimed, refused)
 }
 
-/// Closes a desk without its last pass, and then with it: what the first try is refused for, and the manager.
+/// Closes a desk with all of its passes: the callers of the history that it leaves.
+fn callers_at_close(
+    alloc: Global,
+    desk: Desk<Global>,
+    passes: Vec<Pass<Global>, Global>,
+) -> Result<Vec<u32, Global>, Fail>
+    requires here { All (λ p. p.table ≡ desk.table) passes.items }
+{
+    match desk.close(passes) {
+        Ok(manager) => callers_of(alloc, &manager),
+        Err(_) => Err("not closed".into()),
+    }
+}
+
+/// Closes a desk without its last pass, and then with it: what the first try is refused for, and the callers of the
+/// history that the desk leaves.
 fn closed_late(
+    alloc: Global,
     desk: Desk<Global>,
     passes: Vec<Pass<Global>, Global>,
     last: Pass<Global>,
-) -> Result<(CloseFault, Manager<Global>), Fail>
+) -> Result<(CloseFault, Vec<u32, Global>), Fail>
     requires here { All (λ p. p.table ≡ desk.table) passes.items }
     requires last { last.table ≡ desk.table }
 {
@@ -67,10 +83,7 @@ fn closed_late(
         return Err("closed".into());
     };
     passes.push(last)?;
-    match desk.close(passes) {
-        Ok(manager) => Ok((fault, manager)),
-        Err(_) => Err("not closed".into()),
-    }
+    Ok((fault, callers_at_close(alloc, desk, passes)?))
 }
 
 /// What two passes come to: the statuses that they are answered with, how many entries both have seen once they met, why
@@ -83,28 +96,44 @@ struct Outcome {
     callers: Vec<u32, Global>,
 }
 
+/// Lets two passes of a desk call and meet, and closes the desk.
+fn outcome_at<R: Wait>(
+    rt: &R,
+    alloc: Global,
+    ae: Ae,
+    desk: Desk<Global>,
+    mut one: Pass<Global>,
+    mut two: Pass<Global>,
+) -> Result<Outcome, Fail>
+    requires one { one.table ≡ desk.table }
+    requires two { two.table ≡ desk.table }
+{
+    let statuses = statuses(rt, alloc, &desk, &mut one, &mut two, ae);
+    let met = desk.meet(&mut one, &mut two);
+    let mut passes = Vec::new(alloc);
+    passes.push(one)?;
+    let (fault, callers) = closed_late(alloc, desk, passes, two)?;
+    Ok(Outcome {
+        statuses,
+        met,
+        fault,
+        callers,
+    })
+}
+
 fn outcome_of_two<R: Wait>(rt: &R, alloc: Global) -> Result<Outcome, Fail> {
     let ae = title("PERFORM1")?;
     let manager = Manager::new(alloc, &[], 60, 0, 1_000)?;
     let Ok((desk, mut passes)) = Desk::open(alloc, manager, 2) else {
         return Err("not opened".into());
     };
-    let Some(mut two) = passes.pop() else {
+    let Some(two) = passes.pop() else {
         return Err("no pass".into());
     };
-    let Some(mut one) = passes.pop() else {
+    let Some(one) = passes.pop() else {
         return Err("no pass".into());
     };
-    let statuses = statuses(rt, alloc, &desk, &mut one, &mut two, ae);
-    let met = desk.meet(&mut one, &mut two);
-    passes.push(one)?;
-    let (fault, manager) = closed_late(desk, passes, two)?;
-    Ok(Outcome {
-        statuses,
-        met,
-        fault,
-        callers: callers_of(alloc, &manager)?,
-    })
+    outcome_at(rt, alloc, ae, desk, one, two)
 }
 
 #[test]
@@ -119,10 +148,11 @@ fn a_step_that_one_pass_has_claimed_is_refused_to_the_other(rt: HostRuntime) -> 
 
 /// A manager that holds one step.
 fn with_a_step<A: Allocator + Copy>(alloc: A) -> Result<Manager<A>, Fail> {
-    let mut manager = Manager::new(alloc, &[], 60, 0, 1_000)?;
+    let ae = title("SCHED1")?;
     let step = StepUid::of(uid("1.2.3.1")?).ok_or("a step")?;
     let request = creation(alloc, step).ok_or("a request")?;
-    enter(&mut manager, title("SCHED1")?, request);
+    let mut manager = Manager::new(alloc, &[], 60, 0, 1_000)?;
+    enter(&mut manager, ae, request);
     Ok(manager)
 }
 

@@ -175,17 +175,49 @@ fn pending_of(manager: &Manager<Global>) -> Result<usize, Fail> {
     }
 }
 
+/// What a server leaves in its manager: how many entries there are in all, of these how many are creations by the client,
+/// acknowledgements of the first event and sweeps, and how many events wait for W1.
+#[derive(Clone, Copy, Debug, PartialEq, Eq)]
+struct Left {
+    entries: usize,
+    created: u64,
+    acknowledged: u64,
+    swept: u64,
+    pending: usize,
+}
+
+/// What a manager tells of that.
+fn left_in(manager: &Manager<Global>) -> Result<Left, Fail> {
+    let history = manager.history();
+    Ok(Left {
+        entries: history.len(),
+        created: count_of(history, 1, "SCHED1", "create"),
+        acknowledged: count_of(history, 2, "W1", "ack 1"),
+        swept: count_of(history, 3, "UPSD", "sweep"),
+        pending: pending_of(manager)?,
+    })
+}
+
+/// The same of the manager that a desk leaves.
+fn left_by(desk: Desk<Global>, passes: Vec<Pass<Global>>) -> Result<Left, Fail>
+    requires here { All (λ p. p.table ≡ desk.table) passes.items }
+{
+    match desk.close(passes) {
+        Ok(manager) => left_in(&manager),
+        Err(_) => Err("not closed".into()),
+    }
+}
+
 /// What a server leaves, and what its peers heard.
-#[derive(Drop)]
+#[derive(Clone, Copy)]
 struct Outcome {
     /// Whether the server began.
     began: bool,
-    /// What the client was answered.
-    answer: Vec<u8>,
-    /// What the watcher heard.
-    heard: io::Result<Vec<u8>>,
-    /// The manager that the server leaves.
-    manager: Manager<Global>,
+    /// Whether the client was answered that its step was created, and what it is.
+    is_served: bool,
+    /// Whether the watcher heard one report of the step, over an association that was released; None where it heard none.
+    is_told: Option<bool>,
+    left: Left,
 }
 
 /// The options of a server with one worker, which serves one association, and one round of the sweeper and the deliverer.
@@ -213,6 +245,46 @@ pub(crate) fn options_of(alloc: Global, port: u16) -> Result<ServerOptions, Fail
     })
 }
 
+/// Whether these are the bytes that texts stand for.
+fn are_bytes_of(rt: &impl AllocGlobal, bytes: &[u8], texts: &[&str]) -> Result<bool, Fail> {
+    let due = bytes_of_all(rt, texts)?;
+    Ok(bytes == due.as_slice())
+}
+
+/// Whether the client was answered that its step was created, and what it is.
+fn is_served(rt: &impl AllocGlobal, answer: io::Result<Vec<u8>>) -> Result<bool, Fail> {
+    let texts = [ACCEPTED, CREATED, GOT, GOT_STEP, RELEASED];
+    are_bytes_of(rt, &answer?, &texts)
+}
+
+/// Whether the watcher heard one report of the step, over an association that was released; None where it heard none.
+fn is_told(rt: &impl AllocGlobal, heard: io::Result<Vec<u8>>) -> Result<Option<bool>, Fail> {
+    let Ok(heard) = heard else {
+        return Ok(None);
+    };
+    let texts = [EVENT_REQUEST, EVENT_REPORT, EVENT_STATE, RELEASE];
+    Ok(Some(are_bytes_of(rt, &heard, &texts)?))
+}
+
+/// What a server and its peers come to, once its desk is closed.
+fn outcome_at(rt: &impl AllocGlobal, desk: Desk<Global>, ended: Ended) -> Result<Outcome, Fail>
+    requires here { All (λ p. p.table ≡ desk.table) ended.passes.items }
+{
+    let Ended {
+        began,
+        passes,
+        answer,
+        heard,
+    } = ended;
+    let left = left_by(desk, passes)?;
+    Ok(Outcome {
+        began,
+        is_served: is_served(rt, answer)?,
+        is_told: is_told(rt, heard)?,
+        left,
+    })
+}
+
 /// Runs a server with its peers, at a door of its own and a listener of the watcher.
 fn outcome_on<R>(
     rt: &R,
@@ -234,21 +306,8 @@ where
     let Ok((desk, passes)) = Desk::open(alloc, manager_of(alloc)?, 3) else {
         return Err("not opened".into());
     };
-    let Ended {
-        began,
-        passes,
-        answer,
-        heard,
-    } = run_with_peers(rt, door, &desk, passes, options, watching, &lines)?;
-    let Ok(manager) = desk.close(passes) else {
-        return Err("not closed".into());
-    };
-    Ok(Outcome {
-        began,
-        answer: answer?,
-        heard,
-        manager,
-    })
+    let ended = run_with_peers(rt, door, &desk, passes, options, watching, &lines)?;
+    outcome_at(rt, desk, ended)
 }
 
 /// A port on which nobody listens any more.
@@ -284,55 +343,40 @@ where
     outcome_on(rt, &options, &door, &watching)
 }
 
-/// Whether these are the bytes that texts stand for.
-fn are_bytes_of(rt: &impl AllocGlobal, bytes: &[u8], texts: &[&str]) -> Result<bool, Fail> {
-    let due = bytes_of_all(rt, texts)?;
-    Ok(bytes == due.as_slice())
-}
-
-/// Whether the client was answered that its step was created, and what it is.
-fn is_served(rt: &impl AllocGlobal, outcome: &Outcome) -> Result<bool, Fail> {
-    let texts = [ACCEPTED, CREATED, GOT, GOT_STEP, RELEASED];
-    are_bytes_of(rt, &outcome.answer, &texts)
-}
-
-/// Whether the watcher heard one report of the step, over an association that was released.
-fn is_told(rt: &impl AllocGlobal, outcome: &Outcome) -> Result<bool, Fail> {
-    match &outcome.heard {
-        Ok(heard) => are_bytes_of(
-            rt,
-            heard,
-            &[EVENT_REQUEST, EVENT_REPORT, EVENT_STATE, RELEASE],
-        ),
-        Err(_) => Ok(false),
-    }
-}
-
 #[test]
 fn a_server_answers_delivers_and_sweeps(rt: HostRuntime) -> Result<(), Fail> {
     let outcome = outcome_of(&rt, true)?;
-    let history = outcome.manager.history();
     assert!(rt; outcome.began);
-    assert!(rt; is_served(&rt, &outcome)?);
-    assert!(rt; is_told(&rt, &outcome)?);
-    assert_eq!(rt; history.len(), 6);
-    assert_eq!(rt; count_of(history, 1, "SCHED1", "create"), 1);
-    assert_eq!(rt; count_of(history, 2, "W1", "ack 1"), 1);
-    assert_eq!(rt; count_of(history, 3, "UPSD", "sweep"), 1);
-    assert_eq!(rt; pending_of(&outcome.manager)?, 0);
+    assert!(rt; outcome.is_served);
+    assert!(rt; outcome.is_told == Some(true));
+    assert_eq!(rt;
+        outcome.left,
+        Left {
+            entries: 6,
+            created: 1,
+            acknowledged: 1,
+            swept: 1,
+            pending: 0,
+        }
+    );
     Ok(())
 }
 
 #[test]
 fn an_event_waits_for_a_watcher_that_is_unreachable(rt: HostRuntime) -> Result<(), Fail> {
     let outcome = outcome_of(&rt, false)?;
-    let history = outcome.manager.history();
     assert!(rt; outcome.began);
-    assert!(rt; is_served(&rt, &outcome)?);
-    assert!(rt; outcome.heard.is_err());
-    assert_eq!(rt; history.len(), 5);
-    assert_eq!(rt; count_of(history, 1, "SCHED1", "create"), 1);
-    assert_eq!(rt; count_of(history, 3, "UPSD", "sweep"), 1);
-    assert_eq!(rt; pending_of(&outcome.manager)?, 1);
+    assert!(rt; outcome.is_served);
+    assert!(rt; outcome.is_told.is_none());
+    assert_eq!(rt;
+        outcome.left,
+        Left {
+            entries: 5,
+            created: 1,
+            acknowledged: 0,
+            swept: 1,
+            pending: 1,
+        }
+    );
     Ok(())
 }

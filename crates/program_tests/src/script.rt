@@ -5,7 +5,7 @@ mod service;
 
 use crate::headings::number_of;
 use fixtures::title;
-use std::alloc::Allocator;
+use std::alloc::{Allocator, Global};
 use std::io::{BufRead, Write};
 use std::process::Abort;
 use std::test::Fail;
@@ -106,6 +106,25 @@ fn tell(rt: &impl AllocGlobal, script: &[u8]) -> Result<Told, Fail> {
     Ok(Told { ended, output })
 }
 
+/// What comes of a script with a manager, of which so many lines are answered.
+fn tell_with(
+    rt: &impl AllocGlobal,
+    manager: &mut Manager<Global>,
+    lines: u16,
+    script: &[u8],
+) -> Told {
+    let mut reader = script;
+    let mut output = Vec::new(rt.alloc());
+    let ended = answer_lines(
+        rt.alloc(),
+        manager,
+        &mut reader,
+        &mut output,
+        u64::from(lines),
+    );
+    Told { ended, output }
+}
+
 /// What comes of a script with the peers W1, which may lock steps, and W2, which may not, where so many requests are
 /// entered and so many lines are answered.
 fn tell_limited(
@@ -123,16 +142,7 @@ fn tell_limited(
         lock: false,
     };
     let mut manager = Manager::new(rt.alloc(), &[watcher, other], 60, 0, u64::from(entries))?;
-    let mut reader = script;
-    let mut output = Vec::new(rt.alloc());
-    let ended = answer_lines(
-        rt.alloc(),
-        &mut manager,
-        &mut reader,
-        &mut output,
-        u64::from(lines),
-    );
-    Ok(Told { ended, output })
+    Ok(tell_with(rt, &mut manager, lines, script))
 }
 
 /// The replies to a script, and behind them, where it ended early, a line that says why.

@@ -195,6 +195,19 @@ fn before(heading: &str) -> &'static str {
     }
 }
 
+/// Has a manager take the sessions before one under a heading.
+fn prepare<A: Allocator + Copy>(
+    rt: &impl AllocGlobal,
+    alloc: A,
+    manager: &mut Manager<A>,
+    heading: &str,
+) -> Result<(), Fail> {
+    for words in before(heading).lines() {
+        course_with(rt, alloc, manager, "", &said(rt, words)?)?;
+    }
+    Ok(())
+}
+
 /// A manager with the peer W1, which may lock steps. It enters so many requests as `(history N)` says, its local time is
 /// that of `(offset N)`, and it may hold `(two steps)`, or one step of which W1 is to be told `(one event)`, `(two events)`,
 /// `(five events)` or `(many events)`, or that comes to match `(a filter)` of W1.
@@ -212,17 +225,26 @@ fn manager_of<A: Allocator + Copy>(
         .unwrap_or("0")
         .parse::<i16>()?;
     let mut manager = Manager::new(alloc, &[watcher], 60, offset, u64::from(limit))?;
-    for words in before(heading).lines() {
-        course_with(rt, alloc, &mut manager, "", &said(rt, words)?)?;
-    }
+    prepare(rt, alloc, &mut manager, heading)?;
     Ok(manager)
 }
 
-/// What a session with a new manager comes to under a heading.
+/// What a session with a manager comes to under a heading, with what is then pending.
+fn whole_course<A: Allocator + Copy>(
+    rt: &impl AllocGlobal,
+    alloc: A,
+    manager: &mut Manager<A>,
+    heading: &str,
+    input: &[u8],
+) -> Result<String, Fail> {
+    let course = course_with(rt, alloc, manager, heading, input)?;
+    with_pending(rt, manager, heading, course.as_str())
+}
+
+/// The same of a new manager.
 fn course_of(rt: &impl AllocGlobal, heading: &str, input: &[u8]) -> Result<String, Fail> {
     let mut manager = manager_of(rt, rt.alloc(), heading)?;
-    let course = course_with(rt, rt.alloc(), &mut manager, heading, input)?;
-    with_pending(rt, &manager, heading, course.as_str())
+    whole_course(rt, rt.alloc(), &mut manager, heading, input)
 }
 
 /// The text of a course by the words that are answered, ` : `, and the rest.

@@ -1,5 +1,6 @@
 //! What event reports say, as bytes in Explicit VR Little Endian.
 
+use fixtures::rows::{behind, cut, cut_twice, number};
 use fixtures::{Refusing, bytes_of, title, uid};
 use std::alloc::{Allocator, Global};
 use std::test::Fail;
@@ -72,26 +73,14 @@ const ROWS: &str = "\
 1: 5|SCHEDULED|READY; set STATION PERFORMERS ITEM DR1 HOSP NAME ITEM_END ITEM DR2 HOME NAME ITEM_END SEQUENCE_END PROGRESS -> DR1 STATION HOSP
 12: 5|CANCELED|READY; set STATION PERFORMERS ITEM DR1 NAME ITEM_END SEQUENCE_END PROGRESS -> DR1 STATION NO_ORGANIZATION";
 
-/// Returns the text of the bytes that a word stands for.
-fn meaning(word: &str) -> Result<&'static str, Fail> {
-    for line in WORDS.lines() {
-        if let Some((name, bytes)) = line.split_once(": ") {
-            if name == word {
-                return Ok(bytes);
-            }
-        }
-    }
-    Err("a word".into())
-}
-
 /// Returns the bytes that words stand for.
 fn bytes_by(rt: &impl AllocGlobal, words: &str) -> Result<Vec<u8>, Fail> {
-    let mut bytes = Vec::new(rt.alloc());
+    let mut text = String::new(rt.alloc());
     for word in words.split_ascii_whitespace() {
-        let part = bytes_of(rt, meaning(word)?)?;
-        bytes.extend_from_slice(&part)?;
+        text.push_str(behind(WORDS, word, ": ")?)?;
+        text.push(' ')?;
     }
-    Ok(bytes)
+    bytes_of(rt, text.as_str())
 }
 
 /// Returns the UID of the step that the events are of.
@@ -99,33 +88,36 @@ fn step_of_events() -> Result<StepUid, Fail> {
     Ok(StepUid::of(uid("1.2.3.4")?).ok_or("the UID of a step")?)
 }
 
-/// Returns an event of the step: the number of its type, the state and the readiness.
-fn event_of(text: &str) -> Result<Event, Fail> {
-    let (number, rest) = text.split_once('|').ok_or("a state")?;
-    let (state, readiness) = rest.split_once('|').ok_or("a readiness")?;
+/// Returns the kind of events whose type has this number.
+fn kind_of(number: u64) -> Result<EventKind, Fail> {
     let kind = match number {
-        "1" => EventKind::StateReport,
-        "2" => EventKind::CancelRequested,
-        "3" => EventKind::ProgressReport,
+        1 => EventKind::StateReport,
+        2 => EventKind::CancelRequested,
+        3 => EventKind::ProgressReport,
         _ => EventKind::Assigned,
     };
-    if type_id(kind) != number.parse::<u16>()? {
+    if u64::from(type_id(kind)) != number {
         return Err("a kind has another type".into());
     }
+    Ok(kind)
+}
+
+/// Returns an event of the step: the number of its type, the state and the readiness.
+fn event_of(text: &str) -> Result<Event, Fail> {
+    let (kind, state, readiness) = cut_twice(text, "|", "|")?;
     Ok(Event {
         number: 1,
         entry: 0,
-        kind,
+        kind: kind_of(number(kind)?)?,
         step: step_of_events()?,
         state: StepState::of(state.as_bytes()).ok_or("a state")?,
         readiness: InputReadiness::of(readiness.as_bytes()),
     })
 }
 
-/// Returns a request on the step with a set.
-fn request_of<A: Allocator + Copy>(verb: &str, set: DataSet<A>) -> Result<Request<A>, Fail> {
-    let step = step_of_events()?;
-    Ok(match verb {
+/// Returns a request on a step with a set.
+fn request_of<A: Allocator + Copy>(verb: &str, step: StepUid, set: DataSet<A>) -> Request<A> {
+    match verb {
         "create" => Request::Create {
             step,
             attributes: set,
@@ -139,7 +131,18 @@ fn request_of<A: Allocator + Copy>(verb: &str, set: DataSet<A>) -> Result<Reques
             transaction: Transaction::Absent,
             attributes: set,
         },
-    })
+    }
+}
+
+/// Returns the set that words stand for.
+fn set_by<'a>(
+    rt: &impl AllocGlobal,
+    heap: &'a Refusing<Global>,
+    words: &str,
+) -> Result<DataSet<&'a Refusing<Global>>, Fail> {
+    heap.refuse(0);
+    let bytes = bytes_by(rt, words)?;
+    Ok(read_set(heap, TransferSyntax::Explicit, &bytes)?)
 }
 
 /// Returns the entry of a request: a verb, and the words of a set.
@@ -148,15 +151,15 @@ fn entry_of<'a>(
     heap: &'a Refusing<Global>,
     text: &str,
 ) -> Result<Entry<&'a Refusing<Global>>, Fail> {
-    heap.refuse(0);
     let (verb, words) = text.split_once(' ').unwrap_or((text, ""));
-    let bytes = bytes_by(rt, words)?;
-    let set = read_set(heap, TransferSyntax::Explicit, &bytes)?;
+    let ae = title("DOC")?;
+    let step = step_of_events()?;
+    let set = set_by(rt, heap, words)?;
     Ok(Entry {
         caller: 0,
-        ae: title("DOC")?,
+        ae,
         moment: 0,
-        request: request_of(verb, set)?,
+        request: request_of(verb, step, set),
     })
 }
 
@@ -187,16 +190,48 @@ fn is_written<A: Allocator + Copy>(set: &DataSet<A>, bytes: &[u8]) -> Result<boo
     Ok(write_set(set.allocator(), TransferSyntax::Explicit, set)?.as_slice() == bytes)
 }
 
+/// Whether an event of an entry says these bytes, which takes so many growths at least.
+fn says<'a>(
+    heap: &'a Refusing<Global>,
+    event: &Event,
+    entry: &Entry<&'a Refusing<Global>>,
+    least: u64,
+    bytes: &[u8],
+) -> Result<bool, Fail> {
+    let (growths, set) = told_in_turn(heap, event, entry)?;
+    heap.refuse(0);
+    Ok(growths >= least && is_written(&set, bytes)?)
+}
+
+/// Whether an event of an entry says these bytes, by the words for the event and for the number of growths.
+fn says_by_words<'a>(
+    heap: &'a Refusing<Global>,
+    event: &str,
+    entry: &Entry<&'a Refusing<Global>>,
+    least: &str,
+    bytes: &[u8],
+) -> Result<bool, Fail> {
+    let event = event_of(event)?;
+    says(heap, &event, entry, number(least)?, bytes)
+}
+
+/// Whether the event of a row says these bytes.
+fn is_said(
+    rt: &impl AllocGlobal,
+    heap: &Refusing<Global>,
+    row: &str,
+    bytes: &[u8],
+) -> Result<bool, Fail> {
+    let (least, event, request) = cut_twice(row, ": ", "; ")?;
+    let entry = entry_of(rt, heap, request)?;
+    says_by_words(heap, event, &entry, least, bytes)
+}
+
 /// Whether an event says what its row says.
 fn is_so(rt: &impl AllocGlobal, heap: &Refusing<Global>, row: &str) -> Result<bool, Fail> {
-    let (rest, said) = row.split_once(" ->").ok_or("words")?;
-    let (least, rest) = rest.split_once(": ").ok_or("an event")?;
-    let (event, request) = rest.split_once("; ").ok_or("a request")?;
-    let entry = entry_of(rt, heap, request)?;
-    let (growths, set) = told_in_turn(heap, &event_of(event)?, &entry)?;
-    heap.refuse(0);
+    let (row, said) = cut(row, " ->")?;
     let bytes = bytes_by(rt, said)?;
-    Ok(growths >= least.parse::<u64>()? && is_written(&set, &bytes)?)
+    is_said(rt, heap, row, &bytes)
 }
 
 #[test]

@@ -1,3 +1,4 @@
+use fixtures::rows::check_same;
 use fixtures::{Refusing, add_bytes, title, uid};
 use std::alloc::{Allocator, Global};
 use std::test::Fail;
@@ -5,6 +6,8 @@ use ups_cycle::Status;
 use ups_dataset::DataSet;
 use ups_life::*;
 use ups_pdu::Uid;
+use ups_plain::*;
+use ups_rules::*;
 
 mod changing;
 mod deciding;
@@ -110,19 +113,33 @@ fn configured(alloc: Global) -> Result<Configuration<Global>, Fail> {
     Ok(Configuration::new(peers, 60, -300, 1_000_000))
 }
 
-#[test]
-fn a_configuration_has_what_it_was_given(rt: HostRuntime) -> Result<(), Fail> {
-    let configuration = configured(rt.alloc())?;
+/// Returns a configuration as text.
+fn configured_text(
+    rt: &impl AllocGlobal,
+    configuration: &Configuration<Global>,
+) -> Result<String, Fail> {
     let mut text = String::new(rt.alloc());
     for peer in configuration.peers() {
         add_bytes(&mut text, peer.ae.as_bytes())?;
         text.push_str(if peer.lock { " locks " } else { " " })?;
     }
-    assert_eq!(rt; text.as_str(), "WATCH1 locks WATCH2 ");
-    assert_eq!(rt; configuration.keep(), 60);
-    assert_eq!(rt; configuration.offset(), -300);
-    assert_eq!(rt; configuration.limit(), 1_000_000);
-    Ok(())
+    let (keep, offset, limit) = (
+        configuration.keep(),
+        configuration.offset(),
+        configuration.limit(),
+    );
+    write!(text, "keep {keep} offset {offset} limit {limit}")?;
+    Ok(text)
+}
+
+#[test]
+fn a_configuration_has_what_it_was_given(rt: HostRuntime) -> Result<(), Fail> {
+    let configuration = configured(rt.alloc())?;
+    check_same(
+        "configured",
+        configured_text(&rt, &configuration)?.as_str(),
+        "WATCH1 locks WATCH2 keep 60 offset -300 limit 1000000",
+    )
 }
 
 /// Whether a UID is that of a step, and no other step's.

@@ -3,6 +3,7 @@ mod likeness;
 mod uids;
 
 use fixtures::bytes_of;
+use fixtures::rows::{cut_twice, number};
 use std::test::Fail;
 use ups_match::{read_dt, write_dt};
 
@@ -220,9 +221,7 @@ fn row_of(rt: &impl AllocGlobal, text: &str, offset: &str) -> Result<String, Fai
 
 /// Whether a row says what is read.
 fn is_read_so(rt: &impl AllocGlobal, row: &str) -> Result<bool, Fail> {
-    let mut words = row.split(' ');
-    let text = words.next().ok_or("a text")?;
-    let offset = words.next().ok_or("an offset")?;
+    let (text, offset, _) = cut_twice(row, " ", " ")?;
     Ok(row_of(rt, text, offset)?.as_str() == row)
 }
 
@@ -250,9 +249,8 @@ fn other_texts_stand_for_no_moment(rt: HostRuntime) -> Result<(), Fail> {
 
 /// Whether a row says what is written.
 fn is_written_so(row: &str) -> Result<bool, Fail> {
-    let (moment, rest) = row.split_once(' ').ok_or("a moment")?;
-    let (offset, text) = rest.split_once(' ').ok_or("an offset")?;
-    let (moment, offset) = (moment.parse::<u64>()?, offset.parse::<i16>()?);
+    let (moment, offset, text) = cut_twice(row, " ", " ")?;
+    let (moment, offset) = (number(moment)?, offset.parse::<i16>()?);
     if moment > 253_402_250_399 || offset < -720 || offset > 840 {
         return Err("no local time".into());
     }

@@ -91,17 +91,27 @@ fn transaction(text: &str) -> Transaction {
     }
 }
 
+/// Returns the number of a caller that a word says.
+fn caller_of(word: Option<&str>) -> Result<u32, Fail> {
+    Ok(word.unwrap_or("").parse::<u32>()?)
+}
+
+/// Returns the moment that a word says.
+fn moment_of(word: Option<&str>) -> Result<u64, Fail> {
+    Ok(word.unwrap_or("").parse::<u64>()?)
+}
+
 /// Reads the part of a line that stands before its attributes.
 fn line_of(front: &str) -> Result<Line, Fail> {
     let mut words = front.split(' ');
     Ok(Line {
-        caller: words.next().ok_or("a caller")?.parse::<u32>()?,
-        ae: title(words.next().ok_or("a title")?)?,
-        moment: words.next().ok_or("a moment")?.parse::<u64>()?,
-        verb: verb_of(words.next().ok_or("a verb")?),
-        step: step_uid(words.next().ok_or("a step")?)?,
-        state: state_of(words.next().ok_or("a state")?),
-        transaction: transaction(words.next().ok_or("a UID")?.trim_start_matches('-')),
+        caller: caller_of(words.next())?,
+        ae: title(words.next().unwrap_or(""))?,
+        moment: moment_of(words.next())?,
+        verb: verb_of(words.next().unwrap_or("")),
+        step: step_uid(words.next().unwrap_or(""))?,
+        state: state_of(words.next().unwrap_or("")),
+        transaction: transaction(words.next().unwrap_or("").trim_start_matches('-')),
     })
 }
 
@@ -312,21 +322,41 @@ fn attributes_in<A: Allocator + Copy>(request: &Request<A>) -> Option<&DataSet<A
     }
 }
 
-/// Returns an entry as a line, with its attributes as they are described.
-fn entry_of<A: Allocator + Copy>(rt: &impl AllocGlobal, entry: &Entry<A>) -> Result<String, Fail> {
-    let (verb, state, uid) = words_of(&entry.request);
-    let (state, uid) = (text_of(state)?, text_of(uid)?);
-    let step = entry.request.step();
-    let step = step.as_ref().map_or(b"-".as_slice(), StepUid::as_bytes);
-    let (ae, step) = (text_of(entry.ae.as_bytes())?, text_of(step)?);
-    let mut text = format!(in rt.alloc();
-        "{} {ae} {} {verb} {step} {state} {uid}|",
-        entry.caller, entry.moment
+/// Puts a word and a space.
+fn put_bytes(text: &mut String, bytes: &[u8]) -> Result<(), Fail> {
+    text.push_str(text_of(bytes)?)?;
+    Ok(text.push(' ')?)
+}
+
+/// Puts what an entry asks for: its verb, its step, its state and its Transaction UID.
+fn put_request<A: Allocator + Copy>(text: &mut String, request: &Request<A>) -> Result<(), Fail> {
+    let (verb, state, uid) = words_of(request);
+    let step = request.step();
+    text.push_str(verb)?;
+    text.push(' ')?;
+    put_bytes(
+        text,
+        step.as_ref().map_or(b"-".as_slice(), StepUid::as_bytes),
     )?;
+    put_bytes(text, state)?;
+    Ok(text.push_str(text_of(uid)?)?)
+}
+
+/// Puts an entry as a line, with its attributes as they are described.
+fn put_entry<A: Allocator + Copy>(
+    rt: &impl AllocGlobal,
+    text: &mut String,
+    entry: &Entry<A>,
+) -> Result<(), Fail> {
+    write!(text, "{} ", entry.caller)?;
+    put_bytes(text, entry.ae.as_bytes())?;
+    write!(text, "{} ", entry.moment)?;
+    put_request(text, &entry.request)?;
+    text.push('|')?;
     if let Some(set) = attributes_in(&entry.request) {
         text.push_str(described(set, rt)?.as_str().trim_end())?;
     }
-    Ok(text)
+    Ok(text.push('\n')?)
 }
 
 /// Returns who holds a step: the number of the caller and its title, or a dash.
@@ -356,17 +386,16 @@ fn step_of<A: Allocator + Copy>(
     Ok(format!(in rt.alloc(); "{holder}: {shown}\n")?)
 }
 
-/// Returns the history of a manager, an entry a line.
-fn history_of<A: Allocator + Copy>(
+/// Puts the history of a manager, an entry a line.
+fn put_history<A: Allocator + Copy>(
     rt: &impl AllocGlobal,
+    text: &mut String,
     manager: &Manager<A>,
-) -> Result<String, Fail> {
-    let mut text = String::new(rt.alloc());
+) -> Result<(), Fail> {
     for entry in manager.history() {
-        text.push_str(entry_of(rt, entry)?.as_str())?;
-        text.push('\n')?;
+        put_entry(rt, text, entry)?;
     }
-    Ok(text)
+    Ok(())
 }
 
 /// Returns all that a manager tells: its history, who holds each step, and what is shown of it.
@@ -374,7 +403,8 @@ pub(crate) fn picture<A: Allocator + Copy>(
     rt: &impl AllocGlobal,
     manager: &Manager<A>,
 ) -> Result<String, Fail> {
-    let mut text = history_of(rt, manager)?;
+    let mut text = String::new(rt.alloc());
+    put_history(rt, &mut text, manager)?;
     for step in STEPS {
         text.push_str(step_of(rt, manager, step)?.as_str())?;
     }

@@ -2,6 +2,7 @@ use crate::steps::{digit_of, step_of};
 use fixtures::Refusing;
 use std::alloc::{Allocator, Global};
 use std::fmt::Write;
+use std::process::Abort;
 use std::test::Fail;
 use ups_cycle::StepState;
 use ups_dataset::DataSet;
@@ -139,27 +140,42 @@ fn told(alloc: Global, steps: &mut Steps<Global>, line: &str) -> Result<String, 
     Ok(held)
 }
 
-#[test]
-fn steps_stay_in_the_order_of_their_creation(rt: HostRuntime) -> Result<(), Fail> {
-    let mut steps = Steps::new(rt.alloc());
+/// Does what the rows say, one after the other.
+fn rows_are_so<R: Abort + AllocGlobal>(rt: &R, steps: &mut Steps<Global>) -> Result<(), Fail> {
     for row in CALLS.lines() {
         let (line, wanted) = row.split_once(" =").ok_or("steps")?;
-        let found = told(rt.alloc(), &mut steps, line)?;
+        let found = told(rt.alloc(), steps, line)?;
         assert!(rt; found.as_str() == wanted, "{line}: {found}");
     }
     Ok(())
 }
 
+#[test]
+fn steps_stay_in_the_order_of_their_creation(rt: HostRuntime) -> Result<(), Fail> {
+    let mut steps = Steps::new(rt.alloc());
+    rows_are_so(&rt, &mut steps)
+}
+
 /// Makes room and lists the steps with the growth of a number refused: whether none was, and the steps in any case.
+fn listed_in<'a>(
+    alloc: Global,
+    heap: &'a Refusing<Global>,
+    steps: &mut Steps<&'a Refusing<Global>>,
+    growth: u64,
+) -> Result<(bool, String), Fail> {
+    push(heap, steps, step_of(alloc, "1")?, 10)?;
+    heap.refuse(growth);
+    let is_reserved = steps.reserve(100).is_ok();
+    let is_listed = steps.uids(heap).is_ok();
+    heap.refuse(0);
+    Ok((is_reserved && is_listed, steps_held(alloc, steps)?))
+}
+
+/// The same of a new table.
 fn listed_lacking(alloc: Global, growth: u64) -> Result<(bool, String), Fail> {
     let heap = Refusing::new(alloc);
     let mut steps = Steps::new(&heap);
-    push(&heap, &mut steps, step_of(alloc, "1")?, 10)?;
-    heap.refuse(growth);
-    let is_reserved = steps.reserve(100).is_ok();
-    let is_listed = steps.uids(&heap).is_ok();
-    heap.refuse(0);
-    Ok((is_reserved && is_listed, steps_held(alloc, &steps)?))
+    listed_in(alloc, &heap, &mut steps, growth)
 }
 
 #[test]

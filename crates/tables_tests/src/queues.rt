@@ -2,6 +2,7 @@ use crate::steps::{digit_of, step_of};
 use fixtures::Refusing;
 use std::alloc::{Allocator, Global};
 use std::fmt::Write;
+use std::process::Abort;
 use std::test::Fail;
 use ups_cycle::StepState;
 use ups_events::{AckFault, Queue, Queues};
@@ -102,30 +103,45 @@ ack 8 = done
 ack 8 = stale
 state 2 = put 9s2";
 
-#[test]
-fn a_later_state_report_supersedes_the_one_before(rt: HostRuntime) -> Result<(), Fail> {
-    let mut queue = Queue::new(rt.alloc());
+/// Does what a line says: what it comes to, and which events are pending then.
+fn told(alloc: Global, queue: &mut Queue<Global>, line: &str) -> Result<String, Fail> {
+    let outcome = act(alloc, queue, line)?;
+    let events = events_of(alloc, queue)?;
+    Ok(format!(in alloc; "{outcome}{events}")?)
+}
+
+/// Does what the rows say, one after the other.
+fn rows_are_so<R: Abort + AllocGlobal>(rt: &R, queue: &mut Queue<Global>) -> Result<(), Fail> {
     for row in CALLS.lines() {
         let (line, wanted) = row.split_once(" = ").ok_or("what it comes to")?;
-        let outcome = act(rt.alloc(), &mut queue, line)?;
-        let events = events_of(rt.alloc(), &queue)?;
-        let found = format!(in rt.alloc(); "{outcome}{events}")?;
+        let found = told(rt.alloc(), queue, line)?;
         assert!(rt; found.as_str() == wanted, "{line}: {found}");
     }
     Ok(())
 }
 
+#[test]
+fn a_later_state_report_supersedes_the_one_before(rt: HostRuntime) -> Result<(), Fail> {
+    let mut queue = Queue::new(rt.alloc());
+    rows_are_so(&rt, &mut queue)
+}
+
 /// Puts so many State Reports, of the steps 1 and 2 in turn, behind a request to cancel: which events are pending, and the
 /// greatest number.
-fn many(alloc: Global, count: u64) -> Result<(String, u64), Fail> {
-    let mut queue = Queue::new(alloc);
-    put(&mut queue, report_of(alloc, "cancel", "1")?)?;
+fn many_in(alloc: Global, queue: &mut Queue<Global>, count: u64) -> Result<(String, u64), Fail> {
     let one = report_of(alloc, "state", "1")?;
     let other = report_of(alloc, "state", "2")?;
+    put(queue, report_of(alloc, "cancel", "1")?)?;
     for number in 0..count {
-        put(&mut queue, if number % 2 == 0 { one } else { other })?;
+        put(queue, if number % 2 == 0 { one } else { other })?;
     }
-    Ok((events_of(alloc, &queue)?, queue.made()))
+    Ok((events_of(alloc, queue)?, queue.made()))
+}
+
+/// The same of a new queue.
+fn many(alloc: Global, count: u64) -> Result<(String, u64), Fail> {
+    let mut queue = Queue::new(alloc);
+    many_in(alloc, &mut queue, count)
 }
 
 #[test]
@@ -138,11 +154,11 @@ fn what_is_superseded_leaves_the_queue_however_much_it_is(rt: HostRuntime) -> Re
 
 /// The queues of two peers, of whom the second is told of two reports and acknowledges the first: the events of both.
 fn told_to_one(alloc: Global) -> Result<(String, String), Fail> {
-    let mut queues = Queues::new(alloc, 2)?;
     let reports = [
         report_of(alloc, "cancel", "1")?,
         report_of(alloc, "state", "1")?,
     ];
+    let mut queues = Queues::new(alloc, 2)?;
     queues.reserve(1, 2)?;
     queues.tell(1, 7, &reports);
     if queues.ack(1, 1).is_err() {
@@ -164,15 +180,25 @@ fn each_peer_has_a_queue_of_its_own(rt: HostRuntime) -> Result<(), Fail> {
 
 /// Makes room for an event and takes what is pending, with the growth of a number refused: whether none was, and what is
 /// pending in any case.
-fn pending_lacking(alloc: Global, growth: u64) -> Result<(bool, String), Fail> {
-    let heap = Refusing::new(alloc);
-    let mut queue = Queue::new(&heap);
-    put(&mut queue, report_of(alloc, "state", "1")?)?;
+fn pending_in<'a>(
+    alloc: Global,
+    heap: &'a Refusing<Global>,
+    queue: &mut Queue<&'a Refusing<Global>>,
+    growth: u64,
+) -> Result<(bool, String), Fail> {
+    put(queue, report_of(alloc, "state", "1")?)?;
     heap.refuse(growth);
     let is_reserved = queue.reserve(100).is_ok();
     let is_shown = queue.pending(9).is_ok();
     heap.refuse(0);
-    Ok((is_reserved && is_shown, events_of(alloc, &queue)?))
+    Ok((is_reserved && is_shown, events_of(alloc, queue)?))
+}
+
+/// The same of a new queue.
+fn pending_lacking(alloc: Global, growth: u64) -> Result<(bool, String), Fail> {
+    let heap = Refusing::new(alloc);
+    let mut queue = Queue::new(&heap);
+    pending_in(alloc, &heap, &mut queue, growth)
 }
 
 #[test]

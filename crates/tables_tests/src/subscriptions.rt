@@ -4,6 +4,7 @@ ghost use Rattle.ups_watch.specs.Table.{knows};
 use crate::steps::step_of;
 use fixtures::{Refusing, words};
 use std::alloc::{Allocator, Global};
+use std::process::Abort;
 use std::test::Fail;
 use ups_dataset::DataSet;
 use ups_life::{Place, StepUid, Subscription};
@@ -157,28 +158,42 @@ unsubscribe 2 all = ---,L--
 remove 1 = ,L--
 create 1 = ---,L--";
 
-#[test]
-fn peers_are_subscribed_as_they_ask(rt: HostRuntime) -> Result<(), Fail> {
-    let mut watchers = Watchers::new(rt.alloc(), 3)?;
+/// Whether a row says how the peers are subscribed after what its line does.
+fn is_so(alloc: Global, watchers: &mut Watchers<Global>, row: &str) -> Result<bool, Fail> {
+    let (line, letters) = row.split_once(" = ").ok_or("letters")?;
+    act(alloc, watchers, line)?;
+    Ok(letters_of(alloc, watchers)?.as_str() == letters)
+}
+
+/// Does what the rows say, one after the other.
+fn rows_are_so<R: Abort + AllocGlobal>(
+    rt: &R,
+    watchers: &mut Watchers<Global>,
+) -> Result<(), Fail> {
     for row in CALLS.lines() {
-        let (line, letters) = row.split_once(" = ").ok_or("letters")?;
-        act(rt.alloc(), &mut watchers, line)?;
-        let found = letters_of(rt.alloc(), &watchers)?;
-        assert!(rt; found.as_str() == letters, "{line}: {found}");
+        assert!(rt; is_so(rt.alloc(), watchers, row)?, "{row}");
     }
     Ok(())
 }
 
-/// Deletion locks on a step of which one peer has a lock and another is subscribed without one: how many there are, and
+#[test]
+fn peers_are_subscribed_as_they_ask(rt: HostRuntime) -> Result<(), Fail> {
+    let mut watchers = Watchers::new(rt.alloc(), 3)?;
+    rows_are_so(&rt, &mut watchers)
+}
+
+/// Subscribes two peers to a step, the one with a deletion lock and the other without: how many locks there are, and
 /// whether the step is kept as it is, without the subscription of the one, and with a lock of the other.
-fn locks_of(alloc: Global) -> Result<(usize, bool, bool, bool), Fail> {
-    let mut watchers = Watchers::new(alloc, 2)?;
-    create(&mut watchers, step_of(alloc, "1")?, &DataSet::new(alloc))?;
-    subscribe(alloc, &mut watchers, "0 1 L")?;
-    subscribe(alloc, &mut watchers, "1 1 F")?;
-    let step = known_step(alloc, &watchers, "1")?;
-    let one = peer_of(&watchers, "0")?;
-    let other = peer_of(&watchers, "1")?;
+fn locks_in(
+    alloc: Global,
+    watchers: &mut Watchers<Global>,
+) -> Result<(usize, bool, bool, bool), Fail> {
+    act(alloc, watchers, "create 1")?;
+    subscribe(alloc, watchers, "0 1 L")?;
+    subscribe(alloc, watchers, "1 1 F")?;
+    let step = known_step(alloc, watchers, "1")?;
+    let one = peer_of(watchers, "0")?;
+    let other = peer_of(watchers, "1")?;
     Ok((
         watchers.locks(step),
         watchers.is_kept(step),
@@ -187,36 +202,73 @@ fn locks_of(alloc: Global) -> Result<(usize, bool, bool, bool), Fail> {
     ))
 }
 
+/// The same of a new table.
+fn locks_of(alloc: Global) -> Result<(usize, bool, bool, bool), Fail> {
+    let mut watchers = Watchers::new(alloc, 2)?;
+    locks_in(alloc, &mut watchers)
+}
+
 #[test]
 fn a_lock_keeps_a_step_until_it_ends(rt: HostRuntime) -> Result<(), Fail> {
     assert_eq!(rt; locks_of(rt.alloc())?, (1, true, false, true));
     Ok(())
 }
 
-/// A table of one peer with a filter, a step that the filter takes in at its creation and one that it doesn't, and how a
-/// change of the second to what the first has subscribes the peer.
-fn filtered(alloc: Global) -> Result<String, Fail> {
-    let keys = Keys::of(words::set_of(alloc, "00741202=READS")?, 0)?;
-    let reads = words::set_of(alloc, "00741202=READS")?;
-    let other = words::set_of(alloc, "00741202=OTHER")?;
-    let mut watchers = Watchers::new(alloc, 1)?;
-    let peer = peer_of(&watchers, "0")?;
+/// Gives the first peer a global subscription with a filter.
+fn follow(alloc: Global, watchers: &mut Watchers<Global>, words: &str) -> Result<(), Fail> {
+    let keys = Keys::of(words::set_of(alloc, words)?, 0)?;
+    let peer = peer_of(watchers, "0")?;
     let cover = Cover {
         keys: Some(keys),
         subscription: Subscription::Free,
     };
     watchers.global(peer, cover, &[]);
-    create(&mut watchers, step_of(alloc, "1")?, &reads)?;
-    create(&mut watchers, step_of(alloc, "2")?, &other)?;
-    let mut text = letters_of(alloc, &watchers)?;
-    let step = known_step(alloc, &watchers, "2")?;
-    let newly = watchers.newly(step, &other, &reads)?;
+    Ok(())
+}
+
+/// Subscribes who begins to watch the second step where its attributes change.
+fn change(
+    alloc: Global,
+    watchers: &mut Watchers<Global>,
+    before: &DataSet<Global>,
+    after: &DataSet<Global>,
+) -> Result<(), Fail> {
+    let step = known_step(alloc, watchers, "2")?;
+    let newly = watchers.newly(step, before, after)?;
     if newly.len() <= watchers.peers() {
         watchers.subscribe_each(step, &newly);
     }
-    text.push(' ')?;
-    text.push_str(letters_of(alloc, &watchers)?.as_str())?;
-    Ok(text)
+    Ok(())
+}
+
+/// Creates a step with the attributes that a filter asks for, and one with others, which then get what the first has: the
+/// subscriptions before that and after it.
+fn letters_around(
+    alloc: Global,
+    watchers: &mut Watchers<Global>,
+    reads: &DataSet<Global>,
+    other: &DataSet<Global>,
+) -> Result<String, Fail> {
+    create(watchers, step_of(alloc, "1")?, reads)?;
+    create(watchers, step_of(alloc, "2")?, other)?;
+    let before = letters_of(alloc, watchers)?;
+    change(alloc, watchers, other, reads)?;
+    let after = letters_of(alloc, watchers)?;
+    Ok(format!(in alloc; "{before} {after}")?)
+}
+
+/// The same of a table whose first peer has a filter.
+fn filtered_in(alloc: Global, watchers: &mut Watchers<Global>) -> Result<String, Fail> {
+    follow(alloc, watchers, "00741202=READS")?;
+    let reads = words::set_of(alloc, "00741202=READS")?;
+    let other = words::set_of(alloc, "00741202=OTHER")?;
+    letters_around(alloc, watchers, &reads, &other)
+}
+
+/// The same of a new table of one peer.
+fn filtered(alloc: Global) -> Result<String, Fail> {
+    let mut watchers = Watchers::new(alloc, 1)?;
+    filtered_in(alloc, &mut watchers)
 }
 
 #[test]
@@ -226,22 +278,42 @@ fn a_filter_follows_a_change(rt: HostRuntime) -> Result<(), Fail> {
     Ok(())
 }
 
-/// Makes a table of three peers, and then room for two steps with the growth of a number refused: whether that was made,
-/// and how the peers are subscribed to the step that was there before in any case.
-fn reserved_lacking(alloc: Global, growth: u64) -> Result<(bool, String), Fail> {
-    let heap = Refusing::new(alloc);
-    let mut watchers = Watchers::new(&heap, 3)?;
-    create(&mut watchers, step_of(alloc, "1")?, &DataSet::new(&heap))?;
-    let peer = peer_of(&watchers, "1")?;
-    let step = known_step(alloc, &watchers, "1")?;
+/// Locks the first step, which is created, for the second peer.
+fn lock_step<A: Allocator + Copy>(
+    alloc: Global,
+    watchers: &mut Watchers<A>,
+    attributes: &DataSet<A>,
+) -> Result<(), Fail> {
+    create(watchers, step_of(alloc, "1")?, attributes)?;
+    let peer = peer_of(watchers, "1")?;
+    let step = known_step(alloc, watchers, "1")?;
     watchers.subscribe(peer, step, Subscription::Locked);
+    Ok(())
+}
+
+/// Makes room for two steps behind a first with the growth of a number refused: whether that was made, and how the peers
+/// are subscribed to the step that was there before in any case.
+fn reserved_in<'a>(
+    alloc: Global,
+    heap: &'a Refusing<Global>,
+    watchers: &mut Watchers<&'a Refusing<Global>>,
+    growth: u64,
+) -> Result<(bool, String), Fail> {
+    lock_step(alloc, watchers, &DataSet::new(heap))?;
     heap.refuse(growth);
     let is_reserved = watchers.reserve(2).is_ok();
     heap.refuse(0);
     if is_reserved && watchers.spare() < 2 {
         return Err("no room".into());
     }
-    Ok((is_reserved, letters_of(alloc, &watchers)?))
+    Ok((is_reserved, letters_of(alloc, watchers)?))
+}
+
+/// The same of a new table of three peers.
+fn reserved_lacking(alloc: Global, growth: u64) -> Result<(bool, String), Fail> {
+    let heap = Refusing::new(alloc);
+    let mut watchers = Watchers::new(&heap, 3)?;
+    reserved_in(alloc, &heap, &mut watchers, growth)
 }
 
 #[test]

@@ -4,6 +4,7 @@ use crate::steps::{digit_of, step_of};
 use fixtures::Refusing;
 use std::alloc::{Allocator, Global};
 use std::fmt::Write;
+use std::process::Abort;
 use std::test::Fail;
 use ups_keep::{Due, Final};
 
@@ -87,15 +88,20 @@ fn told(alloc: Global, due: &mut Due<Global>, line: &str) -> Result<String, Fail
     Ok(format!(in alloc; "{all} /{old}")?)
 }
 
-#[test]
-fn steps_wait_in_the_order_of_their_ends(rt: HostRuntime) -> Result<(), Fail> {
-    let mut due = Due::new(rt.alloc());
+/// Does what the rows say, one after the other.
+fn rows_are_so<R: Abort + AllocGlobal>(rt: &R, due: &mut Due<Global>) -> Result<(), Fail> {
     for row in CALLS.lines() {
         let (line, wanted) = row.split_once(" =").ok_or("steps")?;
-        let found = told(rt.alloc(), &mut due, line)?;
+        let found = told(rt.alloc(), due, line)?;
         assert!(rt; found.as_str() == wanted, "{line}: {found}");
     }
     Ok(())
+}
+
+#[test]
+fn steps_wait_in_the_order_of_their_ends(rt: HostRuntime) -> Result<(), Fail> {
+    let mut due = Due::new(rt.alloc());
+    rows_are_so(&rt, &mut due)
 }
 
 /// Merges so many steps, the last of them the oldest, into a list of one; then keeps those that are not final since an odd
@@ -128,18 +134,25 @@ fn few_and_many_are_merged_in_order(rt: HostRuntime) -> Result<(), Fail> {
 }
 
 /// Makes room and lists the steps with the growth of a number refused: whether none was, and the steps in any case.
+fn listed_in<'a>(
+    alloc: Global,
+    heap: &'a Refusing<Global>,
+    due: &mut Due<&'a Refusing<Global>>,
+    growth: u64,
+) -> Result<(bool, String), Fail> {
+    add(due, final_of(alloc, "10 1")?)?;
+    heap.refuse(growth);
+    let is_reserved = due.reserve(100).is_ok();
+    let is_listed = due.up_to(heap, 10).is_ok();
+    heap.refuse(0);
+    Ok((is_reserved && is_listed, steps_up_to(alloc, due, heap, 10)?))
+}
+
+/// The same of a new list.
 fn listed_lacking(alloc: Global, growth: u64) -> Result<(bool, String), Fail> {
     let heap = Refusing::new(alloc);
     let mut due = Due::new(&heap);
-    add(&mut due, final_of(alloc, "10 1")?)?;
-    heap.refuse(growth);
-    let is_reserved = due.reserve(100).is_ok();
-    let is_listed = due.up_to(&heap, 10).is_ok();
-    heap.refuse(0);
-    Ok((
-        is_reserved && is_listed,
-        steps_up_to(alloc, &due, &heap, 10)?,
-    ))
+    listed_in(alloc, &heap, &mut due, growth)
 }
 
 #[test]

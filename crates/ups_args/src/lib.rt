@@ -5,6 +5,7 @@
 mod addresses;
 mod fault;
 mod limits;
+mod options;
 mod peers;
 mod pipe;
 mod program;

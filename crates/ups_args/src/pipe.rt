@@ -9,23 +9,21 @@ ghost use Rattle.ups_settings.specs.Refusal.{refusal};
 ghost use Rattle.ups_pdu.specs.Title.{SpellsAe};
 
 use crate::fault::ArgumentFault;
+use crate::options::flag;
 use crate::peers::{peer_words, peers_of};
 use crate::title::{ae_of, ae_word};
-use clap::{Arg, ArgAction, ArgMatches, Command};
+use clap::{ArgMatches, Command};
 use std::alloc::{AllocError, Global};
 use ups_life::Peer;
 use ups_pdu::Ae;
 
 /// The command line of `upsd pipe`.
 pub(crate) fn pipe_command<'a>(alloc: Global) -> Result<Command<'a>, AllocError> {
-    let hex = Arg::new(alloc, "hex")
-        .long("hex")
-        .help("read hex digits, and write each PDU as a line of them")
-        .action(ArgAction::SetTrue);
+    let hex = "read hex digits, and write each PDU as a line of them";
     Command::new(alloc, "pipe")
         .about("answers one association from standard input to standard output")
         .arg(ae_word(alloc))?
-        .arg(hex)?
+        .arg(flag(alloc, "hex", hex))?
         .arg(peer_words(alloc))
 }
 

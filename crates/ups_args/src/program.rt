@@ -6,20 +6,25 @@ use crate::server::serve_command;
 use clap::Command;
 use std::alloc::{AllocError, Global};
 
+/// A command line with another command; or that lacked memory.
+fn with_command<'a>(
+    command: Command<'a>,
+    other: Result<Command<'a>, AllocError>,
+) -> Result<Command<'a>, AllocError> {
+    command.subcommand(other?)
+}
+
 /// The command line of `upsd`: what is asked of it by `pipe`, `script` or `serve`.
 ///
 /// # Errors
 ///
 /// Lack of memory.
 pub fn command<'a>(alloc: Global) -> Result<Command<'a>, AllocError> {
-    let pipe = pipe_command(alloc)?;
-    let script = script_command(alloc)?;
-    let serve = serve_command(alloc)?;
-    Command::new(alloc, "upsd")
+    let command = Command::new(alloc, "upsd")
         .version("0.1.0")
         .about("a DICOM Unified Procedure Step manager")
-        .subcommand_required(true)
-        .subcommand(pipe)?
-        .subcommand(script)?
-        .subcommand(serve)
+        .subcommand_required(true);
+    let command = with_command(command, pipe_command(alloc))?;
+    let command = with_command(command, script_command(alloc))?;
+    with_command(command, serve_command(alloc))
 }

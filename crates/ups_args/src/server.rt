@@ -10,48 +10,43 @@ ghost use Rattle.ups_pdu.specs.Title.{SpellsAe};
 
 use crate::fault::ArgumentFault;
 use crate::limits::{LOOPBACK, MAX_WORKERS, TIMEOUT, WORKERS};
+use crate::options::{flag, worded};
 use crate::peers::{peer_words, peers_of, watchers_of};
 use crate::times::{keep_asked, keep_of, offset_asked, with_times};
 use crate::title::{ae_of, ae_word};
-use clap::{Arg, ArgAction, ArgMatches, Command};
+use clap::{ArgMatches, Command};
 use std::alloc::{AllocError, Global};
 use ups_life::Peer;
 use ups_pdu::Ae;
 use ups_settings::Watcher;
 
-/// The options of a server: where it listens, and how it serves.
-fn with_network<'a>(alloc: Global, command: Command<'a>) -> Result<Command<'a>, AllocError> {
-    let port = Arg::new(alloc, "port")
-        .long("port")
-        .value_name("P")
-        .help("the port to listen on; 0 takes any that is free, and prints it")
-        .required(true)
-        .action(ArgAction::Set);
-    let bind = Arg::new(alloc, "bind")
-        .long("bind")
-        .value_name("ADDRESS")
-        .help("the address to listen on [default: 127.0.0.1]")
-        .action(ArgAction::Set);
-    let associations = Arg::new(alloc, "associations")
-        .long("associations")
-        .value_name("N")
-        .help("how many associations are served at the same time [default: 4]")
-        .action(ArgAction::Set);
-    let timeout = Arg::new(alloc, "timeout")
-        .long("timeout")
-        .value_name("SECONDS")
-        .help("how long a peer may take to send or to receive, 0 for any time [default: 60]")
-        .action(ArgAction::Set);
-    let verbose = Arg::new(alloc, "verbose")
-        .long("verbose")
-        .help("tell of each association who asks for it, and whether it is accepted")
-        .action(ArgAction::SetTrue);
+/// The options of a server that say where it listens.
+fn with_door<'a>(alloc: Global, command: Command<'a>) -> Result<Command<'a>, AllocError> {
+    let port = worded(
+        alloc,
+        "port",
+        "P",
+        "the port to listen on; 0 takes any that is free, and prints it",
+    );
+    let bind = "the address to listen on [default: 127.0.0.1]";
     command
-        .arg(port)?
-        .arg(bind)?
-        .arg(associations)?
-        .arg(timeout)?
-        .arg(verbose)
+        .arg(port.required(true))?
+        .arg(worded(alloc, "bind", "ADDRESS", bind))
+}
+
+/// The options of a server that say how it serves.
+fn with_workers<'a>(alloc: Global, command: Command<'a>) -> Result<Command<'a>, AllocError> {
+    let associations = "how many associations are served at the same time [default: 4]";
+    let timeout = "how long a peer may take to send or to receive, 0 for any time [default: 60]";
+    command
+        .arg(worded(alloc, "associations", "N", associations))?
+        .arg(worded(alloc, "timeout", "SECONDS", timeout))
+}
+
+/// The options of a server: where it listens, how it serves, and what it tells.
+fn with_network<'a>(alloc: Global, command: Command<'a>) -> Result<Command<'a>, AllocError> {
+    let verbose = "tell of each association who asks for it, and whether it is accepted";
+    with_workers(alloc, with_door(alloc, command)?)?.arg(flag(alloc, "verbose", verbose))
 }
 
 /// The command line of `upsd serve`.

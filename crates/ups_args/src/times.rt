@@ -5,7 +5,8 @@ ghost use Rattle.ups_args.specs.Arguments.{SaysKeep, SaysMinutes, SaysOffset, Sa
 
 use crate::fault::ArgumentFault;
 use crate::limits::{KEEP, OFFSET};
-use clap::{Arg, ArgAction, Command};
+use crate::options::worded;
+use clap::Command;
 use std::alloc::{AllocError, Global};
 use ups_life::{MAX_OFFSET, MIN_OFFSET};
 
@@ -14,18 +15,10 @@ pub(crate) fn with_times<'a>(
     alloc: Global,
     command: Command<'a>,
 ) -> Result<Command<'a>, AllocError> {
-    let keep = Arg::new(alloc, "keep")
-        .long("keep")
-        .value_name("N")
-        .help("for how many seconds a finished step is kept at least [default: 60]")
-        .action(ArgAction::Set);
-    let offset = Arg::new(alloc, "offset")
-        .long("offset")
-        .value_name("MINUTES")
-        .help("the offset of the local time from UTC, above 0 east of it [default: 0]")
-        .allow_negative_numbers(true)
-        .action(ArgAction::Set);
-    command.arg(keep)?.arg(offset)
+    let keep = "for how many seconds a finished step is kept at least [default: 60]";
+    let offset = "the offset of the local time from UTC, above 0 east of it [default: 0]";
+    let offset = worded(alloc, "offset", "MINUTES", offset).allow_negative_numbers(true);
+    command.arg(worded(alloc, "keep", "N", keep))?.arg(offset)
 }
 
 /// How many seconds a word says.

@@ -4,18 +4,14 @@ ghost use Rattle.std.specs.Prelude.{◌≡◌, ℕ, List, IfErr, MatchResult};
 ghost use Rattle.ups_pdu.specs.Title.{SpellsAe};
 
 use crate::fault::ArgumentFault;
-use clap::{Arg, ArgAction};
+use crate::options::worded;
+use clap::Arg;
 use std::alloc::Global;
 use ups_pdu::Ae;
 
 /// The option whose word is the title.
 pub(crate) fn ae_word<'a>(alloc: Global) -> Arg<'a> {
-    Arg::new(alloc, "ae")
-        .long("ae")
-        .value_name("AE")
-        .help("the title of this application entity")
-        .required(true)
-        .action(ArgAction::Set)
+    worded(alloc, "ae", "AE", "the title of this application entity").required(true)
 }
 
 /// The title that a word is (PS3.5 section 6.2, AE).

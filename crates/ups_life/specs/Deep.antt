@@ -3,8 +3,8 @@ use Rattle.std.specs.Prelude.{◌≡◌, ◌<◌, ◌≤◌, ◌+◌, nat_lt, na
 use Rattle.ups_dataset.specs.Limits.{max_depth}
 use Rattle.ups_dataset.specs.Data.{El, elements_of, is_listed}
 use Rattle.ups_dataset.specs.Valid.{depth_data, depth_elements}
-use Rattle.ups_life.specs.declared.changing.ChangeFault.{ChangeFault}
-use Rattle.ups_life.specs.declared.changing.ChangeFault.TheVariants.{TooDeep, Memory}
+use Rattle.ups_life.specs.declared.change_fault.ChangeFault.{ChangeFault}
+use Rattle.ups_life.specs.declared.change_fault.ChangeFault.TheVariants.{TooDeep, Memory}
 use Rattle.ups_life.specs.declared.entry.Entry.{Entry}
 use Rattle.ups_life.specs.Settings.{Settings}
 use Rattle.ups_life.specs.Steps.{REASONS}

@@ -1,12 +1,11 @@
-//! The service of Unified Procedure Steps (PS3.4 annex CC): what may be asked, what is decided of it, and
-//! what a history of accepted requests makes of each step.
+//! The service of Unified Procedure Steps (PS3.4 annex CC): what may be asked, and the definitions of what is decided of it
+//! and of what a history of accepted requests makes of each step, with their laws.
 #![tactic(auto)]
 
 mod actions;
-mod changing;
+mod change_fault;
 mod checks;
 mod configuration;
-mod deciding;
 mod entry;
 mod event;
 mod event_reports;
@@ -15,7 +14,6 @@ mod instances;
 pub mod laws;
 mod limits;
 mod peer;
-mod plain;
 mod readiness;
 mod reading;
 mod request;
@@ -24,25 +22,18 @@ mod sets;
 mod showing;
 mod step;
 mod subscribing;
-mod telling;
-mod values;
 mod watching;
 
 pub use actions::{CHANGE_STATE, REQUEST_CANCEL, SUBSCRIBE, SUSPEND, UNSUBSCRIBE};
-pub use changing::{ChangeFault, change};
+pub use change_fault::ChangeFault;
 pub use checks::{CHECKED, Checked, ValueRule};
 pub use configuration::Configuration;
-pub use deciding::verdict;
 pub use entry::Entry;
 pub use event::{Event, EventKind, Report};
 pub use event_reports::{EventReport, EventReports};
 pub use events::Events;
 pub use limits::{MAX_HISTORY, MAX_MOMENT, MAX_OFFSET, MAX_PEERS, MAX_ROW_BYTES, MIN_OFFSET};
 pub use peer::{Peer, is_peer, may_lock};
-pub use plain::{
-    acked, is_due, plain_events, plain_find, plain_held, plain_pending, plain_watches, repeats,
-    used, watched_among,
-};
 pub use readiness::InputReadiness;
 pub use reading::read_request;
 pub use request::{Ask, Reply, Request, Transaction};
@@ -50,5 +41,4 @@ pub use row::{Holder, Row};
 pub use sets::Sets;
 pub use showing::shown;
 pub use step::StepUid;
-pub use telling::{cancel_reports, readiness_in, set_reports};
 pub use watching::{Filter, Place, Subscription, Target, Watched, Watcher};

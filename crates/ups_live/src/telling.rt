@@ -8,10 +8,8 @@ ghost use Rattle.ups_live.specs.Live.{news_by, report_now};
 
 use std::alloc::{AllocError, Allocator};
 use ups_cycle::StepState;
-use ups_life::{
-    EventKind, InputReadiness, Report, Request, Row, StepUid, cancel_reports, readiness_in,
-    set_reports,
-};
+use ups_life::{EventKind, InputReadiness, Report, Request, Row, StepUid};
+use ups_rules::{cancel_reports, readiness_in, set_reports};
 
 /// A State Report of a step as it is, by what is held of it (PS3.4 CC.2.4).
 pub fn report_now<A: Allocator + Copy>(step: StepUid, row: &Row<A>) -> Report

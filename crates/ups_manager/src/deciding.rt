@@ -18,8 +18,9 @@ use crate::rows::known;
 use crate::submitting::step_for;
 use std::alloc::{AllocError, Allocator};
 use ups_cycle::Status;
-use ups_life::{Configuration, Entry, Peer, Reply, Request, Row, is_peer, may_lock, verdict};
+use ups_life::{Configuration, Entry, Peer, Reply, Request, Row, is_peer, may_lock};
 use ups_pdu::Ae;
+use ups_rules::verdict;
 use ups_tables::{
     Plan, Tables, place_of, plan_end, plan_step, plan_subscription, plan_suspend, plan_sweep,
 };

@@ -21,8 +21,8 @@ use std::alloc::Allocator;
 use ups_cycle::{Status, StepState};
 use ups_life::{
     ChangeFault, Configuration, Entry, Holder, MAX_ROW_BYTES, Request, Row, StepUid, Transaction,
-    change, verdict,
 };
+use ups_rules::{change, verdict};
 use ups_tables::{Held, Tables};
 
 /// Why a request is not entered.

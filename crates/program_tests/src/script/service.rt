@@ -9,12 +9,10 @@ use fixtures::{add_bytes, title};
 use std::alloc::{AllocError, Global};
 use std::process::Abort;
 use std::test::Fail;
-use ups_life::{
-    Configuration, MAX_MOMENT, Peer, Reply, StepUid, Subscription, is_due, plain_held,
-    plain_watches,
-};
+use ups_life::{Configuration, MAX_MOMENT, Peer, Reply, StepUid, Subscription};
 use ups_manager::Manager;
 use ups_pdu::Uid;
+use ups_plain::{is_due, plain_held, plain_watches};
 use ups_script::answer_lines;
 
 /// Sections, each with a manager of its own: what happens, behind ` | ` how many requests the manager enters at most, and
@@ -485,18 +483,27 @@ fn is_listed_plainly(rt: &impl AllocGlobal, manager: &mut Manager<Global>) -> Re
 
 /// Returns the rows that a section's lines make. All is told before and after each line but for steps of a megabyte, which
 /// takes long.
-fn rows_of(rt: &impl AllocGlobal, limit: &str, rows: &str) -> Result<String, Fail> {
-    let mut manager = a_manager(rt.alloc(), limit.parse::<u64>()?)?;
+fn rows_with(
+    rt: &impl AllocGlobal,
+    manager: &mut Manager<Global>,
+    rows: &str,
+) -> Result<String, Fail> {
     let mut text = String::new(rt.alloc());
     let others = if rows.contains('~') { "" } else { STEPS };
     for row in rows.lines() {
         let (line, _) = row.split_once(" -> ").ok_or("a line and a reply")?;
-        text.push_str(row_of(rt, &mut manager, line, others)?.as_str())?;
+        text.push_str(row_of(rt, manager, line, others)?.as_str())?;
     }
-    if !others.is_empty() && !is_listed_plainly(rt, &mut manager)? {
+    if !others.is_empty() && !is_listed_plainly(rt, manager)? {
         return Err("the plain program lists other steps".into());
     }
     Ok(text)
+}
+
+/// The same of a new manager.
+fn rows_of(rt: &impl AllocGlobal, limit: &str, rows: &str) -> Result<String, Fail> {
+    let mut manager = a_manager(rt.alloc(), limit.parse::<u64>()?)?;
+    rows_with(rt, &mut manager, rows)
 }
 
 #[test]

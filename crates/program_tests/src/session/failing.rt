@@ -2,6 +2,7 @@
 
 use super::*;
 use fixtures::Refusing;
+use std::alloc::Global;
 
 /// An association that creates a step and reads it.
 const ASKED: &str = "REQUEST CREATE STEP GET RELEASE";
@@ -82,7 +83,25 @@ fn a_writer_that_fails_within_the_matches_has_the_first_bytes(rt: HostRuntime) -
     Ok(())
 }
 
-/// What a session comes to that lacks the growth of this number; `all: ` stands before it where there are not so many.
+/// What a session with a manager comes to that lacks the growth of this number; `all: ` stands before it where there are
+/// not so many.
+fn course_without<'a>(
+    rt: &impl AllocGlobal,
+    heap: &'a Refusing<Global>,
+    manager: &mut Manager<&'a Refusing<Global>>,
+    heading: &str,
+    input: &[u8],
+    growth: u64,
+) -> Result<String, Fail> {
+    heap.refuse(growth);
+    let told = course_with(rt, heap, manager, heading, input)?;
+    let front = if heap.is_armed() { "all: " } else { "" };
+    heap.refuse(0);
+    let course = format!(in rt.alloc(); "{front}{told}")?;
+    with_pending(rt, manager, heading, course.as_str())
+}
+
+/// The same of a new manager.
 pub(super) fn without_growth(
     rt: &impl AllocGlobal,
     heading: &str,
@@ -91,12 +110,7 @@ pub(super) fn without_growth(
 ) -> Result<String, Fail> {
     let heap = Refusing::new(rt.alloc());
     let mut manager = manager_of(rt, &heap, heading)?;
-    heap.refuse(growth);
-    let told = course_with(rt, &heap, &mut manager, heading, input)?;
-    let front = if heap.is_armed() { "all: " } else { "" };
-    heap.refuse(0);
-    let course = format!(in rt.alloc(); "{front}{told}")?;
-    with_pending(rt, &manager, heading, course.as_str())
+    course_without(rt, &heap, &mut manager, heading, input, growth)
 }
 
 /// Whether a course that ends for lack of memory writes a beginning of what is answered.

@@ -6,6 +6,7 @@
 use super::words::{request_of, row_of};
 use super::*;
 use fixtures::described;
+use fixtures::rows::{check, cut, cut_twice, number};
 use fixtures::words::{set_of, tags_of};
 use ups_dataset::Tag;
 
@@ -72,13 +73,35 @@ fn held_text<A: Allocator + Copy>(rt: &impl AllocGlobal, row: &Row<A>) -> Result
         Some(uid) => add_bytes(&mut text, uid.as_bytes())?,
         None => text.push_str("none")?,
     }
-    let moment = match row.final_at {
-        Some(moment) => format!(in rt.alloc(); " {moment} ")?,
-        None => format!(in rt.alloc(); " never ")?,
-    };
-    text.push_str(moment.as_str())?;
+    match row.final_at {
+        Some(moment) => write!(text, " {moment} ")?,
+        None => text.push_str(" never ")?,
+    }
     text.push_str(described(&row.attributes, rt)?.as_str())?;
     Ok(text)
+}
+
+/// Returns what is made of a step, which takes so many growths, as text.
+fn made_text<A: Allocator + Copy>(
+    rt: &impl AllocGlobal,
+    growths: u64,
+    made: &Result<Row<A>, ChangeFault>,
+) -> Result<String, Fail> {
+    match made {
+        Ok(after) => held_text(rt, after),
+        Err(fault) => Ok(format!(in rt.alloc(); "{fault}, after {growths} growths")?),
+    }
+}
+
+/// Returns what a request makes of a step, with how many growths that takes, as text.
+fn changed_text<'a>(
+    rt: &impl AllocGlobal,
+    heap: &'a Refusing<Global>,
+    before: Option<&Row<&'a Refusing<Global>>>,
+    request: &Request<&'a Refusing<Global>>,
+) -> Result<(u64, String), Fail> {
+    let (growths, made) = change_in_turn(heap, before, request)?;
+    Ok((growths, made_text(rt, growths, &made)?))
 }
 
 /// Returns what is made of a step, with how many growths that takes, as text.
@@ -91,14 +114,7 @@ fn changed(
     heap.refuse(0);
     let before = row_of(heap, held)?;
     let request = request_of(heap, message)?;
-    let (growths, found) = change_in_turn(heap, before.as_ref(), &request)?;
-    Ok(match found {
-        Ok(after) => (growths, held_text(rt, &after)?),
-        Err(fault) => (
-            growths,
-            format!(in rt.alloc(); "{fault}, after {growths} growths")?,
-        ),
-    })
+    changed_text(rt, heap, before.as_ref(), &request)
 }
 
 /// Returns what is shown of attributes, and how many growths that takes.
@@ -121,6 +137,30 @@ fn show_in_turn<'a>(
     Err("there are more growths".into())
 }
 
+/// Returns a reply as text: its status, and the attributes that it shows.
+fn reply_text<A: Allocator + Copy>(
+    rt: &impl AllocGlobal,
+    reply: &Reply<A>,
+) -> Result<String, Fail> {
+    let Reply::Set(status, set) = reply else {
+        return Err("a reply without attributes".into());
+    };
+    let mut text = format!(in rt.alloc(); "{:04X} ", status.code())?;
+    text.push_str(described(set, rt)?.as_str())?;
+    Ok(text)
+}
+
+/// Returns what is shown of attributes as text, and how many growths that takes.
+fn shown_text<'a>(
+    rt: &impl AllocGlobal,
+    heap: &'a Refusing<Global>,
+    held: &DataSet<&'a Refusing<Global>>,
+    listed: &[Tag],
+) -> Result<(u64, String), Fail> {
+    let (growths, reply) = show_in_turn(heap, held, listed)?;
+    Ok((growths, reply_text(rt, &reply)?))
+}
+
 /// Returns what is shown of attributes, with how many growths that takes, as text.
 fn shown_in_row(
     rt: &impl AllocGlobal,
@@ -129,37 +169,39 @@ fn shown_in_row(
     listed: &str,
 ) -> Result<(u64, String), Fail> {
     heap.refuse(0);
-    let held = set_of(heap, held)?;
     let listed = tags_of(rt.alloc(), listed)?;
-    let (growths, reply) = show_in_turn(heap, &held, &listed)?;
-    let Reply::Set(status, set) = &reply else {
-        return Err("a reply without attributes".into());
-    };
-    let set = described(set, rt)?;
-    Ok((
-        growths,
-        format!(in rt.alloc(); "{:04X} {set}", status.code())?,
-    ))
+    let held = set_of(heap, held)?;
+    shown_text(rt, heap, &held, &listed)
 }
 
 /// Whether a row says what is found, and how many growths there are at least.
 fn is_so(rt: &impl AllocGlobal, heap: &Refusing<Global>, row: &str) -> Result<bool, Fail> {
-    let (rest, expected) = row.split_once(" -> ").ok_or("a text")?;
-    let (least, rest) = rest.split_once(": ").ok_or("a number")?;
-    let (held, asked) = rest.split_once(" | ").ok_or("what is asked")?;
+    let (rest, expected) = cut(row, " -> ")?;
+    let (least, held, asked) = cut_twice(rest, ": ", " | ")?;
+    let least = number(least)?;
     let (growths, found) = match asked.strip_prefix("show") {
         Some(listed) => shown_in_row(rt, heap, held, listed)?,
         None => changed(rt, heap, held, asked)?,
     };
-    Ok(growths >= least.parse::<u64>()? && found.as_str().trim_end() == expected)
+    Ok(growths >= least && found.as_str().trim_end() == expected)
+}
+
+/// Fails with the first row that says something else than what is found.
+fn check_rows(rt: &impl AllocGlobal, heap: &Refusing<Global>) -> Result<(), Fail> {
+    for row in CHANGED.lines() {
+        check(row, row.starts_with("# ") || is_so(rt, heap, row)?)?;
+    }
+    Ok(())
 }
 
 #[test]
 fn steps_are_changed_and_shown_as_their_rows_say(rt: HostRuntime) -> Result<(), Fail> {
     let heap = Refusing::new(rt.alloc());
-    for row in CHANGED.lines() {
-        assert!(rt; row.starts_with("# ") || is_so(&rt, &heap, row)?, "{row}");
-    }
+    check_rows(&rt, &heap)
+}
+
+#[test]
+fn lack_of_memory_is_told(rt: HostRuntime) -> Result<(), Fail> {
     let memory = format!(in rt.alloc(); "{}", ChangeFault::Memory)?;
     assert_eq!(rt; memory.as_str(), "out of memory");
     Ok(())

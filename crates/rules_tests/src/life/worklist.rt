@@ -3,6 +3,7 @@
 use super::words::request_of;
 use super::*;
 use fixtures::described;
+use fixtures::rows::{check, cut};
 use fixtures::words::set_of;
 use ups_match::Keys;
 
@@ -44,19 +45,28 @@ create 1.2.3.1.1 -> false false
 create 1.2.3.23 -> false false
 2 1.2.3.23 -> false false";
 
-/// Returns the entries of requests, as 1970 began.
+/// Returns the entry of a request, as 1970 began.
+fn entry_of<'a>(
+    heap: &'a Refusing<Global>,
+    message: &str,
+) -> Result<Entry<&'a Refusing<Global>>, Fail> {
+    let ae = title("SCHED1")?;
+    Ok(Entry {
+        caller: 0,
+        ae,
+        moment: 0,
+        request: request_of(heap, message)?,
+    })
+}
+
+/// Returns the entries of requests.
 fn entries_of<'a>(
     heap: &'a Refusing<Global>,
     messages: &str,
 ) -> Result<Vec<Entry<&'a Refusing<Global>>, &'a Refusing<Global>>, Fail> {
     let mut entries = Vec::new(heap);
     for message in messages.lines() {
-        entries.push(Entry {
-            caller: 0,
-            ae: title("SCHED1")?,
-            moment: 0,
-            request: request_of(heap, message)?,
-        })?;
+        entries.push(entry_of(heap, message)?)?;
     }
     Ok(entries)
 }
@@ -90,69 +100,128 @@ fn all_described<A: Allocator + Copy>(
     Ok(text)
 }
 
-/// Returns what is found with each growth refused in turn, and how many growths there are.
-fn find_in_turn<'a>(
+/// Returns how many growths it takes to find by keys: each that is refused is lack of memory.
+fn growths_of_finding<'a>(
     heap: &'a Refusing<Global>,
     entries: &[Entry<&'a Refusing<Global>>],
     keys: &Keys<&'a Refusing<Global>>,
-) -> Result<(u64, Sets<&'a Refusing<Global>>), Fail> {
+) -> Result<u64, Fail> {
     for growths in 0..GROWTHS {
         heap.refuse(growths + 1);
-        let found = find(heap, entries, keys);
-        let is_refused = !heap.is_armed();
-        match found {
-            Ok(sets) if !is_refused => return Ok((growths, sets)),
-            Err(ChangeFault::Memory) if is_refused => (),
+        let fault = find(heap, entries, keys).err();
+        match (heap.is_armed(), fault) {
+            (true, None) => return Ok(growths),
+            (false, Some(ChangeFault::Memory)) => (),
             _ => return Err("no lack of memory where a growth is refused".into()),
         }
     }
     Err("there are more growths".into())
 }
 
-/// Returns keys with what is found by them, which takes more than 20 growths.
-fn found<'a>(
+/// Returns what is found by keys as text.
+fn found_text<'a>(
     rt: &impl AllocGlobal,
     heap: &'a Refusing<Global>,
     entries: &[Entry<&'a Refusing<Global>>],
-    text: &str,
+    keys: &Keys<&'a Refusing<Global>>,
 ) -> Result<String, Fail> {
     heap.refuse(0);
-    let keys = Keys::of(set_of(heap, text)?, 0)?;
-    let (growths, sets) = find_in_turn(heap, entries, &keys)?;
+    let sets = find(heap, entries, keys)?;
+    Ok(all_described(&sets, rt)?)
+}
+
+/// Whether keys find what a text says, which takes more than 20 growths, and nothing where there is no entry.
+fn finds<'a>(
+    rt: &impl AllocGlobal,
+    heap: &'a Refusing<Global>,
+    entries: &[Entry<&'a Refusing<Global>>],
+    keys: &Keys<&'a Refusing<Global>>,
+    wanted: &str,
+) -> Result<bool, Fail> {
+    Ok(
+        growths_of_finding(heap, entries, keys)? > 20
+            && found_text(rt, heap, &entries[..0], keys)?.is_empty()
+            && found_text(rt, heap, entries, keys)?.as_str() == wanted,
+    )
+}
+
+/// Whether a row says what is found by its keys.
+fn is_found_so<'a>(
+    rt: &impl AllocGlobal,
+    heap: &'a Refusing<Global>,
+    entries: &[Entry<&'a Refusing<Global>>],
+    row: &str,
+) -> Result<bool, Fail> {
+    let (text, wanted) = cut(row, " -> ")?;
     heap.refuse(0);
-    if growths <= 20 || !find(heap, &entries[..0], &keys)?.as_slice().is_empty() {
-        return Err("few growths, or a step where there is none".into());
+    let keys = Keys::of(set_of(heap, text)?, 0)?;
+    finds(rt, heap, entries, &keys, wanted)
+}
+
+/// Fails with the first row that says something else than what is found.
+fn check_found<'a>(
+    rt: &impl AllocGlobal,
+    heap: &'a Refusing<Global>,
+    entries: &[Entry<&'a Refusing<Global>>],
+) -> Result<(), Fail> {
+    for row in FOUND.lines() {
+        check(row, is_found_so(rt, heap, entries, row)?)?;
     }
-    let sets = all_described(&sets, rt)?;
-    Ok(format!(in rt.alloc(); "{text} -> {sets}")?)
+    Ok(())
 }
 
 #[test]
 fn the_steps_that_match_are_found_in_order_of_creation(rt: HostRuntime) -> Result<(), Fail> {
     let heap = Refusing::new(rt.alloc());
     let entries = entries_of(&heap, HISTORY)?;
-    for row in FOUND.lines() {
-        let (text, _) = row.split_once(" -> ").ok_or("keys")?;
-        assert_eq!(rt; found(&rt, &heap, &entries, text)?.as_str(), row);
-    }
-    Ok(())
+    check_found(&rt, &heap, &entries)
 }
 
-/// Returns a request with whether its step is used, and whether it creates one that is, which takes no memory.
-fn used_row<'a>(
-    rt: &impl AllocGlobal,
+/// Returns whether the step of a request is used, and whether the request creates one that is, which takes no memory.
+fn uses<'a>(
     heap: &'a Refusing<Global>,
     entries: &[Entry<&'a Refusing<Global>>],
-    message: &str,
-) -> Result<String, Fail> {
-    let request = request_of(heap, message)?;
+    request: &Request<&'a Refusing<Global>>,
+) -> Result<(bool, bool), Fail> {
     let step = request.step().ok_or("a step")?;
     heap.refuse(1);
-    let (is_used, is_repeated) = (used(entries, step), repeats(entries, &request));
+    let (is_used, is_repeated) = (used(entries, step), repeats(entries, request));
     if used(&entries[..0], step) || !heap.is_armed() {
         return Err("nothing is created, or memory is asked for".into());
     }
-    Ok(format!(in rt.alloc(); "{message} -> {is_used} {is_repeated}")?)
+    Ok((is_used, is_repeated))
+}
+
+/// Returns the words for whether a step is used, and whether its creation is repeated.
+fn words_for(uses: (bool, bool)) -> &'static str {
+    match uses {
+        (true, true) => "true true",
+        (true, false) => "true false",
+        (false, true) => "false true",
+        (false, false) => "false false",
+    }
+}
+
+/// Whether a row says whether the step of its request is used.
+fn is_used_so<'a>(
+    heap: &'a Refusing<Global>,
+    entries: &[Entry<&'a Refusing<Global>>],
+    row: &str,
+) -> Result<bool, Fail> {
+    let (message, wanted) = cut(row, " -> ")?;
+    let request = request_of(heap, message)?;
+    Ok(words_for(uses(heap, entries, &request)?) == wanted)
+}
+
+/// Fails with the first row that says something else than what is used.
+fn check_used<'a>(
+    heap: &'a Refusing<Global>,
+    entries: &[Entry<&'a Refusing<Global>>],
+) -> Result<(), Fail> {
+    for row in USED.lines() {
+        check(row, is_used_so(heap, entries, row)?)?;
+    }
+    Ok(())
 }
 
 #[test]
@@ -160,9 +229,5 @@ fn only_the_uids_of_created_steps_are_used(rt: HostRuntime) -> Result<(), Fail> 
     let heap = Refusing::new(rt.alloc());
     let entries = entries_of(&heap, CREATED)?;
     laws::a_row_tells_its_state(entries.as_slice());
-    for row in USED.lines() {
-        let (message, _) = row.split_once(" -> ").ok_or("a request")?;
-        assert_eq!(rt; used_row(&rt, &heap, &entries, message)?.as_str(), row);
-    }
-    Ok(())
+    check_used(&heap, &entries)
 }

@@ -1,5 +1,6 @@
+use fixtures::rows::cut_twice;
 use fixtures::{Refusing, bytes_of, put_item, put_text, tag_of, words};
-use std::alloc::Allocator;
+use std::alloc::{Allocator, Global};
 use std::test::Fail;
 use ups_dataset::dictionary::*;
 use ups_dataset::{DataSet, Tag};
@@ -97,14 +98,23 @@ fn key_says_the_same(
     Ok(true)
 }
 
+/// Whether a key that a text stands for says the same of each of some stored values, prepared and not.
+fn text_says_the_same(
+    rt: &impl AllocGlobal,
+    tag: Tag,
+    key: &str,
+    stored: &str,
+) -> Result<bool, Fail> {
+    let key = bytes_of(rt, key)?;
+    key_says_the_same(rt, tag, &key, stored)
+}
+
 /// Whether each key of a line says the same of each of its stored values, prepared and not.
 fn keys_say_the_same(rt: &impl AllocGlobal, line: &str) -> Result<bool, Fail> {
-    let (digits, rest) = line.split_once(": ").ok_or("a tag")?;
-    let (keys, stored) = rest.split_once(" -> ").ok_or("stored values")?;
+    let (digits, keys, stored) = cut_twice(line, ": ", " -> ")?;
     let tag = tag_of(digits)?;
     for key in keys.split('|') {
-        let key = bytes_of(rt, key)?;
-        if !key_says_the_same(rt, tag, &key, stored)? {
+        if !text_says_the_same(rt, tag, key, stored)? {
             return Ok(false);
         }
     }
@@ -135,14 +145,25 @@ fn nested<A: Allocator + Copy>(alloc: A, code: &[u8]) -> Result<DataSet<A>, Fail
 /// Values of a key in a sequence in a sequence.
 const NESTED: &str = "P1|P?|P2||*|P** |**2";
 
+/// Whether a key in a sequence in a sequence, which is prepared where the growth of this number is refused, matches a set.
+fn nested_matches<'a>(
+    heap: &'a Refusing<Global>,
+    key: &[u8],
+    growth: u64,
+    row: &DataSet<&'a Refusing<Global>>,
+) -> Result<bool, Fail> {
+    heap.refuse(0);
+    let keys = nested(heap, key)?;
+    heap.refuse(growth);
+    asked(keys, row)
+}
+
 /// Whether a key in a sequence in a sequence says the same of P1, prepared and not.
-fn nested_says_the_same<A: Allocator + Copy>(alloc: A, key: &[u8]) -> Result<bool, Fail> {
+fn nested_says_the_same(alloc: Global, key: &[u8]) -> Result<bool, Fail> {
     let heap = Refusing::new(alloc);
     let row = nested(&heap, b"P1")?;
-    let found = asked(nested(&heap, key)?, &row)?;
-    let keys = nested(&heap, key)?;
-    heap.refuse(1);
-    Ok(asked(keys, &row)? == found)
+    let found = nested_matches(&heap, key, 0, &row)?;
+    Ok(nested_matches(&heap, key, 1, &row)? == found)
 }
 
 #[test]
@@ -188,25 +209,54 @@ fn the_first_fault_is_told(rt: HostRuntime) -> Result<(), Fail> {
     Ok(())
 }
 
+/// Tells the offset of keys, whether they match a set, and how many sets were tried then.
+fn told_of(keys: &Keys<Global>, row: &DataSet<Global>) -> (i16, bool, u64) {
+    let mut probe = Probe::new();
+    let is_match = probe.matches(keys, row);
+    (keys.offset(), is_match, probe.count())
+}
+
+/// Tells the same of a start that is asked for, an hour east of UTC, and of one that is stored.
+fn told_of_starts(alloc: Global, key: &[u8], stored: &[u8]) -> Result<(i16, bool, u64), Fail> {
+    let tag = SCHEDULED_PROCEDURE_STEP_START_DATE_TIME;
+    let row = set_of(alloc, tag, stored)?;
+    let keys = Keys::of(set_of(alloc, tag, key)?, 60)?;
+    Ok(told_of(&keys, &row))
+}
+
 #[test]
 fn an_offset_is_that_of_the_keys(rt: HostRuntime) -> Result<(), Fail> {
-    let tag = SCHEDULED_PROCEDURE_STEP_START_DATE_TIME;
-    let keys = Keys::of(set_of(rt.alloc(), tag, b"20240229120000+0000")?, 60)?;
-    assert_eq!(rt; keys.offset(), 60);
-    let row = set_of(rt.alloc(), tag, b"20240229130000")?;
-    let mut probe = Probe::new();
-    assert!(rt; probe.matches(&keys, &row));
-    assert_eq!(rt; probe.count(), 1);
+    let told = told_of_starts(rt.alloc(), b"20240229120000+0000", b"20240229130000")?;
+    assert_eq!(rt; told, (60, true, 1));
     Ok(())
+}
+
+/// Whether a copy of keys matches what they say.
+fn is_copied<A: Allocator + Copy>(keys: &Keys<A>) -> Result<bool, Fail> {
+    let copy = keys.copy()?;
+    let mut probe = Probe::new();
+    Ok(probe.matches(&copy, keys.attributes()))
+}
+
+/// Whether a copy of these keys is made, and none where its first growth is refused.
+fn are_copied_or_refused<'a>(
+    heap: &'a Refusing<Global>,
+    keys: &Keys<&'a Refusing<Global>>,
+) -> Result<bool, Fail> {
+    let is_copied = is_copied(keys)?;
+    heap.refuse(1);
+    Ok(is_copied && keys.copy().is_err())
+}
+
+/// Whether it is so of keys in a sequence in a sequence.
+fn is_copied_or_refused(heap: &Refusing<Global>) -> Result<bool, Fail> {
+    let keys = Keys::of(nested(heap, b"P1")?, 0)?;
+    are_copied_or_refused(heap, &keys)
 }
 
 #[test]
 fn a_copy_is_made_or_refused(rt: HostRuntime) -> Result<(), Fail> {
     let heap = Refusing::new(rt.alloc());
-    let keys = Keys::of(nested(&heap, b"P1")?, 0)?;
-    let mut probe = Probe::new();
-    assert!(rt; probe.matches(&keys.copy()?, keys.attributes()));
-    heap.refuse(1);
-    assert!(rt; keys.copy().is_err());
+    assert!(rt; is_copied_or_refused(&heap)?);
     Ok(())
 }

@@ -1,4 +1,5 @@
 use fixtures::bytes_of;
+use fixtures::rows::cut_twice;
 use std::alloc::{AllocError, Global};
 use std::test::Fail;
 use ups_match::likes;
@@ -13,8 +14,7 @@ const ROWS: &str = r#"""|""|yes
 
 /// Whether the text of a row is like its pattern.
 fn row_is_alike(rt: &impl AllocGlobal, row: &str) -> Result<&'static str, Fail> {
-    let (pattern, rest) = row.split_once('|').ok_or("a pattern")?;
-    let (text, _) = rest.split_once('|').ok_or("a text")?;
+    let (pattern, text, _) = cut_twice(row, "|", "|")?;
     let pattern = bytes_of(rt, pattern)?;
     let text = bytes_of(rt, text)?;
     Ok(if likes(&pattern, &text) { "yes" } else { "no" })

@@ -1,7 +1,8 @@
 use super::keys::{says_the_same, set_of};
 use fixtures::Refusing;
-use std::alloc::Allocator;
+use std::alloc::{Allocator, Global};
 use std::test::Fail;
+use ups_dataset::DataSet;
 use ups_dataset::dictionary::SOP_INSTANCE_UID;
 use ups_match::{Keys, Matcher, Probe};
 
@@ -42,27 +43,44 @@ fn a_long_list_says_the_same_prepared_and_not(rt: HostRuntime) -> Result<(), Fai
     Ok(())
 }
 
-/// What a long list says of a UID that it has and of one that it hasn't, where the nth growth is refused while its keys
-/// are made.
-fn said_without_memory<A: Allocator + Copy>(alloc: A, n: u64) -> Result<(bool, bool), Fail> {
-    let heap = Refusing::new(alloc);
-    let list = set_of(&heap, SOP_INSTANCE_UID, &long_list(&heap, "1.9")?)?;
-    let one = set_of(&heap, SOP_INSTANCE_UID, b"1.9")?;
-    let other = set_of(&heap, SOP_INSTANCE_UID, b"1.8")?;
+/// The keys of a long list, where the nth growth is refused while they are made.
+fn keys_without_memory<'a>(
+    heap: &'a Refusing<Global>,
+    n: u64,
+) -> Result<Keys<&'a Refusing<Global>>, Fail> {
+    heap.refuse(0);
+    let list = set_of(heap, SOP_INSTANCE_UID, &long_list(heap, "1.9")?)?;
     heap.refuse(n);
-    let keys = Keys::of(list, 0)?;
+    Ok(Keys::of(list, 0)?)
+}
+
+/// Whether a long list whose keys lack a growth says that it has a UID of its own, and that it hasn't another.
+fn is_list_without_memory<'a>(
+    heap: &'a Refusing<Global>,
+    n: u64,
+    one: &DataSet<&'a Refusing<Global>>,
+    other: &DataSet<&'a Refusing<Global>>,
+) -> Result<bool, Fail> {
+    let keys = keys_without_memory(heap, n)?;
     let mut probe = Probe::new();
-    Ok((probe.matches(&keys, &one), probe.matches(&keys, &other)))
+    Ok(probe.matches(&keys, one) && !probe.matches(&keys, other))
+}
+
+/// Whether that is so whichever of 79 growths is refused.
+fn are_lists_without_memory(heap: &Refusing<Global>) -> Result<bool, Fail> {
+    let one = set_of(heap, SOP_INSTANCE_UID, b"1.9")?;
+    let other = set_of(heap, SOP_INSTANCE_UID, b"1.8")?;
+    for n in 1..80u64 {
+        if !is_list_without_memory(heap, n, &one, &other)? {
+            return Ok(false);
+        }
+    }
+    Ok(true)
 }
 
 #[test]
 fn long_lists_are_lists_where_memory_runs_out(rt: HostRuntime) -> Result<(), Fail> {
-    for n in 1..80u64 {
-        assert_eq!(rt;
-            said_without_memory(rt.alloc(), n)?,
-            (true, false),
-            "at {n}"
-        );
-    }
+    let heap = Refusing::new(rt.alloc());
+    assert!(rt; are_lists_without_memory(&heap)?);
     Ok(())
 }

@@ -78,16 +78,26 @@ fn row_of(
 }
 
 /// Returns the rows that a section's lines make, and all that the manager tells in the end.
-fn rows_of(rt: &impl AllocGlobal, rows: &str, is_service: bool) -> Result<String, Fail> {
-    let mut manager = Manager::new(rt.alloc(), &[], 60, 0, 10)?;
+fn rows_with(
+    rt: &impl AllocGlobal,
+    manager: &mut Manager<Global>,
+    rows: &str,
+    is_service: bool,
+) -> Result<String, Fail> {
     let mut text = String::new(rt.alloc());
     for row in rows.lines() {
         if let Some((line, _)) = row.split_once(" -> ") {
-            text.push_str(row_of(rt, &mut manager, line, is_service)?.as_str())?;
+            text.push_str(row_of(rt, manager, line, is_service)?.as_str())?;
         }
     }
-    text.push_str(picture(rt, &manager)?.as_str())?;
+    text.push_str(picture(rt, manager)?.as_str())?;
     Ok(text)
+}
+
+/// The same of a new manager.
+fn rows_of(rt: &impl AllocGlobal, rows: &str, is_service: bool) -> Result<String, Fail> {
+    let mut manager = Manager::new(rt.alloc(), &[], 60, 0, 10)?;
+    rows_with(rt, &mut manager, rows, is_service)
 }
 
 #[test]

@@ -2,6 +2,7 @@
 //! by walking the entries.
 
 use super::plain::{Dice, KEYS, found_by_both, settings_of};
+use fixtures::rows::{cut, number};
 use fixtures::title;
 use fixtures::words::message_of;
 use std::alloc::{Allocator, Global};
@@ -10,10 +11,11 @@ use std::test::Fail;
 use ups_cycle::StepState;
 use ups_life::{
     Ask, Entry, Event, EventKind, EventReport, MAX_MOMENT, Peer, Place, Reply, Request, StepUid,
-    Target, Watched, acked, plain_events, plain_held, plain_watches, read_request,
+    Target, Watched, read_request,
 };
 use ups_manager::*;
 use ups_pdu::Ae;
+use ups_plain::{acked, plain_events, plain_held, plain_watches};
 
 /// The offset of the local time, in which keys are read.
 const OFFSET: i16 = 60;
@@ -197,11 +199,11 @@ const HISTORIES: u32 = 200;
 /// What is counted: requests that are accepted, by their kinds, and then what is compared.
 const COUNTED: usize = 19;
 
-/// How histories are made, and how many there are at least of what is counted.
+/// How histories are made, and how many there are at least of what is counted, one a line.
 struct Kind {
     words: &'static str,
     calls: u32,
-    least: [(&'static str, u64); COUNTED],
+    least: &'static str,
 }
 
 /// Histories of all requests. The least is half of what is expected, or less.
@@ -216,27 +218,26 @@ struct Kind {
 const ANY: Kind = Kind {
     words: WORDS,
     calls: 100,
-    least: [
-        ("creations", 440),
-        ("claims", 160),
-        ("completions", 18),
-        ("discontinuations", 18),
-        ("cancel requests", 170),
-        ("sets", 140),
-        ("subscriptions to a step", 160),
-        ("global subscriptions", 375),
-        ("filtered subscriptions", 375),
-        ("ends at a step", 160),
-        ("ends everywhere", 375),
-        ("suspensions", 375),
-        ("acknowledgements", 30),
-        ("sweeps", 40),
-        ("steps held", 200),
-        ("steps found", 50),
-        ("steps watched", 180),
-        ("events pending", 100),
-        ("new subscriptions by a set", 0),
-    ],
+    least: "\
+440 creations
+160 claims
+18 completions
+18 discontinuations
+170 cancel requests
+140 sets
+160 subscriptions to a step
+375 global subscriptions
+375 filtered subscriptions
+160 ends at a step
+375 ends everywhere
+375 suspensions
+30 acknowledgements
+40 sweeps
+200 steps held
+50 steps found
+180 steps watched
+100 events pending
+0 new subscriptions by a set",
 };
 
 /// Histories about filters. The least is half of what is expected, or less.
@@ -249,27 +250,26 @@ const ANY: Kind = Kind {
 const FILTERED: Kind = Kind {
     words: FILTERING,
     calls: 40,
-    least: [
-        ("creations", 250),
-        ("claims", 60),
-        ("completions", 10),
-        ("discontinuations", 0),
-        ("cancel requests", 0),
-        ("sets", 300),
-        ("subscriptions to a step", 100),
-        ("global subscriptions", 0),
-        ("filtered subscriptions", 500),
-        ("ends at a step", 200),
-        ("ends everywhere", 180),
-        ("suspensions", 180),
-        ("acknowledgements", 10),
-        ("sweeps", 0),
-        ("steps held", 300),
-        ("steps found", 50),
-        ("steps watched", 150),
-        ("events pending", 80),
-        ("new subscriptions by a set", 3),
-    ],
+    least: "\
+250 creations
+60 claims
+10 completions
+0 discontinuations
+0 cancel requests
+300 sets
+100 subscriptions to a step
+0 global subscriptions
+500 filtered subscriptions
+200 ends at a step
+180 ends everywhere
+180 suspensions
+10 acknowledgements
+0 sweeps
+300 steps held
+50 steps found
+150 steps watched
+80 events pending
+3 new subscriptions by a set",
 };
 
 /// A word, and what it may stand for.
@@ -295,13 +295,18 @@ fn lines_of<'a>(rt: &impl AllocGlobal, text: &'a str) -> Result<Vec<&'a str>, Fa
     Ok(lines)
 }
 
+/// Returns the word of a section: its name, and the lines that it may stand for.
+fn word_of<'a>(rt: &impl AllocGlobal, section: &'a str) -> Result<Word<'a>, Fail> {
+    let (name, lines) = cut(section, "\n")?;
+    let choices = lines_of(rt, lines)?;
+    Ok(Word { name, choices })
+}
+
 /// Returns the words of a text.
 fn words_of<'a>(rt: &impl AllocGlobal, text: &'a str) -> Result<Vec<Word<'a>>, Fail> {
     let mut words = Vec::new(rt.alloc());
     for section in text.split("\n# ") {
-        let (name, lines) = section.split_once('\n').ok_or("lines")?;
-        let choices = lines_of(rt, lines)?;
-        words.push(Word { name, choices })?;
+        words.push(word_of(rt, section)?)?;
     }
     Ok(words)
 }
@@ -318,15 +323,21 @@ impl<'a> Chance<'a> {
         Ok(*word.choices.get(place as usize).ok_or("a line")?)
     }
 
+    /// Returns a part of a call: every second one is a word, and stands for a line.
+    fn part(&mut self, place: usize, part: &'a str) -> Result<&'a str, Fail> {
+        if place % 2 == 0 {
+            Ok(part)
+        } else {
+            self.any(part)
+        }
+    }
+
     /// Returns what any call asks.
     fn any_call(&mut self, rt: &impl AllocGlobal) -> Result<String, Fail> {
+        let call = self.any("CALL")?;
         let mut text = String::new(rt.alloc());
-        for (place, part) in self.any("CALL")?.split('|').enumerate() {
-            text.push_str(if place % 2 == 0 {
-                part
-            } else {
-                self.any(part)?
-            })?;
+        for (place, part) in call.split('|').enumerate() {
+            text.push_str(self.part(place, part)?)?;
         }
         Ok(text)
     }
@@ -348,19 +359,34 @@ pub(super) fn request_of<A: Allocator + Copy>(alloc: A, text: &str) -> Result<Re
     }
 }
 
+/// Returns any moment.
+fn any_moment(chance: &mut Chance) -> Result<u64, Fail> {
+    Ok(chance.any("MOMENT")?.parse::<u64>()?)
+}
+
+/// Returns any title.
+fn any_title(chance: &mut Chance) -> Result<Ae, Fail> {
+    title(chance.any("TITLE")?)
+}
+
+/// Returns any request.
+fn any_request(rt: &impl AllocGlobal, chance: &mut Chance) -> Result<Request<Global>, Fail> {
+    let text = chance.any_call(rt)?;
+    request_of(rt.alloc(), text.as_str())
+}
+
 /// Makes any call: whether it was entered.
 fn is_entered(
     rt: &impl AllocGlobal,
     chance: &mut Chance,
     manager: &mut Manager<Global>,
 ) -> Result<bool, Fail> {
-    let moment = chance.any("MOMENT")?.parse::<u64>()?;
+    let moment = any_moment(chance)?;
     if moment > MAX_MOMENT {
         return Err("no moment".into());
     }
-    let ae = title(chance.any("TITLE")?)?;
-    let text = chance.any_call(rt)?;
-    let request = request_of(rt.alloc(), text.as_str())?;
+    let ae = any_title(chance)?;
+    let request = any_request(rt, chance)?;
     let entries = manager.history().len();
     manager.submit(Entry {
         caller: 0,
@@ -460,6 +486,12 @@ fn is_same_subscription(one: &Watched, other: &Watched) -> bool {
     one.step == other.step && one.subscription == other.subscription
 }
 
+/// Whether two lists have the same subscriptions.
+fn are_same_subscriptions(some: &[Watched], others: &[Watched]) -> bool {
+    let mut pairs = some.iter().zip(others.iter());
+    some.len() == others.len() && pairs.all(|(one, other)| is_same_subscription(one, other))
+}
+
 /// Returns how many steps a peer watches, by a manager and by the plain program.
 fn watched_by_both(
     rt: &impl AllocGlobal,
@@ -469,8 +501,7 @@ fn watched_by_both(
     let settings = settings_of(rt.alloc(), manager)?;
     let plain = plain_watches(rt.alloc(), &settings, manager.history(), ae)?;
     let watched = manager.watches(ae)?;
-    let mut pairs = watched.iter().zip(plain.iter());
-    if watched.len() != plain.len() || !pairs.all(|(one, other)| is_same_subscription(one, other)) {
+    if !are_same_subscriptions(&watched, &plain) {
         return Err("the plain program watches other steps".into());
     }
     Ok(watched.len())
@@ -579,7 +610,7 @@ fn compare_all(
         found_by_both(rt, manager, chance.dice.one_of(KEYS)?)?,
     );
     compare_watchers(rt, counts, manager)?;
-    let ae = title(chance.any("TITLE")?)?;
+    let ae = any_title(chance)?;
     add(counts, 17, pending_by_both(rt, manager, ae)?);
     add(counts, 18, begun_by_a_set(manager, before)?);
     Ok(())
@@ -622,69 +653,111 @@ pub(super) fn a_manager<A: Allocator + Copy>(alloc: A) -> Result<Manager<A>, Fai
     Ok(Manager::new(alloc, &peers, 60, 60, 1_000)?)
 }
 
-/// Makes histories of a kind by chance that begins with a state, and compares what is told of each.
-fn histories_are_told<R: Abort + AllocGlobal>(rt: &R, kind: &Kind, state: u64) -> Result<(), Fail> {
+/// The same of a new manager.
+fn compare_new_history(
+    rt: &impl AllocGlobal,
+    kind: &Kind,
+    chance: &mut Chance,
+    counts: &mut [u64; COUNTED],
+) -> Result<(), Fail> {
+    let mut manager = a_manager(rt.alloc())?;
+    compare_history(rt, kind, chance, counts, &mut manager)
+}
+
+/// Makes histories of a kind by chance, and compares what is told of each: what was counted.
+fn counts_by(
+    rt: &impl AllocGlobal,
+    kind: &Kind,
+    chance: &mut Chance,
+) -> Result<[u64; COUNTED], Fail> {
+    let mut counts = [0; COUNTED];
+    for _ in 0..HISTORIES {
+        compare_new_history(rt, kind, chance, &mut counts)?;
+    }
+    Ok(counts)
+}
+
+/// The same by a chance that begins with a state.
+fn counts_from(rt: &impl AllocGlobal, kind: &Kind, state: u64) -> Result<[u64; COUNTED], Fail> {
     let mut chance = Chance {
         dice: Dice { state },
         words: words_of(rt, kind.words)?,
     };
-    let mut counts = [0; COUNTED];
-    for _ in 0..HISTORIES {
-        let mut manager = a_manager(rt.alloc())?;
-        compare_history(rt, kind, &mut chance, &mut counts, &mut manager)?;
-    }
-    for ((name, least), count) in kind.least.iter().zip(counts.iter()) {
-        assert!(rt; count >= least, "{name}: {count}");
+    counts_by(rt, kind, &mut chance)
+}
+
+/// Whether a count is as great as a row says.
+fn is_enough(row: &str, count: u64) -> Result<bool, Fail> {
+    let (least, _) = cut(row, " ")?;
+    Ok(count >= number(least)?)
+}
+
+/// Makes histories of a kind by a chance that begins with a state, and compares what is told of each.
+fn histories_are_told<R: Abort + AllocGlobal>(rt: &R, kind: &Kind, state: u64) -> Result<(), Fail> {
+    let counts = counts_from(rt, kind, state)?;
+    assert_eq!(rt; kind.least.lines().count(), COUNTED);
+    for (row, count) in kind.least.lines().zip(counts.iter()) {
+        assert!(rt; is_enough(row, *count)?, "{row}: {count}");
     }
     Ok(())
 }
 
+/// Makes histories of all requests.
+fn any_are_told<R: Abort + AllocGlobal>(rt: &R, state: u64) -> Result<(), Fail> {
+    histories_are_told(rt, &ANY, state)
+}
+
+/// Makes histories about filters.
+fn filters_are_told<R: Abort + AllocGlobal>(rt: &R, state: u64) -> Result<(), Fail> {
+    histories_are_told(rt, &FILTERED, state)
+}
+
 #[test]
 fn histories_of_a_first_chance_are_told_plainly(rt: HostRuntime) -> Result<(), Fail> {
-    histories_are_told(&rt, &ANY, 1)
+    any_are_told(&rt, 1)
 }
 
 #[test]
 fn histories_of_a_second_chance_are_told_plainly(rt: HostRuntime) -> Result<(), Fail> {
-    histories_are_told(&rt, &ANY, 2)
+    any_are_told(&rt, 2)
 }
 
 #[test]
 fn histories_of_a_third_chance_are_told_plainly(rt: HostRuntime) -> Result<(), Fail> {
-    histories_are_told(&rt, &ANY, 3)
+    any_are_told(&rt, 3)
 }
 
 #[test]
 fn histories_of_a_fourth_chance_are_told_plainly(rt: HostRuntime) -> Result<(), Fail> {
-    histories_are_told(&rt, &ANY, 4)
+    any_are_told(&rt, 4)
 }
 
 #[test]
 fn histories_of_a_fifth_chance_are_told_plainly(rt: HostRuntime) -> Result<(), Fail> {
-    histories_are_told(&rt, &ANY, 5)
+    any_are_told(&rt, 5)
 }
 
 #[test]
 fn filters_of_a_first_chance_are_told_plainly(rt: HostRuntime) -> Result<(), Fail> {
-    histories_are_told(&rt, &FILTERED, 1)
+    filters_are_told(&rt, 1)
 }
 
 #[test]
 fn filters_of_a_second_chance_are_told_plainly(rt: HostRuntime) -> Result<(), Fail> {
-    histories_are_told(&rt, &FILTERED, 2)
+    filters_are_told(&rt, 2)
 }
 
 #[test]
 fn filters_of_a_third_chance_are_told_plainly(rt: HostRuntime) -> Result<(), Fail> {
-    histories_are_told(&rt, &FILTERED, 3)
+    filters_are_told(&rt, 3)
 }
 
 #[test]
 fn filters_of_a_fourth_chance_are_told_plainly(rt: HostRuntime) -> Result<(), Fail> {
-    histories_are_told(&rt, &FILTERED, 4)
+    filters_are_told(&rt, 4)
 }
 
 #[test]
 fn filters_of_a_fifth_chance_are_told_plainly(rt: HostRuntime) -> Result<(), Fail> {
-    histories_are_told(&rt, &FILTERED, 5)
+    filters_are_told(&rt, 5)
 }

@@ -1,9 +1,11 @@
 use super::histories::a_manager;
 use super::{answer_to, ask_of, line_of, picture, reply_to, text_of, told};
+use fixtures::rows::{cut, cut_twice, number};
 use fixtures::{Refusing, title};
 use std::alloc::{Allocator, Global};
+use std::process::Abort;
 use std::test::Fail;
-use ups_life::{Reply, Subscription};
+use ups_life::{Event, Reply, Subscription};
 use ups_manager::*;
 use ups_pdu::Ae;
 
@@ -48,47 +50,62 @@ const WATCHING: &str = "\
 0 W2 1709208120 words 1.2.3.1 - -|4 global 00741234=W2 -> 0 0213 0000
 0 SCHED1 1709208120 words 1.2.3.1 - -|sweep -> 0 0213 0000+1";
 
-/// Returns how a peer is subscribed to steps, and what is pending for it: step by step, and event by event.
-fn watcher_told<A: Allocator + Copy>(
-    rt: &impl AllocGlobal,
+/// Puts how a peer is subscribed to steps, one a line.
+fn put_watches<A: Allocator + Copy>(
+    text: &mut String,
     manager: &Manager<A>,
     ae: Ae,
-) -> Result<String, Fail> {
-    let mut text = String::new(rt.alloc());
+) -> Result<(), Fail> {
     for watched in manager.watches(ae)?.iter() {
-        let step = text_of(watched.step.as_bytes())?;
-        let lock = watched.subscription == Subscription::Locked;
-        text.push_str(format!(in rt.alloc(); "{step} {lock}\n")?.as_str())?;
+        text.push_str(text_of(watched.step.as_bytes())?)?;
+        text.push_str(match watched.subscription {
+            Subscription::Free => " free\n",
+            Subscription::Locked => " locked\n",
+        })?;
     }
-    text.push_str(pending_told(rt, &manager.pending(ae, 1_000))?.as_str())?;
-    Ok(text)
+    Ok(())
 }
 
-/// Returns what is pending: of each event its number, its entry, its type and its step.
-fn pending_told<A: Allocator + Copy>(
-    rt: &impl AllocGlobal,
-    reply: &Reply<A>,
-) -> Result<String, Fail> {
-    let Reply::Reports(reports) = reply else {
+/// Puts an event: its number, its entry, its type and its step.
+fn put_event(text: &mut String, event: &Event) -> Result<(), Fail> {
+    write!(text, "{} {} {:?} ", event.number, event.entry, event.kind)?;
+    text.push_str(text_of(event.step.as_bytes())?)?;
+    Ok(text.push('\n')?)
+}
+
+/// Puts the events that are pending for a peer, one a line.
+fn put_pending<A: Allocator + Copy>(
+    text: &mut String,
+    manager: &Manager<A>,
+    ae: Ae,
+) -> Result<(), Fail> {
+    let Reply::Reports(reports) = manager.pending(ae, 1_000) else {
         return Err("a status alone".into());
     };
-    let mut text = String::new(rt.alloc());
     for report in reports.as_slice() {
-        let step = text_of(report.event.step.as_bytes())?;
-        let (number, entry) = (report.event.number, report.event.entry);
-        let kind = report.event.kind;
-        text.push_str(format!(in rt.alloc(); "{number} {entry} {kind:?} {step}\n")?.as_str())?;
+        put_event(text, &report.event)?;
     }
-    Ok(text)
+    Ok(())
 }
 
 /// Returns all that a manager tells: of its history, its steps and its watchers.
 fn whole<A: Allocator + Copy>(rt: &impl AllocGlobal, manager: &Manager<A>) -> Result<String, Fail> {
     let mut text = picture(rt, manager)?;
     for name in ["W1", "W2", "W3"] {
-        text.push_str(watcher_told(rt, manager, title(name)?)?.as_str())?;
+        let ae = title(name)?;
+        put_watches(&mut text, manager, ae)?;
+        put_pending(&mut text, manager, ae)?;
     }
     Ok(text)
+}
+
+/// Whether this is all that a manager tells.
+fn is_whole<A: Allocator + Copy>(
+    rt: &impl AllocGlobal,
+    manager: &Manager<A>,
+    text: &str,
+) -> Result<bool, Fail> {
+    Ok(whole(rt, manager)?.as_str() == text)
 }
 
 /// Asks what a line says with the growth of a number refused: the reply as a text.
@@ -109,6 +126,59 @@ fn lacking<'a>(
     told(rt, &reply?)
 }
 
+/// What a row says of its line: how many growths it makes at least, what it is answered where one is refused, and where
+/// none is.
+#[derive(Clone, Copy)]
+struct Due<'a> {
+    line: &'a str,
+    least: u64,
+    refused: &'a str,
+    answered: &'a str,
+}
+
+/// Returns what a row says.
+fn due_of(row: &str) -> Result<Due<'_>, Fail> {
+    let (line, rest) = cut(row, " -> ")?;
+    let (least, refused, answered) = cut_twice(rest, " ", " ")?;
+    Ok(Due {
+        line,
+        least: number(least)?,
+        refused,
+        answered,
+    })
+}
+
+/// What comes of a line with a growth refused.
+#[derive(Clone, Copy)]
+enum Outcome {
+    /// It was answered as where none is refused.
+    Answered,
+    /// It was refused, and the manager tells what it told before.
+    Refused,
+    /// Anything else.
+    Odd,
+}
+
+/// Asks the line of a row with the growth of a number refused.
+fn tried<'a>(
+    rt: &impl AllocGlobal,
+    heap: &'a Refusing<Global>,
+    manager: &mut Manager<&'a Refusing<Global>>,
+    due: &Due<'_>,
+    is_service: bool,
+    growth: u64,
+    before: &str,
+) -> Result<Outcome, Fail> {
+    let found = lacking(rt, heap, manager, due.line, is_service, growth)?;
+    if found.as_str() == due.answered {
+        return Ok(Outcome::Answered);
+    }
+    if found.as_str() != due.refused || !is_whole(rt, manager, before)? {
+        return Ok(Outcome::Odd);
+    }
+    Ok(Outcome::Refused)
+}
+
 /// Asks what a row says with each growth refused in turn, until the line is answered: whether so many growths at least
 /// were refused, with this status each time, and the manager told then what it told before.
 fn is_so<'a>(
@@ -118,39 +188,48 @@ fn is_so<'a>(
     row: &str,
     is_service: bool,
 ) -> Result<bool, Fail> {
-    let (line, rest) = row.split_once(" -> ").ok_or("a line")?;
-    let (least, rest) = rest.split_once(' ').ok_or("a number of growths")?;
-    let (refused, answered) = rest.split_once(' ').ok_or("two replies")?;
-    let least = least.parse::<u64>()?;
+    let due = due_of(row)?;
     let before = whole(rt, manager)?;
     for growth in 1..GROWTHS {
-        let found = lacking(rt, heap, manager, line, is_service, growth)?;
-        if found.as_str() == answered {
-            return Ok(growth > least);
-        }
-        if found.as_str() != refused || whole(rt, manager)?.as_str() != before.as_str() {
-            return Ok(false);
+        match tried(rt, heap, manager, &due, is_service, growth, before.as_str())? {
+            Outcome::Answered => return Ok(growth > due.least),
+            Outcome::Refused => {}
+            Outcome::Odd => return Ok(false),
         }
     }
     Ok(false)
+}
+
+/// Asks a manager all rows of requests, one after the other.
+fn rows_are_so<'a, R: Abort + AllocGlobal>(
+    rt: &R,
+    heap: &'a Refusing<Global>,
+    manager: &mut Manager<&'a Refusing<Global>>,
+    is_service: bool,
+) -> Result<(), Fail> {
+    for row in ROWS.lines() {
+        assert!(rt; is_so(rt, heap, manager, row, is_service)?, "{row}");
+    }
+    assert_eq!(rt; manager.history().len(), 8);
+    Ok(())
+}
+
+/// The same of a new manager.
+fn rows_are_so_anew<R: Abort + AllocGlobal>(rt: &R, is_service: bool) -> Result<(), Fail> {
+    let heap = Refusing::new(rt.alloc());
+    let mut manager = Manager::new(&heap, &[], 60, 0, 10)?;
+    rows_are_so(rt, &heap, &mut manager, is_service)
 }
 
 #[test]
 fn nothing_is_entered_shown_or_found_where_a_growth_is_refused(
     rt: HostRuntime,
 ) -> Result<(), Fail> {
-    for is_service in [false, true] {
-        let heap = Refusing::new(rt.alloc());
-        let mut manager = Manager::new(&heap, &[], 60, 0, 10)?;
-        for row in ROWS.lines() {
-            assert!(rt; is_so(&rt, &heap, &mut manager, row, is_service)?, "{row}");
-        }
-        assert_eq!(rt; manager.history().len(), 8);
-    }
-    Ok(())
+    rows_are_so_anew(&rt, false)?;
+    rows_are_so_anew(&rt, true)
 }
 
-/// The same of a row, which is then asked of a manager with ample memory: whether both tell the same afterwards.
+/// Whether a row is so, and a manager with ample memory, which is asked the same, tells the same afterwards.
 fn is_so_beside<'a>(
     rt: &impl AllocGlobal,
     heap: &'a Refusing<Global>,
@@ -164,19 +243,45 @@ fn is_so_beside<'a>(
     }
     let (line, _) = row.split_once(" -> ").ok_or("a line")?;
     answer_to(rt, ample, line, is_service)?;
-    Ok(whole(rt, manager)?.as_str() == whole(rt, ample)?.as_str())
+    let told = whole(rt, manager)?;
+    is_whole(rt, ample, told.as_str())
+}
+
+/// Asks a manager, and one with ample memory beside it, all rows about watchers, one after the other.
+fn rows_are_so_beside<'a, R: Abort + AllocGlobal>(
+    rt: &R,
+    heap: &'a Refusing<Global>,
+    manager: &mut Manager<&'a Refusing<Global>>,
+    ample: &mut Manager<Global>,
+    is_service: bool,
+) -> Result<(), Fail> {
+    for row in WATCHING.lines() {
+        let is_so = is_so_beside(rt, heap, manager, ample, row, is_service)?;
+        assert!(rt; is_so, "{row}");
+    }
+    Ok(())
+}
+
+/// The same of a manager and a new one with ample memory.
+fn rows_are_so_beside_a_new_one<'a, R: Abort + AllocGlobal>(
+    rt: &R,
+    heap: &'a Refusing<Global>,
+    manager: &mut Manager<&'a Refusing<Global>>,
+    is_service: bool,
+) -> Result<(), Fail> {
+    let mut ample = a_manager(rt.alloc())?;
+    rows_are_so_beside(rt, heap, manager, &mut ample, is_service)
+}
+
+/// The same of two new managers.
+fn rows_are_so_beside_anew<R: Abort + AllocGlobal>(rt: &R, is_service: bool) -> Result<(), Fail> {
+    let heap = Refusing::new(rt.alloc());
+    let mut manager = a_manager(&heap)?;
+    rows_are_so_beside_a_new_one(rt, &heap, &mut manager, is_service)
 }
 
 #[test]
 fn watchers_are_told_nothing_where_a_growth_is_refused(rt: HostRuntime) -> Result<(), Fail> {
-    for is_service in [false, true] {
-        let heap = Refusing::new(rt.alloc());
-        let mut manager = a_manager(&heap)?;
-        let mut ample = a_manager(rt.alloc())?;
-        for row in WATCHING.lines() {
-            let is_so = is_so_beside(&rt, &heap, &mut manager, &mut ample, row, is_service)?;
-            assert!(rt; is_so, "{row}");
-        }
-    }
-    Ok(())
+    rows_are_so_beside_anew(&rt, false)?;
+    rows_are_so_beside_anew(&rt, true)
 }

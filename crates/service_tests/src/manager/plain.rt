@@ -5,10 +5,11 @@ use super::{answer_to, keys_of};
 use std::alloc::{AllocError, Global};
 use std::test::Fail;
 use ups_dataset::{DataSet, write_set};
-use ups_life::{Configuration, Filter, Reply, plain_find};
+use ups_life::{Configuration, Filter, Reply, Sets};
 use ups_manager::*;
-use ups_match::Probe;
+use ups_match::{Keys, Probe};
 use ups_pdu::TransferSyntax;
+use ups_plain::plain_find;
 
 /// Numbers that look random, the same at each run.
 #[derive(Drop)]
@@ -114,6 +115,20 @@ fn plainly_found(
     spelled(rt, sets.as_slice())
 }
 
+/// Finds by a manager: the sets, and how many steps its matcher was asked of.
+fn sets_found(manager: &Manager<Global>, keys: &Keys<Global>) -> Result<(Sets<Global>, u64), Fail> {
+    let mut probe = Probe::new();
+    match manager.find(keys, &mut probe) {
+        Reply::Sets(sets) => Ok((sets, probe.count())),
+        _ => Err("a status alone".into()),
+    }
+}
+
+/// Returns how many steps a manager holds.
+fn steps_held(manager: &Manager<Global>) -> Result<u64, Fail> {
+    Ok(manager.held()?.len() as u64)
+}
+
 /// Finds by a manager, whose matcher is asked once for each step that is held: the bytes of the sets, and how many they
 /// are.
 fn found(
@@ -122,11 +137,8 @@ fn found(
     keys: &str,
 ) -> Result<(Vec<u8>, usize), Fail> {
     let keys = keys_of(rt.alloc(), keys)?;
-    let mut probe = Probe::new();
-    let Reply::Sets(sets) = manager.find(&keys, &mut probe) else {
-        return Err("a status alone".into());
-    };
-    if probe.count() != manager.held()?.len() as u64 {
+    let (sets, asked) = sets_found(manager, &keys)?;
+    if asked != steps_held(manager)? {
         return Err("a matcher that is asked more or less often".into());
     }
     Ok((spelled(rt, sets.as_slice())?, sets.as_slice().len()))
@@ -145,19 +157,44 @@ pub(super) fn found_by_both(
     Ok(count)
 }
 
+/// Makes a call by chance, and finds behind each twentieth by a manager and by the plain program: how many sets both found.
+fn found_behind(
+    rt: &impl AllocGlobal,
+    dice: &mut Dice,
+    manager: &mut Manager<Global>,
+    call: u32,
+) -> Result<usize, Fail> {
+    let line = any_line(rt, dice, 1_709_208_000 + u64::from(call))?;
+    answer_to(rt, manager, line.as_str(), false)?;
+    if call % 20 > 0 {
+        return Ok(0);
+    }
+    found_by_both(rt, manager, dice.one_of(KEYS)?)
+}
+
+/// Makes a thousand calls: how many sets both found, and how many entries there are then.
+fn found_and_entered(
+    rt: &impl AllocGlobal,
+    manager: &mut Manager<Global>,
+) -> Result<(usize, usize), Fail> {
+    let mut dice = Dice { state: 1 };
+    let mut count = found_by_both(rt, manager, "00080018=")?;
+    for call in 0..1_000 {
+        count = count.saturating_add(found_behind(rt, &mut dice, manager, call)?);
+    }
+    Ok((count, manager.history().len()))
+}
+
+/// The same of a new manager.
+fn found_and_entered_anew(rt: &impl AllocGlobal) -> Result<(usize, usize), Fail> {
+    let mut manager = Manager::new(rt.alloc(), &[], 60, 0, 1_000)?;
+    found_and_entered(rt, &mut manager)
+}
+
 #[test]
 fn the_plain_program_finds_the_same(rt: HostRuntime) -> Result<(), Fail> {
-    let mut dice = Dice { state: 1 };
-    let mut manager = Manager::new(rt.alloc(), &[], 60, 0, 1_000)?;
-    let mut count = found_by_both(&rt, &manager, "00080018=")?;
-    for call in 0..1_000u64 {
-        let line = any_line(&rt, &mut dice, 1_709_208_000 + call)?;
-        answer_to(&rt, &mut manager, line.as_str(), false)?;
-        if call % 20 == 0 {
-            count = count.saturating_add(found_by_both(&rt, &manager, dice.one_of(KEYS)?)?);
-        }
-    }
-    assert!(rt; manager.history().len() > 150);
+    let (count, entries) = found_and_entered_anew(&rt)?;
+    assert!(rt; entries > 150);
     assert!(rt; count > 100);
     Ok(())
 }

@@ -1,0 +1,5 @@
+mod Depths
+mod Filters
+mod Reports
+mod Walked
+mod Walks

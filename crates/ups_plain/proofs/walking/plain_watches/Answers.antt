@@ -1,0 +1,11 @@
+use Rattle.std.proofs.Common.{◌≡◌, List, ℕ, MatchResult, subst, ◌∙◌}
+use Rattle.std.specs.List.{filter_map}
+use Rattle.ups_life.specs.Steps.{past}
+use Rattle.ups_life.specs.Watching.{watch, watched_step}
+use Rattle.ups_life.specs.Deep.{WalkFails}
+use Rattle.ups_plain.proofs.walking.plain_watches.Goals as goal
+
+pub returns : goal.returns
+returns g c =
+    subst (λ (us : List (List ℕ)). MatchResult c.watched_among.result (λ v. v.items ≡ filter_map (λ u. watched_step u (watch c.args.configuration.now (past c.args.entries.now) c.args.ae u)) us) (WalkFails c.args.configuration.now (past c.args.entries.now))) (c.as_slice.ensures.value ∙ c.in_ok-steps.ensures)
+    c.watched_among.ensures

@@ -1,0 +1,34 @@
+use Rattle.std.proofs.Common.{◌≡◌, ◌+◌, ◌-◌, ℕ, length, take, ap, arith, ◌∙◌}
+use Rattle.std.specs.Option.{option_copied}
+use Rattle.ups_life.specs.Steps.{past}
+use Rattle.ups_life.specs.Watching.{watch_after, watch}
+use Rattle.ups_life.specs.Filters.{filter_after, filter_now}
+use Rattle.ups_life.proofs.Rows.{past_more}
+use Rattle.ups_plain.proofs.Walks.{walk_step, walk_end}
+use Rattle.ups_plain.proofs.walking.watch_last.Goals as goal
+
+pub loop-place-preserved : goal.loop-place-preserved
+loop-place-preserved g c =
+    let es = past (take c.loop-place.place c.args.entries.now) in
+    let e = c.index-entries-place.result in
+    let same : c.loop-place.place ≡ c.loop-place.place + 1 - 1 = omega arith in
+    record {
+      before = c.loop-place.invariant.after ∙ ap (λ (i : ℕ). watch c.args.configuration.now (past (take i c.args.entries.now)) c.args.ae c.args.step) same;
+      after = walk_step (λ es. watch c.args.configuration.now es c.args.ae c.args.step) c.args.entries.now c.loop-place.place e c.in_ok-after.after c.loop-place-test.true c.index-entries-place.is
+          (c.in_ok-after.ensures.after ∙ ap (λ b. watch_after c.args.configuration.now es e c.args.ae c.args.step b e.request) c.loop-place.invariant.after);
+      filter = walk_step (λ es. filter_now es c.args.ae) c.args.entries.now c.loop-place.place e (option_copied c.filter_after-filter.result) c.loop-place-test.true c.index-entries-place.is
+          (c.filter_after-filter.ensures ∙ ap (λ f. filter_after c.args.ae f e.request) c.loop-place.invariant.filter);
+      row = c.in_ok-after.ensures.row;
+      earlier = c.in_ok-after.ensures.earlier;
+    }
+
+pub returns-clause-before : goal.returns-clause-before
+returns-clause-before g c =
+    let same : c.loop-place.place - 1 ≡ length c.args.entries.now - 1 = omega (arith, c.loop-place-test.false, c.loop-place.auto.place-end) in
+    c.loop-place.invariant.before ∙ ap (λ (i : ℕ). watch c.args.configuration.now (past (take i c.args.entries.now)) c.args.ae c.args.step) same
+
+pub returns-clause-after : goal.returns-clause-after
+returns-clause-after g c = walk_end (λ es. watch c.args.configuration.now es c.args.ae c.args.step) c.args.entries.now c.loop-place.place c.loop-place.after c.loop-place-test.false c.loop-place.invariant.after
+
+pub watch_after-requires-clause-entry : goal.watch_after-requires-clause-entry
+watch_after-requires-clause-entry g c = past_more c.args.entries.now c.loop-place.place c.index-entries-place.result c.loop-place-test.true c.index-entries-place.is

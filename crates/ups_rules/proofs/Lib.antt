@@ -1,0 +1,3 @@
+pub mod Cancels
+pub mod Items
+pub mod Laying
