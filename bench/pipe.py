@@ -34,9 +34,9 @@ def pdu(kind, body):
     return struct.pack(">BBI", kind, 0, len(body)) + body
 
 
-def associate(contexts):
+def associate(contexts, calling=b"BENCH"):
     """An A-ASSOCIATE-RQ with a context for each (abstract syntax, transfer syntax), ids 1, 3, .."""
-    body = struct.pack(">HH", 1, 0) + b"UPSD".ljust(16) + b"BENCH".ljust(16) + bytes(32)
+    body = struct.pack(">HH", 1, 0) + b"UPSD".ljust(16) + calling.ljust(16) + bytes(32)
     body += item(0x10, b"1.2.840.10008.3.1.1.1")
     for i, (abstract, transfer) in enumerate(contexts):
         body += item(0x20, bytes([2 * i + 1, 0, 0, 0]) + item(0x30, abstract) + item(0x40, transfer))

@@ -207,6 +207,6 @@ def exchange(connection, given, lasts=False):
 def end_in(log, who):
     """How the first association of this kind ended that a log tells of."""
     for line in log:
-        if found := re.search(rf"{who}: (\w+)$", line.decode()):
+        if found := re.search(rf"{who}: (\w+)( #.*)?$", line.decode()):
             return found[1]
     return "nothing"

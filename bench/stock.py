@@ -1,5 +1,5 @@
 #!/usr/bin/env python3
-"""Tries `upsd serve` with stock software in its default settings: DCMTK's clients, and pydicom on plain sockets.
+"""Tries `upsd serve` with stock software in its default settings, DCMTK's clients and pydicom, and with examples/ups.py.
 
 It installs them where they are missing (`apt-get install -y dcmtk python3-pydicom`, which needs root; where the Python
 that runs this has no pydicom, it goes on in /usr/bin/python3), starts servers on free ports of this machine, and ends by
@@ -12,6 +12,8 @@ itself. It prints a line for each trial that doesn't agree, and in the end how m
     pydicom      writes and reads the command sets and data sets of the life of five steps, once in Implicit and once in
                  Explicit VR Little Endian: each is created, and then claimed, set, completed, canceled by request or by
                  its performer, queried, and watched by a subscription to it or to all
+    ups.py       the client of the examples, one association for each command: the life of three steps, of which one is
+                 completed, one is canceled by request and one by its performer, with a watcher that takes its reports
     the watcher  is a peer of the server that listens here. It takes the server's associations, answers each
                  N-EVENT-REPORT with 0000, and compares the reports with PS3.4 section CC.2.4: the step, the type, the
                  data set and the order. A State Report may be left out where a later one of its step came in time
@@ -29,6 +31,7 @@ import subprocess
 import sys
 import threading
 import time
+from typing import Optional
 
 sys.path.insert(0, os.path.dirname(os.path.abspath(__file__)))
 import pipe
@@ -58,11 +61,47 @@ TRIALS = [
     ("C-ECHO again", ["echoscu", "-v"], 0, "Received Echo Response (Success)", "serve: Released"),
 ]
 
+# what is tried of examples/ups.py, in order: a name, the words, the exit status, and what is read among what is told
+DONE, REFUSED, NO_ANSWER = 0, 1, 2
+F, G, H = "1.2.3.6", "1.2.3.7", "1.2.3.8"
+HOLDER = ["--transaction", "2.25.7"]
+REPORTS = ["watch", "--ae", "WATCHER", "--associations", "1"]
+CLIENT = [
+    ("echo", ["echo"], DONE, "0000 success"),
+    ("another title", ["echo", "--called", "OTHER"], NO_ANSWER, "the association was rejected (result 1, source 1, reason 7)"),
+    ("subscribe", ["subscribe", "--receiver", "WATCHER"], DONE, "0000 success"),
+    ("subscribe a stranger", ["subscribe", "--receiver", "STRANGER"], REFUSED, "C308"),
+    ("create", ["create", F, "--label", "CT READ", "--patient-id", "P1", "--patient-name", "DOE^JANE"], DONE, "0000 success"),
+    ("create again", ["create", F], REFUSED, "0111"),
+    ("find", ["find", "--state", "SCHEDULED", "--label", "CT*"], DONE, f"{F}  DOE^JANE  P1  "),
+    ("find nothing", ["find", "--label", "MR*"], DONE, "0 found"),
+    ("claim", ["claim", F, *HOLDER], DONE, "0000 success"),
+    ("claim what is claimed", ["claim", F, "--transaction", "2.25.8"], REFUSED, "C302"),
+    ("set", ["set", F, *HOLDER, "-k", "ProcedureStepLabel=CT READ 2"], DONE, "0000 success"),
+    ("set without the claim", ["set", F, "-k", "ProcedureStepLabel=CT READ 3"], REFUSED, "C301"),
+    ("finish", ["finish", F, *HOLDER], DONE, "0000 success"),
+    ("get what is set", ["get", F], DONE, "LO: 'CT READ 2'"),
+    ("get what is finished", ["get", F], DONE, "CS: 'COMPLETED'"),
+    ("get what is not there", ["get", "1.2.3.9"], REFUSED, "C307"),
+    ("watch", REPORTS, DONE, f"{F} state: InputReadinessState=READY  ProcedureStepState=COMPLETED"),
+    ("create another", ["create", G], DONE, "0000 success"),
+    ("request to cancel what is scheduled", ["cancel", G, "--reason", "ILL"], DONE, "0000 success"),
+    ("find what is canceled", ["find", "--state", "CANCELED"], DONE, "1 found"),
+    ("watch the cancellation", REPORTS, DONE, f"{G} state: InputReadinessState=READY  ProcedureStepState=CANCELED"),
+    ("create a third", ["create", H], DONE, "0000 success"),
+    ("claim the third", ["claim", H, *HOLDER], DONE, "0000 success"),
+    ("request to cancel what is claimed", ["cancel", H, "--reason", "ILL"], DONE, "0000 success"),
+    ("watch the request", REPORTS, DONE, f"{H} cancel requested: "),
+    ("cancel", ["finish", H, *HOLDER, "--canceled"], DONE, "0000 success"),
+    ("watch the progress", REPORTS, DONE, f"{H} progress: ProcedureStepProgressInformationSequence=.."),
+    ("unsubscribe", ["unsubscribe", "--receiver", "WATCHER"], DONE, "0000 success"),
+]
 
-def install():
-    """Has DCMTK's clients and pydicom there."""
+
+def install(packages: dict[str, str]) -> None:
+    """Has pydicom there, and these commands, each from the Debian package that is named with it."""
     own = importlib.util.find_spec("pydicom")
-    missing = [] if shutil.which("echoscu") and shutil.which("findscu") else ["dcmtk"]
+    missing = sorted({package for command, package in packages.items() if not shutil.which(command)})
     if not own and subprocess.run([PYTHON, "-c", "import pydicom"], stderr=subprocess.DEVNULL).returncode:
         missing.append("python3-pydicom")
     if missing:
@@ -153,6 +192,45 @@ def by_dcmtk(server, words, status, told, logged):
     if logged and not holds(lambda: any(logged in line for line in server.log[before:]), 5):
         return f"the server did not log {logged!r}: {server.log[before:]}"
     return None
+
+
+def by_client(words: list[str], status: int, told: str) -> Optional[str]:
+    """Why a trial of examples/ups.py doesn't agree, or None."""
+    client = [sys.executable, os.path.join(HERE, "examples/ups.py"), *words]
+    try:
+        ran = subprocess.run(client, capture_output=True, text=True, timeout=LIMIT)
+    except subprocess.TimeoutExpired:
+        return f"ups.py {' '.join(words)} does not end"
+    said = ran.stdout + ran.stderr
+    if ran.returncode != status:
+        return f"ups.py {' '.join(words)} ended with {ran.returncode} and not {status}: {said.strip()}"
+    return None if told in said else f"ups.py {' '.join(words)} did not tell {told!r}: {said.strip()}"
+
+
+def free_port() -> int:
+    """A port of this machine that is free."""
+    with socket.create_server(("127.0.0.1", 0)) as listener:
+        return listener.getsockname()[1]
+
+
+def listens(port: int) -> bool:
+    """Whether somebody listens on a port of this machine."""
+    try:
+        socket.create_connection(("127.0.0.1", port), 1).close()
+        return True
+    except OSError:
+        return False
+
+
+def live_by_client(program: list[str], tally: Tally, reports: bool) -> None:
+    """The life of steps through examples/ups.py, with or without its reports."""
+    watcher = free_port()
+    with Server(program, "--timeout", "10", "--keep", "3600", f"WATCHER=127.0.0.1:{watcher}") as server:
+        for name, words, status, told in CLIENT:
+            if words is not REPORTS:
+                tally.tell(f"ups.py, {name}", by_client([*words, "--port", str(server.port)], status, told))
+            elif reports:
+                tally.tell(f"ups.py, {name}", by_client([*words, "--listen", str(watcher)], status, told))
 
 
 # pydicom: sets are given by keyword, a sequence as a list of items
@@ -464,7 +542,7 @@ def main():
     parser.add_argument("program", nargs="*", default=[os.path.join(HERE, "crates/upsd/out/upsd")],
                         help="the program, and words before those of `serve` (default: crates/upsd/out/upsd, which `rt run` builds)")
     asked = parser.parse_args()
-    install()
+    install({"echoscu": "dcmtk", "findscu": "dcmtk"})
     signal.signal(signal.SIGALRM, lambda *_: sys.exit(f"stock.py: not done in {ALL} seconds"))
     signal.alarm(ALL)
     tally = Tally()
@@ -479,6 +557,7 @@ def main():
             live(server, syntax, tally, name)
             if not asked.no_reports:
                 watch(watcher, tally, name)
+    live_by_client(asked.program, tally, not asked.no_reports)
     import pydicom
     version = subprocess.run(["echoscu", "--version"], capture_output=True, text=True).stdout.split("\n")[0]
     tally.end(f"{version.strip('$ ')}, pydicom {pydicom.__version__}")

@@ -1,4 +1,4 @@
-//! A server with one worker, a deliverer and a sweeper, a client of it, and a watcher.
+//! A server with one worker, two that deliver and a sweeper, a client of it, and a watcher.
 ghost use Rattle.std.specs.Prelude.{◌≡◌, ◌≤◌, All, IfOk, length};
 ghost use denote.Param.Send.{IsSync};
 ghost use Rattle.ups_life.specs.Settings.{IsMoment};
@@ -21,7 +21,7 @@ use ups_dataset::DataSet;
 use ups_dataset::dictionary::*;
 use ups_life::{Entry, Peer, Reply, Request, StepUid, Target};
 use ups_manager::Manager;
-use ups_net::{Door, ServerOptions, Watcher, run};
+use ups_net::{Door, Premises, ServerOptions, Watcher, run};
 use ups_pdu::Ae;
 use ups_turn::{Desk, Pass};
 
@@ -44,7 +44,7 @@ struct Ended {
 /// Errors: a thread of a peer can't be started.
 fn run_with_peers<R>(
     rt: &R,
-    door: &Door,
+    premises: &Premises,
     desk: &Desk<Global>,
     passes: Vec<Pass<Global>>,
     options: &ServerOptions,
@@ -67,13 +67,14 @@ where
             ensures stay { IfOk result (λ ended. All (λ p. p.table ≡ desk.entry.now.table) ended.passes.items) }
         {
             let alloc = options.alloc;
+            let door = premises.door();
             let Ok(client) = scope.spawn(move || answered(rt, alloc, door, lines)) else {
                 return Err(io::Error::other("no thread for the client"));
             };
             let Ok(watcher) = scope.spawn(move || watched(alloc, watching, lines)) else {
                 return Err(io::Error::other("no thread for the watcher"));
             };
-            let (began, passes) = run(rt, door, desk, passes, options);
+            let (began, passes) = run(rt, premises, desk, passes, options);
             knock(rt, watching);
             Ok(Ended {
                 began,
@@ -193,7 +194,7 @@ fn left_in(manager: &Manager<Global>) -> Result<Left, Fail> {
         entries: history.len(),
         created: count_of(history, 1, "SCHED1", "create"),
         acknowledged: count_of(history, 2, "W1", "ack 1"),
-        swept: count_of(history, 3, "UPSD", "sweep"),
+        swept: count_of(history, 4, "UPSD", "sweep"),
         pending: pending_of(manager)?,
     })
 }
@@ -220,7 +221,8 @@ struct Outcome {
     left: Left,
 }
 
-/// The options of a server with one worker, which serves one association, and one round of the sweeper and the deliverer.
+/// The options of a server with one worker, which serves one association, and one round of the sweeper and of those that
+/// deliver.
 /// W1 is looked for at a port of this host.
 pub(crate) fn options_of(alloc: Global, port: u16) -> Result<ServerOptions, Fail> {
     let mut watchers = Vec::new(alloc);
@@ -237,6 +239,7 @@ pub(crate) fn options_of(alloc: Global, port: u16) -> Result<ServerOptions, Fail
         },
         turns: 100,
         timeout: 10,
+        delivery_timeout: 10,
         workers: 1,
         associations: 1,
         rounds: 1,
@@ -289,7 +292,7 @@ fn outcome_at(rt: &impl AllocGlobal, desk: Desk<Global>, ended: Ended) -> Result
 fn outcome_on<R>(
     rt: &R,
     options: &ServerOptions,
-    door: &Door,
+    premises: &Premises,
     watching: &TcpListener,
 ) -> Result<Outcome, Fail>
 where
@@ -303,10 +306,10 @@ where
 {
     let alloc = rt.alloc();
     let lines = Lines::new(rt)?;
-    let Ok((desk, passes)) = Desk::open(alloc, manager_of(alloc)?, 3) else {
+    let Ok((desk, passes)) = Desk::open(alloc, manager_of(alloc)?, 4) else {
         return Err("not opened".into());
     };
-    let ended = run_with_peers(rt, door, &desk, passes, options, watching, &lines)?;
+    let ended = run_with_peers(rt, premises, &desk, passes, options, watching, &lines)?;
     outcome_at(rt, desk, ended)
 }
 
@@ -319,7 +322,7 @@ fn closed_port<R: Net<Listener = TcpListener, Stream = TcpStream>>(rt: &R) -> io
 /// How many peers say nothing, and have connected before the client.
 const SILENT: usize = 3;
 
-/// Runs a server with its peers, on ports of this host. The deliverer looks for W1 where it listens, or where nobody does.
+/// Runs a server with its peers, on ports of this host. It looks for W1 where that listens, or where nobody does.
 /// The client is behind peers that say nothing, so that it is served only where these make way.
 fn outcome_of<R>(rt: &R, is_reachable: bool) -> Result<Outcome, Fail>
 where
@@ -340,7 +343,8 @@ where
     };
     let options = options_of(rt.alloc(), port)?;
     let _silent = silent_peers(rt, rt.alloc(), &door, SILENT)?;
-    outcome_on(rt, &options, &door, &watching)
+    let premises = Premises::new(rt.alloc(), door, 1, true)?;
+    outcome_on(rt, &options, &premises, &watching)
 }
 
 #[test]

@@ -11,7 +11,7 @@ use std::sync::Wait;
 use std::test::Fail;
 use std::time::Clock;
 use ups_manager::Manager;
-use ups_net::{ServerOptions, end_told, serve_one};
+use ups_net::{Account, ServerOptions, end_told, serve_one};
 use ups_session::{End, SessionFault};
 use ups_turn::Desk;
 
@@ -46,7 +46,8 @@ fn told_on<R: AllocGlobal + Wait + Clock + Log>(
     let Some(pass) = passes.pop() else {
         return Err("no pass".into());
     };
-    let (_, ended, is_sent) = serve_one(rt, server, &desk, pass, options);
+    let account = Account::new(rt, alloc, 1, server.peer_addr()?, true);
+    let (_, ended, is_sent) = serve_one(rt, server, &account, &desk, pass, options);
     Ok(end_told(ended, is_sent))
 }
 

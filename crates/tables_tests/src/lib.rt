@@ -1,8 +1,11 @@
-//! Tests of the live tables: the steps held, subscriptions, the queues of events, the steps that wait for their removal.
+//! Tests of the live tables: the steps held and the index of them, subscriptions, the queues of events, the steps that wait
+//! for their removal.
 #![tactic(auto)]
 
 #[cfg(test)]
 mod held;
+#[cfg(test)]
+mod index;
 #[cfg(test)]
 mod queues;
 #[cfg(test)]

@@ -10,7 +10,7 @@ use Rattle.ups_settings.specs.declared.watcher.Watcher.{Watcher}
 use Rattle.ups_pdu.specs.Title.{SpellsAe}
 use Rattle.ups_args.specs.declared.fault.ArgumentFault.{ArgumentFault}
 use Rattle.ups_args.specs.declared.fault.ArgumentFault.TheVariants as faults
-use Rattle.ups_args.specs.Limits.{keep_seconds, local_offset, default_workers, timeout_seconds, workers_limit}
+use Rattle.ups_args.specs.Limits.{keep_seconds, local_offset, default_workers, delivery_seconds, timeout_seconds, workers_limit}
 
 -- a number of seconds below 2^32, in decimal digits, before which a + may stand
 pub record SaysSeconds (word : List ℕ) (seconds : ℕ) : Type 0 where
@@ -56,6 +56,12 @@ SaysWorkersOrNot (Some word) count = SaysWorkers word count
 abbrev pub SaysTimeout : Option (List ℕ) → ℕ → Type 0
 SaysTimeout None timeout = timeout ≡ timeout_seconds
 SaysTimeout (Some word) timeout = SaysSeconds word timeout
+
+-- for how many seconds a watcher is waited for at most, to connect to it and for each answer, by the word that says so or by
+-- none
+abbrev pub SaysDeliveryTimeout : Option (List ℕ) → ℕ → Type 0
+SaysDeliveryTimeout None timeout = timeout ≡ delivery_seconds
+SaysDeliveryTimeout (Some word) timeout = SaysSeconds word timeout
 
 -- the address to listen on, by the word that says so or by none
 abbrev pub SaysBind : Option (List ℕ) → List ℕ → Type 0

@@ -20,3 +20,7 @@ default_workers = 4
 -- the seconds for which a read or a write waits at most
 abbrev pub timeout_seconds : ℕ
 timeout_seconds = 60
+
+-- the seconds for which a watcher is waited for at most, to connect to it and for each answer
+abbrev pub delivery_seconds : ℕ
+delivery_seconds = 5

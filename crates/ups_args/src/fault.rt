@@ -36,6 +36,9 @@ pub enum ArgumentFault<'a> {
     /// The word behind `--timeout` is no number of seconds.
     #[error("--timeout takes a number of seconds, from 0 to 4294967295; 0 stands for no limit")]
     Timeout,
+    /// The word behind `--delivery-timeout` is no number of seconds.
+    #[error("--delivery-timeout takes a number of seconds, from 0 to 4294967295; 0 stands for no limit")]
+    DeliveryTimeout,
     /// Memory ran out.
     #[error("out of memory")]
     Memory,

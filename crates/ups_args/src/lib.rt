@@ -15,7 +15,7 @@ mod times;
 mod title;
 
 pub use fault::ArgumentFault;
-pub use limits::{KEEP, OFFSET, limits_are_as_defined};
+pub use limits::{KEEP, MAX_WORKERS, OFFSET, limits_are_as_defined};
 pub use pipe::{PipeArguments, pipe_arguments};
 pub use program::command;
 pub use script::{ScriptArguments, script_arguments};

@@ -1,7 +1,7 @@
 //! How many associations may be served, and how the service is set up where nothing else is said.
 
 ghost use Rattle.std.specs.Prelude.{◌≡◌};
-ghost use Rattle.ups_args.specs.Limits.{keep_seconds, local_offset, workers_limit, default_workers, timeout_seconds};
+ghost use Rattle.ups_args.specs.Limits.{keep_seconds, local_offset, workers_limit, default_workers, timeout_seconds, delivery_seconds};
 
 /// For how many seconds a finished step is kept at least, where nothing else is said.
 pub const KEEP: u32 = 60;
@@ -9,15 +9,18 @@ pub const KEEP: u32 = 60;
 /// The offset of the local time from UTC in minutes, where nothing else is said.
 pub const OFFSET: i16 = 0;
 
-/// How many associations may be served at the same time: a desk has 1,024 passes, of which one sweeps and one delivers
-/// event reports.
-pub(crate) const MAX_WORKERS: u32 = 1_022;
+/// How many associations may be served at the same time: a desk has 1,024 passes, of which one sweeps and at least one
+/// delivers event reports.
+pub const MAX_WORKERS: u32 = 1_022;
 
 /// How many associations are served at the same time, where nothing else is said.
 pub(crate) const WORKERS: u32 = 4;
 
 /// For how many seconds a read or a write waits at most, where nothing else is said.
 pub(crate) const TIMEOUT: u32 = 60;
+
+/// For how many seconds a watcher is waited for at most, to connect to it and for each answer, where nothing else is said.
+pub(crate) const DELIVERY_TIMEOUT: u32 = 5;
 
 /// The address to listen on, where nothing else is said: this machine's own.
 pub(crate) const LOOPBACK: &str = "127.0.0.1";
@@ -29,4 +32,5 @@ pub fn limits_are_as_defined()
     ensures most_workers { MAX_WORKERS ≡ workers_limit }
     ensures workers { WORKERS ≡ default_workers }
     ensures timeout { TIMEOUT ≡ timeout_seconds }
+    ensures delivery_timeout { DELIVERY_TIMEOUT ≡ delivery_seconds }
 {}

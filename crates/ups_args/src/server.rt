@@ -2,14 +2,14 @@
 
 ghost use Rattle.std.specs.Prelude.{◌≡◌, ◌≤◌, ℕ, [], codes, length, None, option_map, IfErr, IfOk, MatchResult, unwrap_or};
 ghost use Rattle.clap.specs.Matches.{first_value, found_of};
-ghost use Rattle.ups_args.specs.Arguments.{IsFlag, NamePeers, NameWatchers, SaysBind, SaysKeep, SaysOffset, SaysPort, SaysTimeout, SaysWorkers, SaysWorkersOrNot, argument_words};
+ghost use Rattle.ups_args.specs.Arguments.{IsFlag, NamePeers, NameWatchers, SaysBind, SaysDeliveryTimeout, SaysKeep, SaysOffset, SaysPort, SaysTimeout, SaysWorkers, SaysWorkersOrNot, argument_words};
 ghost use Rattle.ups_args.specs.Limits.{workers_limit};
 ghost use Rattle.ups_life.specs.Limits.{history_limit, peer_limit};
 ghost use Rattle.ups_settings.specs.Refusal.{refusal};
 ghost use Rattle.ups_pdu.specs.Title.{SpellsAe};
 
 use crate::fault::ArgumentFault;
-use crate::limits::{LOOPBACK, MAX_WORKERS, TIMEOUT, WORKERS};
+use crate::limits::{DELIVERY_TIMEOUT, LOOPBACK, MAX_WORKERS, TIMEOUT, WORKERS};
 use crate::options::{flag, worded};
 use crate::peers::{peer_words, peers_of, watchers_of};
 use crate::times::{keep_asked, keep_of, offset_asked, with_times};
@@ -43,10 +43,18 @@ fn with_workers<'a>(alloc: Global, command: Command<'a>) -> Result<Command<'a>, 
         .arg(worded(alloc, "timeout", "SECONDS", timeout))
 }
 
-/// The options of a server: where it listens, how it serves, and what it tells.
+/// The option of a server that says how it delivers event reports.
+fn with_delivery<'a>(alloc: Global, command: Command<'a>) -> Result<Command<'a>, AllocError> {
+    let timeout =
+        "how long a watcher may take to be connected to, and for each answer, 0 for any time [default: 5]";
+    command.arg(worded(alloc, "delivery-timeout", "SECONDS", timeout))
+}
+
+/// The options of a server: where it listens, how it serves and delivers, and what it tells.
 fn with_network<'a>(alloc: Global, command: Command<'a>) -> Result<Command<'a>, AllocError> {
-    let verbose = "tell of each association who asks for it, and whether it is accepted";
-    with_workers(alloc, with_door(alloc, command)?)?.arg(flag(alloc, "verbose", verbose))
+    let verbose = "tell of each association whether it is accepted, and of each request";
+    let command = with_workers(alloc, with_door(alloc, command)?)?;
+    with_delivery(alloc, command)?.arg(flag(alloc, "verbose", verbose))
 }
 
 /// The command line of `upsd serve`.
@@ -111,6 +119,22 @@ fn timeout_asked(word: Option<&str>) -> Result<u32, ArgumentFault<'_>>
     }
 }
 
+/// For how many seconds a watcher is waited for at most, by the word behind `--delivery-timeout`, or 5 where there is none;
+/// 0 stands for any time.
+///
+/// Errors: DeliveryTimeout where the word says no number of seconds.
+fn delivery_timeout_asked(word: Option<&str>) -> Result<u32, ArgumentFault<'_>>
+    ensures { IfOk result (SaysDeliveryTimeout (option_map (λ w. w.now) word.entry)) }
+{
+    let Some(word) = word else {
+        return Ok(DELIVERY_TIMEOUT);
+    };
+    match keep_of(word) {
+        Ok(seconds) => Ok(seconds),
+        Err(_) => Err(ArgumentFault::DeliveryTimeout),
+    }
+}
+
 /// The address to listen on: the word behind `--bind`, or 127.0.0.1 where there is none.
 fn bind_asked<'a>(word: Option<&'a str>) -> &'a str
     ensures { SaysBind (option_map (λ w. w.now) word.entry) result.now }
@@ -142,7 +166,9 @@ pub struct ServeArguments<'a> {
     pub workers: u32,
     /// For how many seconds a read or a write waits at most; 0 stands for any time.
     pub timeout: u32,
-    /// Whether each association is told of, with who asks for it.
+    /// For how many seconds a watcher is waited for at most, to connect to it and for each answer; 0 stands for any time.
+    pub delivery_timeout: u32,
+    /// Whether the log tells of each association how it is answered, and of each request.
     pub verbose: bool,
 }
 
@@ -165,6 +191,7 @@ pub fn serve_arguments<'a>(
     ensures offset { IfOk result (λ asked. SaysOffset (first_value (found_of matches.now) (codes "offset")) asked.offset) }
     ensures workers { IfOk result (λ asked. SaysWorkersOrNot (first_value (found_of matches.now) (codes "associations")) asked.workers) }
     ensures timeout { IfOk result (λ asked. SaysTimeout (first_value (found_of matches.now) (codes "timeout")) asked.timeout) }
+    ensures delivery_timeout { IfOk result (λ asked. SaysDeliveryTimeout (first_value (found_of matches.now) (codes "delivery-timeout")) asked.delivery_timeout) }
     ensures verbose { IfOk result (λ asked. IsFlag (found_of matches.now) (codes "verbose") asked.verbose) }
     ensures some { IfOk result (λ asked. 1 ≤ asked.workers) }
     ensures most { IfOk result (λ asked. asked.workers ≤ workers_limit) }
@@ -181,6 +208,7 @@ pub fn serve_arguments<'a>(
         offset: offset_asked(matches.get_str("offset"))?,
         workers: workers_asked(matches.get_str("associations"))?,
         timeout: timeout_asked(matches.get_str("timeout"))?,
+        delivery_timeout: delivery_timeout_asked(matches.get_str("delivery-timeout"))?,
         verbose: matches.get_flag("verbose"),
     })
 }

@@ -53,10 +53,16 @@ use Rattle.ups_keep.proofs.due.Final.TheSendSync as final
 use Rattle.ups_keep.specs.contracts.due.Due as Due
 use Rattle.ups_steps.specs.contracts.held.Held as Held
 use Rattle.ups_steps.specs.contracts.steps.Steps as Steps
+use Rattle.ups_index.proofs.posts.Post.TheSendSync as post
+use Rattle.ups_index.specs.contracts.values.StoredText as StoredText
+use Rattle.ups_index.specs.contracts.values.Values as Values
+use Rattle.ups_index.specs.contracts.slots.Slot as IndexSlot
+use Rattle.ups_index.specs.contracts.posts.Posts as Posts
+use Rattle.ups_index.specs.contracts.index.Index as Index
 use Rattle.ups_tables.specs.contracts.tables.Tables as Tables
 use Rattle.ups_manager.specs.contracts.manager.Manager as Manager
 
-ruleset leaves = (fold.the_send, build.the_send, bytes.the_send, tag.the_send, vr.the_send, uid.the_send, ae.the_send, state.the_send, step.the_send, transaction.the_send, place.the_send, holder.the_send, configuration.the_send, subscription.the_send, event.the_send, kind.the_send, readiness.the_send, slot.the_send, final.the_send)
+ruleset leaves = (fold.the_send, build.the_send, bytes.the_send, tag.the_send, vr.the_send, uid.the_send, ae.the_send, state.the_send, step.the_send, transaction.the_send, place.the_send, holder.the_send, configuration.the_send, subscription.the_send, event.the_send, kind.the_send, readiness.the_send, slot.the_send, final.the_send, post.the_send)
 
 -- A MAP IN INSERTION ORDER
 
@@ -140,5 +146,26 @@ module _ (A : RattleType) (g : Allocator.Ghosts A.Denot) where
       let h = Steps-send s f in let w = Watchers-send s f in let q = Queues-send s f in let d = Due-send s f in
       search (sendable, maps.crosses, leaves) depth 40
 
+-- THE INDEX
+
+module _ (A : RattleType) (g : Allocator.Ghosts A.Denot) where
+  StoredText-send : IsSend A → Frees g g.dealloc_token → IsSend (StoredText.the_field A g).row
+  StoredText-send s f = search (sendable, over.crosses, leaves) depth 40
+
+  Values-send : IsSend A → Frees g g.dealloc_token → IsSend (Values.the_field A g).row
+  Values-send s f = let t = StoredText-send s f in search (sendable, over.crosses) depth 40
+
+  IndexSlot-send : IsSend A → Frees g g.dealloc_token → IsSend (IndexSlot.the_field A g).row
+  IndexSlot-send s f = let v = Values-send s f in let o : IsSend (Option.the_row (Values.the_row A g)) = search sendable depth 20 in search (sendable, leaves) depth 40
+
+  Posts-send : IsSend A → Frees g g.dealloc_token → IsSend (Posts.the_field A g).row
+  Posts-send s f = search (sendable, over.crosses, leaves) depth 40
+
+  Index-send : IsSend A → Frees g g.dealloc_token → IsSend (Index.the_field A g).row
+  Index-send s f = let l = IndexSlot-send s f in let p = Posts-send s f in search (sendable, over.crosses) depth 40
+
+-- THE MANAGER
+
+module _ (A : RattleType) (g : Allocator.Ghosts A.Denot) where
   pub Manager-send : IsSend A → Frees g g.dealloc_token → IsSend (Manager.the_row A g)
-  Manager-send s f = let e = Entries-send A g s f in let t = Tables-send s f in let o = Configuration-send A g s f in search sendable depth 20
+  Manager-send s f = let e = Entries-send A g s f in let t = Tables-send A g s f in let o = Configuration-send A g s f in let i = Index-send A g s f in search sendable depth 20

@@ -38,7 +38,7 @@ keys_if_ok s history t (Ok v) st is = is ∙ keys_held_are s history t st
 keys_if_ok s history t (Err e) st is = is
 
 -- and there are as many
-steps_many : {A : Type 0} (es : List (List ℕ × Held A)) → length (as_steps es) ≡ length es
+pub steps_many : {A : Type 0} (es : List (List ℕ × Held A)) → length (as_steps es) ≡ length es
 steps_many [] = refl
 steps_many (e ∷ es) = ap suc (steps_many es)
 

@@ -1,6 +1,7 @@
 mod Acknowledging
 pub mod Alone
 pub mod Crosses
+mod Classes
 mod Entering
 mod Finding
 mod Fitting
@@ -9,6 +10,7 @@ mod Known
 mod Matches
 mod Offsets
 mod Outsiders
+mod Reindexed
 mod Small
 mod Watchers
 mod Watches

@@ -9,14 +9,16 @@ use Rattle.ups_life.specs.declared.request.Reply.{Reply}
 use Rattle.ups_life.specs.Settings.{Settings}
 use Rattle.ups_life.specs.Steps.{past}
 use Rattle.ups_life.specs.History.{accepts, decided}
+use Rattle.ups_keep.specs.Waits.{steps_of}
 use Rattle.ups_live.specs.Held.{held_steps}
 use Rattle.ups_tables.specs.declared.tables.Tables.{Tables}
-use Rattle.ups_tables.specs.Planned.{IsPlan}
+use Rattle.ups_tables.specs.Planned.{IsPlan, removed_by}
 use Rattle.ups_service.specs.Law.{Answers, SmallReply}
 use Rattle.ups_manager.specs.declared.deciding.Decision.{Decision}
 use Rattle.ups_manager.specs.declared.deciding.Kind.{Kind}
 use Rattle.ups_manager.specs.declared.deciding.Kind.TheVariants.{OfStep, OfWatcher, OfEvents, OfTime}
 use Rattle.ups_manager.specs.Held.{IsSmallStep}
+use Rattle.ups_manager.specs.Indexing.{after_change, indexed_steps}
 
 -- what a request is of
 abbrev pub kind_of : {A : Type 0} → Request A → Kind
@@ -32,12 +34,14 @@ abbrev pub repeats_in : {A : Type 0} → (List ℕ → Bool) → Request A → B
 repeats_in was_used (Create step attributes) = was_used step
 repeats_in was_used request = false
 
--- a call is accepted with this reply, where there is room for it; its plan is right, and the steps held after it are small
+-- a call is accepted with this reply, where there is room for it; its plan is right, the steps held after it are small, and its
+-- change of the index makes of the steps held before it those held after it
 pub record IsDecided {A : Type 0} (s : Settings) (history : List (Entry A)) (t : Tables A) (call : Entry A) (d : Decision A) : Type 0 where
   pub reply : decided s (past history) call call.request ≡ d.reply
   pub accepted : accepts d.reply ≡ true
   pub plan : IsPlan s (past history) call t d.plan
   pub small : AllByRecursion IsSmallStep (held_steps s (call ∷ past history))
+  pub index : after_change d.change (steps_of (removed_by d.plan)) (indexed_steps s (past history)) ≡ indexed_steps s (call ∷ past history)
 
 -- a call is refused with this reply, or memory ran out
 pub record IsRefused {A : Type 0} (s : Settings) (history : List (Entry A)) (call : Entry A) (reply : Reply A) : Type 0 where

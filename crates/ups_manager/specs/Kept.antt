@@ -1,4 +1,4 @@
--- What a manager keeps: a legal history, and tables that say what the definitions say of it.
+-- What a manager keeps: a legal history, tables that say what the definitions say of it, and an index of the steps held.
 use Rattle.std.specs.Prelude.{All, List}
 use Rattle.std.specs.List.{AllByRecursion}
 use Rattle.ups_life.specs.declared.entry.Entry.{Entry}
@@ -9,6 +9,7 @@ use Rattle.ups_tables.specs.declared.tables.Tables.{Tables}
 use Rattle.ups_tables.specs.Stands.{Stands as TablesStand}
 use Rattle.ups_manager.specs.declared.manager.Manager.TheInside.{Inside}
 use Rattle.ups_manager.specs.Held.{IsSmallStep}
+use Rattle.ups_manager.specs.Indexing.{IsIndexed}
 
 -- the tables stand by the history, which is legal; its moments have a date, and the steps that are held are small
 pub record Stands {A : Type 0} (s : Settings) (history : List (Entry A)) (t : Tables A) : Type 0 where
@@ -18,4 +19,4 @@ pub record Stands {A : Type 0} (s : Settings) (history : List (Entry A)) (t : Ta
   pub small : AllByRecursion IsSmallStep (held_steps s (past history))
 
 abbrev pub IsKept : {A : Type 0} → Inside A → Type 0
-IsKept m = Stands m.configuration m.history.items m.tables
+IsKept m = Stands m.configuration m.history.items m.tables × IsIndexed m.configuration (past m.history.items) m.index

@@ -13,11 +13,13 @@ ghost use Rattle.ups_manager.specs.declared.deciding.Kind.TheVariants.{OfStep, O
 ghost use Rattle.ups_manager.specs.Deciding.{kind_of, IsDecided, IsRefused};
 ghost use Rattle.ups_manager.specs.Kept.{Stands};
 
+use crate::indexing::IndexChange;
 use crate::peers::{acked_at, made_at};
 use crate::rows::known;
 use crate::submitting::step_for;
 use std::alloc::{AllocError, Allocator};
 use ups_cycle::Status;
+use ups_index::Values;
 use ups_life::{Configuration, Entry, Peer, Reply, Request, Row, is_peer, may_lock};
 use ups_pdu::Ae;
 use ups_rules::verdict;
@@ -38,11 +40,12 @@ pub(crate) enum Kind {
     OfTime,
 }
 
-/// The reply to a call that is accepted, and the plan of what it makes of the tables.
+/// The reply to a call that is accepted, the plan of what it makes of the tables, and what it makes of the index.
 #[derive(Drop)]
 pub(crate) struct Decision<A: Allocator + Copy> {
     pub reply: Reply<A>,
     pub plan: Plan<A>,
+    pub change: IndexChange<A>,
 }
 
 /// What a request is of.
@@ -85,10 +88,14 @@ fn decide_step<A: Allocator + Copy>(
         Ok(held) => held,
         Err(fault) => return Err(Reply::Status(fault.status())),
     };
+    let Ok(values) = Values::of(alloc, &held.row.attributes, offset) else {
+        return Err(Reply::Status(Status::ResourceLimitation));
+    };
     match plan_step(alloc, configuration, history, tables, call, step, held) {
         Ok(plan) => Ok(Decision {
             reply: Reply::Status(Status::Success),
             plan,
+            change: IndexChange::Put { step, values },
         }),
         Err(_) => Err(Reply::Status(Status::ResourceLimitation)),
     }
@@ -194,6 +201,7 @@ fn decide_watcher<A: Allocator + Copy>(
             Ok(plan) => Ok(Decision {
                 reply: Reply::Status(status),
                 plan,
+                change: IndexChange::Nothing,
             }),
             Err(_) => Err(Reply::Status(Status::ResourceLimitation)),
         }
@@ -252,6 +260,7 @@ fn decide_ack<A: Allocator + Copy>(
         Ok(Decision {
             reply,
             plan: Plan::Ack { peer, upto },
+            change: IndexChange::Nothing,
         })
     } else {
         Err(reply)
@@ -282,6 +291,7 @@ fn decide_sweep<A: Allocator + Copy>(
     Ok(Decision {
         reply: Reply::Swept(count),
         plan,
+        change: IndexChange::Remove,
     })
 }
 

@@ -15,38 +15,41 @@ ghost use Rattle.ups_life.specs.declared.watching.Watched.{Watched};
 ghost use Rattle.ups_life.specs.Watching.{held, watched};
 ghost use Rattle.ups_life.specs.Events.{events, view, present};
 ghost use Rattle.ups_life.specs.History.{got};
-ghost use Rattle.ups_life.specs.Worklist.{rows, worklist};
+ghost use Rattle.ups_life.specs.Worklist.{worklist};
 ghost use Rattle.ups_settings.specs.declared.fault.ManagerFault.TheVariants.{Memory};
-ghost use Rattle.ups_manager.specs.Finding.{IsFind};
+ghost use Rattle.ups_manager.specs.Finding.{answered, asked_rows, IsAsked};
 ghost use Rattle.ups_manager.specs.Held.{holder_of};
 ghost use Rattle.ups_service.specs.Law.{OrLacking, Answers, SmallReply, entered, is_legal};
 ghost use Rattle.ups_settings.specs.Refusal.{refusal};
 ghost use Rattle.ups_service.specs.Reporting.{reports_to};
 
 use crate::deciding::decide;
+use crate::entry::enter;
 use crate::peers::{first_pending, watched_in};
 use crate::reporting::reports_of;
 use crate::rows::{find, uids_of};
 use crate::submitting::is_full;
-use crate::worklist::matches_among;
+use crate::worklist::matches_of_class;
 use std::alloc::{AllocError, Allocator};
 use std::marker::Model;
 use ups_cycle::Status;
 use ups_dataset::Tag;
+use ups_index::Index;
 use ups_life::{Ask, Configuration, Entry, Holder, Peer, Reply, StepUid, Watched, shown};
 use ups_match::{Keys, Matcher, Probe};
 use ups_pdu::Ae;
 use ups_settings::{ManagerFault, refusal};
-use ups_tables::{Tables, begin, enter, place_of};
+use ups_tables::{Tables, begin, place_of};
 
-/// The manager: the history of accepted requests, and tables of what is so after them. A contract sees it
-/// as what was fixed at the start and the history, oldest first.
+/// The manager: the history of accepted requests, tables of what is so after them, and an index of the steps held. A
+/// contract sees it as what was fixed at the start and the history, oldest first.
 #[derive(Drop)]
 pub struct Manager<A: Allocator + Copy> {
     alloc: A,
     configuration: Configuration<A>,
     history: Vec<Entry<A>, A>,
     tables: Tables<A>,
+    index: Index<A>,
 }
 
 impl<A: Allocator + Copy> Model for Manager<A> {
@@ -100,6 +103,7 @@ impl<A: Allocator + Copy> Manager<A> {
             configuration,
             history: Vec::new(alloc),
             tables,
+            index: Index::new(alloc, offset),
         })
     }
 
@@ -188,18 +192,18 @@ impl<A: Allocator + Copy> Manager<A> {
         }
     }
 
-    /// What a C-FIND is answered (PS3.4 sections CC.2.8 and C.4.1): steps held to which a matcher says yes, in
-    /// order of creation, each with the attributes that the keys name. These are all of them where the matcher
-    /// says what the rules of PS3.4 say, as a `Probe` does. The matcher is asked at most once for each step held. A700
-    /// where memory runs out.
+    /// What a C-FIND is answered (PS3.4 sections CC.2.8 and C.4.1): of the steps held that have the first indexed key of the
+    /// query those to which a matcher says yes, in order of creation, each with the attributes that the keys name. These are
+    /// all steps that match where the matcher says what the rules of PS3.4 say, as a `Probe` does. The matcher is asked once
+    /// for each step that has the first indexed key, and for no other. A700 where memory runs out.
     pub fn find<M: Matcher>(&self, keys: &Keys<A>, matcher: &mut M) -> Reply<A>
         requires count { M.asked matcher.old < 2 ^ 63 }
-        ensures among { IsFind M.says keys.now (rows self.now.settings (past self.now.history)) result }
+        ensures answer { OrLacking OutOfResources (Found (answered (M.says keys.now) keys.now.attributes (asked_rows self.now.settings (past self.now.history) keys.now))) result }
         ensures whole { ((row : List El) → M.says keys.now row ≡ is_match keys.now row) → OrLacking OutOfResources (Found (worklist self.now.settings (past self.now.history) keys.now)) result }
-        ensures asked { M.asked matcher.new ≤ M.asked matcher.old + length (held self.now.settings (past self.now.history)) }
+        ensures asked { IsAsked (M.asked matcher.old) (length (asked_rows self.now.settings (past self.now.history) keys.now)) (M.asked matcher.new) result }
         ensures legal { is_legal self.now.settings self.now.history }
     {
-        match matches_among(self.alloc, &self.tables, keys, matcher) {
+        match matches_of_class(self.alloc, &self.tables, &self.index, keys, matcher) {
             Ok(sets) => Reply::Sets(sets),
             Err(_) => Reply::Status(Status::OutOfResources),
         }
@@ -251,6 +255,7 @@ impl<A: Allocator + Copy> Manager<A> {
             configuration,
             history,
             tables,
+            index,
         } = self;
         let entries = history.as_slice();
         let decided = decide(*alloc, configuration, entries, tables, &call);
@@ -261,10 +266,10 @@ impl<A: Allocator + Copy> Manager<A> {
         if is_full(configuration, entries) {
             return Reply::Status(Status::ResourceLimitation);
         }
-        let Ok(()) = enter(configuration, history, tables, call, decision.plan) else {
+        let Ok(reply) = enter(configuration, history, tables, index, call, decision) else {
             return Reply::Status(Status::ResourceLimitation);
         };
-        decision.reply
+        reply
     }
 
     /// Answers what an application entity asks by the history, and enters it where it is a request that is

@@ -4,11 +4,14 @@
 //! was read. Of time limits, of the second between two rounds and of the door none speaks.
 #![tactic(auto)]
 
+mod account;
 mod clock;
 mod delivering;
 mod door;
 mod journal;
 mod options;
+mod premises;
+mod roster;
 mod rounds;
 mod serving;
 mod socket;
@@ -16,14 +19,17 @@ mod sweeping;
 mod wire;
 mod workers;
 
+pub use account::Account;
 pub use clock::{HostClock, moment_of};
 pub use delivering::deliver_rounds;
-pub use door::Door;
+pub use door::{Caller, Door};
 pub use journal::end_told;
 pub use options::ServerOptions;
+pub use premises::Premises;
+pub use roster::{Roster, Share, is_passed_over, longer_pause};
 pub use serving::serve_one;
 pub use socket::tune;
 pub use sweeping::sweep;
 pub use ups_settings::Watcher;
-pub use wire::{Deadline, Wire, WireReader, WireWriter};
+pub use wire::{Deadline, Patience, Wire, WireReader, WireWriter};
 pub use workers::{run, work};

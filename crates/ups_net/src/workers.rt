@@ -9,10 +9,12 @@ ghost use Rattle.ups_net.specs.Sweeping.{Sweeps};
 ghost use Rattle.ups_net.specs.Working.{EndsThread, EndThreads, Ran};
 ghost use Rattle.ups_net.specs.declared.options.ServerOptions.{ServerOptions};
 
+use crate::account::Account;
 use crate::delivering::deliver_rounds;
-use crate::door::Door;
-use crate::journal::{end_told, tell_served};
+use crate::door::{Caller, Door};
+use crate::journal::end_told;
 use crate::options::ServerOptions;
+use crate::premises::Premises;
 use crate::serving::serve_one;
 use crate::sweeping::sweep;
 use log::Log;
@@ -38,10 +40,14 @@ pub fn work<R: Wait + Clock + Log>(
 {
     let mut pass = pass;
     for _ in 0..options.associations {
-        let stream = door.next_connection(rt, options.timeout);
-        let (after, ended, is_sent) = serve_one(rt, &stream, desk, pass, options);
+        let Caller { stream, address } = door.next_connection(rt, options.timeout);
+        let number = door.next_number();
+        let account = Account::new(rt, options.alloc, number, address, options.verbose);
+        door.take_worker(rt, options.workers);
+        let (after, ended, is_sent) = serve_one(rt, &stream, &account, desk, pass, options);
         pass = after;
-        tell_served(rt, &end_told(ended, is_sent));
+        account.tell_end(rt, &end_told(ended, is_sent));
+        door.free_worker();
     }
     pass
 }
@@ -105,11 +111,11 @@ fn sweep_begun<R: Wait + Clock>(
     pass
 }
 
-/// What a thread does once the threads begin: a worker serves associations, and the deliverer delivers event reports. The
+/// What a thread does once the threads begin: a worker serves associations, and a deliverer delivers event reports. The
 /// number of its pass says which of them it is.
 fn do_job<R>(
     rt: &R,
-    door: &Door,
+    premises: &Premises,
     desk: &Desk<Global>,
     pass: Pass<Global>,
     options: &ServerOptions,
@@ -120,16 +126,18 @@ where
     ensures works { EndsThread options.now true pass result }
 {
     if pass.number() <= options.workers {
-        return work(rt, door, desk, pass, options);
+        return work(rt, &premises.door, desk, pass, options);
     }
-    deliver_rounds(rt, desk, pass, options)
+    let roster = &premises.roster;
+    let share = roster.share_of(pass.number() - options.workers);
+    deliver_rounds(rt, desk, pass, roster, share, options)
 }
 
 /// The thread of a pass: it does its job where the threads begin, and hands the pass back, with what it was told.
 fn attend<'a, R>(
     rt: &R,
     start: &'a OnceLock<bool>,
-    door: &Door,
+    premises: &Premises,
     desk: &Desk<Global>,
     pass: Pass<Global>,
     options: &ServerOptions,
@@ -144,7 +152,7 @@ where
     if !*start.value(&token) {
         return (pass, token);
     }
-    (do_job(rt, door, desk, pass, options), token)
+    (do_job(rt, premises, desk, pass, options), token)
 }
 
 /// The promise of a thread: where it was told to begin, the pass that it hands back has done its job, and else is as it
@@ -199,7 +207,7 @@ fn put_back(unbegun: Vec<Pass<Global>>, passes: &mut Vec<Pass<Global>>)
 /// in `unbegun` until those before them are back.
 fn run_threads<R>(
     rt: &R,
-    door: &Door,
+    premises: &Premises,
     desk: &Desk<Global>,
     passes: Vec<Pass<Global>>,
     sweeper: Pass<Global>,
@@ -252,7 +260,7 @@ where
                         requires { pass.table ≡ desk.now.table }
                         ensures lock { result.1.of ≡ start.entry.now.id }
                         ensures ends { EndsThread options.entry.now result.1.value pass result.0 }
-                    { attend(rt, start, door, desk, pass, options) },
+                    { attend(rt, start, premises, desk, pass, options) },
                 ) {
                     Ok(handle) => handles.push_reserved(handle),
                     Err(refused) => {
@@ -276,13 +284,14 @@ where
 }
 
 /// Runs a server: of the passes the last sweeps, in this thread. Each other one has a thread of its own: those with the
-/// numbers up to `options.workers` are the workers', and one with a greater number delivers event reports. The passes come
+/// numbers up to `options.workers` are the workers', and those with greater numbers deliver event reports: one to all
+/// watchers, or the first of them to those that are not away, and the second to those that are. The passes come
 /// back in their order: true, and each has done its job, as many associations or rounds of it as `options` says; or false,
 /// and each is as it was, since a thread could not be started, or memory ran out before. That a thread runs, and when, no
 /// contract says.
 pub fn run<R>(
     rt: &R,
-    door: &Door,
+    premises: &Premises,
     desk: &Desk<Global>,
     passes: Vec<Pass<Global>>,
     options: &ServerOptions,
@@ -305,5 +314,5 @@ where
     let Some(sweeper) = passes.pop() else {
         unreachable!()
     };
-    run_threads(rt, door, desk, passes, sweeper, unbegun, back, options)
+    run_threads(rt, premises, desk, passes, sweeper, unbegun, back, options)
 }

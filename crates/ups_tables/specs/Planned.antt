@@ -139,7 +139,12 @@ IsPlan s es e t (ToAck peer upto) = PlansAck s e t peer upto
 IsPlan s es e t (ToSweep due moment) = PlansSweep s e t due.items moment
 IsPlan s es e t ToIdle = PlansIdle s e t
 
--- HOW MANY STEPS GO
+-- WHICH STEPS GO, and how many
+
+-- the steps that a plan removes: those of a sweep
+abbrev pub removed_by : {A : Type 0} → Plan A → List Final
+removed_by (ToSweep due moment) = due.items
+removed_by plan = []
 
 -- how many steps a plan removes: a sweep answers it
 abbrev pub swept_by : {A : Type 0} → Plan A → ℕ

@@ -1,6 +1,6 @@
-//! How a request that is accepted enters the history and the tables: with room for all of it, or not at all.
+//! The tables of an empty history, and room for all that a request makes of the history and the tables.
 
-ghost use Rattle.std.specs.Prelude.{◌≡◌, ◌<◌, ◌++◌, ◌∷◌, [], true, IfOk, OnOk, OnErr};
+ghost use Rattle.std.specs.Prelude.{◌≡◌, ◌<◌, ◌∷◌, [], true, vec_len, vec_capacity, IfOk, OnOk};
 ghost use Rattle.ups_life.specs.Steps.{past};
 ghost use Rattle.ups_life.specs.History.{legal};
 ghost use Rattle.ups_live.specs.Seen.{Once};
@@ -8,7 +8,6 @@ ghost use Rattle.ups_tables.specs.Effects.{Reserved};
 ghost use Rattle.ups_tables.specs.Planned.{IsPlan, room_for};
 ghost use Rattle.ups_tables.specs.Stands.{Stands};
 
-use crate::carrying::carry_out;
 use crate::plan::Plan;
 use crate::room::{
     make_room_to_change, make_room_to_create, make_room_to_free, make_room_to_subscribe,
@@ -79,28 +78,29 @@ pub fn room_for_plan<A: Allocator + Copy>(
     }
 }
 
-/// Enters a request that is accepted, by its plan: room is made for all of it, and then it is carried out.
+/// Makes room for all that a request that is accepted makes of the history and the tables, by its plan, so that it can be
+/// carried out.
 ///
 /// # Errors
 ///
 /// Where memory runs out. The history is then as before, and the tables say the same as before.
-pub fn enter<A: Allocator + Copy>(
+pub fn make_room<A: Allocator + Copy>(
     configuration: &Configuration<A>,
     history: &mut Vec<Entry<A>, A>,
     tables: &mut Tables<A>,
-    entry: Entry<A>,
-    plan: Plan<A>,
+    entry: &Entry<A>,
+    plan: &Plan<A>,
 ) -> Result<(), AllocError>
     requires stands { Stands configuration.now history.old.items tables.old }
-    requires legal { legal configuration.now (entry ∷ past history.old.items) ≡ true }
-    requires plan { IsPlan configuration.now (past history.old.items) entry tables.old plan }
-    ensures done { OnOk result (history.new.items ≡ history.old.items ++ entry ∷ []) }
-    ensures refused { OnErr result (history.new.items ≡ history.old.items) }
-    ensures same { OnErr result (Reserved tables.old tables.new) }
+    requires legal { legal configuration.now (entry.now ∷ past history.old.items) ≡ true }
+    requires plan { IsPlan configuration.now (past history.old.items) entry.now tables.old plan.now }
+    ensures history { history.new.items ≡ history.old.items }
+    ensures same { Reserved tables.old tables.new }
     ensures stands { Stands configuration.now history.new.items tables.new }
+    ensures plan { IsPlan configuration.now (past history.new.items) entry.now tables.new plan.now }
+    ensures room { OnOk result (room_for tables.new plan.now) }
+    ensures history_room { OnOk result (vec_len history.new < vec_capacity history.new) }
 {
-    room_for_plan(configuration, history.as_slice(), tables, &entry, &plan)?;
-    history.reserve(1)?;
-    carry_out(configuration, history, tables, entry, plan);
-    Ok(())
+    room_for_plan(configuration, history.as_slice(), tables, entry, plan)?;
+    history.reserve(1)
 }

@@ -23,7 +23,7 @@ pub use acting::{
     subscribe_single, suspend, sweep,
 };
 pub use carrying::carry_out;
-pub use entering::{begin, enter, room_for_plan};
+pub use entering::{begin, make_room, room_for_plan};
 pub use freeing::{freed_everywhere, freed_steps};
 pub use peers::place_of;
 pub use plan::Plan;

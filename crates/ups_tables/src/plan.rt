@@ -2,7 +2,7 @@
 //! A peer is named by its place in the list of peers.
 
 ghost use Rattle.std.specs.Prelude.{◌≡◌};
-ghost use Rattle.ups_tables.specs.Planned.{swept_by};
+ghost use Rattle.ups_tables.specs.Planned.{removed_by, swept_by};
 
 use std::alloc::Allocator;
 use ups_keep::Final;
@@ -79,6 +79,16 @@ pub enum Plan<A: Allocator + Copy> {
 }
 
 impl<A: Allocator + Copy> Plan<A> {
+    /// The steps that are removed, each with the moment at which it became final: those of a sweep, and else none.
+    pub fn removed(&self) -> &[Final]
+        ensures { result.now ≡ removed_by self.now }
+    {
+        match self {
+            Plan::Sweep { due, .. } => due.as_slice(),
+            _ => &[],
+        }
+    }
+
     /// How many steps are removed: what a sweep is answered.
     pub fn swept(&self) -> usize
         ensures { result ≡ swept_by self.now }

@@ -1,6 +1,7 @@
 -- What a server does, as its command line asks.
-use Rattle.std.specs.Prelude.{◌≡◌, ℕ, Bool, List}
+use Rattle.std.specs.Prelude.{◌≡◌, ℕ, ◌+◌, Bool, true, false, nat_lt, List}
 use Rattle.ups_args.specs.declared.server.ServeArguments.{ServeArguments}
+use Rattle.ups_args.specs.Limits.{workers_limit}
 use Rattle.ups_life.specs.Limits.{history_limit}
 use Rattle.ups_life.specs.Settings.{Settings}
 use Rattle.ups_net.specs.Working.{Ran}
@@ -11,6 +12,18 @@ use Rattle.upsd.specs.Limits.{turns_limit}
 -- the associations of each worker, and the rounds of the deliverer and of the sweeper, of a server that doesn't end
 abbrev pub endless : ℕ
 endless = 18446744073709551615
+
+abbrev pub two_or_one : Bool → ℕ
+two_or_one true = 2
+two_or_one false = 1
+
+-- how many deliver event reports beside so many workers: two, or one where the desk has no seat for another
+abbrev pub deliverers_of : ℕ → ℕ
+deliverers_of workers = two_or_one (nat_lt workers workers_limit)
+
+-- the seats of the desk: for the workers, for those that deliver, and for the one that sweeps
+abbrev pub seats_of : ℕ → ℕ
+seats_of workers = workers + deliverers_of workers + 1
 
 -- the settings of the manager
 abbrev pub settings_asked : ServeArguments → Settings

@@ -1,12 +1,12 @@
 //! Associations over TCP, and event reports.
 
-ghost use Rattle.std.specs.Prelude.{◌≡◌, ◌≤◌, ◌+◌, [], length, None, IfOk, IfSome};
+ghost use Rattle.std.specs.Prelude.{◌≡◌, ◌≤◌, [], length, None, IfOk, IfSome};
 ghost use Rattle.ups_args.specs.Limits.{workers_limit};
 ghost use Rattle.ups_settings.specs.Refusal.{refusal};
 ghost use Rattle.ups_life.specs.Limits.{history_limit, peer_limit};
 ghost use Rattle.ups_turn.specs.Pass.{passes_from};
 ghost use Rattle.upsd.specs.Limits.{turns_limit};
-ghost use Rattle.upsd.specs.Serving.{endless, settings_asked, RanAsAsked};
+ghost use Rattle.upsd.specs.Serving.{deliverers_of, endless, seats_of, settings_asked, RanAsAsked};
 
 use crate::ending::Status;
 use crate::limits::TURNS;
@@ -17,11 +17,11 @@ use std::sync::Wait;
 use std::thread::Threads;
 use std::time::Clock;
 use std::{io, str};
-use ups_args::ServeArguments;
+use ups_args::{MAX_WORKERS, ServeArguments};
 use ups_assoc::Config;
 use ups_life::MAX_HISTORY;
 use ups_manager::Manager;
-use ups_net::{Door, ServerOptions, run};
+use ups_net::{Door, Premises, ServerOptions, run};
 use ups_turn::{Desk, Pass};
 
 /// What a server leaves: whether its threads began, its desk, and the passes there.
@@ -31,7 +31,7 @@ pub struct RanServer {
     pub begun: bool,
     /// The desk.
     pub desk: Desk<Global>,
-    /// The passes of the workers, of the deliverer and of the sweeper, in this order.
+    /// The passes of the workers, of those that deliver and of the sweeper, in this order.
     pub passes: Vec<Pass<Global>>,
 }
 
@@ -59,6 +59,7 @@ fn options_of(alloc: Global, asked: ServeArguments<'_>) -> ServerOptions
     ensures offset { result.config.offset ≡ asked.entry.offset }
     ensures turns { result.turns ≡ turns_limit }
     ensures timeout { result.timeout ≡ asked.entry.timeout }
+    ensures delivery_timeout { result.delivery_timeout ≡ asked.entry.delivery_timeout }
     ensures workers { result.workers ≡ asked.entry.workers }
     ensures watchers { result.watchers ≡ asked.entry.watchers }
     ensures verbose { result.verbose ≡ asked.entry.verbose }
@@ -70,6 +71,7 @@ fn options_of(alloc: Global, asked: ServeArguments<'_>) -> ServerOptions
         offset,
         workers,
         timeout,
+        delivery_timeout,
         watchers,
         verbose,
         ..
@@ -79,6 +81,7 @@ fn options_of(alloc: Global, asked: ServeArguments<'_>) -> ServerOptions
         config: Config { ae, offset },
         turns: TURNS,
         timeout,
+        delivery_timeout,
         workers,
         associations: u64::MAX,
         rounds: u64::MAX,
@@ -87,12 +90,22 @@ fn options_of(alloc: Global, asked: ServeArguments<'_>) -> ServerOptions
     }
 }
 
+/// How many deliver event reports beside so many workers: one to the watchers that are not away, and one to those that
+/// are; or one to all, where the desk has no seat for another.
+fn deliverers_of(workers: u32) -> u32
+    ensures number { result ≡ deliverers_of workers }
+    ensures some { 1 ≤ result }
+    ensures few { result ≤ 2 }
+{
+    if workers < MAX_WORKERS { 2 } else { 1 }
+}
+
 /// Runs a server at a door, as the command line asks, for as long as the program lives, and hands back what it leaves: its
 /// manager has the settings that are asked for, and each of its threads has done its job as it is asked for, or none has
 /// begun.
 ///
 /// Errors: lack of memory before the threads are started.
-fn serve_on<R>(rt: &R, door: &Door, asked: ServeArguments<'_>) -> Result<RanServer, AllocError>
+fn serve_on<R>(rt: &R, door: Door, asked: ServeArguments<'_>) -> Result<RanServer, AllocError>
 where
     R: Threads
         + Wait
@@ -107,18 +120,24 @@ where
     requires allowed { refusal asked.peers.items asked.offset history_limit ≡ None }
     ensures settings { IfOk result (λ server. server.desk.opening.settings ≡ settings_asked asked.entry) }
     ensures empty { IfOk result (λ server. server.desk.opening.history ≡ []) }
-    ensures ran { IfOk result (λ server. RanAsAsked asked.entry server.begun (passes_from server.desk.table server.desk.opening 1 (asked.entry.workers + 2)) server.passes.items) }
+    ensures ran { IfOk result (λ server. RanAsAsked asked.entry server.begun (passes_from server.desk.table server.desk.opening 1 (seats_of asked.entry.workers)) server.passes.items) }
 {
     let alloc = rt.alloc();
     let Ok(manager) = Manager::new(alloc, &asked.peers, asked.keep, asked.offset, MAX_HISTORY)
     else {
         return Err(AllocError);
     };
-    let Ok((desk, passes)) = Desk::open(alloc, manager, asked.workers + 2) else {
+    let deliverers = deliverers_of(asked.workers);
+    let watchers = asked.watchers.len();
+    let Ok(premises) = Premises::new(alloc, door, watchers, deliverers > 1) else {
+        return Err(AllocError);
+    };
+    let seats = asked.workers + deliverers + 1;
+    let Ok((desk, passes)) = Desk::open(alloc, manager, seats) else {
         return Err(AllocError);
     };
     let options = options_of(alloc, asked);
-    let (begun, passes) = run(rt, door, &desk, passes, &options);
+    let (begun, passes) = run(rt, &premises, &desk, passes, &options);
     Ok(RanServer {
         begun,
         desk,
@@ -149,10 +168,10 @@ where
     requires allowed { refusal asked.peers.items asked.offset history_limit ≡ None }
     ensures settings { IfOk result (λ left. IfSome left (λ server. server.desk.opening.settings ≡ settings_asked asked.entry)) }
     ensures empty { IfOk result (λ left. IfSome left (λ server. server.desk.opening.history ≡ [])) }
-    ensures ran { IfOk result (λ left. IfSome left (λ server. RanAsAsked asked.entry server.begun (passes_from server.desk.table server.desk.opening 1 (asked.entry.workers + 2)) server.passes.items)) }
+    ensures ran { IfOk result (λ left. IfSome left (λ server. RanAsAsked asked.entry server.begun (passes_from server.desk.table server.desk.opening 1 (seats_of asked.entry.workers)) server.passes.items)) }
 {
     match listen(rt, &asked) {
-        Ok(door) => Ok(Some(serve_on(rt, &door, asked)?)),
+        Ok(door) => Ok(Some(serve_on(rt, door, asked)?)),
         Err(fault) => {
             let _ = eprintln!(rt;
                 "upsd: it can't listen on {}, port {}: {fault}",

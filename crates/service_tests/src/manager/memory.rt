@@ -1,5 +1,6 @@
+use super::counted::counts;
 use super::histories::a_manager;
-use super::{answer_to, ask_of, line_of, picture, reply_to, text_of, told};
+use super::{answer_to, ask_of, keys_of, line_of, picture, reply_to, text_of, told};
 use fixtures::rows::{cut, cut_twice, number};
 use fixtures::{Refusing, title};
 use std::alloc::{Allocator, Global};
@@ -88,9 +89,35 @@ fn put_pending<A: Allocator + Copy>(
     Ok(())
 }
 
-/// Returns all that a manager tells: of its history, its steps and its watchers.
-fn whole<A: Allocator + Copy>(rt: &impl AllocGlobal, manager: &Manager<A>) -> Result<String, Fail> {
+/// Keys by which each manager is asked what it holds.
+const FINDS: &str = "\
+00741202=READS
+00741202=REPROC
+00741000=IN PROGRESS
+00741000=CANCELED
+00404005=20240229-";
+
+/// Puts of how many steps a matcher is asked by keys, and how many match, a line for each.
+fn put_finds<A: Allocator + Copy>(
+    text: &mut String,
+    alloc: A,
+    manager: &Manager<A>,
+) -> Result<(), Fail> {
+    for keys in FINDS.lines() {
+        let (asked, found) = counts(manager, &keys_of(alloc, keys)?)?;
+        write!(text, "{asked}/{found}\n")?;
+    }
+    Ok(())
+}
+
+/// Returns all that a manager tells: of its history, its steps, what is found among them, and its watchers.
+fn whole<A: Allocator + Copy>(
+    rt: &impl AllocGlobal,
+    alloc: A,
+    manager: &Manager<A>,
+) -> Result<String, Fail> {
     let mut text = picture(rt, manager)?;
+    put_finds(&mut text, alloc, manager)?;
     for name in ["W1", "W2", "W3"] {
         let ae = title(name)?;
         put_watches(&mut text, manager, ae)?;
@@ -102,10 +129,11 @@ fn whole<A: Allocator + Copy>(rt: &impl AllocGlobal, manager: &Manager<A>) -> Re
 /// Whether this is all that a manager tells.
 fn is_whole<A: Allocator + Copy>(
     rt: &impl AllocGlobal,
+    alloc: A,
     manager: &Manager<A>,
     text: &str,
 ) -> Result<bool, Fail> {
-    Ok(whole(rt, manager)?.as_str() == text)
+    Ok(whole(rt, alloc, manager)?.as_str() == text)
 }
 
 /// Asks what a line says with the growth of a number refused: the reply as a text.
@@ -173,7 +201,7 @@ fn tried<'a>(
     if found.as_str() == due.answered {
         return Ok(Outcome::Answered);
     }
-    if found.as_str() != due.refused || !is_whole(rt, manager, before)? {
+    if found.as_str() != due.refused || !is_whole(rt, heap, manager, before)? {
         return Ok(Outcome::Odd);
     }
     Ok(Outcome::Refused)
@@ -189,7 +217,7 @@ fn is_so<'a>(
     is_service: bool,
 ) -> Result<bool, Fail> {
     let due = due_of(row)?;
-    let before = whole(rt, manager)?;
+    let before = whole(rt, heap, manager)?;
     for growth in 1..GROWTHS {
         match tried(rt, heap, manager, &due, is_service, growth, before.as_str())? {
             Outcome::Answered => return Ok(growth > due.least),
@@ -243,8 +271,8 @@ fn is_so_beside<'a>(
     }
     let (line, _) = row.split_once(" -> ").ok_or("a line")?;
     answer_to(rt, ample, line, is_service)?;
-    let told = whole(rt, manager)?;
-    is_whole(rt, ample, told.as_str())
+    let told = whole(rt, heap, manager)?;
+    is_whole(rt, rt.alloc(), ample, told.as_str())
 }
 
 /// Asks a manager, and one with ample memory beside it, all rows about watchers, one after the other.

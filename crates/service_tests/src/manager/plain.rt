@@ -2,6 +2,7 @@ ghost use Rattle.std.specs.Prelude.{IfOk};
 ghost use Rattle.ups_life.specs.Settings.{IsOffset};
 
 use super::{answer_to, keys_of};
+use fixtures::rows::cut;
 use std::alloc::{AllocError, Global};
 use std::test::Fail;
 use ups_dataset::{DataSet, write_set};
@@ -40,6 +41,7 @@ impl Dice {
 const SENT: &str = "
 00741202=READS
 00741202=REPROC
+00100020=P1
 00404005=20240301
 00741200=HIGH
 00741216/00404050=20240229120100,00404051=20240229120200
@@ -51,19 +53,23 @@ const UIDS: &str = "-\n2.1\n2.1\n2.2";
 /// The states.
 const STATES: &str = "IN_PROGRESS\nIN_PROGRESS\nCOMPLETED\nCANCELED";
 
-/// The keys that are asked of what they make.
-pub(super) const KEYS: &str = r"00080018=|00741000=
-00080018=|00741000=SCHEDULED
-00080018=|00741000=IN PROGRESS
-00080018=|00741000=C*
-00080018=1.2.3.7\1.2.3.30|00741000=
-00741202=RE?D*|00741000=
-00741202=*C|00404005=20240301-
-00741202=|00404005=-20240229
-00741202=|00404005=20240229-202402
-00080018=|00741200=HIGH
-00100010=|00741204=CT*
-00100010=DOE*|00741000=";
+/// The keys that are asked of what they make, and behind an arrow the first indexed key of each alone; a key that is
+/// universal where there is none.
+pub(super) const KEYS: &str = r"00080018=|00741000= -> 00080018=
+00080018=|00741000=SCHEDULED -> 00741000=SCHEDULED
+00080018=|00741000=IN PROGRESS -> 00741000=IN PROGRESS
+00080018=|00741000=C* -> 00080018=
+00080018=1.2.3.7\1.2.3.30|00741000= -> 00080018=
+00741202=RE?D*|00741000= -> 00080018=
+00741202=READS|00741000=SCHEDULED -> 00741202=READS
+00741202=*C|00404005=20240301- -> 00404005=20240301-
+00741202=|00404005=-20240229 -> 00404005=-20240229
+00741202=|00404005=20240229-202402 -> 00404005=20240229-202402
+00080018=|00741200=HIGH -> 00741200=HIGH
+00404005=20240301-|00741200=HIGH -> 00741200=HIGH
+00100010=|00741204=CT* -> 00080018=
+00100010=DOE*|00741000= -> 00080018=
+00100020=P1|00741202=READS -> 00100020=P1";
 
 /// Returns a line that asks for something of one of 40 steps.
 fn any_line(rt: &impl AllocGlobal, dice: &mut Dice, moment: u64) -> Result<String, Fail> {
@@ -124,35 +130,51 @@ fn sets_found(manager: &Manager<Global>, keys: &Keys<Global>) -> Result<(Sets<Gl
     }
 }
 
-/// Returns how many steps a manager holds.
-fn steps_held(manager: &Manager<Global>) -> Result<u64, Fail> {
-    Ok(manager.held()?.len() as u64)
+/// Returns the key by which a manager looks up, by the first indexed key of a query: a universal one in the place of a start
+/// where its offset is another one than that of the keys.
+fn looked_up<'a>(manager: &Manager<Global>, first: &'a str) -> &'a str {
+    if first.starts_with("00404005") && manager.offset() != 0 {
+        return "00080018=";
+    }
+    first
 }
 
-/// Finds by a manager, whose matcher is asked once for each step that is held: the bytes of the sets, and how many they
-/// are.
+/// Returns how many steps have the first indexed key of a query, by the plain program: they match that key alone.
+fn class_size(rt: &impl AllocGlobal, manager: &Manager<Global>, first: &str) -> Result<u64, Fail> {
+    let keys = keys_of(rt.alloc(), looked_up(manager, first))?;
+    let settings = settings_of(rt.alloc(), manager)?;
+    Ok(
+        plain_find(rt.alloc(), &settings, manager.history(), &keys)?
+            .as_slice()
+            .len() as u64,
+    )
+}
+
+/// Finds by a manager: the bytes of the sets, how many they are, and how many steps its matcher was asked of.
 fn found(
     rt: &impl AllocGlobal,
     manager: &Manager<Global>,
     keys: &str,
-) -> Result<(Vec<u8>, usize), Fail> {
+) -> Result<(Vec<u8>, usize, u64), Fail> {
     let keys = keys_of(rt.alloc(), keys)?;
     let (sets, asked) = sets_found(manager, &keys)?;
-    if asked != steps_held(manager)? {
-        return Err("a matcher that is asked more or less often".into());
-    }
-    Ok((spelled(rt, sets.as_slice())?, sets.as_slice().len()))
+    Ok((spelled(rt, sets.as_slice())?, sets.as_slice().len(), asked))
 }
 
-/// Finds by a manager and by the plain program: how many sets both found.
+/// Finds by a manager and by the plain program, by keys and the first indexed key of them behind an arrow: how many sets
+/// both found. The matcher is asked of the steps that have the first indexed key, and of no others.
 pub(super) fn found_by_both(
     rt: &impl AllocGlobal,
     manager: &Manager<Global>,
-    keys: &str,
+    query: &str,
 ) -> Result<usize, Fail> {
-    let (bytes, count) = found(rt, manager, keys)?;
+    let (keys, first) = cut(query, " -> ")?;
+    let (bytes, count, asked) = found(rt, manager, keys)?;
     if bytes.as_slice() != plainly_found(rt, manager, keys)?.as_slice() {
         return Err("the plain program finds other steps".into());
+    }
+    if asked != class_size(rt, manager, first)? {
+        return Err("a matcher that is asked of other steps".into());
     }
     Ok(count)
 }
@@ -178,7 +200,7 @@ fn found_and_entered(
     manager: &mut Manager<Global>,
 ) -> Result<(usize, usize), Fail> {
     let mut dice = Dice { state: 1 };
-    let mut count = found_by_both(rt, manager, "00080018=")?;
+    let mut count = found_by_both(rt, manager, "00080018= -> 00080018=")?;
     for call in 0..1_000 {
         count = count.saturating_add(found_behind(rt, &mut dice, manager, call)?);
     }

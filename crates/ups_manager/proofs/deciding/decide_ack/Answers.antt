@@ -6,6 +6,7 @@ use Rattle.ups_manager.proofs.Acknowledging.{events_of_no_step, ack_decided, ack
 use Rattle.ups_manager.proofs.Keyed.{queue_fits}
 use Rattle.ups_manager.proofs.Entering.{refuses}
 use Rattle.ups_manager.proofs.Watchers.{small_same}
+use Rattle.ups_manager.proofs.Reindexed.{same_indexed}
 use Rattle.ups_manager.proofs.deciding.decide_ack.Goals as goal
 
 pub made_at-made-requires : goal.made_at-made-requires
@@ -41,4 +42,5 @@ returns-in-Some g c =
       plan = ack_plan s call c.args.tables.now c.args.upto c.peers.result.now c.place_of-place.result c.in-Some.peer c.made_at-made.result c.acked_at-acked.result c.acknowledged-reply.result c.requires.kind c.peers.ensures c.place_of-place.ensures c.in-Some.is
           c.made_at-made.ensures c.acked_at-acked.ensures c.acknowledged-reply.ensures (sym c.accepts.ensures ∙ c.if-accepts.true);
       small = small_same s (past c.args.history.now) call _ (events_of_no_step call.request c.args.upto c.requires.kind) refl c.requires.stands.small;
+      index = same_indexed s (past c.args.history.now) call (events_of_no_step call.request c.args.upto c.requires.kind);
     }

@@ -14,7 +14,22 @@ use Rattle.ups_tables.proofs.Keyed.{steps_kept}
 use Rattle.ups_manager.specs.declared.submitting.SubmitFault.TheVariants.{Refused}
 use Rattle.ups_manager.specs.Held.{IsSmallStep}
 use Rattle.ups_manager.proofs.Entering.{accepted, step_succeeds, steps_after, small_kept, answers_fault, fails, no_step, step_not_done, lacks}
+use Rattle.ups_manager.proofs.Reindexed.{step_indexed}
 use Rattle.ups_manager.proofs.deciding.decide_step.Goals as goal
+
+pub returns-in_default-of : goal.returns-in_default-of
+returns-in_default-of g c =
+    let s = c.args.configuration.now in
+    let history = c.args.history.now in
+    let entries = c.args.tables.now.steps.entries in
+    let call = c.args.call.now in
+    let a = accepted s history entries call c.in-Some.step c.in-Ok.held (to_z w16 (of_z w16 c.offset-offset.result)) (to_z-of_z w16 c.offset-offset.result (search rules) ∙ c.offset-offset.ensures)
+    (sym c.step.ensures ∙ c.in-Some.is) c.in-Ok.ensures.allowed c.in-Ok.ensures.row c.in-Ok.ensures.holder c.in-Ok.ensures.fits in
+    record {
+      answer = lacks s history call _ (step_succeeds s history (as_steps entries) call (whole c.in-Some.step c.in-Ok.held) c.requires.kind (steps_kept s history c.args.tables.now c.requires.stands.tables) a) refl;
+      nothing = refl;
+      small = tt;
+    }
 
 pub returns-in_default : goal.returns-in_default
 returns-in_default g c =
@@ -70,6 +85,8 @@ returns-in-Ok-plan_step g c =
       plan = c.in-Ok-plan_step.ensures;
       small = subst (λ (l : List (HeldStep g.row.A.Denot)). AllByRecursion IsSmallStep l) (steps_after s history (as_steps entries) call x c.requires.stands.tables.legal kept a)
           (small_kept s history (as_steps entries) call x (subst (λ (l : List (HeldStep g.row.A.Denot)). AllByRecursion IsSmallStep l) (sym kept) c.requires.stands.small) a);
+      index = step_indexed s history call x c.in-Ok-of.values _ (as_steps entries) c.requires.stands.tables.legal (to_z-of_z w16 c.offset-offset.result (search rules) ∙ c.offset-offset.ensures) c.in-Ok-of.ensures kept
+          (steps_after s history (as_steps entries) call x c.requires.stands.tables.legal kept a);
     }
 
 pub returns-in-Err-plan_step : goal.returns-in-Err-plan_step

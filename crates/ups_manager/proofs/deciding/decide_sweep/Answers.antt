@@ -5,6 +5,7 @@ use Rattle.ups_life.specs.Steps.{past}
 use Rattle.ups_life.specs.History.{accepts, decided}
 use Rattle.ups_manager.proofs.Entering.{refuses, lacks, done_granted}
 use Rattle.ups_manager.proofs.Watchers.{of_time, sweep_decided, small_left, is_some_number}
+use Rattle.ups_manager.proofs.Reindexed.{sweep_indexed}
 use Rattle.ups_manager.proofs.deciding.decide_sweep.Goals as goal
 
 pub plan_sweep-requires-clause-request : goal.plan_sweep-requires-clause-request
@@ -44,4 +45,5 @@ returns g c =
       accepted = is_some_number c.swept-count.result c.if-count-eq0.false;
       plan = c.in-Ok.ensures.plan;
       small = small_left s es call _ c.requires.kind refl c.requires.stands.small;
+      index = sweep_indexed s c.args.history.now c.args.tables.now c.requires.stands.tables call (of_time call.request c.requires.kind) _ c.in-Ok.ensures.plan;
     }

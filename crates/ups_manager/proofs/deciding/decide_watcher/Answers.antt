@@ -7,6 +7,7 @@ use Rattle.ups_tables.specs.Keyed.{as_steps}
 use Rattle.ups_tables.proofs.Keyed.{steps_kept}
 use Rattle.ups_manager.proofs.Entering.{refuses, lacks}
 use Rattle.ups_manager.proofs.Watchers.{status_is, watcher_decided, of_watcher_of_no_step, small_same}
+use Rattle.ups_manager.proofs.Reindexed.{same_indexed}
 use Rattle.ups_manager.proofs.deciding.decide_watcher.Goals as goal
 
 pub plan_watcher-requires-clause-accepted : goal.plan_watcher-requires-clause-accepted
@@ -42,6 +43,7 @@ returns-in-Ok g c =
       accepted = sym c.is_done.ensures ∙ c.if-is_done.true;
       plan = c.in-Ok.ensures;
       small = small_same s es call _ (of_watcher_of_no_step call.request c.requires.kind) refl c.requires.stands.small;
+      index = same_indexed s es call (of_watcher_of_no_step call.request c.requires.kind);
     }
 
 pub returns-in-Err : goal.returns-in-Err

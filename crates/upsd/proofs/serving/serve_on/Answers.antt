@@ -2,25 +2,28 @@ use Rattle.std.proofs.Common.{◌≡◌, ◌+◌, ◌∙◌, ap, arith, length, 
 use Rattle.std.specs.Prelude.{All}
 use Rattle.ups_turn.specs.Pass.{Standing, passes_from}
 use Rattle.ups_net.specs.Working.{Ran}
+use Rattle.upsd.specs.Serving.{seats_of}
 use Rattle.upsd.proofs.Seating.{all_here, as_many}
 use Rattle.upsd.proofs.serving.serve_on.Goals as goal
 
 pub run-begun-requires-clause-some : goal.run-begun-requires-clause-some
 run-begun-requires-clause-some g c κs within =
-    let seats = c.args.asked.workers + 2 in
+    let seats = c.args.asked.workers + c.deliverers_of-deliverers.result + 1 in
     let all : length c.in-Ok-open.passes.items ≡ seats = ap length c.in-Ok-open.ensures.passes ∙ as_many c.in-Ok-open.desk c.in-Ok.manager 1 seats in
-    omega (arith, all, c.requires.some)
+    omega (arith, all, c.requires.some, c.deliverers_of-deliverers.ensures.some)
 
 pub run-begun-requires-clause-here : goal.run-begun-requires-clause-here
 run-begun-requires-clause-here g c κs within =
     let table = c.in-Ok-open.desk.table in
-    subst (All (λ (p : Standing _). p.table ≡ table)) (sym c.in-Ok-open.ensures.passes) (all_here c.in-Ok-open.desk c.in-Ok.manager 1 (c.args.asked.workers + 2))
+    let seats = c.args.asked.workers + c.deliverers_of-deliverers.result + 1 in
+    subst (All (λ (p : Standing _). p.table ≡ table)) (sym c.in-Ok-open.ensures.passes) (all_here c.in-Ok-open.desk c.in-Ok.manager 1 seats)
 
 pub returns-clause-ran : goal.returns-clause-ran
 returns-clause-ran g c =
     let e = c.options_of-options.ensures in
     let opened = c.in-Ok-open.ensures in
-    let passes = opened.passes ∙ ap (λ m. passes_from c.in-Ok-open.desk.table m 1 (c.args.asked.workers + 2)) (sym opened.desk.1) in (
+    let seats : c.args.asked.workers + c.deliverers_of-deliverers.result + 1 ≡ seats_of c.args.asked.workers = ap (λ n. c.args.asked.workers + n + 1) c.deliverers_of-deliverers.ensures.number in
+    let passes = opened.passes ∙ (ap (λ n. passes_from c.in-Ok-open.desk.table c.in-Ok.manager 1 n) seats ∙ ap (λ m. passes_from c.in-Ok-open.desk.table m 1 (seats_of c.args.asked.workers)) (sym opened.desk.1)) in (
       c.options_of-options.result,
       record { ae = e.ae; offset = e.offset; turns = e.turns; workers = e.workers; watchers = e.watchers; associations = e.associations; rounds = e.rounds },
       subst (λ l. Ran c.options_of-options.result c.run-begun.result.0 l c.run-begun.result.1.items) passes c.run-begun.ensures.ran,

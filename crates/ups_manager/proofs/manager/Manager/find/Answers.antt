@@ -1,35 +1,57 @@
-use Rattle.std.proofs.Common.{◌≡◌, refl, ap, ◌∙◌, inl, arith}
+use Rattle.std.proofs.Common.{◌≡◌, ◌+◌, ◌≤◌, List, length, sym, ap, subst, ◌∙◌, inl}
+use Rattle.ups_dataset.specs.Data.{El}
+use Rattle.ups_life.specs.Distinct.{Distinct}
 use Rattle.ups_life.specs.declared.request.Reply.TheVariants.{Sets as Found}
 use Rattle.ups_life.specs.Steps.{past}
-use Rattle.ups_life.specs.Worklist.{found}
+use Rattle.ups_live.specs.declared.rows.HeldStep.{HeldStep}
 use Rattle.ups_tables.specs.Keyed.{as_steps}
 use Rattle.ups_tables.proofs.Keyed.{steps_kept}
-use Rattle.ups_manager.proofs.Keyed.{as_many}
-use Rattle.ups_manager.proofs.Matches.{found_is, are_found, found_worklist}
+use Rattle.ups_manager.specs.Finding.{answered, asked_rows}
+use Rattle.ups_manager.specs.Indexing.{uids_in}
+use Rattle.ups_manager.proofs.Classes.{index_is, class_by_history, answered_worklist}
+use Rattle.ups_manager.proofs.Reindexed.{are_once}
 use Rattle.ups_manager.proofs.manager.Manager.find.Given as given
 use Rattle.ups_manager.proofs.manager.Manager.find.Goals as goal
 
-sets_are : (g : given.Over) (c : goal.In-Ok g) → c.in-Ok.sets ≡ found g.M.Matcher.says c.self.inside.configuration (past c.self.inside.history.items) c.args.keys.now
+pub matches_of_class-requires-clause-indexed : goal.matches_of_class-requires-clause-indexed
+matches_of_class-requires-clause-indexed g c =
+    let m = c.self.inside in
+    index_is m.configuration (past m.history.items) m.index (as_steps m.tables.steps.entries) c.self.invariant.1 (steps_kept m.configuration m.history.items m.tables c.self.invariant.0.tables)
+
+pub matches_of_class-requires-clause-once : goal.matches_of_class-requires-clause-once
+matches_of_class-requires-clause-once g c =
+    let m = c.self.inside in
+    subst (λ (hs : List (HeldStep g.row.A.Denot)). Distinct (uids_in hs)) (sym (steps_kept m.configuration m.history.items m.tables c.self.invariant.0.tables)) (are_once m.configuration (past m.history.items) c.self.invariant.0.tables.legal)
+
+sets_are : (g : given.Over) (c : goal.In-Ok g) → c.in-Ok.sets ≡ answered (g.M.Matcher.says c.args.keys.now) c.args.keys.now.attributes (asked_rows c.self.inside.configuration (past c.self.inside.history.items) c.args.keys.now)
 sets_are g c =
     let m = c.self.inside in
-    c.in-Ok.ensures.found ∙ found_is g.M.Matcher.says m.configuration (past m.history.items) c.args.keys.now (as_steps m.tables.steps.entries) (as_steps m.tables.steps.entries) (steps_kept m.configuration m.history.items m.tables c.self.invariant.tables) refl
+    c.in-Ok.ensures.found
+    ∙ ap (answered (g.M.Matcher.says c.args.keys.now) c.args.keys.now.attributes)
+    (class_by_history m.configuration (past m.history.items) m.index.offset c.args.keys.now (as_steps m.tables.steps.entries) (steps_kept m.configuration m.history.items m.tables c.self.invariant.0.tables) c.self.invariant.1.offset)
 
-pub returns-in-Ok-clause-among : goal.returns-in-Ok-clause-among
-returns-in-Ok-clause-among g c =
-    let m = c.self.inside in
-    rw (← c.self.view_is) (are_found g.M.Matcher.says m.configuration (past m.history.items) c.args.keys.now _ (sets_are g c))
+pub returns-in-Ok-clause-legal : goal.returns-in-Ok-clause-legal
+returns-in-Ok-clause-legal g c = rw (← c.self.view_is) c.self.invariant.0.tables.legal
+
+pub returns-in-Err-clause-legal : goal.returns-in-Err-clause-legal
+returns-in-Err-clause-legal g c = rw (← c.self.view_is) c.self.invariant.0.tables.legal
+
+pub returns-in-Ok-clause-answer : goal.returns-in-Ok-clause-answer
+returns-in-Ok-clause-answer g c = rw (← c.self.view_is) (inl (ap Found (sets_are g c)))
 
 pub returns-in-Ok-clause-whole : goal.returns-in-Ok-clause-whole
 returns-in-Ok-clause-whole g c =
     let m = c.self.inside in
-    rw (← c.self.view_is) (λ same. inl (ap Found (sets_are g c ∙ found_worklist g.M.Matcher.says m.configuration (past m.history.items) c.args.keys.now same)))
+    rw (← c.self.view_is) (λ same. inl (ap Found (sets_are g c ∙ answered_worklist (g.M.Matcher.says c.args.keys.now) m.configuration (past m.history.items) c.args.keys.now same)))
 
 pub returns-in-Ok-clause-asked : goal.returns-in-Ok-clause-asked
 returns-in-Ok-clause-asked g c =
     let m = c.self.inside in
-    rw (← c.self.view_is) (let n = as_many m.configuration m.history.items m.tables c.self.invariant.tables in omega (arith, n, c.matches_among.ensures.asked))
+    rw (← c.self.view_is) (c.in-Ok.ensures.each ∙ ap (λ (l : List (List El)). g.M.Matcher.asked c.args.matcher.now + length l)
+    (class_by_history m.configuration (past m.history.items) m.index.offset c.args.keys.now (as_steps m.tables.steps.entries) (steps_kept m.configuration m.history.items m.tables c.self.invariant.0.tables) c.self.invariant.1.offset))
 
 pub returns-in-Err-clause-asked : goal.returns-in-Err-clause-asked
 returns-in-Err-clause-asked g c =
     let m = c.self.inside in
-    rw (← c.self.view_is) (let n = as_many m.configuration m.history.items m.tables c.self.invariant.tables in omega (arith, n, c.matches_among.ensures.asked))
+    rw (← c.self.view_is) (subst (λ (l : List (List El)). g.M.Matcher.asked c.matches_of_class.new.matcher ≤ g.M.Matcher.asked c.args.matcher.now + length l)
+    (class_by_history m.configuration (past m.history.items) m.index.offset c.args.keys.now (as_steps m.tables.steps.entries) (steps_kept m.configuration m.history.items m.tables c.self.invariant.0.tables) c.self.invariant.1.offset) c.matches_of_class.ensures.most)

@@ -1,4 +1,4 @@
-use Rattle.std.proofs.Common.{◌≡◌, ℤ, w16, List, None, sym, ap, subst, ◌∙◌, rules}
+use Rattle.std.proofs.Common.{◌≡◌, ℤ, w16, List, [], None, refl, sym, ap, subst, ◌∙◌, rules}
 use Rattle.std.specs.List.{AllByRecursion}
 use Rattle.std.proofs.lemmas.Int.{to_z-of_z}
 use Rattle.ups_life.specs.declared.entry.Entry.{Entry}
@@ -10,6 +10,7 @@ use Rattle.ups_live.specs.Seen.{Once}
 use Rattle.ups_tables.specs.Stands.{Stands as TablesStand}
 use Rattle.ups_manager.specs.Held.{IsSmallStep}
 use Rattle.ups_settings.specs.Refusal.{refusal}
+use Rattle.ups_manager.specs.Indexing.{indexed_steps}
 use Rattle.ups_manager.proofs.Entering.{HaveDates, no_moments}
 use Rattle.ups_manager.proofs.Offsets.{good_offset, good_titles}
 use Rattle.ups_manager.proofs.manager.Manager.new.Goals as goal
@@ -31,9 +32,15 @@ begin-requires g c =
     subst Once (sym (ap (λ (s : Settings). s.peers) c.new-configuration.ensures ∙ c.in_ok-named.ensures.items)) (good_titles c.args.peers.now c.args.offset c.args.limit allowed)
 
 pub invariant_of-result : goal.invariant_of-result
-invariant_of-result g c = record {
-  offset = subst (λ (s : Settings). IsOffset s.offset) (sym (returns-clause-settings g c)) (good_offset c.args.peers.now c.args.offset c.args.limit (returns-clause-allowed g c));
-  moments = subst HaveDates (sym c.new.ensures.items) no_moments;
-  tables = subst (λ (l : List (Entry g.row.A.Denot)). TablesStand c.new-configuration.result l c.in_ok-tables.tables) (sym c.new.ensures.items) c.in_ok-tables.ensures;
-  small = subst (λ (l : List (Entry g.row.A.Denot)). AllByRecursion IsSmallStep (held_steps c.new-configuration.result (past l))) (sym c.new.ensures.items) tt;
-}
+invariant_of-result g c = (
+  record {
+    offset = subst (λ (s : Settings). IsOffset s.offset) (sym (returns-clause-settings g c)) (good_offset c.args.peers.now c.args.offset c.args.limit (returns-clause-allowed g c));
+    moments = subst HaveDates (sym c.new.ensures.items) no_moments;
+    tables = subst (λ (l : List (Entry g.row.A.Denot)). TablesStand c.new-configuration.result l c.in_ok-tables.tables) (sym c.new.ensures.items) c.in_ok-tables.ensures;
+    small = subst (λ (l : List (Entry g.row.A.Denot)). AllByRecursion IsSmallStep (held_steps c.new-configuration.result (past l))) (sym c.new.ensures.items) tt;
+  },
+  record {
+    offset = c.new-2.ensures.offset ∙ to_z-of_z w16 c.args.offset c.ranges.offset ∙ sym (ap (λ (s : Settings). s.offset) (returns-clause-settings g c));
+    steps = c.new-2.ensures.steps ∙ subst (λ (l : List (Entry g.row.A.Denot)). [] ≡ indexed_steps c.new-configuration.result (past l)) (sym c.new.ensures.items) refl;
+  },
+)

@@ -9,7 +9,7 @@ use Rattle.ups_manager.proofs.manager.Manager.pending.Goals as goal
 pub first_pending-requires : goal.first_pending-requires
 first_pending-requires g c =
     let m = c.self.inside in
-    queue_fits m.configuration m.history.items m.tables c.peers.result.now c.args.ae c.place_of-place.result c.self.invariant.tables c.peers.ensures c.place_of-place.ensures
+    queue_fits m.configuration m.history.items m.tables c.peers.result.now c.args.ae c.place_of-place.result c.self.invariant.0.tables c.peers.ensures c.place_of-place.ensures
 
 pub returns-in-Ok-reports_of-clause-answer : goal.returns-in-Ok-reports_of-clause-answer
 returns-in-Ok-reports_of-clause-answer g c =
@@ -17,7 +17,7 @@ returns-in-Ok-reports_of-clause-answer g c =
     rw (← c.self.view_is) (inl (ap Reports (c.in-Ok-reports_of.ensures
     ∙ ap (λ (history : List (Entry g.row.A.Denot)). map (reported history) c.as_slice.result.now) c.as_slice-entries.ensures.value
     ∙ ap (map (reported m.history.items)) (c.as_slice.ensures.value ∙ c.in-Ok.ensures
-    ∙ ap (take c.args.max) (pending_is m.configuration m.history.items m.tables c.peers.result.now c.place_of-place.result c.args.ae c.self.invariant.tables c.peers.ensures c.place_of-place.ensures)))))
+    ∙ ap (take c.args.max) (pending_is m.configuration m.history.items m.tables c.peers.result.now c.place_of-place.result c.args.ae c.self.invariant.0.tables c.peers.ensures c.place_of-place.ensures)))))
 
 pub returns-in_default-clause-answer : goal.returns-in_default-clause-answer
 returns-in_default-clause-answer g c = inr (refl, refl)
@@ -26,7 +26,7 @@ pub returns-clause-answer : goal.returns-clause-answer
 returns-clause-answer g c = inr (refl, refl)
 
 pub returns-in-Ok-reports_of-clause-legal : goal.returns-in-Ok-reports_of-clause-legal
-returns-in-Ok-reports_of-clause-legal g c = rw (← c.self.view_is) c.self.invariant.tables.legal
+returns-in-Ok-reports_of-clause-legal g c = rw (← c.self.view_is) c.self.invariant.0.tables.legal
 
 pub returns-clause-legal : goal.returns-clause-legal
-returns-clause-legal g c = rw (← c.self.view_is) c.self.invariant.tables.legal
+returns-clause-legal g c = rw (← c.self.view_is) c.self.invariant.0.tables.legal

@@ -1,4 +1,3 @@
-use Rattle.std.proofs.Common.{◌≡◌, sym}
 use Rattle.ups_manager.proofs.Alone.{serves_alone}
 use Rattle.ups_manager.proofs.service.ManagerService.answer.Goals as goal
 

@@ -1,12 +1,12 @@
-use Rattle.std.proofs.Common.{rules, ◌≡◌, ◌+◌, ◌++◌, ◌∷◌, [], All, List, length, map, true, false, refl, sym, ap, ◌∙◌, subst, arith, Some, None}
+use Rattle.std.proofs.Common.{rules, ◌≡◌, ◌++◌, ◌∷◌, [], All, length, map, sym, ap, ◌∙◌, subst}
 use Rattle.std.proofs.lemmas.List.{length-append, length-map, append-nil}
-use Rattle.std.proofs.lemmas.List.Elements.{All-head, All-tail, All-push, All-same}
+use Rattle.std.proofs.lemmas.List.Elements.{All-tail, All-push, All-same}
 use Rattle.std.specs.Vec.Iter.{into_iter_items}
 use Rattle.ups_net.specs.Working.{EndsThread, EndThreads}
 use Rattle.ups_net.proofs.Ending.{first_more, last_more, none_left, ran, ends_length, told_on, none_told, unless_off}
 use denote.Param.Send.{sendable}
 use Rattle.ups_turn.proofs.Crosses.{desk_crosses}
-use Rattle.ups_net.proofs.Crosses.{door_lent, start_lent, options_lent, token_send}
+use Rattle.ups_net.proofs.Crosses.{premises_lent, start_lent, options_lent, token_send}
 use Rattle.ups_net.proofs.workers.fn.run_threads.scope.Goals as goal
 
 pub loop-pass-preserved-then-is_some : goal.loop-pass-preserved-then-is_some
@@ -104,7 +104,7 @@ returns g c =
     }
 
 pub spawn_with-requires-send-F : goal.spawn_with-requires-send-F
-spawn_with-requires-send-F g l κs within = search (options_lent, start_lent, door_lent, desk_crosses, sendable) depth 40 fits 5000
+spawn_with-requires-send-F g l κs within = search (options_lent, start_lent, premises_lent, desk_crosses, sendable) depth 40 fits 5000
 
 pub spawn_with-requires-send-T : goal.spawn_with-requires-send-T
 spawn_with-requires-send-T g l κs within = search (sendable, desk_crosses, token_send) depth 30

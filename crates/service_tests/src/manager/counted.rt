@@ -1,0 +1,106 @@
+use super::{answer_to, with};
+use fixtures::rows::{check, cut};
+use std::alloc::{Allocator, Global};
+use std::test::Fail;
+use ups_dataset::DataSet;
+use ups_life::Reply;
+use ups_manager::*;
+use ups_match::{Keys, Probe};
+
+/// Requests with what they are answered, and finds with how many steps the matcher is asked of and how many match. Before
+/// the keys of a find stands their offset in minutes.
+const ROWS: &str = "\
+0 SCHED1 1709208000 create 1.2.3.1 - -|00741202=READS|00100020=P1 -> 0000
+0 SCHED1 1709208000 create 1.2.3.2 - -|00741202=READS|00100020=P2 -> 0000
+0 SCHED1 1709208000 create 1.2.3.3 - -|00741202=REPROC|00100020=P1 -> 0000
+find 0 00741202=READS|00100020=P1 -> 2/1
+find 0 00741202=READS  -> 2/2
+find 0 00741202=RE* -> 3/3
+find 0 00404005=20240229- -> 3/3
+find 0 00404005=20240301- -> 0/0
+find 0 00741000=SCHEDULED|00741200=MEDIUM -> 3/3
+find 0 00100020=P9|00741202=READS -> 0/0
+0 SCHED1 1709208000 cancel 1.2.3.2 - -|00741238=stop -> 0000
+0 SCHED1 1709208000 set 1.2.3.1 - -|00741202=REPROC -> 0000
+0 SCHED1 1709208000 set 1.2.3.2 - -|00741202=NEVER -> C300
+find 0 00741000=SCHEDULED -> 2/2
+find 0 00741000=CANCELED -> 1/1
+find 0 00741202=READS -> 1/1
+find 0 00741202=NEVER -> 0/0
+0 SCHED1 1709208000 set 1.2.3.1 - -|00404025/00080100=R1,00080102=99A,00080104=ROOM -> 0000
+0 SCHED1 1709208000 set 1.2.3.3 - -|00404025/00080100=R1,00080102=99B,00080104=ROOM -> 0000
+find 0 00404025/00080100=R1,00080102=99A -> 2/1
+find 0 00741202=REPROC -> 2/2
+find 60 00404005=20240301- -> 3/0
+find 0 00741202=READS\\X -> 3/0
+0 SCHED1 1709208060 words 1.2.3.1 - -|sweep -> 0000+1
+find 0 00741202=* -> 2/2
+find 0 00100020=P2 -> 0/0
+find 0 00100020=P1 -> 2/2
+0 SCHED1 1709208060 set 1.2.3.3 - -|00100020=P2 -> 0000
+find 0 00100020=P1 -> 1/1
+find 0 00100020=P2 -> 1/1";
+
+/// Finds by a manager: of how many steps its matcher is asked, and how many match.
+pub(super) fn counts<A: Allocator + Copy>(
+    manager: &Manager<A>,
+    keys: &Keys<A>,
+) -> Result<(u64, usize), Fail> {
+    let mut probe = Probe::new();
+    match manager.find(keys, &mut probe) {
+        Reply::Sets(sets) => Ok((probe.count(), sets.as_slice().len())),
+        _ => Err("a status alone".into()),
+    }
+}
+
+/// Returns the offset that a text says in minutes.
+fn offset_of(text: &str) -> Result<i16, Fail> {
+    Ok(text.parse::<i16>()?)
+}
+
+/// Returns keys, behind their offset.
+fn keys_with_offset(alloc: Global, text: &str) -> Result<Keys<Global>, Fail> {
+    let (offset, keys) = cut(text, " ")?;
+    Ok(Keys::of(with(alloc, DataSet::new(alloc), keys)?, offset_of(offset)?)?)
+}
+
+/// Finds by keys, behind their offset: how many are asked of and how many match, as a text.
+fn counted(rt: &impl AllocGlobal, manager: &Manager<Global>, find: &str) -> Result<String, Fail> {
+    let keys = keys_with_offset(rt.alloc(), find)?;
+    let (asked, found) = counts(manager, &keys)?;
+    Ok(format!(in rt.alloc(); "{asked}/{found}")?)
+}
+
+/// Asks what a row says: what comes of it, as a text.
+fn come_of(
+    rt: &impl AllocGlobal,
+    manager: &mut Manager<Global>,
+    asked: &str,
+) -> Result<String, Fail> {
+    match asked.strip_prefix("find ") {
+        Some(find) => counted(rt, manager, find),
+        None => answer_to(rt, manager, asked, false),
+    }
+}
+
+/// Asks what a row says, and compares.
+fn row_is_so(rt: &impl AllocGlobal, manager: &mut Manager<Global>, row: &str) -> Result<(), Fail> {
+    let (asked, due) = cut(row, " -> ")?;
+    check(row, come_of(rt, manager, asked)?.as_str() == due)
+}
+
+/// Asks all rows, one after the other.
+fn rows_are_so(rt: &impl AllocGlobal, manager: &mut Manager<Global>) -> Result<(), Fail> {
+    for row in ROWS.lines() {
+        row_is_so(rt, manager, row)?;
+    }
+    Ok(())
+}
+
+#[test]
+fn a_matcher_is_asked_of_the_class_of_a_query_alone(rt: HostRuntime) -> Result<(), Fail> {
+    let mut manager = Manager::new(rt.alloc(), &[], 60, 0, 100)?;
+    rows_are_so(&rt, &mut manager)?;
+    assert_eq!(rt; manager.history().len(), 9);
+    Ok(())
+}

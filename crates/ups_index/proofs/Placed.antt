@@ -1,0 +1,262 @@
+-- Slots, and the posts that lead to them.
+use Rattle.std.proofs.Common.{◌≡◌, ℕ, ℤ, zero, suc, ◌+◌, ◌-◌, ◌^◌, ◌<◌, ◌≤◌, ◌≢◌, ◌⊎◌, Bool, true, false, cond, ◌||◌, List, [], ◌∷◌, ◌++◌, length, get_or, map, filter, take, max, Contains, refl, sym, ap, ◌∙◌, subst, arith, inl, inr, true≢false}
+use Rattle.std.specs.Prelude.{Option, None, Some, MatchOption, pos, negsuc, int_le}
+use Rattle.std.proofs.Common.{leb-true}
+use Rattle.std.specs.Bool.{MatchBool}
+use Rattle.std.specs.List.{list_any, filter_map, cons_option}
+use Rattle.std.specs.List.Sorted.{IsNonDecreasing}
+use Rattle.std.specs.Option.{option_map, option_to_list}
+use Rattle.std.specs.Str.{bytes_eq}
+use Rattle.std.specs.Cmp.Lexicographic.{same_text}
+use Rattle.std.proofs.lemmas.Bool.{cases_lt}
+use Rattle.std.proofs.lemmas.List.{get_or_default, take_more, take_all, map_more}
+use Rattle.std.proofs.lemmas.List.Elements.{Contains-push_cases, filter_map-append}
+use Rattle.std.proofs.lemmas.List.Folds.{Any-from_list_any}
+use Rattle.ups_dataset.specs.declared.tag.Tag.{Tag}
+use Rattle.ups_dataset.specs.Tag.{is_tag}
+use Rattle.ups_match.specs.Class.{FirstKey, value, start}
+use Rattle.ups_match.specs.Ranges.{spans, is_from, is_up_to}
+use Rattle.ups_match.proofs.Class.{both, same_tag}
+use Rattle.ups_index.specs.declared.posts.Post.{Post}
+use Rattle.ups_index.specs.declared.slots.Slot.{Slot}
+use Rattle.ups_index.specs.declared.values.StoredText.{StoredText}
+use Rattle.ups_index.specs.Indexed.{class_of}
+use Rattle.ups_index.specs.Kept.{text_view, seen_slots, step_of_class, in_class, HasNoneIn, IsSlot, StepsPosted, TextsPosted, StartsPosted}
+use Rattle.ups_index.specs.Numbers.{text_number, step_number, moment_number, low_number, high_number}
+use Rattle.ups_index.specs.Posts.{post, KeepsLive, KeepsOthers}
+use Rattle.ups_index.specs.Stored.{RowValues, is_text, has_first}
+
+pub text_is_itself : (t : List ℕ) → bytes_eq t t ≡ true
+text_is_itself [] = refl
+text_is_itself (x ∷ xs) = let rest = text_is_itself xs in grind (arith, rest)
+
+-- what is stored, as it is seen
+pub any_viewed : {A : Type 0} (tag : Tag) (text : List ℕ) (texts : List (StoredText A)) → list_any (λ stored. is_text tag text (text_view stored)) texts ≡ list_any (is_text tag text) (map text_view texts)
+any_viewed tag text [] = refl
+any_viewed tag text (t ∷ ts) = ap (λ (b : Bool). is_text tag text (text_view t) || b) (any_viewed tag text ts)
+
+-- a slot with something stored is that of its step
+pub held_as : {A : Type 0} (slot : Slot A) (step : List ℕ) (v : RowValues) → slot.values ≡ Some v → (b : Bool) → b ≡ bytes_eq slot.step step
+    → MatchBool b ((values : RowValues) × (slot ≡ record { step = step; values = Some values })) ((values : RowValues) → slot ≡ record { step = step; values = Some values } → ⊥)
+held_as slot step v is true same = let e = same_text slot.step step same in (v, λ i. record { step = e i; values = is i })
+held_as slot step v is false same = λ values e. true≢false (sym (text_is_itself step) ∙ sym (ap (λ (r : Slot _). bytes_eq r.step step) e) ∙ sym same)
+
+pub slot_held : {A : Type 0} (slots : List (Slot A)) (place : ℕ) (step : List ℕ) (slot : Slot A) → place < length slots → slot ≡ get_or slots place slot → (b : Bool)
+    → MatchBool b ((values : RowValues) × (slot ≡ record { step = step; values = Some values })) ((values : RowValues) → slot ≡ record { step = step; values = Some values } → ⊥)
+    → MatchBool b ((values : RowValues) × IsSlot slots place step values) ((values : RowValues) → IsSlot slots place step values → ⊥)
+slot_held slots place step slot l is true (values, e) = (values, (l, λ d. get_or_default slots place d slot l ∙ sym is ∙ e))
+slot_held slots place step slot l is false other = λ values r. other values (is ∙ r.1 slot)
+
+-- none of some posts leads to the slot of a step
+abbrev pub LeadsNowhere : {A : Type 0} → List (Slot A) → List ℕ → List Post → Type 0
+LeadsNowhere slots step posts = (number place : ℕ) (values : RowValues) → IsSlot slots place step values → Contains posts (post number place) → ⊥
+
+pub nowhere_more : {A : Type 0} (slots : List (Slot A)) (step : List ℕ) (posts : List Post) (i : ℕ) (p : Post) → i < length posts → p ≡ get_or posts i p → LeadsNowhere slots step (take i posts)
+    → ((values : RowValues) → IsSlot slots p.place step values → ⊥) → LeadsNowhere slots step (take (i + 1) posts)
+nowhere_more slots step posts i p l is before here number place values r has =
+    elim (Contains-push_cases (take i posts) p (post number place) (subst (λ (t : List Post). Contains t (post number place)) (take_more posts i p l ∙ ap (λ (q : Post). take i posts ++ q ∷ []) (sym is)) has)) [
+      | inl a ↦ before number place values r a
+      | inr e ↦ here values (subst (λ (k : ℕ). IsSlot slots k step values) (sym (ap (λ (q : Post). q.place) e)) r)
+    ]
+
+pub nowhere_read : {A : Type 0} (slots : List (Slot A)) (step : List ℕ) (posts : List Post) (i : ℕ) → i < length posts → LeadsNowhere slots step (take i posts)
+    → ((values : RowValues) → IsSlot slots (get_or posts i (post 0 0)).place step values → ⊥) → LeadsNowhere slots step (take (i + 1) posts)
+nowhere_read slots step posts i l before here = nowhere_more slots step posts i (get_or posts i (post 0 0)) l (get_or_default posts i (post 0 0) (get_or posts i (post 0 0)) l) before here
+
+pub nowhere_all : {A : Type 0} (slots : List (Slot A)) (step : List ℕ) (posts : List Post) (i : ℕ) → length posts ≤ i → LeadsNowhere slots step (take i posts) → LeadsNowhere slots step posts
+nowhere_all slots step posts i l h = subst (LeadsNowhere slots step) (take_all i posts l) h
+
+-- each of some texts has its post at a place
+abbrev pub HasTexts : List (Tag × List ℕ) → ℕ → List Post → Type 0
+HasTexts texts place posts = (stored : Tag × List ℕ) → Contains texts stored → Contains posts (post (text_number stored.0 stored.1) place)
+
+pub texts_more : {A : Type 0} (texts : List (StoredText A)) (i place number : ℕ) (t : StoredText A) (old new : List Post) → i < length texts → t ≡ get_or texts i t → number ≡ text_number t.tag t.text.items
+    → HasTexts (map text_view (take i texts)) place old → KeepsLive old new → Contains new (post number place) → HasTexts (map text_view (take (i + 1) texts)) place new
+texts_more texts i place number t old new l is n has keeps this stored h =
+    elim (Contains-push_cases (map text_view (take i texts)) (text_view t) stored (subst (λ (s : List (Tag × List ℕ)). Contains s stored) (map_more text_view texts i t l ∙ ap (λ (s : StoredText _). map text_view (take i texts) ++ text_view s ∷ []) (sym is)) h)) [
+      | inl a ↦ keeps (text_number stored.0 stored.1) place (has stored a)
+      | inr e ↦ subst (λ (s : Tag × List ℕ). Contains new (post (text_number s.0 s.1) place)) e (subst (λ (k : ℕ). Contains new (post k place)) n this)
+    ]
+
+pub texts_all : {A : Type 0} (texts : List (StoredText A)) (i place : ℕ) (posts : List Post) → length texts ≤ i → HasTexts (map text_view (take i texts)) place posts → HasTexts (map text_view texts) place posts
+texts_all texts i place posts l h = subst (λ (t : List (StoredText _)). HasTexts (map text_view t) place posts) (take_all i texts l) h
+
+pub others_then : (place : ℕ) (a b c : List Post) → KeepsOthers place a b → KeepsOthers place b c → KeepsOthers place a c
+others_then place a b c f g number other apart h = g number other apart (f number other apart h)
+
+-- the places of posts
+abbrev pub HasPlaces : List Post → List ℕ → Type 0
+HasPlaces posts places = (number place : ℕ) → Contains posts (post number place) → Contains places place
+
+abbrev pub KeepsPlaces : List ℕ → List ℕ → Type 0
+KeepsPlaces old new = (place : ℕ) → Contains old place → Contains new place
+
+pub places_more : (posts : List Post) (i : ℕ) (p : Post) (old new : List ℕ) → i < length posts → p ≡ get_or posts i p → HasPlaces (take i posts) old → KeepsPlaces old new → (p.gone ≡ false → Contains new p.place) → HasPlaces (take (i + 1) posts) new
+places_more posts i p old new l is has keeps this number place h =
+    elim (Contains-push_cases (take i posts) p (post number place) (subst (λ (t : List Post). Contains t (post number place)) (take_more posts i p l ∙ ap (λ (q : Post). take i posts ++ q ∷ []) (sym is)) h)) [
+      | inl a ↦ keeps place (has number place a)
+      | inr e ↦ subst (λ (k : ℕ). Contains new k) (ap (λ (q : Post). q.place) e) (this (ap (λ (q : Post). q.gone) e))
+    ]
+
+pub places_read : (posts : List Post) (i : ℕ) (old new : List ℕ) → i < length posts → HasPlaces (take i posts) old → KeepsPlaces old new → ((get_or posts i (post 0 0)).gone ≡ false → Contains new (get_or posts i (post 0 0)).place) → HasPlaces (take (i + 1) posts) new
+places_read posts i old new l has keeps this = places_more posts i (get_or posts i (post 0 0)) old new l (get_or_default posts i (post 0 0) (get_or posts i (post 0 0)) l) has keeps this
+
+pub places_all : (posts : List Post) (i : ℕ) (places : List ℕ) → length posts ≤ i → HasPlaces (take i posts) places → HasPlaces posts places
+places_all posts i places l h = subst (λ (t : List Post). HasPlaces t places) (take_all i posts l) h
+
+-- one slot more
+cons_is : {X : Type 0} (o : Option X) → cons_option o [] ≡ option_to_list o
+cons_is None = refl
+cons_is (Some x) = refl
+
+module _ {A : Type 0} (first : FirstKey) (slots : List (Slot A)) where
+  pub class_more : (i : ℕ) (slot : Slot A) → i < length slots → slot ≡ get_or slots i slot → filter_map (in_class first) (take (i + 1) slots) ≡ filter_map (in_class first) (take i slots) ++ option_to_list (in_class first slot)
+  class_more i slot l is =
+      ap (filter_map (in_class first)) (take_more slots i slot l ∙ ap (λ (r : Slot A). take i slots ++ r ∷ []) (sym is)) ∙ filter_map-append (in_class first) (take i slots) (slot ∷ [])
+      ∙ ap (λ (t : List (List ℕ)). filter_map (in_class first) (take i slots) ++ t) (cons_is (in_class first slot))
+
+  append_nil : (xs : List (List ℕ)) → xs ++ [] ≡ xs
+  append_nil [] = refl
+  append_nil (x ∷ xs) = ap (λ (t : List (List ℕ)). x ∷ t) (append_nil xs)
+
+  -- slots that aren't of the class are passed
+  passes_one : (i : ℕ) → ((d : Slot A) → i < length slots → in_class first (get_or slots i d) ≡ None) → filter_map (in_class first) (take (i + 1) slots) ≡ filter_map (in_class first) (take i slots)
+  passes_one i none = elim (cases_lt i (length slots)) [
+    | inl l ↦ by_slot l (first_slot slots l)
+    | inr b ↦ ap (filter_map (in_class first)) (take_all (i + 1) slots (omega (arith, b)) ∙ sym (take_all i slots b))
+  ]
+    where
+      first_slot : (rs : List (Slot A)) → i < length rs → Slot A
+      first_slot [] l = absurd (omega (arith, l))
+      first_slot (r ∷ rs) l = r
+
+      by_slot : i < length slots → Slot A → filter_map (in_class first) (take (i + 1) slots) ≡ filter_map (in_class first) (take i slots)
+      by_slot l d =
+          class_more i (get_or slots i d) l (get_or_default slots i d (get_or slots i d) l)
+          ∙ ap (λ (o : Option (List ℕ)). filter_map (in_class first) (take i slots) ++ option_to_list o) (none d l) ∙ append_nil (filter_map (in_class first) (take i slots))
+
+  passes : (gap from : ℕ) → HasNoneIn first slots from (from + gap) → filter_map (in_class first) (take (from + gap) slots) ≡ filter_map (in_class first) (take from slots)
+  passes zero from none = ap (λ (n : ℕ). filter_map (in_class first) (take n slots)) (omega arith)
+  passes (suc gap) from none =
+      ap (λ (n : ℕ). filter_map (in_class first) (take n slots)) (omega arith)
+      ∙ passes_one (from + gap) (λ d l. none (from + gap) d (omega arith) (omega arith) l)
+      ∙ passes gap from (λ place d low high l. none place d low (omega (arith, high)) l)
+
+  pub passed : (from to : ℕ) → from ≤ to → HasNoneIn first slots from to → filter_map (in_class first) (take to slots) ≡ filter_map (in_class first) (take from slots)
+  passed from to le none =
+      let e : from + (to - from) ≡ to = omega (arith, le) in
+      subst (λ (n : ℕ). filter_map (in_class first) (take n slots) ≡ filter_map (in_class first) (take from slots)) e (passes (to - from) from (subst (HasNoneIn first slots from) (sym e) none))
+
+  pub visit_behind : (next place : ℕ) (found : List (List ℕ)) → found ≡ filter_map (in_class first) (take next slots) → HasNoneIn first slots next place → next ≤ place → length slots ≤ place → found ≡ filter_map (in_class first) (take (place + 1) slots)
+  visit_behind next place found is none le behind = is ∙ sym (passed next (place + 1) (omega (arith, le)) (λ k d low high within. none k d low (omega (arith, within, behind)) within))
+
+  pub visit_here : (next place : ℕ) (slot : Slot A) (found after : List (List ℕ)) → found ≡ filter_map (in_class first) (take next slots) → HasNoneIn first slots next place → next ≤ place → place < length slots → slot ≡ get_or slots place slot
+      → after ≡ found ++ option_to_list (in_class first slot) → after ≡ filter_map (in_class first) (take (place + 1) slots)
+  visit_here next place slot found after is none le within at put =
+      put ∙ ap (λ (t : List (List ℕ)). t ++ option_to_list (in_class first slot)) (is ∙ sym (passed next place le none)) ∙ sym (class_more place slot within at)
+
+  -- each slot of the class from a place on has its place among those ahead
+  abbrev pub Ahead : List ℕ → ℕ → ℕ → Type 0
+  Ahead places next i = (place : ℕ) (step : List ℕ) (values : RowValues) → next ≤ place → IsSlot slots place step values → has_first first values ≡ true → (m : ℕ) × (i ≤ m) × (m < length places) × (get_or places m 0 ≡ place)
+
+  -- what isn't of the class, by its slot
+  class_at : (place : ℕ) → place < length slots → ((step : List ℕ) (values : RowValues) → IsSlot slots place step values → has_first first values ≡ true → ⊥) → (d : Slot A) → in_class first (get_or slots place d) ≡ None
+  class_at place l never d = here (get_or slots place d).values refl
+    where
+      here : (o : Option RowValues) → (get_or slots place d).values ≡ o → step_of_class first (get_or slots place d).step (get_or slots place d).values ≡ None
+      here None e = ap (step_of_class first (get_or slots place d).step) e
+      here (Some v) e = ap (step_of_class first (get_or slots place d).step) e ∙ by_test (has_first first v) refl
+        where
+          by_test : (b : Bool) → has_first first v ≡ b → cond b (Some (get_or slots place d).step) None ≡ None
+          by_test false f = refl
+          by_test true f = absurd (never (get_or slots place d).step v (l, λ c. get_or_default slots place c d l ∙ (λ i. record { step = (get_or slots place d).step; values = e i })) f)
+
+  pub none_before : (places : List ℕ) (next i place : ℕ) → IsNonDecreasing places → i < length places → get_or places i 0 ≡ place → Ahead places next i → HasNoneIn first slots next place
+  none_before places next i place sorted l is ahead k d low high within = class_at k within
+      (λ step values r f. let a = ahead k step values low r f in let up = sorted i a.0 0 a.1 a.2 in absurd (omega (arith, up, is, a.3, high))) d
+
+  pub ahead_more : (places : List ℕ) (next i place : ℕ) → IsNonDecreasing places → i < length places → get_or places i 0 ≡ place → Ahead places next i → Ahead places (max next (place + 1)) (i + 1)
+  ahead_more places next i place sorted l is ahead k step values low r f =
+      let a = ahead k step values (omega (arith, low)) r f in
+      let other : i ≢ a.0 = λ e. let same = ap (λ (n : ℕ). get_or places n 0) e in omega (arith, same, is, a.3, low) in
+      (a.0, omega (arith, a.1, other), a.2, a.3)
+
+  pub ahead_first : (places : List ℕ) → ((place : ℕ) (step : List ℕ) (values : RowValues) → IsSlot slots place step values → has_first first values ≡ true → Contains places place) → Ahead places 0 0
+  ahead_first places has k step values low r f = let (m, l, e) = has k step values r f in (m, omega arith, l, get_or_default places m 0 k l ∙ e)
+
+  pub ahead_end : (places : List ℕ) (next i : ℕ) (found : List (List ℕ)) → length places ≤ i → found ≡ filter_map (in_class first) (take next slots) → Ahead places next i → found ≡ filter_map (in_class first) slots
+  ahead_end places next i found l is ahead =
+      is ∙ elim (cases_lt next (length slots)) [
+        | inl a ↦ sym (passed next (length slots) (omega (arith, a)) (λ k d low high within. class_at k within (λ step values r f. let h = ahead k step values low r f in absurd (omega (arith, h.1, h.2, l))) d))
+            ∙ ap (filter_map (in_class first)) (take_all (length slots) slots (omega arith))
+        | inr b ↦ ap (filter_map (in_class first)) (take_all next slots b)
+      ]
+
+-- the class, as callers see it
+pub class_slots : {A : Type 0} (first : FirstKey) (slots : List (Slot A)) → filter_map (in_class first) slots ≡ class_of first (seen_slots slots)
+class_slots first [] = refl
+class_slots {A} first (r ∷ rs) = here r.values (class_slots first rs)
+  where
+    here : (o : Option RowValues) → filter_map (in_class first) rs ≡ class_of first (seen_slots rs) → cons_option (step_of_class first r.step o) (filter_map (in_class first) rs) ≡ class_of first (cons_option (option_map (λ v. (r.step, v)) o) (seen_slots rs))
+    here None rest = rest
+    here (Some v) rest = by_test (has_first first v)
+      where
+        by_test : (b : Bool) → cons_option (cond b (Some r.step) None) (filter_map (in_class first) rs) ≡ map (λ (s : List ℕ × RowValues). s.0) (cond b ((r.step, v) ∷ filter (λ s. has_first first s.1) (seen_slots rs)) (filter (λ s. has_first first s.1) (seen_slots rs)))
+        by_test true = ap (λ (t : List (List ℕ)). r.step ∷ t) rest
+        by_test false = rest
+
+pub class_same : {A : Type 0} (slots got : List (Slot A)) (first key : FirstKey) (steps : List (List ℕ × RowValues)) → got ≡ slots → first ≡ key → seen_slots slots ≡ steps → filter_map (in_class first) got ≡ class_of key steps
+class_same slots got first key steps e f h = (λ i. filter_map (in_class (f i)) (e i)) ∙ class_slots key slots ∙ ap (class_of key) h
+
+-- where no post leads to a step, it has no slot
+pub place_either : {A : Type 0} (slots : List (Slot A)) (step : List ℕ) (posts merged fresh : List Post) (number : ℕ) → StepsPosted slots posts → number ≡ step_number step → ((n place : ℕ) → Contains posts (post n place) → number ≤ n → n ≤ number → Contains merged (post n place) ⊎ Contains fresh (post n place))
+    → LeadsNowhere slots step merged → (r : Option ℕ) → MatchOption r (LeadsNowhere slots step fresh) (λ place. (values : RowValues) × IsSlot slots place step values)
+    → MatchOption r ((place : ℕ) (values : RowValues) → IsSlot slots place step values → ⊥) (λ place. (values : RowValues) × IsSlot slots place step values)
+place_either slots step posts merged fresh number posted is runs nowhere (Some place) found = found
+place_either slots step posts merged fresh number posted is runs nowhere None other = λ place values r.
+    elim (runs (step_number step) place (posted place step values r) (omega (arith, is)) (omega (arith, is))) [
+      | inl x ↦ nowhere (step_number step) place values r x
+      | inr y ↦ other (step_number step) place values r y
+    ]
+
+-- the posts by which the first indexed key is looked up
+text_number_of : (tag other : Tag) (text stored : List ℕ) → tag ≡ other → text ≡ stored → text_number tag text ≡ text_number other stored
+text_number_of tag other text stored e f = λ i. text_number (e i) (f i)
+
+pub texts_lead : {A : Type 0} (slots got : List (Slot A)) (texts : List Post) (tag : Tag) (text : List ℕ) (n : ℕ) (first : FirstKey) → first ≡ value tag text → got ≡ slots → n ≡ text_number tag text → TextsPosted slots texts
+    → (place : ℕ) (step : List ℕ) (values : RowValues) → IsSlot got place step values → has_first first values ≡ true → (x : ℕ) × (n ≤ x) × (x ≤ n) × Contains texts (post x place)
+texts_lead {A} slots got texts tag text n first fe ge ne posted place step values r h =
+    let (k, stored, l, at, passes) = Any-from_list_any (is_text tag text) values.texts (sym (ap (λ (f : FirstKey). has_first f values) fe) ∙ h) in
+    let two = both (is_tag stored.0 tag) (bytes_eq text stored.1) passes in
+    let same : text_number stored.0 stored.1 ≡ text_number tag text = text_number_of stored.0 tag stored.1 text (same_tag stored.0 tag two.0) (sym (same_text text stored.1 (sym two.1))) in
+    (text_number stored.0 stored.1, omega (arith, ne, same), omega (arith, ne, same), posted place step values (subst (λ (g : List (Slot A)). IsSlot g place step values) ge r) stored (k, l, at))
+
+rises : (a b : ℤ) → int_le a b ≡ true → moment_number a ≤ moment_number b
+rises (pos a) (pos b) h = let le : a ≤ b = leb-true a b h in omega (arith, le)
+rises (pos a) (negsuc b) h = absurd cc
+rises (negsuc a) (pos b) h = omega arith
+rises (negsuc a) (negsuc b) h = let le : b ≤ a = leb-true b a h in omega (arith, le)
+
+low_is : (least : Option ℤ) (m : ℤ) → is_from least m ≡ true → low_number least ≤ moment_number m
+low_is None m h = omega arith
+low_is (Some l) m h = rises l m h
+
+bounded : (m : ℤ) → moment_number m ≤ 2 ^ 64 - 1
+bounded (pos n) = omega arith
+bounded (negsuc n) = omega arith
+
+high_is : (greatest : Option ℤ) (m : ℤ) → is_up_to greatest m ≡ true → moment_number m ≤ high_number greatest
+high_is None m h = bounded m
+high_is (Some g) m h = rises m g h
+
+pub starts_lead : {A : Type 0} (slots got : List (Slot A)) (starts : List Post) (least greatest : Option ℤ) (low high : ℕ) (first : FirstKey) → first ≡ start (record { least = least; greatest = greatest }) → got ≡ slots → low ≡ low_number least → high ≡ high_number greatest
+    → StartsPosted slots starts → (place : ℕ) (step : List ℕ) (values : RowValues) → IsSlot got place step values → has_first first values ≡ true → (x : ℕ) × (low ≤ x) × (x ≤ high) × Contains starts (post x place)
+starts_lead {A} slots got starts least greatest low high first fe ge le he posted place step values r h = here values.start refl (sym (ap (λ (f : FirstKey). has_first f values) fe) ∙ h)
+  where
+    here : (o : Option ℤ) → values.start ≡ o → spans (Some (record { least = least; greatest = greatest })) values.start ≡ true → (x : ℕ) × (low ≤ x) × (x ≤ high) × Contains starts (post x place)
+    here None e t = absurd (true≢false (sym t ∙ ap (spans (Some (record { least = least; greatest = greatest }))) e))
+    here (Some m) e t =
+        let two = both (is_from least m) (is_up_to greatest m) (sym (ap (spans (Some (record { least = least; greatest = greatest }))) e) ∙ t) in
+        let a = low_is least m two.0 in
+        let b = high_is greatest m two.1 in
+        (moment_number m, omega (arith, le, a), omega (arith, he, b), posted place step values (subst (λ (g : List (Slot A)). IsSlot g place step values) ge r) m e)

@@ -1,0 +1,278 @@
+//! The index.
+
+ghost use Rattle.std.specs.Prelude.{◌≡◌, ◌≤◌, ◌<◌, ◌+◌, ◌++◌, [], ◌∷◌, false, IfOk, OnOk, pos};
+ghost use Rattle.std.specs.Bool.{MatchBool};
+ghost use Rattle.ups_match.specs.Class.{first_key, all};
+ghost use Rattle.ups_index.specs.Indexed.{values_len, has_step, altered, put_values, dropped, class_of};
+ghost use Rattle.ups_index.specs.Numbers.{low_number, high_number};
+ghost use Rattle.ups_index.specs.Posts.{KeepsOthers};
+
+use crate::numbers::{moment_number, step_number, text_number};
+use crate::posts::Posts;
+use crate::slots::{
+    Slot, every_step, look_up, place_of, put_start, put_texts, take_start, take_texts,
+};
+use crate::values::Values;
+use std::alloc::{AllocError, Allocator};
+use std::marker::Model;
+use ups_life::StepUid;
+use ups_match::{First, Keys};
+
+/// How many steps an index takes in its life at most: a place is a `u32`.
+const MAX_PLACES: usize = 0x1_0000_0000;
+
+/// An index of the steps that are held: by the first indexed key of a query it finds those that have it, and looks at no
+/// others (PS3.4 section C.2.2.2). It keeps a copy of the indexed values of each step.
+///
+/// A contract sees the offset by which starts are read, the steps in order of creation, each with its values, and for how many
+/// more values there is room. Room is made by `reserve` alone: what else changes the index needs no memory, and can't fail.
+#[derive(Drop)]
+pub struct Index<A: Allocator + Copy> {
+    alloc: A,
+    /// In minutes east of UTC.
+    offset: i16,
+    /// Each step at a place that it keeps.
+    slots: Vec<Slot<A>, A>,
+    /// By the numbers of UIDs.
+    steps: Posts<A>,
+    /// By the numbers of texts.
+    texts: Posts<A>,
+    /// By the numbers of starts.
+    starts: Posts<A>,
+}
+
+impl<A: Allocator + Copy> Model for Index<A> {
+    ghost use Rattle.ups_index.specs.Indexed.{Contents};
+
+    ghost Value = { Contents };
+
+    ghost use Rattle.ups_index.specs.Kept.{Keeps, least_room, seen_slots};
+
+    ghost view = { λ x. record { offset = x.offset; steps = seen_slots x.slots.items; spare = least_room x.slots x.steps.room x.texts.room x.starts.room } };
+
+    ghost invariant = { λ x. Keeps x.slots.items x.steps.posts x.texts.posts x.starts.posts };
+}
+
+/// Takes out the posts of the values of the step at a place.
+fn take_values<A: Allocator + Copy>(
+    texts: &mut Posts<A>,
+    starts: &mut Posts<A>,
+    values: &Option<Values<A>>,
+    place: u32,
+)
+    ensures texts { KeepsOthers place texts.old.posts texts.new.posts }
+    ensures text_room { texts.old.room ≤ texts.new.room }
+    ensures starts { KeepsOthers place starts.old.posts starts.new.posts }
+    ensures start_room { starts.old.room ≤ starts.new.room }
+{
+    let Some(values) = values else {
+        return;
+    };
+    take_texts(texts, values.texts(), place);
+    take_start(starts, values.start(), place);
+}
+
+/// The number from which on a start is in a range.
+fn low_number(least: Option<i64>) -> u64
+    ensures { result ≡ low_number least }
+{
+    match least {
+        Some(moment) => moment_number(moment),
+        None => 0,
+    }
+}
+
+/// The number up to which a start is in a range.
+fn high_number(greatest: Option<i64>) -> u64
+    ensures { result ≡ high_number greatest }
+{
+    match greatest {
+        Some(moment) => moment_number(moment),
+        None => u64::MAX,
+    }
+}
+
+impl<A: Allocator + Copy> Index<A> {
+    /// An index without steps. `offset` is that of a start which names none, in minutes east of UTC. It takes no memory yet.
+    pub fn new(alloc: A, offset: i16) -> Index<A>
+        ensures offset { result.offset ≡ offset }
+        ensures steps { result.steps ≡ [] }
+    {
+        Index {
+            alloc,
+            offset,
+            slots: Vec::new(alloc),
+            steps: Posts::new(alloc),
+            texts: Posts::new(alloc),
+            starts: Posts::new(alloc),
+        }
+    }
+
+    /// Whether a step is in the index.
+    fn has(&self, step: StepUid) -> bool
+        ensures { result ≡ has_step step self.now.steps }
+    {
+        place_of(&self.steps, &self.slots, step).is_some()
+    }
+
+    /// Makes room for the values of a step.
+    ///
+    /// # Errors
+    ///
+    /// Where memory runs out, or the index has taken 4,294,967,296 steps. The steps are then as before.
+    pub fn reserve(&mut self, values: &Values<A>) -> Result<(), AllocError>
+        ensures offset { self.new.offset ≡ self.old.offset }
+        ensures steps { self.new.steps ≡ self.old.steps }
+        ensures room { OnOk result (values_len values.now ≤ self.new.spare) }
+    {
+        let Some(more) = values.texts().len().checked_add(1) else {
+            return Err(AllocError);
+        };
+        self.make_room(more)
+    }
+
+    /// Makes room for so many values.
+    ///
+    /// Errors: where memory runs out, or there would be too many steps. The steps are then as before.
+    fn make_room(&mut self, more: usize) -> Result<(), AllocError>
+        ensures offset { self.new.offset ≡ self.old.offset }
+        ensures steps { self.new.steps ≡ self.old.steps }
+        ensures room { OnOk result (more ≤ self.new.spare) }
+    {
+        let Index {
+            slots,
+            steps,
+            texts,
+            starts,
+            ..
+        } = self;
+        if more > MAX_PLACES.saturating_sub(slots.len()) {
+            return Err(AllocError);
+        }
+        slots.reserve(more)?;
+        steps.reserve(more)?;
+        texts.reserve(more)?;
+        starts.reserve(more)
+    }
+
+    /// Adds a step behind the others.
+    fn add(&mut self, step: StepUid, values: Values<A>)
+        requires room { values_len values ≤ self.old.spare }
+        requires absent { has_step step self.old.steps ≡ false }
+        ensures offset { self.new.offset ≡ self.old.offset }
+        ensures steps { self.new.steps ≡ self.old.steps ++ (step, values) ∷ [] }
+        ensures spare { self.old.spare ≤ self.new.spare + values_len values }
+    {
+        let Index {
+            slots,
+            steps,
+            texts,
+            starts,
+            ..
+        } = self;
+        let place = slots.len() as u32;
+        steps.put(step_number(step.as_bytes()), place);
+        put_texts(texts, values.texts(), place);
+        put_start(starts, values.start(), place);
+        slots.push_reserved(Slot {
+            step,
+            values: Some(values),
+        });
+    }
+
+    /// Stores other values of a step, which keeps its place in the order.
+    fn alter(&mut self, step: StepUid, values: Values<A>)
+        requires { values_len values ≤ self.old.spare }
+        ensures offset { self.new.offset ≡ self.old.offset }
+        ensures steps { self.new.steps ≡ altered step values self.old.steps }
+        ensures spare { self.old.spare ≤ self.new.spare + values_len values }
+    {
+        let Index {
+            slots,
+            steps,
+            texts,
+            starts,
+            ..
+        } = self;
+        let Some(at) = place_of(steps, slots, step) else {
+            return;
+        };
+        let place = at as u32;
+        take_values(texts, starts, &slots[at].values, place);
+        put_texts(texts, values.texts(), place);
+        put_start(starts, values.start(), place);
+        slots[at] = Slot {
+            step,
+            values: Some(values),
+        };
+    }
+
+    /// Stores values of a step in the place of those that it has, or else behind those of the other steps. There is room for
+    /// them.
+    pub fn put(&mut self, step: StepUid, values: Values<A>)
+        requires { values_len values ≤ self.old.spare }
+        ensures offset { self.new.offset ≡ self.old.offset }
+        ensures steps { self.new.steps ≡ put_values step values self.old.steps }
+    {
+        if self.has(step) {
+            self.alter(step, values);
+            return;
+        }
+        self.add(step, values);
+    }
+
+    /// Takes a step out of the index.
+    pub fn remove(&mut self, step: StepUid)
+        ensures offset { self.new.offset ≡ self.old.offset }
+        ensures steps { self.new.steps ≡ dropped step self.old.steps }
+        ensures spare { self.old.spare ≤ self.new.spare }
+    {
+        let Index {
+            slots,
+            steps,
+            texts,
+            starts,
+            ..
+        } = self;
+        let Some(at) = place_of(steps, slots, step) else {
+            return;
+        };
+        let place = at as u32;
+        take_values(texts, starts, &slots[at].values, place);
+        steps.take(step_number(step.as_bytes()), place);
+        slots[at] = Slot { step, values: None };
+    }
+
+    /// Whether a query has an indexed key. Where it has none its class is every step.
+    pub fn looks_up(&self, keys: &Keys<A>) -> bool
+        ensures { MatchBool result (Unit {0}) (first_key self.now.offset keys.now ≡ all) }
+    {
+        match keys.first(self.offset) {
+            First::Value(_, _) | First::Start(_, _) => true,
+            First::All => false,
+        }
+    }
+
+    /// The class of a query: the steps that have its first indexed key, each once, in order of creation.
+    ///
+    /// # Errors
+    ///
+    /// Where memory runs out.
+    pub fn candidates(&self, keys: &Keys<A>) -> Result<Vec<StepUid, A>, AllocError>
+        ensures { IfOk result (λ found. found.items ≡ class_of (first_key self.now.offset keys.now) self.now.steps) }
+    {
+        let first = keys.first(self.offset);
+        match &first {
+            First::Value(tag, text) => {
+                let number = text_number(*tag, text);
+                look_up(self.alloc, &self.slots, &self.texts, number, number, &first)
+            }
+            First::Start(least, greatest) => {
+                let low = low_number(*least);
+                let high = high_number(*greatest);
+                look_up(self.alloc, &self.slots, &self.starts, low, high, &first)
+            }
+            First::All => every_step(self.alloc, &self.slots),
+        }
+    }
+}

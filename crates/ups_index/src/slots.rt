@@ -1,0 +1,287 @@
+//! The steps of the index in order of creation, each in a slot that it keeps. The place of a slot is its number among all.
+
+ghost use Rattle.std.specs.Prelude.{◌≡◌, ◌≤◌, ◌<◌, ◌+◌, ◌++◌, ℕ, List, Some, true, false, length, map, max, take, Contains, IfOk, OnOk, MatchOption};
+ghost use Rattle.std.specs.Option.{option_to_list};
+ghost use Rattle.std.specs.Bool.{MatchBool};
+ghost use Rattle.std.specs.List.{filter_map};
+ghost use Rattle.std.specs.List.Sorted.{IsNonDecreasing};
+ghost use Rattle.ups_dataset.specs.declared.tag.Tag.{Tag};
+ghost use Rattle.ups_match.specs.Class.{first_view, all};
+ghost use Rattle.ups_index.specs.Kept.{text_view, in_class, HasNoneIn, IsSlot, StepsPosted};
+ghost use Rattle.ups_index.specs.Numbers.{text_number, step_number, moment_number};
+ghost use Rattle.ups_index.specs.Posts.{post, KeepsLive, KeepsOthers};
+ghost use Rattle.ups_index.specs.Stored.{RowValues, has_first};
+
+use crate::numbers::{moment_number, step_number, text_number};
+use crate::posts::{Post, Posts};
+use crate::values::{StoredText, Values};
+use std::alloc::{AllocError, Allocator};
+use ups_life::StepUid;
+use ups_match::First;
+
+/// A step with its values; None once it is taken out.
+#[derive(Drop)]
+pub(crate) struct Slot<A: Allocator + Copy> {
+    pub step: StepUid,
+    pub values: Option<Values<A>>,
+}
+
+/// Whether a slot is that of a step which is in the index.
+fn is_of<A: Allocator + Copy>(slot: &Slot<A>, step: StepUid) -> bool
+    ensures { MatchBool result ((values : RowValues) × (slot.now ≡ record { step = step; values = Some values })) ((values : RowValues) → slot.now ≡ record { step = step; values = Some values } → ⊥) }
+{
+    match &slot.values {
+        Some(_) => slot.step == step,
+        None => false,
+    }
+}
+
+/// Whether the slot of a step is at a place.
+fn is_slot_of<A: Allocator + Copy>(slots: &[Slot<A>], place: usize, step: StepUid) -> bool
+    ensures { MatchBool result ((values : RowValues) × IsSlot slots.now place step values) ((values : RowValues) → IsSlot slots.now place step values → ⊥) }
+{
+    if place >= slots.len() {
+        return false;
+    }
+    is_of(&slots[place], step)
+}
+
+/// The place of a step, where one of the posts leads to it.
+fn place_among<A: Allocator + Copy>(
+    posts: &[Post],
+    slots: &[Slot<A>],
+    step: StepUid,
+) -> Option<usize>
+    ensures { MatchOption result ((number place : ℕ) → (values : RowValues) → IsSlot slots.now place step values → Contains posts.now (post number place) → ⊥) (λ place. (values : RowValues) × IsSlot slots.now place step values) }
+{
+    for post in posts {
+        if is_slot_of(slots, post.place as usize, step) {
+            return Some(post.place as usize);
+        }
+    }
+    None
+}
+
+/// The place of a step.
+pub(crate) fn place_of<A: Allocator + Copy>(
+    steps: &Posts<A>,
+    slots: &[Slot<A>],
+    step: StepUid,
+) -> Option<usize>
+    requires { StepsPosted slots.now steps.now.posts }
+    ensures { MatchOption result ((place : ℕ) → (values : RowValues) → IsSlot slots.now place step values → ⊥) (λ place. (values : RowValues) × IsSlot slots.now place step values) }
+{
+    let number = step_number(step.as_bytes());
+    let (merged, fresh) = steps.runs(number, number);
+    match place_among(merged, slots, step) {
+        Some(place) => Some(place),
+        None => place_among(fresh, slots, step),
+    }
+}
+
+/// Puts the posts of texts at a place.
+pub(crate) fn put_texts<A: Allocator + Copy>(
+    table: &mut Posts<A>,
+    texts: &[StoredText<A>],
+    place: u32,
+)
+    requires { length texts.now ≤ table.old.room }
+    ensures has { (stored : Tag × List ℕ) → Contains (map text_view texts.now) stored → Contains table.new.posts (post (text_number stored.0 stored.1) place) }
+    ensures keeps { KeepsLive table.old.posts table.new.posts }
+    ensures room { table.old.room ≤ table.new.room + length texts.now }
+{
+    for stored in texts {
+        table.put(text_number(stored.tag, &stored.text), place);
+    }
+}
+
+/// Takes out the posts of texts at a place.
+pub(crate) fn take_texts<A: Allocator + Copy>(
+    table: &mut Posts<A>,
+    texts: &[StoredText<A>],
+    place: u32,
+)
+    ensures keeps { KeepsOthers place table.old.posts table.new.posts }
+    ensures room { table.old.room ≤ table.new.room }
+{
+    for stored in texts {
+        table.take(text_number(stored.tag, &stored.text), place);
+    }
+}
+
+/// Puts the post of a start at a place.
+pub(crate) fn put_start<A: Allocator + Copy>(table: &mut Posts<A>, start: Option<i64>, place: u32)
+    requires { 0 < table.old.room }
+    ensures has { MatchOption start (Unit {0}) (λ moment. Contains table.new.posts (post (moment_number moment) place)) }
+    ensures keeps { KeepsLive table.old.posts table.new.posts }
+    ensures room { table.old.room ≤ table.new.room + 1 }
+{
+    match start {
+        Some(moment) => table.put(moment_number(moment), place),
+        None => {}
+    }
+}
+
+/// Takes out the post of a start at a place.
+pub(crate) fn take_start<A: Allocator + Copy>(table: &mut Posts<A>, start: Option<i64>, place: u32)
+    ensures keeps { KeepsOthers place table.old.posts table.new.posts }
+    ensures room { table.old.room ≤ table.new.room }
+{
+    match start {
+        Some(moment) => table.take(moment_number(moment), place),
+        None => {}
+    }
+}
+
+/// Adds the place of a post, where it isn't gone.
+///
+/// Errors: where memory runs out.
+fn add_place<A: Allocator + Copy>(places: &mut Vec<u32, A>, post: Post) -> Result<(), AllocError>
+    ensures has { OnOk result (post.gone ≡ false → Contains places.new.items post.place) }
+    ensures keeps { OnOk result ((place : ℕ) → Contains places.old.items place → Contains places.new.items place) }
+{
+    if post.gone {
+        return Ok(());
+    }
+    places.push(post.place)?;
+    Ok(())
+}
+
+/// Adds the places of posts that aren't gone.
+///
+/// Errors: where memory runs out.
+fn add_places<A: Allocator + Copy>(
+    places: &mut Vec<u32, A>,
+    posts: &[Post],
+) -> Result<(), AllocError>
+    ensures has { OnOk result ((number place : ℕ) → Contains posts.now (post number place) → Contains places.new.items place) }
+    ensures keeps { OnOk result ((place : ℕ) → Contains places.old.items place → Contains places.new.items place) }
+{
+    for post in posts {
+        add_place(places, *post)?;
+    }
+    Ok(())
+}
+
+/// The places of the numbers from `low` to `high`, in order.
+///
+/// Errors: where memory runs out.
+fn places_of<A: Allocator + Copy>(
+    alloc: A,
+    table: &Posts<A>,
+    low: u64,
+    high: u64,
+) -> Result<Vec<u32, A>, AllocError>
+    ensures sorted { IfOk result (λ places. IsNonDecreasing places.items) }
+    ensures has { IfOk result (λ places. (number place : ℕ) → Contains table.now.posts (post number place) → low ≤ number → number ≤ high → Contains places.items place) }
+{
+    let (merged, fresh) = table.runs(low, high);
+    let mut places = Vec::new(alloc);
+    add_places(&mut places, merged)?;
+    add_places(&mut places, fresh)?;
+    places.sort_unstable();
+    Ok(places)
+}
+
+/// Adds the step of a slot, where it has the first indexed key.
+///
+/// Errors: where memory runs out.
+fn add_step<A: Allocator + Copy>(
+    steps: &mut Vec<StepUid, A>,
+    slot: &Slot<A>,
+    first: &First<'_>,
+) -> Result<(), AllocError>
+    ensures { OnOk result (steps.new.items ≡ steps.old.items ++ option_to_list (in_class (first_view first.now) slot.now)) }
+{
+    match &slot.values {
+        Some(values) => {
+            if values.has(first) {
+                steps.push(slot.step)?;
+                return Ok(());
+            }
+            Ok(())
+        }
+        None => Ok(()),
+    }
+}
+
+/// Adds the step at a place, where it has the first indexed key and isn't passed yet; from which place on none is passed.
+///
+/// Errors: where memory runs out.
+fn visit<A: Allocator + Copy>(
+    steps: &mut Vec<StepUid, A>,
+    slots: &[Slot<A>],
+    next: usize,
+    place: u32,
+    first: &First<'_>,
+) -> Result<usize, AllocError>
+    requires found { steps.old.items ≡ filter_map (in_class (first_view first.now)) (take next slots.now) }
+    requires none { HasNoneIn (first_view first.now) slots.now next place }
+    ensures found { IfOk result (λ next. steps.new.items ≡ filter_map (in_class (first_view first.now)) (take next slots.now)) }
+    ensures next { IfOk result (λ passed. passed ≡ max next (place + 1)) }
+{
+    let place = place as usize;
+    if place < next {
+        return Ok(next);
+    }
+    if place >= slots.len() {
+        return Ok(place + 1);
+    }
+    add_step(steps, &slots[place], first)?;
+    Ok(place + 1)
+}
+
+/// The steps that have the first indexed key, of which each is at one of the places.
+///
+/// Errors: where memory runs out.
+fn steps_at<A: Allocator + Copy>(
+    alloc: A,
+    slots: &[Slot<A>],
+    places: &[u32],
+    first: &First<'_>,
+) -> Result<Vec<StepUid, A>, AllocError>
+    requires sorted { IsNonDecreasing places.now }
+    requires has { (place : ℕ) → (step : List ℕ) → (values : RowValues) → IsSlot slots.now place step values → has_first (first_view first.now) values ≡ true → Contains places.now place }
+    ensures { IfOk result (λ steps. steps.items ≡ filter_map (in_class (first_view first.now)) slots.now) }
+{
+    let mut steps = Vec::new(alloc);
+    let mut next = 0;
+    for place in places {
+        next = visit(&mut steps, slots, next, *place, first)?;
+    }
+    Ok(steps)
+}
+
+/// The steps that have the first indexed key, which is looked up by the numbers from `low` to `high`.
+///
+/// Errors: where memory runs out.
+pub(crate) fn look_up<A: Allocator + Copy>(
+    alloc: A,
+    slots: &[Slot<A>],
+    table: &Posts<A>,
+    low: u64,
+    high: u64,
+    first: &First<'_>,
+) -> Result<Vec<StepUid, A>, AllocError>
+    requires { (place : ℕ) → (step : List ℕ) → (values : RowValues) → IsSlot slots.now place step values → has_first (first_view first.now) values ≡ true → (number : ℕ) × (low ≤ number) × (number ≤ high) × Contains table.now.posts (post number place) }
+    ensures { IfOk result (λ steps. steps.items ≡ filter_map (in_class (first_view first.now)) slots.now) }
+{
+    let places = places_of(alloc, table, low, high)?;
+    steps_at(alloc, slots, &places, first)
+}
+
+/// Each step.
+///
+/// Errors: where memory runs out.
+pub(crate) fn every_step<A: Allocator + Copy>(
+    alloc: A,
+    slots: &[Slot<A>],
+) -> Result<Vec<StepUid, A>, AllocError>
+    ensures { IfOk result (λ steps. steps.items ≡ filter_map (in_class all) slots.now) }
+{
+    let mut steps = Vec::new(alloc);
+    for slot in slots {
+        add_step(&mut steps, slot, &First::All)?;
+    }
+    Ok(steps)
+}

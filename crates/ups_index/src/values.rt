@@ -1,0 +1,147 @@
+//! What is stored of a step.
+
+ghost use Rattle.std.specs.Prelude.{◌≡◌, ◌+◌, ◌++◌, ◌<◌, ◌^◌, ◌&&◌, length, map, filter, not, IfOk, OnOk, Some, ℕ, List};
+ghost use Rattle.std.specs.List.{list_any, slice_split};
+ghost use Rattle.ups_pdu.specs.Padding.{is_nil, without_padding};
+ghost use Rattle.ups_dataset.specs.Data.{elements_of, items_of, items};
+ghost use Rattle.ups_match.specs.Class.{first_view, start_of};
+ghost use Rattle.ups_match.specs.Matching.{value_at};
+ghost use Rattle.ups_match.specs.Ranges.{is_from, is_up_to};
+ghost use Rattle.ups_match.specs.Values.{is_backslash};
+ghost use Rattle.ups_index.specs.Kept.{text_view, within};
+ghost use Rattle.ups_index.specs.Stored.{values_of, is_text, has_first};
+
+use crate::storing::{put_stations, put_stored, start_of};
+use std::alloc::{AllocError, Allocator};
+use std::marker::Model;
+use ups_dataset::dictionary::{
+    PATIENT_ID, PROCEDURE_STEP_STATE, SCHEDULED_PROCEDURE_STEP_PRIORITY, WORKLIST_LABEL,
+};
+use ups_dataset::{DataSet, Tag};
+use ups_match::First;
+
+/// A text under the tag by which it is looked up.
+#[derive(Drop)]
+pub(crate) struct StoredText<A: Allocator + Copy> {
+    pub tag: Tag,
+    pub text: Vec<u8, A>,
+}
+
+/// The values by which a step is found. A contract sees the texts, each with its tag, and the first moment of the start.
+#[derive(Drop)]
+pub struct Values<A: Allocator + Copy> {
+    texts: Vec<StoredText<A>, A>,
+    start: Option<i64>,
+}
+
+impl<A: Allocator + Copy> Model for Values<A> {
+    ghost use Rattle.std.specs.Prelude.{map};
+    ghost use Rattle.ups_index.specs.Stored.{RowValues};
+
+    ghost Value = { RowValues };
+
+    ghost use Rattle.ups_index.specs.Kept.{text_view};
+
+    ghost view = { λ v. record { texts = map text_view v.texts.items; start = v.start } };
+}
+
+impl<A: Allocator + Copy> Values<A> {
+    /// The indexed values of a row. `offset` is that of a start which names none, in minutes east of UTC.
+    ///
+    /// # Errors
+    ///
+    /// Where memory runs out.
+    pub fn of(alloc: A, row: &DataSet<A>, offset: i16) -> Result<Values<A>, AllocError>
+        ensures { IfOk result (λ v. v ≡ values_of offset row.now) }
+    {
+        let mut texts = Vec::new(alloc);
+        put_stored(alloc, &mut texts, row, PATIENT_ID, PATIENT_ID)?;
+        put_stored(alloc, &mut texts, row, WORKLIST_LABEL, WORKLIST_LABEL)?;
+        put_stations(alloc, &mut texts, row)?;
+        put_stored(
+            alloc,
+            &mut texts,
+            row,
+            PROCEDURE_STEP_STATE,
+            PROCEDURE_STEP_STATE,
+        )?;
+        put_stored(
+            alloc,
+            &mut texts,
+            row,
+            SCHEDULED_PROCEDURE_STEP_PRIORITY,
+            SCHEDULED_PROCEDURE_STEP_PRIORITY,
+        )?;
+        let start = start_of(row, offset);
+        Ok(Values { texts, start })
+    }
+
+    /// The texts.
+    pub(crate) fn texts(&self) -> &[StoredText<A>]
+        ensures { map text_view result.now ≡ self.now.texts }
+    {
+        self.texts.as_slice()
+    }
+
+    /// The first moment of the start.
+    pub(crate) fn start(&self) -> Option<i64>
+        ensures { result ≡ self.now.start }
+    {
+        self.start
+    }
+
+    /// Whether they have the first indexed key of a query.
+    pub(crate) fn has(&self, first: &First<'_>) -> bool
+        ensures { result ≡ has_first (first_view first.now) self.now }
+    {
+        match first {
+            First::Value(tag, text) => has_text(self.texts(), *tag, text),
+            First::Start(least, greatest) => is_within(self.start, *least, *greatest),
+            First::All => true,
+        }
+    }
+}
+
+/// Whether what is stored is a text under a tag.
+fn is_text<A: Allocator + Copy>(stored: &StoredText<A>, tag: Tag, text: &[u8]) -> bool
+    ensures { result ≡ is_text tag text.now (text_view stored.now) }
+{
+    stored.tag == tag && text == stored.text.as_slice()
+}
+
+/// Whether a text is stored under a tag.
+fn has_text<A: Allocator + Copy>(texts: &[StoredText<A>], tag: Tag, text: &[u8]) -> bool
+    ensures { result ≡ list_any (λ stored. is_text tag text.now (text_view stored)) texts.now }
+{
+    texts.iter().any(|stored| is_text(stored, tag, text))
+}
+
+/// Whether a start lies between two moments; an open end has none.
+fn is_within(start: Option<i64>, least: Option<i64>, greatest: Option<i64>) -> bool
+    ensures { result ≡ within least greatest start }
+{
+    match start {
+        Some(moment) => is_from(least, moment) && is_up_to(greatest, moment),
+        None => false,
+    }
+}
+
+/// Whether a moment isn't before a least one.
+fn is_from(least: Option<i64>, moment: i64) -> bool
+    ensures { result ≡ is_from least moment }
+{
+    match least {
+        Some(least) => least <= moment,
+        None => true,
+    }
+}
+
+/// Whether a moment isn't behind a greatest one.
+fn is_up_to(greatest: Option<i64>, moment: i64) -> bool
+    ensures { result ≡ is_up_to greatest moment }
+{
+    match greatest {
+        Some(greatest) => moment <= greatest,
+        None => true,
+    }
+}

@@ -1,0 +1,44 @@
+-- What the index has of the steps held, and what a request that is accepted makes of it.
+use Rattle.std.specs.Prelude.{◌≡◌, ◌≤◌, ℕ, ℤ, not, List, map, filter}
+use Rattle.ups_index.specs.Indexed.{Contents, values_len, put_values}
+use Rattle.ups_index.specs.Stored.{RowValues, values_of}
+use Rattle.ups_life.specs.declared.entry.Entry.{Entry}
+use Rattle.ups_life.specs.Settings.{Settings}
+use Rattle.ups_life.specs.Watching.{is_among}
+use Rattle.ups_live.specs.declared.rows.HeldStep.{HeldStep}
+use Rattle.ups_live.specs.Held.{held_steps}
+use Rattle.ups_manager.specs.declared.indexing.IndexChange.{IndexChange}
+use Rattle.ups_manager.specs.declared.indexing.IndexChange.TheVariants.{Put, Remove, Nothing}
+
+-- a step that is held, with the values by which it is found
+abbrev pub indexed : {A : Type 0} → ℤ → HeldStep A → List ℕ × RowValues
+indexed offset h = (h.step, values_of offset h.row.attributes)
+
+-- the steps held after a history, in order of creation, each with its values
+abbrev pub indexed_steps : {A : Type 0} → Settings → List (Entry A) → List (List ℕ × RowValues)
+indexed_steps s es = map (indexed s.offset) (held_steps s es)
+
+-- the UIDs of steps
+abbrev pub uids_in : {A : Type 0} → List (HeldStep A) → List (List ℕ)
+uids_in {A} hs = map (λ (h : HeldStep A). h.step) hs
+
+-- the index has each step that is held, its start read by the offset of the service
+pub record IsIndexed {A : Type 0} (s : Settings) (es : List (Entry A)) (index : Contents) : Type 0 where
+  pub offset : index.offset ≡ s.offset
+  pub steps : index.steps ≡ indexed_steps s es
+
+-- without these steps
+abbrev pub without_steps : List (List ℕ) → List (List ℕ × RowValues) → List (List ℕ × RowValues)
+without_steps us steps = filter (λ s. not (is_among s.0 us)) steps
+
+-- the steps of the index after a change of it, by the steps that the request removes
+abbrev pub after_change : {A : Type 0} → IndexChange A → List (List ℕ) → List (List ℕ × RowValues) → List (List ℕ × RowValues)
+after_change (Put step values) removed steps = put_values step values steps
+after_change Remove removed steps = without_steps removed steps
+after_change Nothing removed steps = steps
+
+-- there is room for a change
+abbrev pub has_room : {A : Type 0} → ℕ → IndexChange A → Type 0
+has_room spare (Put step values) = values_len values ≤ spare
+has_room spare Remove = Unit {0}
+has_room spare Nothing = Unit {0}
