@@ -1,8 +1,8 @@
 #!/usr/bin/env python3
-"""Tries `upsd serve` with hostile peers: 4 workers, and a time limit of 3 seconds for a read or a write.
+"""Tries `upsd serve` with hostile peers: 4 workers, and limits of 3 seconds (`--idle`, `--timeout`).
 
 After each kind of them, 4 working peers have to be served with C-ECHO at the same time, so that each worker is back: within
-3 limits while the hostile peers still hold their connections, and within one limit when they are gone. Then the memory of
+2 limits while the hostile peers still hold their connections, and within one limit when they are gone. Then the memory of
 the server (VmHWM) has to have stayed under 100 MB, no thread may be lost, and SIGTERM has to end it. A program that is
 built with checks (`rt try`) may need more memory: the last line tells how much it was.
 
@@ -10,16 +10,31 @@ built with checks (`rt try`) may need more memory: the last line tells how much 
     garbage             random bytes, other protocols, PDUs out of place and with wrong lengths, also in an association: each
                         is hung up on within one limit
     a byte a second     from the first byte, in the body of an association request, and in the header and in the body of a
-                        P-DATA-TF: such a peer loses its worker within 3 limits
-    never read          200 C-FINDs with 50 answers of 10 KB each, of which the peer reads none: within 3 limits
+                        P-DATA-TF: such a peer loses its worker within 2 limits
+    never read          200 C-FINDs with 50 answers of 10 KB each, of which the peer reads none: within 2 limits
     1,000 silent peers  connect at the same time and say nothing. A connection that says nothing is closed where another one
                         waits, so a working peer that comes behind them is served within one limit of 10 seconds
 
-It starts the server on a free port of this machine and ends by itself, in two or three minutes. It prints a line for each
+Then come crowds: 200 peers of one kind at the same time, at a server of their own with 4 workers and limits of 2 seconds.
+They are served in order, 4 at a time, and each is cut off at its limit; so a working peer behind all of them is served
+within 52 limits, and when they are gone 4 are within 2 limits. What each of the crowd hears last is an A-ABORT of the
+service provider where the limit is one of reading, and the log names the limit. No thread and no descriptor may be lost, and
+the memory (VmRSS) has to come back. The crowds come at the same time, each to its server:
+
+    opens, never asks   an association, and nothing more
+    half open           the same, and the peer is gone without a word (by TCP_REPAIR, as root; else it stays and is silent)
+    slow sender         a byte a second of a P-DATA-TF
+    empty fragments     P-DATA-TFs for ever, each with one PDV of no byte, of a command that doesn't end
+    asks, never reads   200 C-FINDs with 50 answers of 10 KB each, of which it reads none
+    slow taker          the same, of which it reads a byte a second
+    storm               connections that are closed at once, half of them by a reset, as fast as 8 threads make them
+
+It starts the servers on free ports of this machine and ends by itself, in five minutes. It prints a line for each
 trial that doesn't agree, and in the end how many agree. It ends with 1 where one doesn't.
 """
 
 import argparse
+import asyncio
 import contextlib
 import os
 import random
@@ -39,10 +54,17 @@ from stock import HERE, Server, Tally, holds
 
 WORKERS = 4
 LIMIT = 3
-SLOW = 3 * LIMIT  # how long a peer may hold its worker that sends or reads slowly
+SLOW = 2 * LIMIT  # how long a peer may hold its worker that sends or reads slowly
 SILENT = 1000
 QUEUE = 10  # the time limit of the server that silent peers crowd
 MEMORY = 100_000_000
+CROWD = 200
+SHORT = 2  # the limits of a server that a crowd holds
+BEHIND = (CROWD // WORKERS + 2) * SHORT  # after how long a peer is served that comes behind a crowd
+GROWTH = 16_000_000  # by how much the memory may grow with a crowd
+STORM = 4  # seconds
+TCP_REPAIR = 19
+ABORT = bytes.fromhex("07000000000400000200")  # by the service provider, reason not specified
 FAULTS = (OSError, EOFError, AssertionError)
 
 REQUEST = pipe.associate([(VERIFICATION, IMPLICIT), (PULL, EXPLICIT)])
@@ -50,10 +72,11 @@ ECHO = pipe.echo(1)
 
 
 class Caller(Peer):
-    """An association with few seconds for each answer."""
+    """An association with few seconds for each answer, and as many or fewer to connect."""
 
-    def __init__(self, port, seconds, contexts=((VERIFICATION, IMPLICIT),), buffer=None):
-        self.socket, self.left = connect(port, seconds, buffer), b""
+    def __init__(self, port, seconds, contexts=((VERIFICATION, IMPLICIT),), buffer=None, to_connect=None):
+        self.socket, self.left = connect(port, to_connect or seconds, buffer), b""
+        self.socket.settimeout(seconds)
         self.socket.sendall(pipe.associate(contexts))
         assert self.pdu()[0] == 2, "not accepted"
 
@@ -172,18 +195,30 @@ def slowly(opened, said, at_once):
     return hostile
 
 
+COMMENT = 0x0040, 0x1400  # Requested Procedure Comments
+BOTH = (PUSH, EXPLICIT), (PULL, EXPLICIT)
+
+
+def create_steps(port):
+    """Steps of 10 KB each."""
+    peer = Caller(port, SLOW, BOTH)
+    for i in range(50):
+        assert peer.ask(pipe.create(PUSH_ON, 1, b"1.2.0.%d" % i, pipe.step(True, {COMMENT: (b"LT", bytes(10_000))}))) == 0
+    peer.release()
+
+
+def finds():
+    """C-FINDs for all of the steps, again and again."""
+    return pipe.find(PULL_ON, 1, told(0x0008, 0x0018, b"UI", b"") + told(*COMMENT, b"LT", b"")) * 200
+
+
 def never_read(port, stack):
     """Steps, and peers that ask for all of them again and again."""
-    comment = 0x0040, 0x1400  # Requested Procedure Comments
-    peer = Caller(port, SLOW, ((PUSH, EXPLICIT), (PULL, EXPLICIT)))
-    for i in range(50):
-        assert peer.ask(pipe.create(PUSH_ON, 1, b"1.2.0.%d" % i, pipe.step(True, {comment: (b"LT", bytes(10_000))}))) == 0
-    peer.release()
-    keys = told(0x0008, 0x0018, b"UI", b"") + told(*comment, b"LT", b"")
+    create_steps(port)
     for _ in range(WORKERS):
-        peer = Caller(port, LIMIT, ((PUSH, EXPLICIT), (PULL, EXPLICIT)), 4096)
+        peer = Caller(port, LIMIT, BOTH, 4096)
         stack.enter_context(peer.socket)
-        peer.socket.sendall(pipe.find(PULL_ON, 1, keys) * 200)
+        peer.socket.sendall(finds())
     before, now = None, unsent(port)
     while now != before:  # the limit of a write begins when the kernel takes no more
         time.sleep(LIMIT / 2)
@@ -240,7 +275,7 @@ def served_behind(port, seconds):
 
 def silent_trial(program, tally):
     """Silent peers at a server of its own, and a working peer behind them: after how long that was served, and the memory."""
-    with Server(program, "--associations", str(WORKERS), "--timeout", str(QUEUE)) as server, contextlib.ExitStack() as stack:
+    with Server(program, "--associations", str(WORKERS), "--timeout", str(QUEUE), "--idle", str(QUEUE)) as server, contextlib.ExitStack() as stack:
         silent(server.port, SILENT, stack)
         waited = served_behind(server.port, QUEUE)
         tally.tell(f"a peer behind {SILENT} silent ones", None if waited else f"it is not served within {QUEUE} s")
@@ -255,6 +290,203 @@ def status(server, field):
 
 def threads(server):
     return len(os.listdir(f"/proc/{server.process.pid}/task"))
+
+
+def descriptors(server):
+    return len(os.listdir(f"/proc/{server.process.pid}/fd"))
+
+
+# a crowd: each function has one of its peers do what it does, until it is cut off
+
+class Holder:
+    """A peer of a crowd, what it has heard, and whether it was cut off."""
+
+    def __init__(self):
+        self.socket, self.heard, self.is_cut = socket.socket(), b"", False
+        self.socket.setblocking(False)
+        self.socket.setsockopt(socket.SOL_SOCKET, socket.SO_RCVBUF, 4096)
+
+    async def connect(self, port):
+        await asyncio.get_running_loop().sock_connect(self.socket, ("127.0.0.1", port))
+
+    async def say(self, said):
+        await asyncio.get_running_loop().sock_sendall(self.socket, said)
+
+    async def hear(self, count=65536):
+        more = await asyncio.get_running_loop().sock_recv(self.socket, count)
+        if not more:
+            self.is_cut = True
+            raise EOFError
+        self.heard += more
+
+    async def hear_all(self):
+        while True:
+            await self.hear()
+
+
+async def opens_alone(holder):
+    await holder.say(REQUEST)
+    await holder.hear_all()
+
+
+async def goes_away(holder):
+    await holder.say(REQUEST)
+    await holder.hear()
+    with contextlib.suppress(PermissionError):
+        holder.socket.setsockopt(socket.IPPROTO_TCP, TCP_REPAIR, 1)
+        holder.socket.close()
+    await asyncio.sleep(BEHIND)
+
+
+async def sends_slowly(holder):
+    await holder.say(REQUEST)
+    await holder.hear()
+    with contextlib.suppress(ConnectionError):
+        for i in pdu(4, bytes(16384)):
+            await holder.say(bytes([i]))
+            await asyncio.sleep(1)
+    await holder.hear_all()
+
+
+async def sends_nothing(holder):
+    await holder.say(REQUEST)
+    await holder.hear()
+    with contextlib.suppress(ConnectionError):
+        while True:
+            await holder.say(pdu(4, struct.pack(">IBB", 2, 1, 1)))
+            await asyncio.sleep(0.02)
+    await holder.hear_all()
+
+
+async def never_reads(holder):
+    await holder.say(pipe.associate(BOTH))
+    await holder.say(finds())
+    await asyncio.sleep(BEHIND)
+
+
+async def takes_slowly(holder):
+    await holder.say(pipe.associate(BOTH))
+    await holder.say(finds())
+    while True:
+        await holder.hear(1)
+        await asyncio.sleep(1)
+
+
+async def hold(port, kind, holders, over):
+    """Peers of a kind that come at the same time, until all are cut off or it is over."""
+    async def one(holder):
+        with contextlib.suppress(*FAULTS):
+            await holder.connect(port)
+            await kind(holder)
+
+    tasks = [asyncio.create_task(one(it)) for it in holders]
+    while not over.is_set() and not all(it.done() for it in tasks):
+        await asyncio.sleep(0.1)
+    for it in tasks:
+        it.cancel()
+    await asyncio.gather(*tasks, return_exceptions=True)
+
+
+@contextlib.contextmanager
+def crowd(port, kind, holders):
+    over = threading.Event()
+    thread = threading.Thread(target=asyncio.run, args=(hold(port, kind, holders, over),), daemon=True)
+    thread.start()
+    time.sleep(1)  # so that they have the workers, and wait, before others come
+    try:
+        yield
+    finally:
+        over.set()
+        thread.join()
+        for it in holders:
+            it.socket.close()
+
+
+def storm(port):
+    """Connections that are closed at once."""
+    end = time.monotonic() + STORM
+
+    def blow():
+        while time.monotonic() < end:
+            with contextlib.suppress(OSError), connect(port) as peer:
+                if random.random() < 0.5:
+                    peer.setsockopt(socket.SOL_SOCKET, socket.SO_LINGER, struct.pack("ii", 1, 0))
+
+    threads = [threading.Thread(target=blow, daemon=True) for _ in range(8)]
+    for it in threads:
+        it.start()
+    for it in threads:
+        it.join()
+
+
+def what_is_lost(server, before):
+    """Why threads, descriptors or memory are not what they were, or None."""
+    def now():
+        return threads(server), descriptors(server), status(server, "VmRSS") * 1024
+
+    good = holds(lambda: now()[0] == before[0] and now()[1] <= before[1] and now()[2] < before[2] + GROWTH, SHORT)
+    return None if good else "threads, descriptors and memory are {}, {} and {:,}, and were {}, {} and {:,}".format(*now(), *before)
+
+
+def crowd_trial(program, tally, name, kind, limit, is_aborted):
+    """A crowd of a kind, which runs into a limit, at a server of its own."""
+    with Server(program, "--associations", str(WORKERS), "--timeout", str(SHORT), "--idle", str(SHORT)) as server:
+        create_steps(server.port)
+        tally.tell(f"{name}, before", all_back(server.port, SHORT))
+        before = threads(server), descriptors(server), status(server, "VmRSS") * 1024
+        if kind:
+            holders = [Holder() for _ in range(CROWD)]
+            with crowd(server.port, kind, holders):
+                waited = served_in_turn(server.port, BEHIND)
+                tally.tell(f"a peer behind {CROWD} of: {name}", None if waited else f"it is not served within {BEHIND} s")
+            cut = [it.heard for it in holders if it.is_cut]
+            aborted = sum(it.endswith(ABORT) for it in cut)
+            if is_aborted:
+                good = len(cut) > CROWD // 2 and aborted == len(cut)
+                tally.tell(f"{name}, A-ABORT", None if good else f"heard by {aborted} of {len(cut)} that were cut off")
+        else:
+            storm(server.port)
+        tally.tell(f"{name}, when they are gone", all_back(server.port, 2 * SHORT))
+        tally.tell(f"{name}, what is lost", what_is_lost(server, before))
+        if limit:
+            tally.tell(f"{name}, log", None if any(f" serve: {limit} #" in it for it in server.log) else f"no line tells {limit}")
+
+
+def served_in_turn(port, seconds):
+    """After how long a working peer is served that connects anew while it can't, and then waits for its turn; None where it
+    isn't in time."""
+    began = time.monotonic()
+    while time.monotonic() - began < seconds:
+        with contextlib.suppress(*FAULTS):
+            peer = Caller(port, seconds, to_connect=1)
+            assert peer.ask(ECHO) == 0
+            peer.release()
+            return time.monotonic() - began
+    return None
+
+
+def crowd_trials(program, tally):
+    kinds = (
+        ("opens, never asks", opens_alone, "Idle", True),
+        ("half open", goes_away, "Idle", False),
+        ("slow sender", sends_slowly, "Timeout", True),
+        ("empty fragments", sends_nothing, None, False),
+        ("asks, never reads", never_reads, "Timeout", False),
+        ("slow taker", takes_slowly, "Timeout", False),
+        ("storm", None, None, False),
+    )
+
+    def trial(*kind):
+        try:
+            crowd_trial(program, tally, *kind)
+        except FAULTS as it:
+            tally.tell(kind[0], repr(it))
+
+    running = [threading.Thread(target=trial, args=it, daemon=True) for it in kinds]
+    for it in running:
+        it.start()
+    for it in running:
+        it.join()
 
 
 def end_trial(server, tally):
@@ -274,9 +506,9 @@ def main():
     most = resource.getrlimit(resource.RLIMIT_NOFILE)[1]
     resource.setrlimit(resource.RLIMIT_NOFILE, (most, most))
     signal.signal(signal.SIGALRM, lambda *_: sys.exit("abuse.py: it does not end"))
-    signal.alarm(400)
+    signal.alarm(900)
     tally = Tally()
-    with Server(asked.program, "--associations", str(WORKERS), "--timeout", str(LIMIT)) as server:
+    with Server(asked.program, "--associations", str(WORKERS), "--timeout", str(LIMIT), "--idle", str(LIMIT)) as server:
         tally.tell("before all", all_back(server.port, LIMIT))
         before, first = threads(server), status(server, "VmHWM")
         for name, hostile, seconds in (
@@ -295,6 +527,7 @@ def main():
         end_trial(server, tally)
     waited, crowded = silent_trial(asked.program, tally)
     most = max(most, crowded)
+    crowd_trials(asked.program, tally)
     tally.tell("memory", None if most * 1024 < MEMORY else f"VmHWM is {most * 1024:,} bytes")
     waited = f", a peer behind {SILENT} silent ones served after {waited:.1f} s" if waited else ""
     tally.end(f"VmHWM {first / 1024:.1f} MiB at the start, {most / 1024:.1f} MiB in the end{waited}")

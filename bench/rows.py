@@ -1,12 +1,12 @@
 #!/usr/bin/env python3
 """Runs rows and the examples over the built programs, and lists each that they do not do.
 
-    bench/rows.py rows/*.rows examples              runs them over what rt ci proves and builds: crates/upsd/out/upsd, and
-                                                    crates/readings/out/readings
+    bench/rows.py rows/*.rows examples              runs them over what rt ci proves and builds: crates/upsd/out/upsd,
+                                                    crates/readings/out/readings and crates/refusals/out/refusals
     bench/rows.py --self-test rows/*.rows examples  spoils what each expects, in each way, and sees that this is found
 
 A file of rows has sections. The first line of a section is `# ` and a heading; its rows follow. The first line of the file
-may say what the rows are: `sessions`, `commands`, `deliveries` or `readings`. Otherwise each section is a script.
+may say what the rows are: `sessions`, `commands`, `deliveries`, `readings` or `courses`. Otherwise each section is a script.
 
 A script has in each row a line of it, ` -> ` and its reply; or a line without a reply; or `! ` and what the program says on
 standard error where the script ends early. `N times: ` repeats a row, with the number of the time in the place of a `#` in
@@ -39,6 +39,11 @@ which are given to the program `readings`; what they are told to be, with bytes 
 `..` before it a part of that; and the bytes that are written for them: `=` stands for those that are given, `..` for any, and
 without this column there are none. Behind its first words the kind may say where the bytes `end`.
 
+A section of `courses` is what one service takes, in parts: associations that a peer asks for, behind a row `serve`; those
+that this side asks W1 for, behind `deliver`; and scripts, behind `script`, whose rows are as above. A row of an association
+is `ASKED | ANSWERED | LACKING | ENTRIES`: what is asked, what is answered, what is answered where memory lacks, if that is
+ever told, and how many requests the history has then. In a delivery ID is the message ID of a report, which counts them.
+
 Bytes are words: hex digits, as often as a number behind `*` says; text in quotes; the names of the SOP classes, as PUSH; and
 the names of bytes: of the stored PDUs in crates/fixtures/src/vectors.rt, and of the sections whose heading begins with
 `names: `, where a row is a name, `: ` and bytes. A `#` in these is an odd number, which goes up by two where the name is
@@ -56,6 +61,7 @@ import os
 import re
 import sys
 
+import courses
 import runs
 import spelling
 
@@ -359,7 +365,7 @@ def rows_of(file):
     """What is to be run of a file: its scripts, or its rows."""
     kind, *sections = re.split(r"(?m)^# ", content(file))
     kind = kind.removesuffix("\n")
-    if kind not in ("", *KINDS) or not sections:
+    if kind not in ("", "courses", *KINDS) or not sections:
         sys.exit(f"{file}: no section at its beginning")
     names = spelling.stored() if kind else {}
     for section in sections:
@@ -368,8 +374,16 @@ def rows_of(file):
             yield Script(heading, rows)
         elif heading.startswith("names: "):
             names.update(row.split(": ", 1) for row in rows)
+        elif kind == "courses":
+            yield courses.Course(heading, courses.parts_of(names, rows, spelled))
         else:
             yield from (KINDS[kind](names, row) for row in rows)
+
+
+def names_in(file):
+    """The texts of the names that a file of rows gives."""
+    sections = re.findall(r"(?m)^# names: .*\n((?:[^#].*\n)*)", content(file))
+    return dict(row.split(": ", 1) for section in sections for row in section.splitlines())
 
 
 def examples_of(folder):
@@ -405,9 +419,11 @@ def main():
     asked.add_argument("files", nargs="+", metavar="FILE", help="a file of rows, or a folder of examples")
     asked.add_argument("--program", default="crates/upsd/out/upsd", help="the program (default: %(default)s)")
     asked.add_argument("--readings", default="crates/readings/out/readings", help="that of readings (default: %(default)s)")
+    asked.add_argument("--refusals", default="crates/refusals/out/refusals", help="that of courses (default: %(default)s)")
     asked.add_argument("--self-test", action="store_true", help="spoil what each row expects: it has to fail")
     given = asked.parse_args()
-    programs = {"upsd": os.path.abspath(given.program), "readings": os.path.abspath(given.readings)}
+    programs = {it: os.path.abspath(vars(given)[it]) for it in ("readings", "refusals")}
+    programs["upsd"] = os.path.abspath(given.program)
     passed, failed = 0, 0
     for file in given.files:
         for row in examples_of(file) if os.path.isdir(file) else rows_of(file):

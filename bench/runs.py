@@ -170,6 +170,18 @@ def serving(program, peers=()):
             server.kill()
 
 
+@contextlib.contextmanager
+def logging(program, words=()):
+    """A new server with these words more: its log, which goes to a file, and the port of this machine on which it listens."""
+    words = [program, "serve", "--ae", "UPSD", "--port", "0", *words]
+    with tempfile.NamedTemporaryFile() as log, open(log.name, "rb") as told:
+        with subprocess.Popen(words, stdout=subprocess.PIPE, stderr=log) as server:
+            try:
+                yield told, int(server.stdout.readline())
+            finally:
+                server.kill()
+
+
 def serve(program, given, lasts=False):
     """What a new server answers to these bytes, and how its log tells that the association ended. The input ends with them,
     or lasts."""

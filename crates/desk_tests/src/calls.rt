@@ -141,8 +141,8 @@ pub(crate) enum Answer {
 /// What a pass is answered so many seconds after noon.
 pub(crate) fn answer_to<R: Wait>(
     rt: &R,
-    desk: &Desk<Global>,
-    pass: &mut Pass<Global>,
+    desk: &Desk<Manager<Global>, Global>,
+    pass: &mut Pass<Manager<Global>, Global>,
     ae: Ae,
     seconds: u32,
     ask: Ask<Global>,
@@ -162,8 +162,8 @@ pub(crate) fn answer_to<R: Wait>(
 /// The number of the status that a pass is answered with at noon; FFFF where it is answered anything else.
 pub(crate) fn answered<R: Wait>(
     rt: &R,
-    desk: &Desk<Global>,
-    pass: &mut Pass<Global>,
+    desk: &Desk<Manager<Global>, Global>,
+    pass: &mut Pass<Manager<Global>, Global>,
     ae: Ae,
     ask: Ask<Global>,
 ) -> u16
@@ -180,8 +180,8 @@ pub(crate) fn answered<R: Wait>(
 pub(crate) fn claim_one<R: Wait>(
     rt: &R,
     alloc: Global,
-    desk: &Desk<Global>,
-    pass: &mut Pass<Global>,
+    desk: &Desk<Manager<Global>, Global>,
+    pass: &mut Pass<Manager<Global>, Global>,
     ae: Ae,
     claim: Claim,
 ) -> u16

@@ -31,11 +31,11 @@ fn with_steps(alloc: Global, ae: Ae) -> Result<Manager<Global>, Fail> {
 fn claim_all<R: Wait>(
     rt: &R,
     alloc: Global,
-    desk: &Desk<Global>,
-    mut pass: Pass<Global>,
+    desk: &Desk<Manager<Global>, Global>,
+    mut pass: Pass<Manager<Global>, Global>,
     ae: Ae,
     claimant: u64,
-) -> (Pass<Global>, Claims)
+) -> (Pass<Manager<Global>, Global>, Claims)
     requires here { pass.table ≡ desk.now.table }
     ensures stays { result.0.table ≡ pass.table }
 {
@@ -58,11 +58,14 @@ fn claim_all<R: Wait>(
 fn race<R: Threads + Wait + Sync>(
     rt: &R,
     alloc: Global,
-    desk: &Desk<Global>,
-    one: Pass<Global>,
-    two: Pass<Global>,
+    desk: &Desk<Manager<Global>, Global>,
+    one: Pass<Manager<Global>, Global>,
+    two: Pass<Manager<Global>, Global>,
     ae: Ae,
-) -> ((Pass<Global>, Claims), (Pass<Global>, Claims))
+) -> (
+    (Pass<Manager<Global>, Global>, Claims),
+    (Pass<Manager<Global>, Global>, Claims),
+)
     requires one { one.table ≡ desk.now.table }
     requires two { two.table ≡ desk.now.table }
     ensures one { result.0.0.table ≡ desk.now.table }
@@ -88,9 +91,9 @@ struct Outcome {
 /// Closes a desk whose passes are these two: the callers of the history that it leaves.
 fn callers_at_close(
     alloc: Global,
-    desk: Desk<Global>,
-    one: Pass<Global>,
-    two: Pass<Global>,
+    desk: Desk<Manager<Global>, Global>,
+    one: Pass<Manager<Global>, Global>,
+    two: Pass<Manager<Global>, Global>,
 ) -> Result<Vec<u32, Global>, Fail>
     requires one { one.table ≡ desk.table }
     requires two { two.table ≡ desk.table }
@@ -109,9 +112,9 @@ fn outcome_at<R: Threads + Wait + Sync>(
     rt: &R,
     alloc: Global,
     ae: Ae,
-    desk: Desk<Global>,
-    one: Pass<Global>,
-    two: Pass<Global>,
+    desk: Desk<Manager<Global>, Global>,
+    one: Pass<Manager<Global>, Global>,
+    two: Pass<Manager<Global>, Global>,
 ) -> Result<Outcome, Fail>
     requires one { one.table ≡ desk.table }
     requires two { two.table ≡ desk.table }

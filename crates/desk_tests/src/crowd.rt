@@ -56,8 +56,8 @@ impl Tally {
 fn call<R: Wait>(
     rt: &R,
     alloc: Global,
-    desk: &Desk<Global>,
-    pass: &mut Pass<Global>,
+    desk: &Desk<Manager<Global>, Global>,
+    pass: &mut Pass<Manager<Global>, Global>,
     ae: Ae,
     verb: Verb,
     claim: Claim,
@@ -75,8 +75,8 @@ fn call<R: Wait>(
 fn calls<R: Wait>(
     rt: &R,
     alloc: Global,
-    desk: &Desk<Global>,
-    pass: &mut Pass<Global>,
+    desk: &Desk<Manager<Global>, Global>,
+    pass: &mut Pass<Manager<Global>, Global>,
     ae: Ae,
     place: usize,
     tally: &Tally,
@@ -98,8 +98,8 @@ fn calls<R: Wait>(
 fn crowd<R: Threads + Wait + Sync>(
     rt: &R,
     alloc: Global,
-    desk: &Desk<Global>,
-    passes: &mut [Pass<Global>],
+    desk: &Desk<Manager<Global>, Global>,
+    passes: &mut [Pass<Manager<Global>, Global>],
     ae: Ae,
     tally: &Tally,
 )

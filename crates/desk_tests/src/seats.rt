@@ -14,8 +14,8 @@ use ups_turn::{CloseFault, Desk, OpenFault, Pass};
 fn create_one<R: Wait>(
     rt: &R,
     alloc: Global,
-    desk: &Desk<Global>,
-    pass: &mut Pass<Global>,
+    desk: &Desk<Manager<Global>, Global>,
+    pass: &mut Pass<Manager<Global>, Global>,
     ae: Ae,
 ) -> u16
     requires here { pass.old.table ≡ desk.now.table }
@@ -34,9 +34,9 @@ fn create_one<R: Wait>(
 fn statuses<R: Wait>(
     rt: &R,
     alloc: Global,
-    desk: &Desk<Global>,
-    one: &mut Pass<Global>,
-    two: &mut Pass<Global>,
+    desk: &Desk<Manager<Global>, Global>,
+    one: &mut Pass<Manager<Global>, Global>,
+    two: &mut Pass<Manager<Global>, Global>,
     ae: Ae,
 ) -> (u16, u16, u16)
     requires one { one.old.table ≡ desk.now.table }
@@ -57,8 +57,8 @@ fn statuses<R: Wait>(
 /// Closes a desk with all of its passes: the callers of the history that it leaves.
 fn callers_at_close(
     alloc: Global,
-    desk: Desk<Global>,
-    passes: Vec<Pass<Global>, Global>,
+    desk: Desk<Manager<Global>, Global>,
+    passes: Vec<Pass<Manager<Global>, Global>, Global>,
 ) -> Result<Vec<u32, Global>, Fail>
     requires here { All (λ p. p.table ≡ desk.table) passes.items }
 {
@@ -72,9 +72,9 @@ fn callers_at_close(
 /// history that the desk leaves.
 fn closed_late(
     alloc: Global,
-    desk: Desk<Global>,
-    passes: Vec<Pass<Global>, Global>,
-    last: Pass<Global>,
+    desk: Desk<Manager<Global>, Global>,
+    passes: Vec<Pass<Manager<Global>, Global>, Global>,
+    last: Pass<Manager<Global>, Global>,
 ) -> Result<(CloseFault, Vec<u32, Global>), Fail>
     requires here { All (λ p. p.table ≡ desk.table) passes.items }
     requires last { last.table ≡ desk.table }
@@ -101,9 +101,9 @@ fn outcome_at<R: Wait>(
     rt: &R,
     alloc: Global,
     ae: Ae,
-    desk: Desk<Global>,
-    mut one: Pass<Global>,
-    mut two: Pass<Global>,
+    desk: Desk<Manager<Global>, Global>,
+    mut one: Pass<Manager<Global>, Global>,
+    mut two: Pass<Manager<Global>, Global>,
 ) -> Result<Outcome, Fail>
     requires one { one.table ≡ desk.table }
     requires two { two.table ≡ desk.table }

@@ -31,7 +31,7 @@ struct Ended {
     /// Whether the server began.
     began: bool,
     /// Its passes.
-    passes: Vec<Pass<Global>>,
+    passes: Vec<Pass<Manager<Global>, Global>>,
     /// What the client was answered.
     answer: io::Result<Vec<u8>>,
     /// What the watcher heard.
@@ -45,8 +45,8 @@ struct Ended {
 fn run_with_peers<R>(
     rt: &R,
     premises: &Premises,
-    desk: &Desk<Global>,
-    passes: Vec<Pass<Global>>,
+    desk: &Desk<Manager<Global>, Global>,
+    passes: Vec<Pass<Manager<Global>, Global>>,
     options: &ServerOptions,
     watching: &TcpListener,
     lines: &Lines,
@@ -200,7 +200,10 @@ fn left_in(manager: &Manager<Global>) -> Result<Left, Fail> {
 }
 
 /// The same of the manager that a desk leaves.
-fn left_by(desk: Desk<Global>, passes: Vec<Pass<Global>>) -> Result<Left, Fail>
+fn left_by(
+    desk: Desk<Manager<Global>, Global>,
+    passes: Vec<Pass<Manager<Global>, Global>>,
+) -> Result<Left, Fail>
     requires here { All (λ p. p.table ≡ desk.table) passes.items }
 {
     match desk.close(passes) {
@@ -238,6 +241,7 @@ pub(crate) fn options_of(alloc: Global, port: u16) -> Result<ServerOptions, Fail
             offset: 0,
         },
         turns: 100,
+        idle: 10,
         timeout: 10,
         delivery_timeout: 10,
         workers: 1,
@@ -270,7 +274,11 @@ fn is_told(rt: &impl AllocGlobal, heard: io::Result<Vec<u8>>) -> Result<Option<b
 }
 
 /// What a server and its peers come to, once its desk is closed.
-fn outcome_at(rt: &impl AllocGlobal, desk: Desk<Global>, ended: Ended) -> Result<Outcome, Fail>
+fn outcome_at(
+    rt: &impl AllocGlobal,
+    desk: Desk<Manager<Global>, Global>,
+    ended: Ended,
+) -> Result<Outcome, Fail>
     requires here { All (λ p. p.table ≡ desk.table) ended.passes.items }
 {
     let Ended {

@@ -97,8 +97,8 @@ impl Lines {
 fn is_served<R: Wait>(
     rt: &R,
     alloc: Global,
-    desk: &Desk<Global>,
-    mut pass: Pass<Global>,
+    desk: &Desk<Manager<Global>, Global>,
+    mut pass: Pass<Manager<Global>, Global>,
     mut gate: HoldingGate<'_>,
     input: &[u8],
     taken: &mut CutWriter<Global>,
@@ -128,8 +128,8 @@ fn is_served<R: Wait>(
 fn creates<R: Wait>(
     rt: &R,
     alloc: Global,
-    desk: &Desk<Global>,
-    pass: Pass<Global>,
+    desk: &Desk<Manager<Global>, Global>,
+    pass: Pass<Manager<Global>, Global>,
     stage: &Stage,
     lines: &Lines,
 ) -> bool
@@ -150,8 +150,8 @@ fn creates<R: Wait>(
 fn gets<R: Wait>(
     rt: &R,
     alloc: Global,
-    desk: &Desk<Global>,
-    pass: Pass<Global>,
+    desk: &Desk<Manager<Global>, Global>,
+    pass: Pass<Manager<Global>, Global>,
     stage: &Stage,
     lines: &Lines,
 ) -> bool
@@ -176,9 +176,9 @@ fn gets<R: Wait>(
 fn side_by_side<R: Threads + Wait + Sync>(
     rt: &R,
     alloc: Global,
-    desk: &Desk<Global>,
-    one: Pass<Global>,
-    two: Pass<Global>,
+    desk: &Desk<Manager<Global>, Global>,
+    one: Pass<Manager<Global>, Global>,
+    two: Pass<Manager<Global>, Global>,
     stage: &Stage,
     lines: &Lines,
 ) -> (bool, bool)

@@ -10,7 +10,7 @@ use Rattle.ups_settings.specs.declared.watcher.Watcher.{Watcher}
 use Rattle.ups_pdu.specs.Title.{SpellsAe}
 use Rattle.ups_args.specs.declared.fault.ArgumentFault.{ArgumentFault}
 use Rattle.ups_args.specs.declared.fault.ArgumentFault.TheVariants as faults
-use Rattle.ups_args.specs.Limits.{keep_seconds, local_offset, default_workers, delivery_seconds, timeout_seconds, workers_limit}
+use Rattle.ups_args.specs.Limits.{keep_seconds, local_offset, default_workers, delivery_seconds, idle_seconds, timeout_seconds, workers_limit}
 
 -- a number of seconds below 2^32, in decimal digits, before which a + may stand
 pub record SaysSeconds (word : List ℕ) (seconds : ℕ) : Type 0 where
@@ -52,7 +52,13 @@ abbrev pub SaysWorkersOrNot : Option (List ℕ) → ℕ → Type 0
 SaysWorkersOrNot None count = count ≡ default_workers
 SaysWorkersOrNot (Some word) count = SaysWorkers word count
 
--- for how many seconds a read or a write waits at most, by the word that says so or by none
+-- for how many seconds an association may be silent between two messages, by the word that says so or by none
+abbrev pub SaysIdle : Option (List ℕ) → ℕ → Type 0
+SaysIdle None idle = idle ≡ idle_seconds
+SaysIdle (Some word) idle = SaysSeconds word idle
+
+-- for how many seconds a peer may take for each message that it has begun to send, and to take each answer, by the word that
+-- says so or by none
 abbrev pub SaysTimeout : Option (List ℕ) → ℕ → Type 0
 SaysTimeout None timeout = timeout ≡ timeout_seconds
 SaysTimeout (Some word) timeout = SaysSeconds word timeout

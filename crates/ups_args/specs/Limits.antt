@@ -17,7 +17,11 @@ workers_limit = 1022
 abbrev pub default_workers : ℕ
 default_workers = 4
 
--- the seconds for which a read or a write waits at most
+-- the seconds for which an association may be silent between two messages
+abbrev pub idle_seconds : ℕ
+idle_seconds = 60
+
+-- the seconds that a peer may take for each message that it has begun to send, and to take each answer
 abbrev pub timeout_seconds : ℕ
 timeout_seconds = 60
 

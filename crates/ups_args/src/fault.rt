@@ -33,6 +33,9 @@ pub enum ArgumentFault<'a> {
     /// The word behind `--associations` is no number of associations.
     #[error("--associations takes a number from 1 to 1022")]
     Associations,
+    /// The word behind `--idle` is no number of seconds.
+    #[error("--idle takes a number of seconds, from 0 to 4294967295; 0 stands for no limit")]
+    Idle,
     /// The word behind `--timeout` is no number of seconds.
     #[error("--timeout takes a number of seconds, from 0 to 4294967295; 0 stands for no limit")]
     Timeout,

@@ -1,7 +1,7 @@
 //! How many associations may be served, and how the service is set up where nothing else is said.
 
 ghost use Rattle.std.specs.Prelude.{◌≡◌};
-ghost use Rattle.ups_args.specs.Limits.{keep_seconds, local_offset, workers_limit, default_workers, timeout_seconds, delivery_seconds};
+ghost use Rattle.ups_args.specs.Limits.{keep_seconds, local_offset, workers_limit, default_workers, idle_seconds, timeout_seconds, delivery_seconds};
 
 /// For how many seconds a finished step is kept at least, where nothing else is said.
 pub const KEEP: u32 = 60;
@@ -16,7 +16,11 @@ pub const MAX_WORKERS: u32 = 1_022;
 /// How many associations are served at the same time, where nothing else is said.
 pub(crate) const WORKERS: u32 = 4;
 
-/// For how many seconds a read or a write waits at most, where nothing else is said.
+/// For how many seconds an association may be silent between two messages, where nothing else is said.
+pub(crate) const IDLE: u32 = 60;
+
+/// For how many seconds a peer may take for each message that it has begun to send, and to take each answer, where nothing
+/// else is said.
 pub(crate) const TIMEOUT: u32 = 60;
 
 /// For how many seconds a watcher is waited for at most, to connect to it and for each answer, where nothing else is said.
@@ -31,6 +35,7 @@ pub fn limits_are_as_defined()
     ensures offset { OFFSET ≡ local_offset }
     ensures most_workers { MAX_WORKERS ≡ workers_limit }
     ensures workers { WORKERS ≡ default_workers }
+    ensures idle { IDLE ≡ idle_seconds }
     ensures timeout { TIMEOUT ≡ timeout_seconds }
     ensures delivery_timeout { DELIVERY_TIMEOUT ≡ delivery_seconds }
 {}

@@ -2,14 +2,14 @@
 
 ghost use Rattle.std.specs.Prelude.{◌≡◌, ◌≤◌, ℕ, [], codes, length, None, option_map, IfErr, IfOk, MatchResult, unwrap_or};
 ghost use Rattle.clap.specs.Matches.{first_value, found_of};
-ghost use Rattle.ups_args.specs.Arguments.{IsFlag, NamePeers, NameWatchers, SaysBind, SaysDeliveryTimeout, SaysKeep, SaysOffset, SaysPort, SaysTimeout, SaysWorkers, SaysWorkersOrNot, argument_words};
+ghost use Rattle.ups_args.specs.Arguments.{IsFlag, NamePeers, NameWatchers, SaysBind, SaysDeliveryTimeout, SaysIdle, SaysKeep, SaysOffset, SaysPort, SaysTimeout, SaysWorkers, SaysWorkersOrNot, argument_words};
 ghost use Rattle.ups_args.specs.Limits.{workers_limit};
 ghost use Rattle.ups_life.specs.Limits.{history_limit, peer_limit};
 ghost use Rattle.ups_settings.specs.Refusal.{refusal};
 ghost use Rattle.ups_pdu.specs.Title.{SpellsAe};
 
 use crate::fault::ArgumentFault;
-use crate::limits::{DELIVERY_TIMEOUT, LOOPBACK, MAX_WORKERS, TIMEOUT, WORKERS};
+use crate::limits::{DELIVERY_TIMEOUT, IDLE, LOOPBACK, MAX_WORKERS, TIMEOUT, WORKERS};
 use crate::options::{flag, worded};
 use crate::peers::{peer_words, peers_of, watchers_of};
 use crate::times::{keep_asked, keep_of, offset_asked, with_times};
@@ -37,24 +37,28 @@ fn with_door<'a>(alloc: Global, command: Command<'a>) -> Result<Command<'a>, All
 /// The options of a server that say how it serves.
 fn with_workers<'a>(alloc: Global, command: Command<'a>) -> Result<Command<'a>, AllocError> {
     let associations = "how many associations are served at the same time [default: 4]";
-    let timeout = "how long a peer may take to send or to receive, 0 for any time [default: 60]";
+    let idle = "how long an association may be silent, 0 for any time [default: 60]";
     command
         .arg(worded(alloc, "associations", "N", associations))?
-        .arg(worded(alloc, "timeout", "SECONDS", timeout))
+        .arg(worded(alloc, "idle", "SECONDS", idle))
 }
 
-/// The option of a server that says how it delivers event reports.
-fn with_delivery<'a>(alloc: Global, command: Command<'a>) -> Result<Command<'a>, AllocError> {
+/// The options of a server that say how long a peer may take, and a watcher.
+fn with_limits<'a>(alloc: Global, command: Command<'a>) -> Result<Command<'a>, AllocError> {
     let timeout =
+        "how long a peer may take to send a message, or to take an answer, 0 for any time [default: 60]";
+    let delivery =
         "how long a watcher may take to be connected to, and for each answer, 0 for any time [default: 5]";
-    command.arg(worded(alloc, "delivery-timeout", "SECONDS", timeout))
+    command
+        .arg(worded(alloc, "timeout", "SECONDS", timeout))?
+        .arg(worded(alloc, "delivery-timeout", "SECONDS", delivery))
 }
 
 /// The options of a server: where it listens, how it serves and delivers, and what it tells.
 fn with_network<'a>(alloc: Global, command: Command<'a>) -> Result<Command<'a>, AllocError> {
     let verbose = "tell of each association whether it is accepted, and of each request";
     let command = with_workers(alloc, with_door(alloc, command)?)?;
-    with_delivery(alloc, command)?.arg(flag(alloc, "verbose", verbose))
+    with_limits(alloc, command)?.arg(flag(alloc, "verbose", verbose))
 }
 
 /// The command line of `upsd serve`.
@@ -103,8 +107,24 @@ fn workers_asked(word: Option<&str>) -> Result<u32, ArgumentFault<'_>>
     }
 }
 
-/// For how many seconds a read or a write waits at most, by the word behind `--timeout`, or 60 where there is none; 0
-/// stands for any time.
+/// For how many seconds an association may be silent between two messages, by the word behind `--idle`, or 60 where there is
+/// none; 0 stands for any time.
+///
+/// Errors: Idle where the word says no number of seconds.
+fn idle_asked(word: Option<&str>) -> Result<u32, ArgumentFault<'_>>
+    ensures { IfOk result (SaysIdle (option_map (λ w. w.now) word.entry)) }
+{
+    let Some(word) = word else {
+        return Ok(IDLE);
+    };
+    match keep_of(word) {
+        Ok(seconds) => Ok(seconds),
+        Err(_) => Err(ArgumentFault::Idle),
+    }
+}
+
+/// For how many seconds a peer may take for each message that it has begun to send, and to take each answer, by the word
+/// behind `--timeout`, or 60 where there is none; 0 stands for any time.
 ///
 /// Errors: Timeout where the word says no number of seconds.
 fn timeout_asked(word: Option<&str>) -> Result<u32, ArgumentFault<'_>>
@@ -164,7 +184,10 @@ pub struct ServeArguments<'a> {
     pub offset: i16,
     /// How many associations are served at the same time.
     pub workers: u32,
-    /// For how many seconds a read or a write waits at most; 0 stands for any time.
+    /// For how many seconds an association may be silent between two messages; 0 stands for any time.
+    pub idle: u32,
+    /// For how many seconds a peer may take for each message that it has begun to send, and to take each answer; 0 stands for
+    /// any time.
     pub timeout: u32,
     /// For how many seconds a watcher is waited for at most, to connect to it and for each answer; 0 stands for any time.
     pub delivery_timeout: u32,
@@ -190,6 +213,7 @@ pub fn serve_arguments<'a>(
     ensures keep { IfOk result (λ asked. SaysKeep (first_value (found_of matches.now) (codes "keep")) asked.keep) }
     ensures offset { IfOk result (λ asked. SaysOffset (first_value (found_of matches.now) (codes "offset")) asked.offset) }
     ensures workers { IfOk result (λ asked. SaysWorkersOrNot (first_value (found_of matches.now) (codes "associations")) asked.workers) }
+    ensures idle { IfOk result (λ asked. SaysIdle (first_value (found_of matches.now) (codes "idle")) asked.idle) }
     ensures timeout { IfOk result (λ asked. SaysTimeout (first_value (found_of matches.now) (codes "timeout")) asked.timeout) }
     ensures delivery_timeout { IfOk result (λ asked. SaysDeliveryTimeout (first_value (found_of matches.now) (codes "delivery-timeout")) asked.delivery_timeout) }
     ensures verbose { IfOk result (λ asked. IsFlag (found_of matches.now) (codes "verbose") asked.verbose) }
@@ -207,6 +231,7 @@ pub fn serve_arguments<'a>(
         keep: keep_asked(matches.get_str("keep"))?,
         offset: offset_asked(matches.get_str("offset"))?,
         workers: workers_asked(matches.get_str("associations"))?,
+        idle: idle_asked(matches.get_str("idle"))?,
         timeout: timeout_asked(matches.get_str("timeout"))?,
         delivery_timeout: delivery_timeout_asked(matches.get_str("delivery-timeout"))?,
         verbose: matches.get_flag("verbose"),

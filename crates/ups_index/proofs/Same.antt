@@ -8,7 +8,7 @@ use Rattle.std.specs.Cmp.{signed_Decides}
 use Rattle.std.proofs.lemmas.List.Folds.{list_any-append}
 use Rattle.ups_pdu.specs.Padding.{is_nil, without_padding}
 use Rattle.ups_dataset.specs.declared.tag.Tag.{Tag}
-use Rattle.ups_dataset.specs.declared.dictionary.TheConstants.{CODE_VALUE, PATIENT_ID, PROCEDURE_STEP_STATE, SCHEDULED_PROCEDURE_STEP_PRIORITY, SCHEDULED_PROCEDURE_STEP_START_DATE_TIME, SCHEDULED_STATION_NAME_CODE_SEQUENCE, WORKLIST_LABEL}
+use Rattle.ups_dataset.specs.declared.dictionary.TheConstants.{CODE_VALUE, PATIENT_ID, PROCEDURE_STEP_STATE, SCHEDULED_PROCEDURE_STEP_PRIORITY, SCHEDULED_PROCEDURE_STEP_START_DATE_TIME, SCHEDULED_STATION_NAME_CODE_SEQUENCE, SOP_INSTANCE_UID, WORKLIST_LABEL}
 use Rattle.ups_dataset.specs.Tag.{is_tag}
 use Rattle.ups_dataset.specs.Data.{Data, bytes, items, Items, no_items, item, Elements, El, elements_of}
 use Rattle.ups_match.specs.Class.{is_special, plain, plain_value, plain_code, FirstKey, value, all, or_else, range_key, start_key, first_key, start_of, meets_first}
@@ -16,7 +16,7 @@ use Rattle.ups_match.specs.Likeness.{is_star, is_question_mark, ends_of, is_like
 use Rattle.ups_match.specs.Matching.{KeySet, value_at, any_item, any_stored_item}
 use Rattle.ups_match.specs.Ranges.{span_of, spans}
 use Rattle.ups_match.specs.Values.{is_backslash, is_universal_text}
-use Rattle.ups_match.proofs.Class.{stored_like, meets_patient, meets_label, meets_state, meets_priority, meets_station, text_of_plain}
+use Rattle.ups_match.proofs.Class.{stored_like, stored_equal, meets_uid, meets_patient, meets_label, meets_state, meets_priority, meets_station, text_of_plain}
 use Rattle.ups_index.specs.Indexed.{class_of}
 use Rattle.ups_index.specs.Stored.{stored_values, codes_in, stored_codes, under, values_under, codes_under, RowValues, values_of, is_text, has_first}
 
@@ -94,6 +94,16 @@ module _ (text : List ℕ) (is : IsPlain text) where
   values_same (Some (bytes b)) = among (slice_split is_backslash b)
   values_same (Some (items is)) = refl
 
+  -- a plain text is the stored value that it is like
+  alike : (vs : List (List ℕ)) → list_any (λ v. is_like text (without_padding v)) vs ≡ list_any (λ v. bytes_eq text (without_padding v)) vs
+  alike [] = refl
+  alike (v ∷ vs) = ap (λ (b : Bool). b || list_any (λ w. is_like text (without_padding w)) vs) (like_is_same text (without_padding v) is.has_no_wild) ∙ ap (λ (b : Bool). bytes_eq text (without_padding v) || b) (alike vs)
+
+  like_equal : (s : Option Data) → stored_equal text s ≡ stored_like text s
+  like_equal None = refl
+  like_equal (Some (bytes b)) = sym (alike (slice_split is_backslash b))
+  like_equal (Some (items is)) = refl
+
   codes_same : (is : Items) → list_any (bytes_eq text) (codes_in is) ≡ any_item (λ e. stored_like text (value_at CODE_VALUE e)) is
   codes_same no_items = refl
   codes_same (item es more) =
@@ -117,43 +127,49 @@ under_other tag t text [] e = refl
 under_other tag t text (v ∷ vs) e =
     ap (λ (b : Bool). (b && bytes_eq text v) || list_any (is_text tag text) (under t vs)) e ∙ under_other tag t text vs e
 
-module _ (p : Tag × List ℕ → Bool) (a b c d e : List (Tag × List ℕ)) where
-  five : list_any p (a ++ b ++ c ++ d ++ e) ≡ ((((list_any p a || list_any p b) || list_any p c) || list_any p d) || list_any p e)
-  five =
-      list_any-append p (a ++ b ++ c ++ d) e
-      ∙ ap (λ (x : Bool). x || list_any p e) (list_any-append p (a ++ b ++ c) d)
-      ∙ ap (λ (x : Bool). (x || list_any p d) || list_any p e) (list_any-append p (a ++ b) c)
-      ∙ ap (λ (x : Bool). ((x || list_any p c) || list_any p d) || list_any p e) (list_any-append p a b)
+module _ (p : Tag × List ℕ → Bool) (a b c d e f : List (Tag × List ℕ)) where
+  six : list_any p (a ++ b ++ c ++ d ++ e ++ f) ≡ (((((list_any p a || list_any p b) || list_any p c) || list_any p d) || list_any p e) || list_any p f)
+  six =
+      list_any-append p (a ++ b ++ c ++ d ++ e) f
+      ∙ ap (λ (x : Bool). x || list_any p f) (list_any-append p (a ++ b ++ c ++ d) e)
+      ∙ ap (λ (x : Bool). (x || list_any p e) || list_any p f) (list_any-append p (a ++ b ++ c) d)
+      ∙ ap (λ (x : Bool). ((x || list_any p d) || list_any p e) || list_any p f) (list_any-append p (a ++ b) c)
+      ∙ ap (λ (x : Bool). (((x || list_any p c) || list_any p d) || list_any p e) || list_any p f) (list_any-append p a b)
 
-any_of : (v w x y z q r s t u : Bool) → v ≡ q → w ≡ r → x ≡ s → y ≡ t → z ≡ u → ((((v || w) || x) || y) || z) ≡ ((((q || r) || s) || t) || u)
-any_of v w x y z q r s t u e f g h k = (λ i. (((e i || f i) || g i) || h i) || k i)
+any_of : (u v w x y z o q r s t n : Bool) → u ≡ o → v ≡ q → w ≡ r → x ≡ s → y ≡ t → z ≡ n → (((((u || v) || w) || x) || y) || z) ≡ (((((o || q) || r) || s) || t) || n)
+any_of u v w x y z o q r s t n d e f g h k = (λ i. ((((d i || e i) || f i) || g i) || h i) || k i)
 
 or_false : (a : Bool) → (a || false) ≡ a
 or_false true = refl
 or_false false = refl
 
-only_first : (a : Bool) → ((((a || false) || false) || false) || false) ≡ a
+only_first : (a : Bool) → (((((a || false) || false) || false) || false) || false) ≡ a
 only_first true = refl
 only_first false = refl
 
-only_second : (a : Bool) → ((((false || a) || false) || false) || false) ≡ a
+only_second : (a : Bool) → (((((false || a) || false) || false) || false) || false) ≡ a
 only_second true = refl
 only_second false = refl
 
-only_third : (a : Bool) → ((((false || false) || a) || false) || false) ≡ a
+only_third : (a : Bool) → (((((false || false) || a) || false) || false) || false) ≡ a
 only_third true = refl
 only_third false = refl
+
+only_fourth : (a : Bool) → (((((false || false) || false) || a) || false) || false) ≡ a
+only_fourth true = refl
+only_fourth false = refl
 
 module _ (configured : ℤ) (row : List El) (text : List ℕ) (is : IsPlain text) where
   abbrev set : Elements
   set = elements_of row
 
   abbrev found : Tag → Bool
-  found tag = list_any (is_text tag text) (values_under PATIENT_ID set ++ values_under WORKLIST_LABEL set ++ codes_under SCHEDULED_STATION_NAME_CODE_SEQUENCE set ++ values_under PROCEDURE_STEP_STATE set ++ values_under SCHEDULED_PROCEDURE_STEP_PRIORITY set)
+  found tag = list_any (is_text tag text) (values_under SOP_INSTANCE_UID set ++ values_under PATIENT_ID set ++ values_under WORKLIST_LABEL set ++ codes_under SCHEDULED_STATION_NAME_CODE_SEQUENCE set ++ values_under PROCEDURE_STEP_STATE set ++ values_under SCHEDULED_PROCEDURE_STEP_PRIORITY set)
 
-  parts : (tag : Tag) (q r s t u : Bool) → list_any (is_text tag text) (values_under PATIENT_ID set) ≡ q → list_any (is_text tag text) (values_under WORKLIST_LABEL set) ≡ r → list_any (is_text tag text) (codes_under SCHEDULED_STATION_NAME_CODE_SEQUENCE set) ≡ s
-      → list_any (is_text tag text) (values_under PROCEDURE_STEP_STATE set) ≡ t → list_any (is_text tag text) (values_under SCHEDULED_PROCEDURE_STEP_PRIORITY set) ≡ u → found tag ≡ ((((q || r) || s) || t) || u)
-  parts tag q r s t u e f g h k = five (is_text tag text) _ _ _ _ _ ∙ any_of _ _ _ _ _ q r s t u e f g h k
+  parts : (tag : Tag) (o q r s t u : Bool) → list_any (is_text tag text) (values_under SOP_INSTANCE_UID set) ≡ o → list_any (is_text tag text) (values_under PATIENT_ID set) ≡ q → list_any (is_text tag text) (values_under WORKLIST_LABEL set) ≡ r
+      → list_any (is_text tag text) (codes_under SCHEDULED_STATION_NAME_CODE_SEQUENCE set) ≡ s → list_any (is_text tag text) (values_under PROCEDURE_STEP_STATE set) ≡ t → list_any (is_text tag text) (values_under SCHEDULED_PROCEDURE_STEP_PRIORITY set) ≡ u
+      → found tag ≡ (((((o || q) || r) || s) || t) || u)
+  parts tag o q r s t u d e f g h k = six (is_text tag text) _ _ _ _ _ _ ∙ any_of _ _ _ _ _ _ o q r s t u d e f g h k
 
   own : (tag : Tag) → is_tag tag tag ≡ true → list_any (is_text tag text) (values_under tag set) ≡ stored_like text (value_at tag set)
   own tag e = under_own tag tag text (stored_values (value_at tag set)) e ∙ values_same text is (value_at tag set)
@@ -164,26 +180,31 @@ module _ (configured : ℤ) (row : List El) (text : List ℕ) (is : IsPlain text
   other_codes : (tag t : Tag) → is_tag t tag ≡ false → list_any (is_text tag text) (codes_under t set) ≡ false
   other_codes tag t e = under_other tag t text (stored_codes (value_at t set)) e
 
+  uid : found SOP_INSTANCE_UID ≡ stored_equal text (value_at SOP_INSTANCE_UID set)
+  uid = parts SOP_INSTANCE_UID _ false false false false false (own SOP_INSTANCE_UID refl) (other SOP_INSTANCE_UID PATIENT_ID refl) (other SOP_INSTANCE_UID WORKLIST_LABEL refl) (other_codes SOP_INSTANCE_UID SCHEDULED_STATION_NAME_CODE_SEQUENCE refl) (other SOP_INSTANCE_UID PROCEDURE_STEP_STATE refl) (other SOP_INSTANCE_UID SCHEDULED_PROCEDURE_STEP_PRIORITY refl)
+      ∙ only_first (stored_like text (value_at SOP_INSTANCE_UID set))
+      ∙ sym (like_equal text is (value_at SOP_INSTANCE_UID set))
+
   patient : found PATIENT_ID ≡ stored_like text (value_at PATIENT_ID set)
-  patient = parts PATIENT_ID _ false false false false (own PATIENT_ID refl) (other PATIENT_ID WORKLIST_LABEL refl) (other_codes PATIENT_ID SCHEDULED_STATION_NAME_CODE_SEQUENCE refl) (other PATIENT_ID PROCEDURE_STEP_STATE refl) (other PATIENT_ID SCHEDULED_PROCEDURE_STEP_PRIORITY refl)
-      ∙ only_first (stored_like text (value_at PATIENT_ID set))
+  patient = parts PATIENT_ID false _ false false false false (other PATIENT_ID SOP_INSTANCE_UID refl) (own PATIENT_ID refl) (other PATIENT_ID WORKLIST_LABEL refl) (other_codes PATIENT_ID SCHEDULED_STATION_NAME_CODE_SEQUENCE refl) (other PATIENT_ID PROCEDURE_STEP_STATE refl) (other PATIENT_ID SCHEDULED_PROCEDURE_STEP_PRIORITY refl)
+      ∙ only_second (stored_like text (value_at PATIENT_ID set))
 
   label : found WORKLIST_LABEL ≡ stored_like text (value_at WORKLIST_LABEL set)
-  label = parts WORKLIST_LABEL false _ false false false (other WORKLIST_LABEL PATIENT_ID refl) (own WORKLIST_LABEL refl) (other_codes WORKLIST_LABEL SCHEDULED_STATION_NAME_CODE_SEQUENCE refl) (other WORKLIST_LABEL PROCEDURE_STEP_STATE refl) (other WORKLIST_LABEL SCHEDULED_PROCEDURE_STEP_PRIORITY refl)
-      ∙ only_second (stored_like text (value_at WORKLIST_LABEL set))
+  label = parts WORKLIST_LABEL false false _ false false false (other WORKLIST_LABEL SOP_INSTANCE_UID refl) (other WORKLIST_LABEL PATIENT_ID refl) (own WORKLIST_LABEL refl) (other_codes WORKLIST_LABEL SCHEDULED_STATION_NAME_CODE_SEQUENCE refl) (other WORKLIST_LABEL PROCEDURE_STEP_STATE refl) (other WORKLIST_LABEL SCHEDULED_PROCEDURE_STEP_PRIORITY refl)
+      ∙ only_third (stored_like text (value_at WORKLIST_LABEL set))
 
   station : found SCHEDULED_STATION_NAME_CODE_SEQUENCE ≡ any_stored_item (λ e. stored_like text (value_at CODE_VALUE e)) (value_at SCHEDULED_STATION_NAME_CODE_SEQUENCE set)
-  station = parts SCHEDULED_STATION_NAME_CODE_SEQUENCE false false _ false false (other SCHEDULED_STATION_NAME_CODE_SEQUENCE PATIENT_ID refl) (other SCHEDULED_STATION_NAME_CODE_SEQUENCE WORKLIST_LABEL refl)
+  station = parts SCHEDULED_STATION_NAME_CODE_SEQUENCE false false false _ false false (other SCHEDULED_STATION_NAME_CODE_SEQUENCE SOP_INSTANCE_UID refl) (other SCHEDULED_STATION_NAME_CODE_SEQUENCE PATIENT_ID refl) (other SCHEDULED_STATION_NAME_CODE_SEQUENCE WORKLIST_LABEL refl)
       (under_own SCHEDULED_STATION_NAME_CODE_SEQUENCE SCHEDULED_STATION_NAME_CODE_SEQUENCE text (stored_codes (value_at SCHEDULED_STATION_NAME_CODE_SEQUENCE set)) refl ∙ stored_codes_same text is (value_at SCHEDULED_STATION_NAME_CODE_SEQUENCE set))
       (other SCHEDULED_STATION_NAME_CODE_SEQUENCE PROCEDURE_STEP_STATE refl) (other SCHEDULED_STATION_NAME_CODE_SEQUENCE SCHEDULED_PROCEDURE_STEP_PRIORITY refl)
-      ∙ only_third (any_stored_item (λ e. stored_like text (value_at CODE_VALUE e)) (value_at SCHEDULED_STATION_NAME_CODE_SEQUENCE set))
+      ∙ only_fourth (any_stored_item (λ e. stored_like text (value_at CODE_VALUE e)) (value_at SCHEDULED_STATION_NAME_CODE_SEQUENCE set))
 
   state : found PROCEDURE_STEP_STATE ≡ stored_like text (value_at PROCEDURE_STEP_STATE set)
-  state = parts PROCEDURE_STEP_STATE false false false _ false (other PROCEDURE_STEP_STATE PATIENT_ID refl) (other PROCEDURE_STEP_STATE WORKLIST_LABEL refl) (other_codes PROCEDURE_STEP_STATE SCHEDULED_STATION_NAME_CODE_SEQUENCE refl) (own PROCEDURE_STEP_STATE refl) (other PROCEDURE_STEP_STATE SCHEDULED_PROCEDURE_STEP_PRIORITY refl)
+  state = parts PROCEDURE_STEP_STATE false false false false _ false (other PROCEDURE_STEP_STATE SOP_INSTANCE_UID refl) (other PROCEDURE_STEP_STATE PATIENT_ID refl) (other PROCEDURE_STEP_STATE WORKLIST_LABEL refl) (other_codes PROCEDURE_STEP_STATE SCHEDULED_STATION_NAME_CODE_SEQUENCE refl) (own PROCEDURE_STEP_STATE refl) (other PROCEDURE_STEP_STATE SCHEDULED_PROCEDURE_STEP_PRIORITY refl)
       ∙ or_false (stored_like text (value_at PROCEDURE_STEP_STATE set))
 
   priority : found SCHEDULED_PROCEDURE_STEP_PRIORITY ≡ stored_like text (value_at SCHEDULED_PROCEDURE_STEP_PRIORITY set)
-  priority = parts SCHEDULED_PROCEDURE_STEP_PRIORITY false false false false _ (other SCHEDULED_PROCEDURE_STEP_PRIORITY PATIENT_ID refl) (other SCHEDULED_PROCEDURE_STEP_PRIORITY WORKLIST_LABEL refl) (other_codes SCHEDULED_PROCEDURE_STEP_PRIORITY SCHEDULED_STATION_NAME_CODE_SEQUENCE refl) (other SCHEDULED_PROCEDURE_STEP_PRIORITY PROCEDURE_STEP_STATE refl) (own SCHEDULED_PROCEDURE_STEP_PRIORITY refl)
+  priority = parts SCHEDULED_PROCEDURE_STEP_PRIORITY false false false false false _ (other SCHEDULED_PROCEDURE_STEP_PRIORITY SOP_INSTANCE_UID refl) (other SCHEDULED_PROCEDURE_STEP_PRIORITY PATIENT_ID refl) (other SCHEDULED_PROCEDURE_STEP_PRIORITY WORKLIST_LABEL refl) (other_codes SCHEDULED_PROCEDURE_STEP_PRIORITY SCHEDULED_STATION_NAME_CODE_SEQUENCE refl) (other SCHEDULED_PROCEDURE_STEP_PRIORITY PROCEDURE_STEP_STATE refl) (own SCHEDULED_PROCEDURE_STEP_PRIORITY refl)
 
 module _ (configured : ℤ) (keys : KeySet) (row : List El) where
   abbrev Same : FirstKey → Type 0
@@ -213,12 +234,13 @@ module _ (configured : ℤ) (keys : KeySet) (row : List El) where
   unfolding first_key values_of
   first_same =
       let set = elements_of keys.attributes in
-      step PATIENT_ID _ _ (λ text p. meets_patient keys.offset text (elements_of row) ∙ sym (patient configured row text (value_is (value_at PATIENT_ID set) text p)))
+      step SOP_INSTANCE_UID _ _ (λ text p. meets_uid keys.offset (value_at SOP_INSTANCE_UID set) text (elements_of row) p ∙ sym (uid configured row text (value_is (value_at SOP_INSTANCE_UID set) text p)))
+      (step PATIENT_ID _ _ (λ text p. meets_patient keys.offset text (elements_of row) ∙ sym (patient configured row text (value_is (value_at PATIENT_ID set) text p)))
       (step WORKLIST_LABEL _ _ (λ text p. meets_label keys.offset text (elements_of row) ∙ sym (label configured row text (value_is (value_at WORKLIST_LABEL set) text p)))
       (step SCHEDULED_STATION_NAME_CODE_SEQUENCE _ _ (λ text p. meets_station keys.offset text (elements_of row) ∙ sym (station configured row text (code_is (value_at SCHEDULED_STATION_NAME_CODE_SEQUENCE set) text p)))
       (step PROCEDURE_STEP_STATE _ _ (λ text p. meets_state keys.offset text (elements_of row) ∙ sym (state configured row text (value_is (value_at PROCEDURE_STEP_STATE set) text p)))
       (step SCHEDULED_PROCEDURE_STEP_PRIORITY _ _ (λ text p. meets_priority keys.offset text (elements_of row) ∙ sym (priority configured row text (value_is (value_at SCHEDULED_PROCEDURE_STEP_PRIORITY set) text p)))
-      (start_same (value_at SCHEDULED_PROCEDURE_STEP_START_DATE_TIME set))))))
+      (start_same (value_at SCHEDULED_PROCEDURE_STEP_START_DATE_TIME set)))))))
 
 -- So the steps that have the first indexed key, by what is stored of them, are those of the rows that match it alone.
 pub class_of_rows : (configured : ℤ) (keys : KeySet) (rows : List (List ℕ × List El)) → class_of (first_key configured keys) (map (λ r. (r.0, values_of configured r.1)) rows) ≡ map (λ r. r.0) (filter (λ r. meets_first keys.offset (first_key configured keys) (elements_of r.1)) rows)

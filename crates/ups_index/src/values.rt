@@ -15,7 +15,8 @@ use crate::storing::{put_stations, put_stored, start_of};
 use std::alloc::{AllocError, Allocator};
 use std::marker::Model;
 use ups_dataset::dictionary::{
-    PATIENT_ID, PROCEDURE_STEP_STATE, SCHEDULED_PROCEDURE_STEP_PRIORITY, WORKLIST_LABEL,
+    PATIENT_ID, PROCEDURE_STEP_STATE, SCHEDULED_PROCEDURE_STEP_PRIORITY, SOP_INSTANCE_UID,
+    WORKLIST_LABEL,
 };
 use ups_dataset::{DataSet, Tag};
 use ups_match::First;
@@ -55,6 +56,7 @@ impl<A: Allocator + Copy> Values<A> {
         ensures { IfOk result (λ v. v ≡ values_of offset row.now) }
     {
         let mut texts = Vec::new(alloc);
+        put_stored(alloc, &mut texts, row, SOP_INSTANCE_UID, SOP_INSTANCE_UID)?;
         put_stored(alloc, &mut texts, row, PATIENT_ID, PATIENT_ID)?;
         put_stored(alloc, &mut texts, row, WORKLIST_LABEL, WORKLIST_LABEL)?;
         put_stations(alloc, &mut texts, row)?;

@@ -7,6 +7,9 @@ use Rattle.std.specs.declared.cmp.PartialEq as eq
 use Rattle.std.specs.declared.hash.Hash as hash
 use Rattle.std.specs.declared.hash.Hasher as hasher
 use Rattle.std.specs.declared.hash.BuildHasher as builder
+use Rattle.std_heap.specs.contracts.Global as Heap
+use Rattle.std_heap.specs.contracts.GlobalAllocator.TheImpl.{ghosts}
+use Rattle.std.proofs.Crossing.{frees, send}
 use Rattle.std.proofs.CrossingOver as over
 use Rattle.std.proofs.MapsCrossingOver as maps
 use Rattle.std.proofs.hash.FoldHasher.TheSendSync as fold
@@ -169,3 +172,7 @@ module _ (A : RattleType) (g : Allocator.Ghosts A.Denot) where
 module _ (A : RattleType) (g : Allocator.Ghosts A.Denot) where
   pub Manager-send : IsSend A → Frees g g.dealloc_token → IsSend (Manager.the_row A g)
   Manager-send s f = let e = Entries-send A g s f in let t = Tables-send A g s f in let o = Configuration-send A g s f in let i = Index-send A g s f in search sendable depth 20
+
+-- at the heap, in one step
+pub manager_send : IsSend (Manager.the_row Heap.the_row ghosts)
+manager_send = Manager-send Heap.the_row ghosts send frees

@@ -53,7 +53,7 @@ pub struct Manager<A: Allocator + Copy> {
 }
 
 impl<A: Allocator + Copy> Model for Manager<A> {
-    ghost use Rattle.ups_manager.specs.State.{State};
+    ghost use Rattle.ups_service.specs.State.{State};
 
     ghost Value = { State A };
 

@@ -1,15 +1,15 @@
-//! The manager as the service of a session.
+//! The manager as the service of a session, and as what passes share.
 
-ghost use Rattle.std.specs.Prelude.{◌≡◌, ℕ, true, is_some};
+ghost use Rattle.std.specs.Prelude.{◌≡◌, ◌++◌, ℕ, true, is_some, length};
 ghost use Rattle.std.specs.Option.{IfSome};
 ghost use Rattle.ups_life.specs.Settings.{IsMoment};
-ghost use Rattle.ups_service.specs.Law.{Others, nobody, alone, Serves, SmallReply};
+ghost use Rattle.ups_service.specs.Law.{Answers, Others, nobody, alone, entered, is_legal, Serves, SmallReply};
 
 use crate::manager::Manager;
 use std::alloc::Allocator;
 use ups_life::{Ask, Reply};
 use ups_pdu::Ae;
-use ups_service::Service;
+use ups_service::{Service, SharedService};
 
 impl<A: Allocator + Copy> Service<A> for Manager<A> {
     ghost settings = { λ m. m.settings };
@@ -31,5 +31,33 @@ impl<A: Allocator + Copy> Service<A> for Manager<A> {
             unreachable!();
         };
         self.answer_as(0, ae, moment, ask)
+    }
+}
+
+impl<A: Allocator + Copy> SharedService<A> for Manager<A> {
+    ghost state = { λ m. m };
+
+    fn limit(&self) -> u64 {
+        Manager::limit(self)
+    }
+
+    fn entries(&self) -> usize {
+        self.history().len()
+    }
+
+    fn answer_as(&mut self, caller: u32, ae: Ae, moment: u64, ask: &mut Option<Ask<A>>) -> Reply<A>
+        requires given { is_some ask.old ≡ true }
+        requires moment { IsMoment moment }
+        ensures answer { IfSome ask.old (λ asked. Answers self.old.settings self.old.history caller ae moment asked result) }
+        ensures history { IfSome ask.old (λ asked. self.new.history ≡ self.old.history ++ entered caller ae moment asked result) }
+        ensures settings { self.new.settings ≡ self.old.settings }
+        ensures small { SmallReply result }
+        ensures legal { is_legal self.old.settings self.old.history }
+        ensures legal_after { is_legal self.new.settings self.new.history }
+    {
+        let Some(ask) = ask.take() else {
+            unreachable!();
+        };
+        Manager::answer_as(self, caller, ae, moment, ask)
     }
 }

@@ -1,25 +1,29 @@
 -- A row that matches all keys matches the first indexed one.
-use Rattle.std.proofs.Common.{◌≡◌, ℕ, ℤ, Bool, true, false, ◌||◌, ◌&&◌, ◌==◌, not, cond, List, [], ◌∷◌, filter, refl, sym, ap, ◌∙◌, subst, arith, true≢false}
+use Rattle.std.proofs.Common.{◌≡◌, ℕ, ℤ, Bool, true, false, ◌||◌, ◌&&◌, not, cond, List, [], ◌∷◌, filter, refl, sym, ap, ◌∙◌, arith, true≢false}
 use Rattle.std.specs.Prelude.{Option, None, Some}
-use Rattle.std.specs.List.{list_any}
+use Rattle.std.specs.List.{list_any, onto_first, slice_split}
 use Rattle.std.specs.Ordering.{int_eq}
 use Rattle.std.specs.Str.{bytes_eq}
 use Rattle.std.specs.Cmp.Lexicographic.{same_text}
-use Rattle.ups_pdu.specs.Padding.{is_nil, without_padding}
+use Rattle.ups_pdu.specs.Padding.{is_nil, is_padding, without_padding}
 use Rattle.ups_dataset.specs.declared.tag.Tag.{Tag}
-use Rattle.ups_dataset.specs.declared.vr.Vr.{Vr}
-use Rattle.ups_dataset.specs.declared.dictionary.TheConstants.{CODE_VALUE, PATIENT_ID, PROCEDURE_STEP_STATE, SCHEDULED_PROCEDURE_STEP_PRIORITY, SCHEDULED_PROCEDURE_STEP_START_DATE_TIME, SCHEDULED_STATION_NAME_CODE_SEQUENCE, WORKLIST_LABEL}
+use Rattle.ups_dataset.specs.declared.dictionary.TheConstants.{CODE_VALUE, PATIENT_ID, PROCEDURE_STEP_STATE, SCHEDULED_PROCEDURE_STEP_PRIORITY, SCHEDULED_PROCEDURE_STEP_START_DATE_TIME, SCHEDULED_STATION_NAME_CODE_SEQUENCE, SOP_INSTANCE_UID, WORKLIST_LABEL}
 use Rattle.ups_dataset.specs.Dictionary.{vr_of}
 use Rattle.ups_dataset.specs.Tag.{is_tag}
 use Rattle.ups_dataset.specs.Data.{Data, bytes, items, Items, no_items, item, Elements, no_elements, element, El, elements_of}
 use Rattle.ups_match.specs.declared.ranges.Span.{Span}
-use Rattle.ups_match.specs.declared.rule.Rule.TheVariants.{WildCards, Range}
-use Rattle.ups_match.specs.Class.{is_special, plain, plain_value, plain_code, FirstKey, value, start, all, or_else, range_key, start_key, first_among, first_key, moment_stored, start_of, meets_first, class}
-use Rattle.ups_match.specs.Matching.{KeySet, key_rule, matches, value_at, any_item, any_stored_item, matches_stored_text, all_match, value_matches, items_match, is_universal, is_universal_key, universal_items, all_universal, has_no_items, is_match}
+use Rattle.ups_match.specs.declared.rule.Rule.{Rule}
+use Rattle.ups_match.specs.declared.rule.Rule.TheVariants.{UidList, WildCards, Range}
+use Rattle.ups_match.specs.Class.{is_special, plain, plain_value, plain_code, FirstKey, value, all, or_else, range_key, start_key, first_among, first_key, moment_stored, start_of, meets_first, class}
+use Rattle.ups_match.specs.Matching.{KeySet, key_rule, matches, value_at, any_item, any_stored_item, matches_stored_text, all_match, value_matches, is_universal, is_universal_key, all_universal, has_no_items, is_match}
 use Rattle.ups_match.specs.Met.{stored_text_met}
 use Rattle.ups_match.specs.Ranges.{span_of, spans}
 use Rattle.ups_match.specs.Likeness.{is_like}
-use Rattle.ups_match.specs.Values.{any_value, is_no_key, is_universal_text}
+use Rattle.ups_match.specs.Values.{any_value, is_backslash, is_no_key, is_universal_text, shares_uid}
+
+neither_of : (a b : Bool) → (a || b) ≡ false → (a ≡ false) × (b ≡ false)
+neither_of true b h = absurd cc
+neither_of false b h = (refl, h)
 
 pub both : (a b : Bool) → (a && b) ≡ true → (a ≡ true) × (b ≡ true)
 both true b h = (refl, h)
@@ -81,6 +85,78 @@ step : (offset : ℤ) (row : Elements) (tag : Tag) (o : Option (List ℕ)) (late
 step offset row tag None later this rest = rest
 step offset row tag (Some text) later this rest = this text refl
 
+-- a plain text is one value, also with padding behind it
+padding_is_itself : (x : ℕ) → is_padding x ≡ true → is_backslash x ≡ false
+padding_is_itself x e = grind (arith, e)
+
+special_backslash : (x : ℕ) → is_special x ≡ false → is_backslash x ≡ false
+special_backslash x e = grind (arith, e)
+
+no_backslash : (b : List ℕ) → list_any is_special (without_padding b) ≡ false → list_any is_backslash b ≡ false
+no_backslash [] none = refl
+no_backslash (x ∷ xs) none = here (is_padding x) (without_padding xs) refl refl none (no_backslash xs)
+  where
+    here : (q : Bool) (w : List ℕ) → is_padding x ≡ q → without_padding xs ≡ w → list_any is_special (cond (q && is_nil w) [] (x ∷ w)) ≡ false → (list_any is_special w ≡ false → list_any is_backslash xs ≡ false)
+        → (is_backslash x || list_any is_backslash xs) ≡ false
+    here true [] p e none rest = ap (λ (a : Bool). a || list_any is_backslash xs) (padding_is_itself x p) ∙ rest refl
+    here true (w ∷ ws) p e none rest = ap (λ (a : Bool). a || list_any is_backslash xs) (padding_is_itself x p) ∙ rest (neither_of (is_special x) (list_any is_special (w ∷ ws)) none).1
+    here false w p e none rest =
+        let apart = neither_of (is_special x) (list_any is_special w) none in
+        ap (λ (a : Bool). a || list_any is_backslash xs) (special_backslash x apart.0) ∙ rest apart.1
+
+one_value : (b : List ℕ) → list_any is_backslash b ≡ false → slice_split is_backslash b ≡ b ∷ []
+one_value [] none = refl
+one_value (x ∷ xs) none =
+    let apart = neither_of (is_backslash x) (list_any is_backslash xs) none in
+    ap (λ (a : Bool). cond a ([] ∷ slice_split is_backslash xs) (onto_first x (slice_split is_backslash xs))) apart.0
+    ∙ ap (onto_first x) (one_value xs apart.1)
+
+unpadded_again : (b : List ℕ) → without_padding (without_padding b) ≡ without_padding b
+unpadded_again [] = refl
+unpadded_again (x ∷ xs) = here (is_padding x) (without_padding xs) refl (unpadded_again xs)
+  where
+    here : (q : Bool) (w : List ℕ) → is_padding x ≡ q → without_padding w ≡ w → without_padding (cond (q && is_nil w) [] (x ∷ w)) ≡ cond (q && is_nil w) [] (x ∷ w)
+    here true [] p e = refl
+    here true (w ∷ ws) p e = ap (λ (a : List ℕ). cond (is_padding x && is_nil a) [] (x ∷ a)) e ∙ ap (λ (q : Bool). cond (q && false) [] (x ∷ w ∷ ws)) p
+    here false w p e = ap (λ (q : Bool). cond (q && is_nil (without_padding w)) [] (x ∷ without_padding w)) p ∙ ap (λ (a : List ℕ). x ∷ a) e
+
+or_none : (a : Bool) → (a || false) ≡ a
+or_none true = refl
+or_none false = refl
+
+no_special : (t text : List ℕ) → plain t ≡ Some text → list_any is_special t ≡ false
+no_special t text p = here (is_nil t) (list_any is_special t) refl p
+  where
+    here : (n s : Bool) → list_any is_special t ≡ s → cond (n || s) None (Some t) ≡ Some text → s ≡ false
+    here true s e q = absurd (never_none text q)
+    here false true e q = absurd (never_none text q)
+    here false false e q = refl
+
+-- so a list of one UID shares what is that UID
+shares_one : (key stored : List ℕ) → list_any is_special (without_padding key) ≡ false → shares_uid key stored ≡ any_value (bytes_eq (without_padding key)) stored
+shares_one key stored none =
+    ap (λ (vs : List (List ℕ)). list_any (λ v. any_value (bytes_eq (without_padding v)) stored) vs) (one_value key (no_backslash key none))
+    ∙ or_none (any_value (bytes_eq (without_padding key)) stored)
+
+shares_plain : (text stored : List ℕ) → without_padding text ≡ text → list_any is_special text ≡ false → shares_uid text stored ≡ any_value (bytes_eq text) stored
+shares_plain text stored same none =
+    shares_one text stored (ap (list_any is_special) same ∙ none) ∙ ap (λ (t : List ℕ). any_value (bytes_eq t) stored) same
+
+-- a UID is matched as it stands
+stored_uid : (offset : ℤ) (b text : List ℕ) (s : Option Data) → plain (without_padding b) ≡ Some text → matches_stored_text UidList offset b s ≡ stored_text_met UidList offset text s
+stored_uid offset b text None p = refl
+stored_uid offset b text (Some (items is)) p = refl
+stored_uid offset b text (Some (bytes c)) p =
+    let same = text_of_plain (without_padding b) text p in
+    let none = no_special (without_padding b) text p in
+    shares_one b c none
+    ∙ ap (λ (t : List ℕ). any_value (bytes_eq t) c) same
+    ∙ sym (shares_plain text c (sym (ap without_padding same) ∙ unpadded_again b ∙ same) (sym (ap (list_any is_special) same) ∙ none))
+
+uid_rule : key_rule SOP_INSTANCE_UID ≡ UidList
+unfolding vr_of
+uid_rule = refl
+
 -- a text with wild cards is matched as it stands
 stored : (offset : ℤ) (b text : List ℕ) (s : Option Data) → without_padding b ≡ text → matches_stored_text WildCards offset b s ≡ stored_text_met WildCards offset text s
 stored offset b text None e = refl
@@ -88,9 +164,11 @@ stored offset b text (Some (bytes c)) e = ap (λ (t : List ℕ). stored_text_met
 stored offset b text (Some (items is)) e = refl
 
 module _ (offset : ℤ) (keys row : Elements) (m : all_match offset keys row ≡ true) where
-  pub text_key : (tag : Tag) → is_no_key tag ≡ false → is_tag tag SCHEDULED_STATION_NAME_CODE_SEQUENCE ≡ false → key_rule tag ≡ WildCards → (text : List ℕ) → plain_value (value_at tag keys) ≡ Some text
+  -- the key of a tag that has one plain value matches, by a rule that takes such a value as it stands
+  plain_key : (rule : Rule) (tag : Tag) → is_no_key tag ≡ false → is_tag tag SCHEDULED_STATION_NAME_CODE_SEQUENCE ≡ false → key_rule tag ≡ rule → (text : List ℕ)
+      → ((b : List ℕ) → plain (without_padding b) ≡ Some text → matches_stored_text rule offset b (value_at tag row) ≡ stored_text_met rule offset text (value_at tag row)) → plain_value (value_at tag keys) ≡ Some text
       → meets_first offset (value tag text) row ≡ true
-  text_key tag own other rule text p = here (value_at tag keys) refl p
+  plain_key rule tag own other is_rule text stands p = here (value_at tag keys) refl p
     where
       here : (o : Option Data) → value_at tag keys ≡ o → plain_value o ≡ Some text → meets_first offset (value tag text) row ≡ true
       here None at p = absurd (never_none text p)
@@ -98,10 +176,17 @@ module _ (offset : ℤ) (keys row : Elements) (m : all_match offset keys row ≡
       here (Some (bytes b)) at p =
           let matched = key_matches offset keys row tag (bytes b) own m at (is_plain b text p) in
           ap (λ (c : Bool). cond c (any_stored_item (λ station. stored_text_met (key_rule CODE_VALUE) offset text (value_at CODE_VALUE station)) (value_at tag row)) (stored_text_met (key_rule tag) offset text (value_at tag row))) other
-          ∙ ap (λ (r : _). stored_text_met r offset text (value_at tag row)) rule
-          ∙ sym (stored offset b text (value_at tag row) (text_of_plain (without_padding b) text p))
-          ∙ sym (ap (λ (r : _). matches_stored_text r offset b (value_at tag row)) rule)
+          ∙ ap (λ (r : Rule). stored_text_met r offset text (value_at tag row)) is_rule
+          ∙ sym (stands b p)
+          ∙ sym (ap (λ (r : Rule). matches_stored_text r offset b (value_at tag row)) is_rule)
           ∙ matched
+
+  pub text_key : (tag : Tag) → is_no_key tag ≡ false → is_tag tag SCHEDULED_STATION_NAME_CODE_SEQUENCE ≡ false → key_rule tag ≡ WildCards → (text : List ℕ) → plain_value (value_at tag keys) ≡ Some text
+      → meets_first offset (value tag text) row ≡ true
+  text_key tag own other rule text p = plain_key WildCards tag own other rule text (λ b q. stored offset b text (value_at tag row) (text_of_plain (without_padding b) text q)) p
+
+  uid_key : (text : List ℕ) → plain_value (value_at SOP_INSTANCE_UID keys) ≡ Some text → meets_first offset (value SOP_INSTANCE_UID text) row ≡ true
+  uid_key text p = plain_key UidList SOP_INSTANCE_UID refl refl uid_rule text (λ b q. stored_uid offset b text (value_at SOP_INSTANCE_UID row) q) p
 
 -- one key that isn't universal makes the keys of an item so
 not_all_universal : (keys : Elements) (tag : Tag) (d : Data) → is_no_key tag ≡ false → value_at tag keys ≡ Some d → is_universal d ≡ false → all_universal keys ≡ false
@@ -174,7 +259,27 @@ like offset tag text None rule = refl
 like offset tag text (Some (items is)) rule = refl
 like offset tag text (Some (bytes b)) rule = ap (λ (r : _). stored_text_met r offset text (Some (bytes b))) rule
 
+-- some stored value is a text
+abbrev pub stored_equal : List ℕ → Option Data → Bool
+stored_equal text None = false
+stored_equal text (Some (bytes b)) = any_value (bytes_eq text) b
+stored_equal text (Some (items is)) = false
+
 -- what meets the first indexed key, where it is a value
+pub meets_uid : (offset : ℤ) (key : Option Data) (text : List ℕ) (row : Elements) → plain_value key ≡ Some text → meets_first offset (value SOP_INSTANCE_UID text) row ≡ stored_equal text (value_at SOP_INSTANCE_UID row)
+meets_uid offset None text row p = absurd (never_none text p)
+meets_uid offset (Some (items is)) text row p = absurd (never_none text p)
+meets_uid offset (Some (bytes b)) text row p =
+    ap (λ (r : Rule). stored_text_met r offset text (value_at SOP_INSTANCE_UID row)) uid_rule ∙ here (value_at SOP_INSTANCE_UID row)
+  where
+    same : without_padding b ≡ text
+    same = text_of_plain (without_padding b) text p
+
+    here : (s : Option Data) → stored_text_met UidList offset text s ≡ stored_equal text s
+    here None = refl
+    here (Some (items is)) = refl
+    here (Some (bytes c)) = shares_plain text c (sym (ap without_padding same) ∙ unpadded_again b ∙ same) (sym (ap (list_any is_special) same) ∙ no_special (without_padding b) text p)
+
 pub meets_patient : (offset : ℤ) (text : List ℕ) (row : Elements) → meets_first offset (value PATIENT_ID text) row ≡ stored_like text (value_at PATIENT_ID row)
 meets_patient offset text row = like offset PATIENT_ID text (value_at PATIENT_ID row) patient_rule
 
@@ -249,12 +354,13 @@ module _ (offset : ℤ) (keys row : Elements) (m : all_match offset keys row ≡
 
   first_matched : (configured : ℤ) → meets_first offset (first_among configured offset keys) row ≡ true
   first_matched configured =
-      step offset row PATIENT_ID _ _ (text_key offset keys row m PATIENT_ID refl refl patient_rule)
+      step offset row SOP_INSTANCE_UID _ _ (uid_key offset keys row m)
+      (step offset row PATIENT_ID _ _ (text_key offset keys row m PATIENT_ID refl refl patient_rule)
       (step offset row WORKLIST_LABEL _ _ (text_key offset keys row m WORKLIST_LABEL refl refl label_rule)
       (step offset row SCHEDULED_STATION_NAME_CODE_SEQUENCE _ _ station_key
       (step offset row PROCEDURE_STEP_STATE _ _ (text_key offset keys row m PROCEDURE_STEP_STATE refl refl state_rule)
       (step offset row SCHEDULED_PROCEDURE_STEP_PRIORITY _ _ (text_key offset keys row m SCHEDULED_PROCEDURE_STEP_PRIORITY refl refl priority_rule)
-      (start_matched configured)))))
+      (start_matched configured))))))
 
 -- a row that matches keys is of their class
 pub matches_first : (configured : ℤ) (keys : KeySet) (row : List El) → is_match keys row ≡ true → meets_first keys.offset (first_key configured keys) (elements_of row) ≡ true

@@ -1,12 +1,12 @@
 -- The first indexed key of a query: held steps are looked up by it, and only what it finds is put to the other keys.
-use Rattle.std.specs.Prelude.{ℕ, ℤ, Bool, true, false, ◌||◌, ◌&&◌, not, List, [], ◌∷◌, Option, None, Some, filter, if◌then◌else◌}
+use Rattle.std.specs.Prelude.{ℕ, ℤ, Bool, true, false, ◌||◌, not, List, Option, None, Some, filter, if◌then◌else◌}
 use Rattle.std.specs.List.{list_any}
 use Rattle.std.specs.Ordering.{int_eq}
 use Rattle.ups_pdu.specs.Padding.{is_nil, without_padding}
 use Rattle.ups_dataset.specs.declared.tag.Tag.{Tag}
-use Rattle.ups_dataset.specs.declared.dictionary.TheConstants.{CODE_VALUE, PATIENT_ID, PROCEDURE_STEP_STATE, SCHEDULED_PROCEDURE_STEP_PRIORITY, SCHEDULED_PROCEDURE_STEP_START_DATE_TIME, SCHEDULED_STATION_NAME_CODE_SEQUENCE, WORKLIST_LABEL}
+use Rattle.ups_dataset.specs.declared.dictionary.TheConstants.{CODE_VALUE, PATIENT_ID, PROCEDURE_STEP_STATE, SCHEDULED_PROCEDURE_STEP_PRIORITY, SCHEDULED_PROCEDURE_STEP_START_DATE_TIME, SCHEDULED_STATION_NAME_CODE_SEQUENCE, SOP_INSTANCE_UID, WORKLIST_LABEL}
 use Rattle.ups_dataset.specs.Tag.{is_tag}
-use Rattle.ups_dataset.specs.Data.{Data, bytes, items, Items, no_items, item, Elements, no_elements, element, El, elements_of}
+use Rattle.ups_dataset.specs.Data.{Data, bytes, items, no_items, item, Elements, El, elements_of}
 use Rattle.ups_match.specs.declared.first.First.{First}
 use Rattle.ups_match.specs.declared.first.First.TheVariants as variants
 use Rattle.ups_match.specs.declared.ranges.Span.{Span}
@@ -61,12 +61,13 @@ start_key configured offset (Some (items is)) = all
 
 abbrev pub first_among : ℤ → ℤ → Elements → FirstKey
 first_among configured offset keys =
-    or_else PATIENT_ID (plain_value (value_at PATIENT_ID keys))
+    or_else SOP_INSTANCE_UID (plain_value (value_at SOP_INSTANCE_UID keys))
+    (or_else PATIENT_ID (plain_value (value_at PATIENT_ID keys))
     (or_else WORKLIST_LABEL (plain_value (value_at WORKLIST_LABEL keys))
     (or_else SCHEDULED_STATION_NAME_CODE_SEQUENCE (plain_code (value_at SCHEDULED_STATION_NAME_CODE_SEQUENCE keys))
     (or_else PROCEDURE_STEP_STATE (plain_value (value_at PROCEDURE_STEP_STATE keys))
     (or_else SCHEDULED_PROCEDURE_STEP_PRIORITY (plain_value (value_at SCHEDULED_PROCEDURE_STEP_PRIORITY keys))
-    (start_key configured offset (value_at SCHEDULED_PROCEDURE_STEP_START_DATE_TIME keys))))))
+    (start_key configured offset (value_at SCHEDULED_PROCEDURE_STEP_START_DATE_TIME keys)))))))
 
 -- the first indexed key of a query, for a service that has this offset
 unfoldable pub first_key : ℤ → KeySet → FirstKey

@@ -14,7 +14,8 @@ use crate::texts::is_universal_text;
 use std::alloc::Allocator;
 use ups_dataset::dictionary::{
     CODE_VALUE, PATIENT_ID, PROCEDURE_STEP_STATE, SCHEDULED_PROCEDURE_STEP_PRIORITY,
-    SCHEDULED_PROCEDURE_STEP_START_DATE_TIME, SCHEDULED_STATION_NAME_CODE_SEQUENCE, WORKLIST_LABEL,
+    SCHEDULED_PROCEDURE_STEP_START_DATE_TIME, SCHEDULED_STATION_NAME_CODE_SEQUENCE,
+    SOP_INSTANCE_UID, WORKLIST_LABEL,
 };
 use ups_dataset::{DataSet, Tag, Value};
 use ups_pdu::without_padding;
@@ -138,6 +139,9 @@ pub(crate) fn first_among<A: Allocator + Copy>(
 ) -> First<'_>
     ensures { first_view result ≡ first_among configured offset (elements_of keys.now) }
 {
+    if let Some(text) = plain_value(keys, SOP_INSTANCE_UID) {
+        return First::Value(SOP_INSTANCE_UID, text);
+    }
     if let Some(text) = plain_value(keys, PATIENT_ID) {
         return First::Value(PATIENT_ID, text);
     }

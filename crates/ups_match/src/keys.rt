@@ -109,7 +109,7 @@ impl<A: Allocator + Copy> Keys<A> {
     }
 
     /// The first of the keys by which steps are looked up, for a service that reads DTs by `offset`, in minutes east of
-    /// UTC: the patient ID, the worklist label, the code value of the station name, the state or the priority, where it
+    /// UTC: the SOP Instance UID, the patient ID, the worklist label, the code value of the station name, the state or the priority, where it
     /// is one value that isn't empty and has no wild cards; or else the range of the start, where the keys have that
     /// offset. It takes no memory.
     #[tactic(auto, unfolding(crate::specs::Class::first_key))]

@@ -1,6 +1,6 @@
 //! An association that a peer asked for, as the log tells of it.
 
-use crate::journal::{name_of, operation_of, reason_of, title_of, warn_of};
+use crate::journal::{Overrun, name_with, operation_of, reason_of, title_of, warn_of};
 use log::{Log, info};
 use std::alloc::Global;
 use std::cell::{Cell, RefCell};
@@ -30,8 +30,8 @@ const END_OF_COMMAND: u8 = 3;
 /// The status of a response behind which others come to the same request (PS3.4 section C.4.1.1.4).
 const PENDING: u16 = 0xff00;
 
-/// An association that a peer asked for: its number, who asks for it and from where, and how many requests were answered.
-/// It learns of these by the bytes that are read and sent. Nothing rests on it but the log.
+/// An association that a peer asked for: its number, who asks for it and from where, how many requests were answered, and
+/// which limit the peer ran into. It learns of these by the bytes that are read and sent. Nothing rests on it but the log.
 #[derive(Drop)]
 pub struct Account {
     /// 1 for the first association since the start, and so on.
@@ -48,8 +48,12 @@ pub struct Account {
     is_answered: Cell<bool>,
     /// How many requests were answered.
     requests: Cell<u64>,
+    /// The limit that the peer ran into.
+    overrun: Cell<Option<Overrun>>,
     /// The fragments of a command that is not there as a whole yet.
     command: RefCell<Vec<u8>>,
+    /// The last pending response. A find sends the same for each match, so none of the others is read.
+    pending: RefCell<Vec<u8>>,
 }
 
 impl fmt::Display for Account {
@@ -80,7 +84,9 @@ impl Account {
             calling: Cell::new(None),
             is_answered: Cell::new(false),
             requests: Cell::new(0),
+            overrun: Cell::new(None),
             command: RefCell::new(Vec::new(alloc)),
+            pending: RefCell::new(Vec::new(alloc)),
         }
     }
 
@@ -89,6 +95,11 @@ impl Account {
         if !self.is_answered.get() && self.calling.get().is_none() {
             self.calling.set(calling_title(bytes));
         }
+    }
+
+    /// Learns which limit the peer ran into, where it ran into one.
+    pub(crate) fn note_overrun(&self, overrun: Option<Overrun>) {
+        self.overrun.set(overrun);
     }
 
     /// Learns from a PDU that is sent how something is answered, and tells of that where each answer is told of.
@@ -137,18 +148,32 @@ impl Account {
         }
     }
 
-    /// Learns from a command that is sent: a response that is no pending one answers a request.
-    fn note_command<R: Log>(&self, rt: &R, alloc: Global, command: &[u8]) {
-        let Ok(command) = read_command(alloc, command) else {
+    /// Learns from a command that is sent, where it isn't the pending response that was sent last.
+    fn note_command<R: Log>(&self, rt: &R, alloc: Global, bytes: &[u8]) {
+        let Ok(mut pending) = self.pending.try_borrow_mut() else {
+            return;
+        };
+        if pending.as_slice() == bytes {
+            return;
+        }
+        let Ok(command) = read_command(alloc, bytes) else {
             return;
         };
         let Command::Response(response) = &command else {
             return;
         };
-        if response.status != PENDING {
-            self.requests.set(self.requests.get().saturating_add(1));
-            self.tell_response(rt, response);
+        if response.status == PENDING {
+            pending.clear();
+            let _ = pending.extend_from_slice(bytes);
+        } else {
+            self.note_response(rt, response);
         }
+    }
+
+    /// Learns of a response that answers a request.
+    fn note_response<R: Log>(&self, rt: &R, response: &ResponseCommand) {
+        self.requests.set(self.requests.get().saturating_add(1));
+        self.tell_response(rt, response);
     }
 
     /// Tells of a request by its response, where each answer is told of: the operation, the step and the status.
@@ -177,7 +202,7 @@ impl Account {
 
     /// Tells what the association came to.
     pub(crate) fn tell_end<R: Clock + Log>(&self, rt: &R, ended: &Result<End, SessionFault>) {
-        let name = name_of(ended);
+        let name = name_with(ended, self.overrun.get());
         let requests = self.requests.get();
         let elapsed = self.elapsed(rt);
         let seconds = elapsed.as_secs();

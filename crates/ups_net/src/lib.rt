@@ -5,10 +5,12 @@
 #![tactic(auto)]
 
 mod account;
+mod arrival;
 mod clock;
 mod delivering;
 mod door;
 mod journal;
+mod lossy_log;
 mod options;
 mod premises;
 mod roster;
@@ -24,6 +26,7 @@ pub use clock::{HostClock, moment_of};
 pub use delivering::deliver_rounds;
 pub use door::{Caller, Door};
 pub use journal::end_told;
+pub use lossy_log::LossyLog;
 pub use options::ServerOptions;
 pub use premises::Premises;
 pub use roster::{Roster, Share, is_passed_over, longer_pause};
@@ -31,5 +34,5 @@ pub use serving::serve_one;
 pub use socket::tune;
 pub use sweeping::sweep;
 pub use ups_settings::Watcher;
-pub use wire::{Deadline, Patience, Wire, WireReader, WireWriter};
+pub use wire::{Allowance, Deadline, Patience, Wire, WireReader, WireWriter};
 pub use workers::{run, work};

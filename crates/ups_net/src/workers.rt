@@ -2,7 +2,7 @@
 
 ghost use Rattle.std.specs.Prelude.{◌≡◌, true, ◌≤◌, ◌+◌, ◌++◌, [], ◌∷◌, All, List, length, map, vec_capacity, IfSome, MatchOption, MatchBool};
 ghost use Rattle.std.specs.Global.{Global};
-ghost use denote.Param.Send.{IsSync};
+ghost use denote.Param.Send.{IsSend, IsSync};
 ghost use Rattle.ups_turn.specs.Pass.{Standing};
 ghost use Rattle.ups_net.specs.Serving.{ServesAssociations};
 ghost use Rattle.ups_net.specs.Sweeping.{Sweeps};
@@ -24,16 +24,17 @@ use std::snapshot::Snapshot;
 use std::sync::{OnceLock, OnceToken, Wait};
 use std::thread::{self, Promise, PromisedHandle, Threads};
 use std::time::Clock;
+use ups_service::SharedService;
 use ups_turn::{Desk, Pass};
 
 /// Serves so many associations, one after another, each on a connection that the door gives.
-pub fn work<R: Wait + Clock + Log>(
+pub fn work<M: SharedService<Global>, R: Wait + Clock + Log>(
     rt: &R,
     door: &Door,
-    desk: &Desk<Global>,
-    pass: Pass<Global>,
+    desk: &Desk<M, Global>,
+    pass: Pass<M, Global>,
     options: &ServerOptions,
-) -> Pass<Global>
+) -> Pass<M, Global>
     requires here { pass.table ≡ desk.now.table }
     ensures serves { ServesAssociations options.now.config options.now.turns options.now.associations pass result }
     ensures stays { result.table ≡ pass.table }
@@ -95,13 +96,13 @@ fn settle<'a, R: Wait>(
 }
 
 /// The pass of the sweeper: it sweeps where the threads begin, and else is as it was.
-fn sweep_begun<R: Wait + Clock>(
+fn sweep_begun<M: SharedService<Global>, R: Wait + Clock>(
     rt: &R,
-    desk: &Desk<Global>,
-    mut pass: Pass<Global>,
+    desk: &Desk<M, Global>,
+    mut pass: Pass<M, Global>,
     begun: bool,
     options: &ServerOptions,
-) -> Pass<Global>
+) -> Pass<M, Global>
     requires here { pass.table ≡ desk.now.table }
     ensures sweeps { MatchBool begun (Sweeps options.now.config.ae options.now.rounds pass result) (result ≡ pass) }
 {
@@ -113,13 +114,13 @@ fn sweep_begun<R: Wait + Clock>(
 
 /// What a thread does once the threads begin: a worker serves associations, and a deliverer delivers event reports. The
 /// number of its pass says which of them it is.
-fn do_job<R>(
+fn do_job<M: SharedService<Global>, R>(
     rt: &R,
     premises: &Premises,
-    desk: &Desk<Global>,
-    pass: Pass<Global>,
+    desk: &Desk<M, Global>,
+    pass: Pass<M, Global>,
     options: &ServerOptions,
-) -> Pass<Global>
+) -> Pass<M, Global>
 where
     R: Wait + Clock + Log + Net<Listener = TcpListener, Stream = TcpStream>,
     requires here { pass.table ≡ desk.now.table }
@@ -134,14 +135,14 @@ where
 }
 
 /// The thread of a pass: it does its job where the threads begin, and hands the pass back, with what it was told.
-fn attend<'a, R>(
+fn attend<'a, M: SharedService<Global>, R>(
     rt: &R,
     start: &'a OnceLock<bool>,
     premises: &Premises,
-    desk: &Desk<Global>,
-    pass: Pass<Global>,
+    desk: &Desk<M, Global>,
+    pass: Pass<M, Global>,
     options: &ServerOptions,
-) -> (Pass<Global>, OnceToken<'a, bool>)
+) -> (Pass<M, Global>, OnceToken<'a, bool>)
 where
     R: Wait + Clock + Log + Net<Listener = TcpListener, Stream = TcpStream>,
     requires here { pass.table ≡ desk.now.table }
@@ -158,13 +159,13 @@ where
 /// The promise of a thread: where it was told to begin, the pass that it hands back has done its job, and else is as it
 /// was.
 #[derive(Drop)]
-struct DoneJob {
-    pass: Snapshot<Pass<Global>>,
+struct DoneJob<M: SharedService<Global>> {
+    pass: Snapshot<Pass<M, Global>>,
     options: Snapshot<ServerOptions>,
     start: Snapshot<OnceLock<bool>>,
 }
 
-impl<'a> Promise<(Pass<Global>, OnceToken<'a, bool>)> for DoneJob {
+impl<'a, M: SharedService<Global>> Promise<(Pass<M, Global>, OnceToken<'a, bool>)> for DoneJob<M> {
     ghost use Rattle.std.specs.Prelude.{◌≡◌};
     ghost use Rattle.ups_net.specs.Working.{EndsThread};
 
@@ -173,11 +174,11 @@ impl<'a> Promise<(Pass<Global>, OnceToken<'a, bool>)> for DoneJob {
 
 /// Has each of these threads hand its pass back, and puts the passes behind those that are back, in the order of the
 /// threads. All of them were told the same.
-fn join_all<'a, R: Threads>(
+fn join_all<'a, M: SharedService<Global>, R: Threads>(
     rt: &R,
     token: &OnceToken<'a, bool>,
-    handles: Vec<PromisedHandle<(Pass<Global>, OnceToken<'a, bool>), DoneJob>>,
-    passes: &mut Vec<Pass<Global>>,
+    handles: Vec<PromisedHandle<(Pass<M, Global>, OnceToken<'a, bool>), DoneJob<M>>>,
+    passes: &mut Vec<Pass<M, Global>>,
 )
     requires room { length passes.old.items + length handles.items ≤ vec_capacity passes.old }
     requires lock { All (λ h. h.promise.start.value.id ≡ token.now.of) handles.items }
@@ -192,7 +193,10 @@ fn join_all<'a, R: Threads>(
 }
 
 /// Puts the passes of threads that were not started behind those that are back.
-fn put_back(unbegun: Vec<Pass<Global>>, passes: &mut Vec<Pass<Global>>)
+fn put_back<M: SharedService<Global>>(
+    unbegun: Vec<Pass<M, Global>>,
+    passes: &mut Vec<Pass<M, Global>>,
+)
     requires room { length passes.old.items + length unbegun.items ≤ vec_capacity passes.old }
     ensures capacity { vec_capacity passes.new ≡ vec_capacity passes.old }
     ensures all { passes.new.items ≡ passes.old.items ++ unbegun.items }
@@ -205,16 +209,16 @@ fn put_back(unbegun: Vec<Pass<Global>>, passes: &mut Vec<Pass<Global>>)
 /// The threads of a server: one for each of these passes, while the sweeper's pass sweeps in this one. The passes come back
 /// in their order, with that of the sweeper behind them. Where a thread can't be started, the passes from its own on wait
 /// in `unbegun` until those before them are back.
-fn run_threads<R>(
+fn run_threads<M: SharedService<Global> + Send, R>(
     rt: &R,
     premises: &Premises,
-    desk: &Desk<Global>,
-    passes: Vec<Pass<Global>>,
-    sweeper: Pass<Global>,
-    mut unbegun: Vec<Pass<Global>>,
-    mut back: Vec<Pass<Global>>,
+    desk: &Desk<M, Global>,
+    passes: Vec<Pass<M, Global>>,
+    sweeper: Pass<M, Global>,
+    mut unbegun: Vec<Pass<M, Global>>,
+    mut back: Vec<Pass<M, Global>>,
     options: &ServerOptions,
-) -> (bool, Vec<Pass<Global>>)
+) -> (bool, Vec<Pass<M, Global>>)
 where
     R: Threads + Wait + Clock + Log + Sync + Net<Listener = TcpListener, Stream = TcpStream>,
     requires here { All (λ p. p.table ≡ desk.now.table) passes.items }
@@ -229,7 +233,8 @@ where
     thread::scope(
         thread::scope_env(),
         rt,
-        |scope| -> (bool, Vec<Pass<Global>>)
+        |scope| -> (bool, Vec<Pass<M, Global>>)
+            requires send { IsSend M.row }
             requires sync { IsSync R.row }
             requires here { All (λ p. p.table ≡ desk.now.table) passes.items }
             requires sweeper { sweeper.table ≡ desk.now.table }
@@ -256,7 +261,7 @@ where
                 };
                 match scope.spawn_with(
                     promise,
-                    move || -> (Pass<Global>, OnceToken<'_, bool>)
+                    move || -> (Pass<M, Global>, OnceToken<'_, bool>)
                         requires { pass.table ≡ desk.now.table }
                         ensures lock { result.1.of ≡ start.entry.now.id }
                         ensures ends { EndsThread options.entry.now result.1.value pass result.0 }
@@ -289,13 +294,13 @@ where
 /// back in their order: true, and each has done its job, as many associations or rounds of it as `options` says; or false,
 /// and each is as it was, since a thread could not be started, or memory ran out before. That a thread runs, and when, no
 /// contract says.
-pub fn run<R>(
+pub fn run<M: SharedService<Global> + Send, R>(
     rt: &R,
     premises: &Premises,
-    desk: &Desk<Global>,
-    passes: Vec<Pass<Global>>,
+    desk: &Desk<M, Global>,
+    passes: Vec<Pass<M, Global>>,
     options: &ServerOptions,
-) -> (bool, Vec<Pass<Global>>)
+) -> (bool, Vec<Pass<M, Global>>)
 where
     R: Threads + Wait + Clock + Log + Sync + Net<Listener = TcpListener, Stream = TcpStream>,
     requires some { 2 ≤ length passes.items }

@@ -1,3 +1,4 @@
 pub mod Claiming
 pub mod Law
 pub mod Reporting
+pub mod State

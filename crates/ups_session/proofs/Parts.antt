@@ -10,7 +10,7 @@ use Rattle.ups_assoc.specs.declared.negotiating.AcceptedContext.{AcceptedContext
 use Rattle.ups_assoc.specs.Cutting.{pieces}
 use Rattle.ups_cycle.specs.declared.status.Status.{Status}
 use Rattle.ups_cycle.specs.Statuses.{code}
-use Rattle.ups_session.specs.Responses.{response_command, response_bytes, bare_response, set_response}
+use Rattle.ups_session.specs.Responses.{response_command, response_bytes, bare_response, with_set, set_response}
 
 pub if_ok : {T E : Type 0} (r : Result T E) (P Q : T → Type 0) → ((x : T) → P x → Q x) → IfOk r P → IfOk r Q
 if_ok (Ok x) P Q f p = f x p
@@ -30,9 +30,7 @@ pub bare-response : {A : Type 0} (max : ℕ) (context : AcceptedContext) (reques
 unfolding bare_response
 bare-response {A} max context request status command is = ap (λ c. pieces {A = A} context.id c None max) is
 
-pub set-response : {A : Type 0} (max : ℕ) (context : AcceptedContext) (request : RequestCommand A) (status : Status) (set : List El) (command body : List ℕ)
-    → command ≡ response_bytes request (code status) true → body ≡ sets.written context.transfer_syntax set → pieces {A = A} context.id command (Some body) max ≡ set_response max context request status set
+pub set-response : {A : Type 0} (max : ℕ) (context : AcceptedContext) (request : RequestCommand A) (status : Status) (set : List El) (command : List ℕ)
+    → command ≡ response_bytes request (code status) true → with_set {A = A} max context command set ≡ set_response max context request status set
 unfolding set_response
-set-response {A} max context request status set command body is there =
-    ap (λ c. pieces {A = A} context.id c (Some body) max) is
-    ∙ ap (λ (b : List ℕ). pieces {A = A} context.id (response_bytes request (code status) true) (Some b) max) there
+set-response {A} max context request status set command is = ap (λ (c : List ℕ). with_set {A = A} max context c set) is

@@ -8,7 +8,7 @@ ghost use Rattle.ups_pdu.specs.declared.syntax.TransferSyntax.TheVariants.{Expli
 ghost use Rattle.ups_dataset.specs.Written.{written};
 ghost use Rattle.ups_cycle.specs.Statuses.{code};
 ghost use Rattle.ups_session.specs.declared.fault.SessionFault.TheVariants.{Memory};
-ghost use Rattle.ups_session.specs.Responses.{response_bytes, bare_response, set_response, response};
+ghost use Rattle.ups_session.specs.Responses.{response_bytes, bare_response, with_set, set_response, response};
 ghost use Rattle.ups_cycle.specs.declared.status.Status.TheVariants.{Pending};
 ghost use Rattle.ups_service.specs.Law.{SmallReply};
 ghost use Rattle.ups_session.specs.Visits.{SendsPdus};
@@ -82,6 +82,26 @@ pub(crate) fn bare_response<A: Allocator + Copy>(
     pieces(alloc, max, context.id, &command, None)
 }
 
+/// A response with a data set, in PDUs of at most `max` bytes: `command` is its command set, encoded.
+///
+/// Errors: out of memory.
+fn with_set<A: Allocator + Copy>(
+    alloc: A,
+    max: u32,
+    context: &AcceptedContext,
+    command: &[u8],
+    set: &DataSet<A>,
+) -> Result<Vec<Pdu<A>, A>, SessionFault>
+    requires max { 8 ≤ max }
+    requires short { length (written Explicit set.now) < 2 ^ 32 }
+    ensures response { IfOk result (λ v. v.items ≡ with_set max context.now command.now set.now) }
+    ensures writable { IfOk result (λ v. AllByRecursion (λ p. Fits p) v.items) }
+    ensures memory { IfErr result (λ e. e ≡ Memory) }
+{
+    let body = write_set(alloc, context.transfer_syntax, set)?;
+    pieces(alloc, max, context.id, command, Some(body.as_slice()))
+}
+
 /// A response with a data set, in PDUs of at most `max` bytes.
 ///
 /// Errors: out of memory.
@@ -100,8 +120,7 @@ pub(crate) fn set_response<A: Allocator + Copy>(
     ensures memory { IfErr result (λ e. e ≡ Memory) }
 {
     let command = response_bytes(alloc, request, status, true)?;
-    let body = write_set(alloc, context.transfer_syntax, set)?;
-    pieces(alloc, max, context.id, &command, Some(body.as_slice()))
+    with_set(alloc, max, context, &command, set)
 }
 
 /// Sends a response without a data set.
@@ -123,8 +142,8 @@ fn send_status<A: Allocator + Copy, W: Write, G: Gate>(
     send_pdus(alloc, writer, gate, said.as_slice())
 }
 
-/// Sends one match of a query: a response of status Pending, with its data set. A match of 2^32 bytes or more counts as
-/// out of memory.
+/// Sends one match of a query: a response with its data set, whose command set `command` is, encoded. A match of 2^32
+/// bytes or more counts as out of memory.
 ///
 /// Errors: a failed write, or out of memory; a beginning of the bytes was then written.
 fn send_match<A: Allocator + Copy, W: Write, G: Gate>(
@@ -133,20 +152,21 @@ fn send_match<A: Allocator + Copy, W: Write, G: Gate>(
     gate: &mut G,
     max: u32,
     context: &AcceptedContext,
-    request: &RequestCommand<A>,
+    command: &[u8],
     set: &DataSet<A>,
 ) -> Result<(), SessionFault>
     requires max { 8 ≤ max }
-    ensures { SendsPdus (set_response max context.now request.now Pending set.now) writer.old writer.new (G.told gate.old) (G.told gate.new) result }
+    ensures { SendsPdus (with_set {A = A} max context.now command.now set.now) writer.old writer.new (G.told gate.old) (G.told gate.new) result }
 {
     if set.size() > u64::from(u32::MAX) {
         return Err(SessionFault::Memory);
     }
-    let said = set_response(alloc, max, context, request, Status::Pending, set)?;
+    let said = with_set(alloc, max, context, command, set)?;
     send_pdus(alloc, writer, gate, said.as_slice())
 }
 
-/// Sends the matches of a query, one after another; memory is taken for one at a time.
+/// Sends the matches of a query, one after another; memory is taken for one at a time. All have the same command set, of
+/// status Pending, which is encoded once.
 ///
 /// Errors: a failed write, or out of memory; a beginning of the bytes was then written.
 fn send_matches<A: Allocator + Copy, W: Write, G: Gate>(
@@ -161,8 +181,9 @@ fn send_matches<A: Allocator + Copy, W: Write, G: Gate>(
     requires max { 8 ≤ max }
     ensures { SendsPdus (flat_map (set_response max context.now request.now Pending) sets.now) writer.old writer.new (G.told gate.old) (G.told gate.new) result }
 {
+    let command = response_bytes(alloc, request, Status::Pending, true)?;
     for set in sets {
-        send_match(alloc, writer, gate, max, context, request, set)?;
+        send_match(alloc, writer, gate, max, context, &command, set)?;
     }
     Ok(())
 }

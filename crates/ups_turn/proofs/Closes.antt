@@ -10,11 +10,11 @@ use native.Mathlib.Decide.{ℕ_discrete}
 use lib.ListN.{get_elem?}
 use Rattle.atomic_table.specs.Table.{State as Table, Final, Seen}
 use Rattle.ups_life.specs.declared.entry.Entry.{Entry}
-use Rattle.ups_manager.specs.State.{State}
+use Rattle.ups_service.specs.State.{State}
 use Rattle.ups_service.specs.Law.{is_legal}
 use Rattle.ups_turn.specs.declared.view.Part.{Part}
 use Rattle.ups_turn.specs.declared.view.View.{View}
-use Rattle.ups_turn.specs.declared.view.Opening.{Opening}
+use Rattle.ups_turn.specs.Opening.{Opening}
 use Rattle.ups_turn.specs.Rule.{Kept, Behind, EnteredByPasses, IsPassNumber, settings_of, manager_state, turns, passes, count_numbered}
 use Rattle.ups_turn.specs.Pass.{Standing, part_of, EndsFor, HaveNumbers}
 use Rattle.ups_turn.proofs.Sums.{total_least, total_two, total_some}
@@ -38,7 +38,7 @@ module _ {A : Type 0} where
   pub record Ended (o : Opening A) (parts : List (Part A)) (slots : List (Option (State A))) : Type 0 where
     pub log : List (Entry A)
     pub legal : is_legal (settings_of o) log
-    pub since : EnteredByPasses o.seats o.manager.value.history log
+    pub since : EnteredByPasses o.seats o.manager.history log
     pub behind : All (Behind log) parts
     pub numbers : All (λ (p : Part A). IsPassNumber o.seats p.number) parts
     pub apart : (k : ℕ) → count_by (λ (p : Part A). p.number == k) parts ≤ 1
@@ -90,8 +90,8 @@ module _ {A : Type 0} where
     pub closed_legal : (last : State A) → found ≡ Some last → is_legal last.settings last.history
     closed_legal last e = subst (λ (x : State A). is_legal x.settings x.history) (sym (closed last e)) ended.legal
 
-    pub closed_callers : (last : State A) → found ≡ Some last → EnteredByPasses o.seats o.manager.value.history last.history
-    closed_callers last e = subst (λ (x : State A). EnteredByPasses o.seats o.manager.value.history x.history) (sym (closed last e)) ended.since
+    pub closed_callers : (last : State A) → found ≡ Some last → EnteredByPasses o.seats o.manager.history last.history
+    closed_callers last e = subst (λ (x : State A). EnteredByPasses o.seats o.manager.history x.history) (sym (closed last e)) ended.since
 
     pub closed_passes : (last : State A) → found ≡ Some last → EndsFor last.history ps
     closed_passes last e = subst (λ (x : State A). EndsFor x.history ps) (sym (closed last e)) (all_parts (Behind ended.log) ps (subst (All (Behind ended.log)) parts ended.behind))

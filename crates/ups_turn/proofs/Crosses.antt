@@ -1,5 +1,5 @@
--- A desk may be shared by threads, and a pass may go to another thread, where the allocator may: one fact for each type
--- from the ones inside it, since a search through all of them at once does not end.
+-- A desk may be shared by threads, and a pass may go to another thread, where the allocator and what the passes share may: one
+-- fact for each type from the ones inside it, since a search through all of them at once does not end.
 use denote.RattleType.{RattleType}
 use denote.Param.Send.{IsSend, IsSync, Frees, sendable}
 use Rattle.std.specs.declared.alloc.Allocator as Allocator
@@ -17,10 +17,10 @@ use Rattle.atomic_table.proofs.shared.Shared.TheSendSync as shared
 use Rattle.atomic_table.proofs.shared.Seat.TheSendSync as seat
 use Rattle.atomic_table.proofs.send_lease.SendLease.TheSendSync as lease
 use Rattle.ups_pdu.proofs.ae.Ae.TheSendSync as ae
-use Rattle.ups_manager.specs.contracts.manager.Manager as Manager
-use Rattle.ups_manager.proofs.Crosses.{Manager-send}
+use Rattle.ups_service.specs.declared.shared_service.SharedService as SharedService
 use Rattle.ups_pdu.specs.contracts.ae.Ae as Ae
 use Rattle.ups_turn.specs.contracts.desk.Desk as Desk
+use Rattle.ups_turn.specs.contracts.held.Held as Held
 use Rattle.ups_turn.specs.contracts.pass.Pass as Pass
 
 module _ (S V K P A : RattleType) (r : TableRule.Ghosts P.Denot S.Denot V.Denot K.Denot) (g : Allocator.Ghosts A.Denot) where
@@ -33,24 +33,26 @@ module _ (S V K P A : RattleType) (r : TableRule.Ghosts P.Denot S.Denot V.Denot 
   pub Table-sync : IsSend S → IsSync A → IsSend A → Frees g g.dealloc_token → IsSync (Table.the_field S V K P A r g).row
   Table-sync s y sa f = let h = Shared-sync s in let l = λ (T : RattleType). Lease-sync T sa f in search sendable depth 20
 
-module _ (A : RattleType) (g : Allocator.Ghosts A.Denot) (c : Clone.Ghosts A.Denot) where
-  Desk-sync : IsSend (Manager.the_row A g) → IsSync A → IsSend A → Frees g g.dealloc_token → IsSync (Desk.the_row A g c)
-  Desk-sync m y s f = let o : IsSend (Option.the_row (Manager.the_row A g)) = search sendable depth 20 in search (sendable, heaped.crosses, Table-sync) depth 30
+module _ (M A : RattleType) (s : SharedService.Ghosts M.Denot A.Denot) (g : Allocator.Ghosts A.Denot) where
+  Held-send : IsSend M → IsSend A → IsSend (Held.the_field M A s g).row
+  Held-send m a = search sendable depth 20
 
-module _ (A : RattleType) (g : Allocator.Ghosts A.Denot) where
-  Pass-send : IsSend (Manager.the_row A g) → IsSend (Pass.the_row A g)
-  Pass-send m = let o : IsSend (Option.the_row (Manager.the_row A g)) = search sendable depth 20 in search (sendable, seat.the_send) depth 20
+  Homes-send : IsSend M → IsSend A → IsSend (Option.the_row (Held.the_row M A s g))
+  Homes-send m a = let h = Held-send m a in search sendable depth 20
+
+  Desk-sync : (c : Clone.Ghosts A.Denot) → IsSend M → IsSync A → IsSend A → Frees g g.dealloc_token → IsSync (Desk.the_row M A s g c)
+  Desk-sync c m y a f = let o = Homes-send m a in search (sendable, heaped.crosses, Table-sync) depth 30
+
+  Pass-send : IsSend M → IsSend A → IsSend (Pass.the_row M A s g)
+  Pass-send m a = let o = Homes-send m a in search (sendable, seat.the_send) depth 20
 
 -- at the heap, each in one step, the desk for any way to clone an allocator
-pub manager_send : IsSend (Manager.the_row Heap.the_row ghosts)
-manager_send = Manager-send Heap.the_row ghosts send frees
+module _ (M : RattleType) (s : SharedService.Ghosts M.Denot Heap.the_row.Denot) where
+  pub desk_sync : (c : Clone.Ghosts Heap.the_row.Denot) → IsSend M → IsSync (Desk.the_row M Heap.the_row s ghosts c)
+  desk_sync c m = Desk-sync M Heap.the_row s ghosts c m sync send frees
 
-module _ (c : Clone.Ghosts Heap.the_row.Denot) where
-  pub desk_sync : IsSync (Desk.the_row Heap.the_row ghosts c)
-  desk_sync = Desk-sync Heap.the_row ghosts c manager_send sync send frees
-
-pub pass_send : IsSend (Pass.the_row Heap.the_row ghosts)
-pass_send = Pass-send Heap.the_row ghosts manager_send
+  pub pass_send : IsSend M → IsSend (Pass.the_row M Heap.the_row s ghosts)
+  pass_send m = Pass-send M Heap.the_row s ghosts m send
 
 pub heap_send : IsSend Heap.the_row
 heap_send = send

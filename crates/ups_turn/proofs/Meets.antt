@@ -9,12 +9,12 @@ use Rattle.std.proofs.lemmas.List.Sums.{sum_by-cons, sum_by-append, sum_by_push}
 use Rattle.atomic_table.specs.Table.{Allows, Splits, Joins, Step, keeps}
 use Rattle.atomic_table.proofs.Lists.{at_set, at_snoc}
 use Rattle.ups_life.specs.declared.entry.Entry.{Entry}
-use Rattle.ups_manager.specs.State.{State}
+use Rattle.ups_service.specs.State.{State}
 use Rattle.ups_service.specs.Law.{is_legal, BeginsHistory}
 use Rattle.ups_service.proofs.Legality.{legal_within}
 use Rattle.ups_turn.specs.declared.view.Part.{Part}
 use Rattle.ups_turn.specs.declared.view.View.{View}
-use Rattle.ups_turn.specs.declared.view.Opening.{Opening}
+use Rattle.ups_turn.specs.Opening.{Opening}
 use Rattle.ups_turn.specs.Rule.{Kept, FitsView, Slot, Behind, IsPassNumber, settings_of, is_mine, one_if, tickets, turns, draws, passes, count_numbered}
 use Rattle.ups_turn.specs.Plays.{Knows, note_of, joined_views, spent_view, first_part, other_parts, dealt, kept_back, catching_up, settled, CaughtUp, SettlesNotes, longer}
 use Rattle.ups_turn.specs.Pass.{resting, part}

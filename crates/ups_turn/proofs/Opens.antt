@@ -11,11 +11,11 @@ use lib.ListN.{get_elem?}
 use Rattle.atomic_table.specs.Table.{opening}
 use Rattle.atomic_table.specs.Seated.{TableId}
 use Rattle.ups_life.specs.declared.entry.Entry.{Entry}
-use Rattle.ups_manager.specs.State.{State}
+use Rattle.ups_service.specs.State.{State}
 use Rattle.ups_service.specs.Law.{is_legal, BeginsHistory}
 use Rattle.ups_turn.specs.declared.view.Part.{Part}
 use Rattle.ups_turn.specs.declared.view.View.{View}
-use Rattle.ups_turn.specs.declared.view.Opening.{Opening}
+use Rattle.ups_turn.specs.Opening.{Opening}
 use Rattle.ups_turn.specs.Rule.{Kept, FitsView, Behind, IsPassNumber, settings_of, one_if, tickets, turns, draws, passes, count_numbered, between, parts_from, opening_view, first_view}
 use Rattle.ups_turn.specs.Plays.{kept_back, dealt}
 use Rattle.ups_turn.specs.Pass.{are_seats, most_seats, fresh, passes_from, resting}
@@ -63,11 +63,11 @@ module _ {A : Type 0} where
   numbers_from seats log k (suc n) low high =
       All-cons (λ (p : Part A). IsPassNumber seats p.number) record { number = k; seen = log } (parts_from log (suc k) n) (low, omega arith) (numbers_from seats log (suc k) n (omega arith) (omega arith))
 
-  pub begins : (o : Opening A) (words : List ℕ) (slots : List (Option (State A))) → is_legal (settings_of o) o.manager.value.history → (settings_of o).limit < 2 ^ 64 → o.seats ≤ 1024 → words ≡ length o.manager.value.history ∷ 0 ∷ 0 ∷ [] → slots ≡ Some o.manager.value ∷ []
+  pub begins : (o : Opening A) (words : List ℕ) (slots : List (Option (State A))) → is_legal (settings_of o) o.manager.history → (settings_of o).limit < 2 ^ 64 → o.seats ≤ 1024 → words ≡ length o.manager.history ∷ 0 ∷ 0 ∷ [] → slots ≡ Some o.manager ∷ []
       → Kept o (opening words slots (first_view o))
   begins o words slots legal small few words_is slots_is =
       let v = first_view o in
-      let log = o.manager.value.history in record {
+      let log = o.manager.history in record {
         log = log;
         ticket = 0;
         serving = 0;
@@ -93,8 +93,8 @@ module _ {A : Type 0} where
         word_sized = small;
       }
     where
-      only : (v : View A) → FitsView o o.manager.value.history 0 v → (i : ℕ) (u : View A) → get_elem? (v ∷ []) i ≡ some u → FitsView o o.manager.value.history 0 u
-      only v f zero u e = subst (FitsView o o.manager.value.history 0) (some-injective v u e) f
+      only : (v : View A) → FitsView o o.manager.history 0 v → (i : ℕ) (u : View A) → get_elem? (v ∷ []) i ≡ some u → FitsView o o.manager.history 0 u
+      only v f zero u e = subst (FitsView o o.manager.history 0) (some-injective v u e) f
       only v f (suc i) u e = absurd (some-ne-none u (sym e))
 
   more_passes : (table : TableId) (m : (State A)) (k n : ℕ) → passes_from table m k n ++ fresh table m (k + n) ∷ [] ≡ passes_from table m k (suc n)

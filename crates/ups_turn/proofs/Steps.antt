@@ -12,12 +12,12 @@ use Rattle.std.proofs.lemmas.List.Sums.{sum_by-cons}
 use lib.ListN.{get_elem?}
 use Rattle.atomic_table.specs.Table.{State as Table, Allows, Step, Act, Valid, carried_after, keeps, takes, gives, stepped, put_back, rest}
 use Rattle.ups_life.specs.declared.entry.Entry.{Entry}
-use Rattle.ups_manager.specs.State.{State}
+use Rattle.ups_service.specs.State.{State}
 use Rattle.ups_service.specs.Law.{is_legal, BeginsHistory}
 use Rattle.ups_service.proofs.Legality.{legal_within}
 use Rattle.ups_turn.specs.declared.view.Part.{Part}
 use Rattle.ups_turn.specs.declared.view.View.{View}
-use Rattle.ups_turn.specs.declared.view.Opening.{Opening}
+use Rattle.ups_turn.specs.Opening.{Opening}
 use Rattle.ups_turn.specs.Rule.{Kept, FitsView, Slot, Behind, IsPassNumber, EnteredByPasses, settings_of, manager_state, is_mine, one_if, tickets, turns, draws, passes, count_numbered, between}
 use Rattle.ups_turn.specs.Plays.{Knows, with_ticket, seeing, at_turn, served, Draws, Looks, history_in, Decides, ServesNext, HasTurn}
 use Rattle.ups_turn.proofs.Sums.{total_set, total_least, total_two, total_within, total_some, total_same, each_set}
@@ -309,7 +309,7 @@ module _ {A : Type 0} where
           serving = k.serving;
           order = k.order;
           legal = legal;
-          since = more_since o.seats o.manager.value.history seen added number (subst (EnteredByPasses o.seats o.manager.value.history) (sym log_is) k.since) by (All-head (λ (p : Part A). IsPassNumber o.seats p.number) record { number = number; seen = seen } [] (subst (All (λ (p : Part A). IsPassNumber o.seats p.number)) has.parts fits.numbers));
+          since = more_since o.seats o.manager.history seen added number (subst (EnteredByPasses o.seats o.manager.history) (sym log_is) k.since) by (All-head (λ (p : Part A). IsPassNumber o.seats p.number) record { number = number; seen = seen } [] (subst (All (λ (p : Part A). IsPassNumber o.seats p.number)) has.parts fits.numbers));
           words = (λ i. set (k.words i) 0 ((slice_index (k.words i) 0 + c) % 2 ^ 64)) ∙ ap (λ n. n ∷ k.ticket ∷ k.serving ∷ []) (let l = ap length log_is in let b = legal_within (settings_of o) new legal in let a = length-append seen added in omega arith);
           slot = inr (total_same turns s.views id v w at (ap one_if (sym has.turn)) ∙ slot.0, slot.1);
           each = each_set (FitsView o new k.serving) s.views id w

@@ -8,12 +8,13 @@ use Rattle.ups_life.specs.declared.entry.Entry.{Entry}
 use Rattle.ups_life.specs.declared.request.Ask.{Ask}
 use Rattle.ups_life.specs.declared.request.Reply.{Reply}
 use Rattle.ups_life.specs.Settings.{Settings}
-use Rattle.ups_manager.specs.State.{State}
+use Rattle.ups_service.specs.State.{State}
 use Rattle.ups_service.specs.Law.{Answers, entered, is_legal}
 use Rattle.ups_service.proofs.Legality.{entered_few, entered_numbered}
 use Rattle.ups_turn.specs.Rule.{Behind, manager_state}
 use Rattle.ups_turn.specs.Plays.{Knows, with_ticket, at_turn, served, TakesTurn, Took, MayGive, MayDecide, MayServe, seeing, history_in}
-use Rattle.ups_turn.specs.Pass.{resting, IsServed}
+use Rattle.ups_turn.specs.declared.view.View.{View}
+use Rattle.ups_turn.specs.Pass.{resting, seen_in, standing, IsAtRest, IsServed}
 
 module _ {A : Type 0} where
   -- the value that was taken last
@@ -90,6 +91,19 @@ module _ {A : Type 0} where
 
     pub legal_again : is_legal n.settings n.history → is_legal settings n.history
     legal_again legal = subst (λ l. is_legal l n.history) (settings_is ∙ ap (λ (x : State A). x.settings) manager_before) legal
+
+  -- how often a seat that rests has drawn a ticket is how many calls its pass has made
+  pub at_rest_by : (settings : Settings) (number calls : ℕ) (seen : List (Entry A)) (me : Knows A) → me ≡ (resting settings number calls seen, []) → IsAtRest number me × (me.0.draws ≡ calls)
+  at_rest_by settings number calls seen me is = subst (λ (m : Knows A). IsAtRest number m × (m.0.draws ≡ calls)) (sym is) (refl, refl)
+
+  pub rests_by : (number calls : ℕ) (me : Knows A) → IsAtRest number me → me.0.draws ≡ calls → me ≡ (resting me.0.settings number calls (seen_in me.0.parts), [])
+  rests_by number calls me rests drawn = rests ∙ ap (λ (k : ℕ). (resting me.0.settings number k (seen_in me.0.parts), [])) drawn
+
+  pub served_by : (table same : TableId) (number j k : ℕ) (v w : View A) (ae : List ℕ) (moment : ℕ) (ask : Ask A) (reply : Reply A) → v.draws ≡ j → w.draws ≡ k → IsServed (standing table number v) ae moment ask reply (standing same number w)
+      → IsServed (record { table = table; settings = v.settings; number = number; calls = j; seen = seen_in v.parts }) ae moment ask reply (record { table = same; settings = w.settings; number = number; calls = k; seen = seen_in w.parts })
+  served_by table same number j k v w ae moment ask reply before after served =
+      subst (λ (n : ℕ). IsServed (record { table = table; settings = v.settings; number = number; calls = j; seen = seen_in v.parts }) ae moment ask reply (record { table = same; settings = w.settings; number = number; calls = n; seen = seen_in w.parts })) after
+      (subst (λ (n : ℕ). IsServed (record { table = table; settings = v.settings; number = number; calls = n; seen = seen_in v.parts }) ae moment ask reply (standing same number w)) before served)
 
   -- the manager was given back into the seat's hands
   pub may_decide : (me given : Knows A) (m : State A) (count : ℕ) → MayGive me m count → given ≡ (me.0, (0, Some m) ∷ rest me.1) → MayDecide given count

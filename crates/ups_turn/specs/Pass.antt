@@ -6,14 +6,14 @@ use Rattle.ups_life.specs.declared.request.Ask.{Ask}
 use Rattle.ups_life.specs.declared.request.Reply.{Reply}
 use Rattle.ups_life.specs.declared.request.Reply.TheVariants.{Status as Answered}
 use Rattle.ups_life.specs.Settings.{Settings}
-use Rattle.ups_manager.specs.State.{State}
+use Rattle.ups_service.specs.State.{State}
 use Rattle.ups_service.specs.Law.{Seen, bounded, seen_so, is_legal, BeginsHistory, Answers, entered, lacking}
 use Rattle.ups_turn.specs.declared.fault.OpenFault.{OpenFault}
 use Rattle.ups_turn.specs.declared.fault.OpenFault.TheVariants.{BadSeats, Memory}
 use Rattle.ups_turn.specs.declared.view.Part.{Part}
 use Rattle.ups_turn.specs.declared.view.View.{View}
 use Rattle.ups_turn.specs.Rule.{Behind, IsPassNumber}
-use Rattle.ups_turn.specs.Plays.{longer}
+use Rattle.ups_turn.specs.Plays.{Knows, longer}
 
 -- how a pass stands: at which desk, with which number, how many calls it has made, and the history that it has seen
 pub record Standing (A : Type 0) : Type 0 where
@@ -62,6 +62,14 @@ resting settings number calls seen = record { settings = settings; draws = calls
 abbrev pub seen_in : {A : Type 0} → List (Part A) → List (Entry A)
 seen_in [] = []
 seen_in (p ∷ ps) = p.seen
+
+-- the seat stands for the pass with this number, between its calls
+abbrev pub IsAtRest : {A : Type 0} → ℕ → Knows A → Type 0
+IsAtRest number me = me ≡ (resting me.0.settings number me.0.draws (seen_in me.0.parts), [])
+
+-- how the pass with this number stands, by its seat's view
+abbrev pub standing : {A : Type 0} → TableId → ℕ → View A → Standing A
+standing table number v = record { table = table; settings = v.settings; number = number; calls = v.draws; seen = seen_in v.parts }
 
 abbrev pub IsShelf : TableId → TableId → Type 0
 IsShelf place table = (place ≡ table) × (table.words ≡ 3) × (table.slots ≡ 1)

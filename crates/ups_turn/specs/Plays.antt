@@ -3,7 +3,7 @@ use Rattle.std.specs.Prelude.{◌≡◌, ℕ, pos, ◌+◌, Bool, true, false, L
 use Rattle.atomic_table.specs.Table.{Me, Step}
 use Rattle.ups_life.specs.declared.entry.Entry.{Entry}
 use Rattle.ups_life.specs.Settings.{Settings}
-use Rattle.ups_manager.specs.State.{State}
+use Rattle.ups_service.specs.State.{State}
 use Rattle.ups_service.specs.Law.{is_legal, BeginsHistory}
 use Rattle.ups_turn.specs.declared.view.Part.{Part}
 use Rattle.ups_turn.specs.declared.view.View.{View}

@@ -7,11 +7,11 @@ use lib.ListN.{get_elem?}
 use Rattle.atomic_table.specs.Table.{State as Table}
 use Rattle.ups_life.specs.declared.entry.Entry.{Entry}
 use Rattle.ups_life.specs.Settings.{Settings}
-use Rattle.ups_manager.specs.State.{State}
+use Rattle.ups_service.specs.State.{State}
 use Rattle.ups_service.specs.Law.{is_legal, BeginsHistory}
 use Rattle.ups_turn.specs.declared.view.Part.{Part}
 use Rattle.ups_turn.specs.declared.view.View.{View}
-use Rattle.ups_turn.specs.declared.view.Opening.{Opening}
+use Rattle.ups_turn.specs.Opening.{Opening}
 
 -- passes have the numbers from 1 to the number of seats
 abbrev pub IsPassNumber : ℕ → ℕ → Type 0
@@ -30,7 +30,7 @@ manager_state settings log = record { settings = settings; history = log }
 
 -- what was fixed at the start of the manager that the desk opened with
 abbrev pub settings_of : {A : Type 0} → Opening A → Settings
-settings_of o = o.manager.value.settings
+settings_of o = o.manager.settings
 
 abbrev pub is_mine : ℕ → Option ℕ → Bool
 is_mine x None = false
@@ -85,7 +85,7 @@ pub record Kept {A : Type 0} (o : Opening A) (s : Table (Option (State A)) (View
   pub serving : ℕ
   pub order : serving ≤ ticket
   pub legal : is_legal (settings_of o) log
-  pub since : EnteredByPasses o.seats o.manager.value.history log
+  pub since : EnteredByPasses o.seats o.manager.history log
   pub words : s.words ≡ length log ∷ ticket ∷ serving ∷ []
   pub slot : Slot (settings_of o) log s.homes (sum_by turns s.views)
   pub each : (i : ℕ) (v : View A) → get_elem? s.views i ≡ maybe.some v → FitsView o log serving v
@@ -107,7 +107,7 @@ opening_view m k n = record { settings = m.settings; draws = 0; ticket = None; t
 
 -- the first seat stands for all passes
 abbrev pub first_view : {A : Type 0} → Opening A → View A
-first_view o = opening_view o.manager.value 1 o.seats
+first_view o = opening_view o.manager 1 o.seats
 
 abbrev pub KeepsRule : {A : Type 0} → Opening A → Table (Option (State A)) (View A) → Type 0
 KeepsRule o s = Kept o s

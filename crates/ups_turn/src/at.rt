@@ -11,21 +11,21 @@ use std::alloc::Allocator;
 use std::sync::Wait;
 use ups_life::{Ask, Reply};
 use ups_pdu::Ae;
-use ups_service::Service;
+use ups_service::{Service, SharedService};
 
 /// A pass at its desk: the service that a session of this pass asks. Other passes enter requests between two of its
 /// calls. A pass may make 2^40 calls, each of which is answered by the history, and refuses each later one: with 0213, or
 /// with A700 where it is a query.
 #[derive(Drop)]
-pub struct At<'a, A: Allocator + Copy, R: Wait> {
+pub struct At<'a, M: SharedService<A>, A: Allocator + Copy, R: Wait> {
     rt: &'a R,
-    desk: &'a Desk<A>,
-    pass: &'a mut Pass<A>,
+    desk: &'a Desk<M, A>,
+    pass: &'a mut Pass<M, A>,
     ghost here: { pass.now.table ≡ desk.now.table },
 }
 
-impl<'a, A: Allocator + Copy, R: Wait> At<'a, A, R> {
-    pub(crate) fn new(rt: &'a R, desk: &'a Desk<A>, pass: &'a mut Pass<A>) -> At<'a, A, R>
+impl<'a, M: SharedService<A>, A: Allocator + Copy, R: Wait> At<'a, M, A, R> {
+    pub(crate) fn new(rt: &'a R, desk: &'a Desk<M, A>, pass: &'a mut Pass<M, A>) -> At<'a, M, A, R>
         requires here { pass.old.table ≡ desk.now.table }
         ensures same_reference { result.pass.ghost_name ≡ pass.entry.ghost_name }
         ensures stands { result.pass.now ≡ pass.old }
@@ -34,7 +34,7 @@ impl<'a, A: Allocator + Copy, R: Wait> At<'a, A, R> {
     }
 }
 
-impl<'a, A: Allocator + Copy, R: Wait> Service<A> for At<'a, A, R> {
+impl<'a, M: SharedService<A>, A: Allocator + Copy, R: Wait> Service<A> for At<'a, M, A, R> {
     ghost settings = { λ s. s.pass.now.settings };
 
     ghost others = { λ _. callers };

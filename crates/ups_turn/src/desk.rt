@@ -1,16 +1,17 @@
 //! The desk: it opens over a manager, lets passes meet, and closes when all passes are back.
 ghost use Rattle.std.specs.Prelude.{◌≡◌, ◌≢◌, ℕ, ◌≤◌, ◌<◌, [], ◌∷◌, All, length, map, true, false, Some, None, vec_capacity, IfOk, IfErr, OnOk};
 ghost use Rattle.ups_life.specs.Settings.{IsMoment};
-ghost use Rattle.ups_manager.specs.State.{State};
+ghost use Rattle.ups_service.specs.State.{State};
 ghost use Rattle.ups_service.specs.Law.{SmallReply, is_legal};
 ghost use Rattle.ups_turn.specs.Pass.{IsCall, Learns, SamePass, IsShelf, EndsFor, HaveNumbers, are_seats, most_seats, open_fault, passes_from, part_of};
 ghost use Rattle.ups_turn.specs.Rule.{Behind, EnteredByPasses, opening_view};
 
 use crate::at::At;
 use crate::fault::{CloseFault, OpenFault};
+use crate::held::Held;
 use crate::pass::Pass;
 use crate::rule::{InTurn, Place, Shelf};
-use crate::turn::{absorb, deal, give, note, settle, take};
+use crate::turn::{absorb, call_in_turn, deal, note, settle};
 use crate::view::{Opening, View};
 use atomic_table::{Refused, Table};
 use std::alloc::Allocator;
@@ -19,8 +20,8 @@ use std::snapshot::Snapshot;
 use std::sync::{Mutex, Wait};
 use ups_cycle::Status;
 use ups_life::{Ask, Reply};
-use ups_manager::Manager;
 use ups_pdu::Ae;
+use ups_service::SharedService;
 
 /// How many passes a desk may have: with so many, each making all its calls, the tickets stay far below what a
 /// word holds.
@@ -32,15 +33,15 @@ const MOST_CALLS: u64 = 1 << 40;
 /// A desk with one manager, which threads share. A contract sees it as its table, how many passes it has, and the
 /// manager that it opened with.
 #[derive(Drop)]
-pub struct Desk<A: Allocator + Copy> {
-    table: Table<Option<Manager<A>>, View<A>, Opening<A>, InTurn, A>,
+pub struct Desk<M: SharedService<A>, A: Allocator + Copy> {
+    table: Table<Option<Held<M, A>>, View<A>, Opening<M, A>, InTurn, A>,
     seats: u64,
     /// A pass draws its ticket with this lock held. So the turn is most often its own at once, and goes to whichever
     /// pass runs, not to one that sleeps. No contract rests on it.
     ticket_lock: Mutex<()>,
 }
 
-impl<A: Allocator + Copy> Model for Desk<A> {
+impl<M: SharedService<A>, A: Allocator + Copy> Model for Desk<M, A> {
     ghost use Rattle.std.specs.Prelude.{◌≡◌, ◌<◌};
     ghost use Rattle.ups_turn.specs.Pass.{Opened};
 
@@ -51,7 +52,7 @@ impl<A: Allocator + Copy> Model for Desk<A> {
 
     ghost coded = { Prim.hlevel (set_code, codes) };
 
-    ghost view = { λ d. record { table = d.table.shared.table_id; seats = d.table.shared.key.seats; opening = d.table.shared.key.manager.value } };
+    ghost view = { λ d. record { table = d.table.shared.table_id; seats = d.table.shared.key.seats; opening = d.table.shared.key.manager } };
 
     ghost invariant = { λ d. (d.table.shared.table_id.words ≡ 3) × (d.table.shared.table_id.slots ≡ 1) × (d.seats ≡ d.table.shared.key.seats) × (0 < d.seats) };
 }
@@ -64,7 +65,10 @@ fn are_seats(seats: u32) -> bool
 }
 
 // One seat that stands for all these passes.
-fn gather<A: Allocator + Copy>(shelf: &Shelf<A>, mut passes: Vec<Pass<A>, A>) -> Place<A>
+fn gather<M: SharedService<A>, A: Allocator + Copy>(
+    shelf: &Shelf<M, A>,
+    mut passes: Vec<Pass<M, A>, A>,
+) -> Place<M, A>
     requires some { 0 < length passes.items }
     requires table { (shelf.now.table_id.words ≡ 3) × (shelf.now.table_id.slots ≡ 1) × All (λ p. p.table ≡ shelf.now.table_id) passes.items }
     ensures table { result.table_id ≡ shelf.now.table_id }
@@ -84,7 +88,9 @@ fn gather<A: Allocator + Copy>(shelf: &Shelf<A>, mut passes: Vec<Pass<A>, A>) ->
 }
 
 // The manager of a table that was not made.
-fn back<A: Allocator + Copy>(refused: Refused<Option<Manager<A>>, A>) -> Manager<A>
+fn back<M: SharedService<A>, A: Allocator + Copy>(
+    refused: Refused<Option<Held<M, A>>, A>,
+) -> Held<M, A>
     requires { (manager : State A) × (refused.slots.items ≡ Some manager ∷ []) }
     ensures { refused.slots.items ≡ Some result ∷ [] }
 {
@@ -96,18 +102,18 @@ fn back<A: Allocator + Copy>(refused: Refused<Option<Manager<A>>, A>) -> Manager
 }
 
 // The passes of a new desk, in the order of their numbers.
-fn deal_out<A: Allocator + Copy>(
-    shelf: &Shelf<A>,
-    place: Place<A>,
-    passes: &mut Vec<Pass<A>, A>,
+fn deal_out<M: SharedService<A>, A: Allocator + Copy>(
+    shelf: &Shelf<M, A>,
+    place: Place<M, A>,
+    passes: &mut Vec<Pass<M, A>, A>,
     seats: u32,
     front: u64,
 )
     requires table { IsShelf place.table_id shelf.now.table_id }
-    requires all { place.me ≡ (opening_view shelf.now.key.manager.value 1 seats, []) }
-    requires front { (front ≡ length shelf.now.key.manager.value.history) × is_legal shelf.now.key.manager.value.settings shelf.now.key.manager.value.history }
+    requires all { place.me ≡ (opening_view shelf.now.key.manager 1 seats, []) }
+    requires front { (front ≡ length shelf.now.key.manager.history) × is_legal shelf.now.key.manager.settings shelf.now.key.manager.history }
     requires room { (passes.old.items ≡ []) × (seats ≤ vec_capacity passes.old) }
-    ensures { passes.new.items ≡ passes_from shelf.now.table_id shelf.now.key.manager.value 1 seats }
+    ensures { passes.new.items ≡ passes_from shelf.now.table_id shelf.now.key.manager 1 seats }
 {
     let mut place = place;
     for dealt in 0..seats {
@@ -132,7 +138,7 @@ fn lacking<A: Allocator + Copy>(ask: &Ask<A>) -> Status
     }
 }
 
-impl<A: Allocator + Copy> Desk<A> {
+impl<M: SharedService<A>, A: Allocator + Copy> Desk<M, A> {
     /// A desk over a manager, and its passes, which have the numbers from 1 to `seats` in this order. Its memory is
     /// `alloc`'s.
     ///
@@ -142,29 +148,29 @@ impl<A: Allocator + Copy> Desk<A> {
     /// where memory runs out.
     pub fn open(
         alloc: A,
-        manager: Manager<A>,
+        manager: M,
         seats: u32,
-    ) -> Result<(Desk<A>, Vec<Pass<A>, A>), (Manager<A>, OpenFault)>
+    ) -> Result<(Desk<M, A>, Vec<Pass<M, A>, A>), (M, OpenFault)>
         ensures allowed { OnOk result (are_seats seats ≡ true) }
-        ensures desk { IfOk result (λ r. (r.0.seats ≡ seats) × (r.0.opening ≡ manager)) }
-        ensures passes { IfOk result (λ r. r.1.items ≡ passes_from r.0.table manager 1 seats) }
-        ensures refused { IfErr result (λ r. (r.0 ≡ manager) × (r.1 ≡ open_fault seats)) }
+        ensures desk { IfOk result (λ r. (r.0.seats ≡ seats) × (r.0.opening ≡ M.state manager)) }
+        ensures passes { IfOk result (λ r. r.1.items ≡ passes_from r.0.table (M.state manager) 1 seats) }
+        ensures refused { IfErr result (λ r. (M.state r.0 ≡ M.state manager) × (r.1 ≡ open_fault seats)) }
     {
         if !are_seats(seats) {
             return Err((manager, OpenFault::BadSeats));
         }
-        match Desk::with_seats(alloc, manager, seats) {
+        match Desk::with_seats(alloc, Held::new(manager), seats) {
             Ok(opened) => Ok(opened),
-            Err(manager) => Err((manager, OpenFault::Memory)),
+            Err(held) => Err((held.into_shared(), OpenFault::Memory)),
         }
     }
 
     // A desk with so many seats; or the manager, where memory runs out.
     fn with_seats(
         alloc: A,
-        manager: Manager<A>,
+        manager: Held<M, A>,
         seats: u32,
-    ) -> Result<(Desk<A>, Vec<Pass<A>, A>), Manager<A>>
+    ) -> Result<(Desk<M, A>, Vec<Pass<M, A>, A>), Held<M, A>>
         requires { (1 ≤ seats) × (seats ≤ most_seats) }
         ensures desk { IfOk result (λ r. (r.0.seats ≡ seats) × (r.0.opening ≡ manager)) }
         ensures passes { IfOk result (λ r. r.1.items ≡ passes_from r.0.table manager 1 seats) }
@@ -176,7 +182,7 @@ impl<A: Allocator + Copy> Desk<A> {
         let Ok(mut slots) = Vec::with_capacity(alloc, 1) else {
             return Err(manager);
         };
-        let count = manager.history().len() as u64;
+        let count = manager.entries();
         let _limit = manager.limit();
         let about = Opening {
             manager: Snapshot::of(&manager),
@@ -200,7 +206,7 @@ impl<A: Allocator + Copy> Desk<A> {
     }
 
     /// A pass at this desk, as a service: each of its calls waits for its turn, which `rt` allows.
-    pub fn at<'a, R: Wait>(&'a self, rt: &'a R, pass: &'a mut Pass<A>) -> At<'a, A, R>
+    pub fn at<'a, R: Wait>(&'a self, rt: &'a R, pass: &'a mut Pass<M, A>) -> At<'a, M, A, R>
         requires here { pass.old.table ≡ self.now.table }
         ensures same_reference { result.pass.ghost_name ≡ pass.entry.ghost_name }
         ensures stands { result.pass.now ≡ pass.old }
@@ -212,7 +218,7 @@ impl<A: Allocator + Copy> Desk<A> {
     pub(crate) fn call<R: Wait>(
         &self,
         rt: &R,
-        pass: &mut Pass<A>,
+        pass: &mut Pass<M, A>,
         ae: Ae,
         moment: u64,
         ask: Ask<A>,
@@ -228,17 +234,22 @@ impl<A: Allocator + Copy> Desk<A> {
         }
         let _held = self.ticket_lock.lock(rt);
         let shelf = &self.table.shared;
-        let mut manager = take(rt, shelf, &mut pass.place);
-        let before = manager.history().len() as u64;
-        let reply = manager.answer_as(pass.number, ae, moment, ask);
-        pass.front = manager.history().len() as u64;
+        let (reply, entries) = call_in_turn(
+            rt,
+            shelf,
+            &mut pass.place,
+            pass.number,
+            ae,
+            moment,
+            ask,
+        );
+        pass.front = entries;
         pass.calls += 1;
-        give(shelf, &mut pass.place, manager, pass.front - before);
         reply
     }
 
     // Has a pass learn what another has seen.
-    fn tell(&self, pass: &mut Pass<A>, from: &mut Pass<A>)
+    fn tell(&self, pass: &mut Pass<M, A>, from: &mut Pass<M, A>)
         requires pass { pass.old.table ≡ self.now.table }
         requires from { from.old.table ≡ self.now.table }
         ensures from { from.new ≡ from.old }
@@ -253,7 +264,7 @@ impl<A: Allocator + Copy> Desk<A> {
 
     /// Has two passes tell each other what they have seen: both then have seen the longer of the two histories.
     /// Returns how many entries that has. Nobody waits.
-    pub fn meet(&self, left: &mut Pass<A>, right: &mut Pass<A>) -> u64
+    pub fn meet(&self, left: &mut Pass<M, A>, right: &mut Pass<M, A>) -> u64
         requires left { left.old.table ≡ self.now.table }
         requires right { right.old.table ≡ self.now.table }
         ensures same { SamePass left.old left.new × SamePass right.old right.new }
@@ -276,13 +287,13 @@ impl<A: Allocator + Copy> Desk<A> {
     /// Missing where these are not all of its passes: desk and passes come back as they were.
     pub fn close(
         self,
-        passes: Vec<Pass<A>, A>,
-    ) -> Result<Manager<A>, (Desk<A>, Vec<Pass<A>, A>, CloseFault)>
+        passes: Vec<Pass<M, A>, A>,
+    ) -> Result<M, (Desk<M, A>, Vec<Pass<M, A>, A>, CloseFault)>
         requires here { All (λ p. p.table ≡ self.table) passes.items }
-        ensures settings { IfOk result (λ m. m.settings ≡ self.opening.settings) }
-        ensures legal { IfOk result (λ m. is_legal m.settings m.history) }
-        ensures callers { IfOk result (λ m. EnteredByPasses self.seats self.opening.history m.history) }
-        ensures passes { IfOk result (λ m. EndsFor m.history passes.items) }
+        ensures settings { IfOk result (λ m. (M.state m).settings ≡ self.opening.settings) }
+        ensures legal { IfOk result (λ m. is_legal (M.state m).settings (M.state m).history) }
+        ensures callers { IfOk result (λ m. EnteredByPasses self.seats self.opening.history (M.state m).history) }
+        ensures passes { IfOk result (λ m. EndsFor (M.state m).history passes.items) }
         ensures all { OnOk result (length passes.items ≡ self.seats) }
         ensures numbers { OnOk result (HaveNumbers self.seats passes.items) }
         ensures refused { IfErr result (λ r. (r.0 ≡ self) × (r.1.items ≡ passes.items) × (length passes.items ≢ self.seats)) }
@@ -296,6 +307,6 @@ impl<A: Allocator + Copy> Desk<A> {
         let slot = closed.take(0);
         closed.free();
         let Some(manager) = slot else { unreachable!() };
-        Ok(manager)
+        Ok(manager.into_shared())
     }
 }

@@ -3,11 +3,14 @@
 //! A desk is a ticket counter. A pass that calls draws the next ticket, waits until it is served, has the
 //! manager to itself for one call, and serves the next ticket before the call returns. Each pass is a service
 //! of the law that `ups_service` gives, under its own caller number, and may make 2^40 calls.
+//!
+//! The manager is any `SharedService`, a type parameter, so this crate does not stand on that of the manager.
 #![tactic(auto)]
 
 mod at;
 mod desk;
 mod fault;
+mod held;
 pub mod laws;
 mod pass;
 mod rule;

@@ -5,19 +5,20 @@ ghost use Rattle.ups_turn.specs.Pass.{part_of};
 use crate::rule::Place;
 use std::alloc::Allocator;
 use std::marker::Model;
+use ups_service::SharedService;
 
 /// A pass to a desk, which one thread at a time may hold. A contract sees it as its desk's table, what was fixed at
 /// the start of the manager there, its number, how many calls it has made, and the history that it has seen.
 #[derive(Drop)]
-pub struct Pass<A: Allocator + Copy> {
-    pub(crate) place: Place<A>,
+pub struct Pass<M: SharedService<A>, A: Allocator + Copy> {
+    pub(crate) place: Place<M, A>,
     pub(crate) number: u32,
     pub(crate) calls: u64,
     /// How many entries it has seen.
     pub(crate) front: u64,
 }
 
-impl<A: Allocator + Copy> Model for Pass<A> {
+impl<M: SharedService<A>, A: Allocator + Copy> Model for Pass<M, A> {
     ghost use Rattle.std.specs.Prelude.{◌≡◌, ◌≤◌, [], length};
     ghost use Rattle.ups_service.specs.Law.{is_legal};
     ghost use Rattle.ups_turn.specs.Pass.{Standing, resting, seen_in, most_calls};
@@ -34,7 +35,7 @@ impl<A: Allocator + Copy> Model for Pass<A> {
     ghost invariant = { λ p. (p.place.me ≡ (resting p.place.me.0.settings p.number p.calls (seen_in p.place.me.0.parts), [])) × (p.front ≡ length (seen_in p.place.me.0.parts)) × (p.calls ≤ most_calls) × is_legal p.place.me.0.settings (seen_in p.place.me.0.parts) };
 }
 
-impl<A: Allocator + Copy> Pass<A> {
+impl<M: SharedService<A>, A: Allocator + Copy> Pass<M, A> {
     /// The number of the pass, from 1 up. The entries of the pass have it as their caller.
     pub fn number(&self) -> u32
         ensures { result ≡ self.now.number }
@@ -43,7 +44,7 @@ impl<A: Allocator + Copy> Pass<A> {
     }
 
     /// The seat of the pass.
-    pub(crate) fn into_place(self) -> Place<A>
+    pub(crate) fn into_place(self) -> Place<M, A>
         ensures table { result.table_id ≡ self.table }
         ensures rests { (result.me.0.ticket ≡ None) × (result.me.0.turn ≡ false) × (result.me.1 ≡ []) }
         ensures part { result.me.0.parts ≡ part_of self ∷ [] }

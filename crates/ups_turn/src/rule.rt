@@ -1,14 +1,16 @@
 //! The rule of the desk's table, and its kinds of step. Taking the manager out of the slot, and giving it back,
 //! are plain memory, and no steps.
 
+use crate::held::Held;
 use crate::view::{Opening, View};
 use atomic_table::{Join, Play, Seat, Shared, Split, TableRule};
 use std::alloc::Allocator;
-use ups_manager::Manager;
+use ups_service::SharedService;
 
 pub struct InTurn;
 
-impl<A: Allocator + Copy> TableRule<Option<Manager<A>>, View<A>, Opening<A>> for InTurn {
+impl<M: SharedService<A>, A: Allocator + Copy> TableRule<Option<Held<M, A>>, View<A>, Opening<M, A>>
+    for InTurn {
     ghost use Rattle.ups_turn.specs.Rule.{KeepsRule, first_view};
 
     ghost holds = { KeepsRule };
@@ -19,7 +21,7 @@ impl<A: Allocator + Copy> TableRule<Option<Manager<A>>, View<A>, Opening<A>> for
 /// Draws a ticket.
 pub struct Draw;
 
-impl<A: Allocator + Copy> Play<Option<Manager<A>>, View<A>> for Draw {
+impl<M: SharedService<A>, A: Allocator + Copy> Play<Option<Held<M, A>>, View<A>> for Draw {
     ghost use Rattle.ups_turn.specs.Plays.{Draws};
 
     ghost then = { Draws };
@@ -28,7 +30,7 @@ impl<A: Allocator + Copy> Play<Option<Manager<A>>, View<A>> for Draw {
 /// Looks which ticket is served.
 pub struct Look;
 
-impl<A: Allocator + Copy> Play<Option<Manager<A>>, View<A>> for Look {
+impl<M: SharedService<A>, A: Allocator + Copy> Play<Option<Held<M, A>>, View<A>> for Look {
     ghost use Rattle.ups_turn.specs.Plays.{Looks};
 
     ghost then = { Looks };
@@ -37,7 +39,7 @@ impl<A: Allocator + Copy> Play<Option<Manager<A>>, View<A>> for Look {
 /// Decides how many requests the call has entered.
 pub struct Decide;
 
-impl<A: Allocator + Copy> Play<Option<Manager<A>>, View<A>> for Decide {
+impl<M: SharedService<A>, A: Allocator + Copy> Play<Option<Held<M, A>>, View<A>> for Decide {
     ghost use Rattle.ups_turn.specs.Plays.{Decides};
 
     ghost then = { Decides };
@@ -46,7 +48,7 @@ impl<A: Allocator + Copy> Play<Option<Manager<A>>, View<A>> for Decide {
 /// Serves the next ticket.
 pub struct Serve;
 
-impl<A: Allocator + Copy> Play<Option<Manager<A>>, View<A>> for Serve {
+impl<M: SharedService<A>, A: Allocator + Copy> Play<Option<Held<M, A>>, View<A>> for Serve {
     ghost use Rattle.ups_turn.specs.Plays.{ServesNext};
 
     ghost then = { ServesNext };
@@ -55,7 +57,7 @@ impl<A: Allocator + Copy> Play<Option<Manager<A>>, View<A>> for Serve {
 /// Enters nothing, and learns what was noted.
 pub struct Settle;
 
-impl<A: Allocator + Copy> Play<Option<Manager<A>>, View<A>> for Settle {
+impl<M: SharedService<A>, A: Allocator + Copy> Play<Option<Held<M, A>>, View<A>> for Settle {
     ghost use Rattle.ups_turn.specs.Plays.{SettlesNotes};
 
     ghost then = { SettlesNotes };
@@ -95,7 +97,7 @@ impl<A: Allocator + Copy> Join<View<A>> for Both {
 }
 
 /// The words and the slot, as all passes share them.
-pub type Shelf<A> = Shared<Option<Manager<A>>, View<A>, Opening<A>, InTurn>;
+pub type Shelf<M, A> = Shared<Option<Held<M, A>>, View<A>, Opening<M, A>, InTurn>;
 
 /// A pass's seat.
-pub type Place<A> = Seat<Option<Manager<A>>, View<A>>;
+pub type Place<M, A> = Seat<Option<Held<M, A>>, View<A>>;

@@ -11,7 +11,7 @@ use std::marker::{Brand, PhantomData};
 use std::sync::Wait;
 use ups_life::{Ask, Reply};
 use ups_pdu::Ae;
-use ups_service::Service;
+use ups_service::{Service, SharedService};
 
 /// What stays so throughout a session: the desk of the pass, what was fixed at its opening, and the number of the pass.
 /// A session is over any service, so it says nothing of them; a type that names them keeps them.
@@ -40,10 +40,10 @@ impl Fixed for Brand {
 /// A pass at its desk, which it owns. Unlike `At`, it keeps the pass at its desk also where it is served by a function
 /// over any service.
 #[derive(Drop)]
-pub struct Seated<'a, F: Fixed, A: Allocator + Copy, R: Wait> {
+pub struct Seated<'a, F: Fixed, M: SharedService<A>, A: Allocator + Copy, R: Wait> {
     rt: &'a R,
-    desk: &'a Desk<A>,
-    pass: Pass<A>,
+    desk: &'a Desk<M, A>,
+    pass: Pass<M, A>,
     fixed: PhantomData<F>,
     ghost desk_is: { desk.now.table ≡ F.table },
     ghost table_is: { pass.table ≡ F.table },
@@ -51,9 +51,9 @@ pub struct Seated<'a, F: Fixed, A: Allocator + Copy, R: Wait> {
     ghost number_is: { pass.number ≡ F.number },
 }
 
-impl<'a, F: Fixed, A: Allocator + Copy, R: Wait> Seated<'a, F, A, R> {
+impl<'a, F: Fixed, M: SharedService<A>, A: Allocator + Copy, R: Wait> Seated<'a, F, M, A, R> {
     /// A pass at its desk.
-    pub fn new(rt: &'a R, desk: &'a Desk<A>, pass: Pass<A>) -> Seated<'a, F, A, R>
+    pub fn new(rt: &'a R, desk: &'a Desk<M, A>, pass: Pass<M, A>) -> Seated<'a, F, M, A, R>
         requires desk { desk.now.table ≡ F.table }
         requires table { pass.table ≡ F.table }
         requires settings { pass.settings ≡ F.settings }
@@ -69,7 +69,7 @@ impl<'a, F: Fixed, A: Allocator + Copy, R: Wait> Seated<'a, F, A, R> {
     }
 
     /// The pass.
-    pub fn into_pass(self) -> Pass<A>
+    pub fn into_pass(self) -> Pass<M, A>
         ensures pass { result ≡ self.entry.pass }
         ensures table { result.table ≡ F.table }
         ensures settings { result.settings ≡ F.settings }
@@ -80,7 +80,8 @@ impl<'a, F: Fixed, A: Allocator + Copy, R: Wait> Seated<'a, F, A, R> {
     }
 }
 
-impl<'a, F: Fixed, A: Allocator + Copy, R: Wait> Service<A> for Seated<'a, F, A, R> {
+impl<'a, F: Fixed, M: SharedService<A>, A: Allocator + Copy, R: Wait> Service<A>
+    for Seated<'a, F, M, A, R> {
     ghost settings = { λ s. s.pass.settings };
 
     ghost others = { λ _. callers };

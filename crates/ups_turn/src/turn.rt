@@ -1,13 +1,19 @@
-//! The steps of a turn: draw a ticket, look until it is served, take the manager, give it back, decide, serve.
+//! The steps of a turn: draw a ticket, look until it is served, take the manager, give it back, decide, serve; and one call
+//! of them all.
 ghost use Rattle.std.specs.Prelude.{◌≡◌, ℕ, ◌+◌, ◌^◌, ◌<◌, ◌≤◌, ◌*◌, ◌==◌, length, [], true, false, All, Some, None, MatchBool};
-ghost use Rattle.ups_turn.specs.Pass.{IsShelf};
+ghost use Rattle.ups_life.specs.Settings.{IsMoment};
+ghost use Rattle.ups_service.specs.Law.{SmallReply, is_legal};
+ghost use Rattle.ups_turn.specs.Pass.{IsAtRest, IsServed, IsShelf, most_calls, seen_in, standing};
 ghost use Rattle.ups_turn.specs.Plays.{with_ticket, at_turn, served, history_in, TakesTurn, MayDecide, MayServe, Took, MayGive, note_of, joined_views, kept_back, dealt, settled, CaughtUp};
 
+use crate::held::Held;
 use crate::rule::{Both, Deal, Decide, Draw, Look, Note, Place, Serve, Settle, Shelf};
 use std::alloc::Allocator;
 use std::hint::spin_loop;
 use std::sync::Wait;
-use ups_manager::Manager;
+use ups_life::{Ask, Reply};
+use ups_pdu::Ae;
+use ups_service::SharedService;
 
 /// The word that counts the requests that are entered.
 const COUNT: usize = 0;
@@ -23,7 +29,10 @@ const SERVING: usize = 2;
 const LOOKS: u32 = 100;
 
 /// Draws a ticket.
-fn draw<A: Allocator + Copy>(shelf: &Shelf<A>, place: &mut Place<A>) -> u64
+fn draw<M: SharedService<A>, A: Allocator + Copy>(
+    shelf: &Shelf<M, A>,
+    place: &mut Place<M, A>,
+) -> u64
     requires table { IsShelf place.old.table_id shelf.now.table_id }
     requires rests { place.old.me.0.ticket ≡ None }
     requires left { place.old.me.0.draws + 1 ≤ length place.old.me.0.parts * 2 ^ 40 }
@@ -34,7 +43,11 @@ fn draw<A: Allocator + Copy>(shelf: &Shelf<A>, place: &mut Place<A>) -> u64
 }
 
 /// Looks which ticket is served. Where it is the seat's own, the seat has the turn, and the manager.
-fn look<A: Allocator + Copy>(shelf: &Shelf<A>, place: &mut Place<A>, ticket: u64) -> u64
+fn look<M: SharedService<A>, A: Allocator + Copy>(
+    shelf: &Shelf<M, A>,
+    place: &mut Place<M, A>,
+    ticket: u64,
+) -> u64
     requires table { IsShelf place.old.table_id shelf.now.table_id }
     requires waits { (place.old.me.0.ticket ≡ Some ticket) × (place.old.me.0.turn ≡ false) × (place.old.me.1 ≡ []) × (0 < length place.old.me.0.parts) }
     ensures same { (place.new.table_id ≡ place.old.table_id) × (place.new.id ≡ place.old.id) }
@@ -44,7 +57,11 @@ fn look<A: Allocator + Copy>(shelf: &Shelf<A>, place: &mut Place<A>, ticket: u64
 }
 
 /// Looks a number of times, or until the ticket is served. Returns the ticket that was served last.
-fn look_often<A: Allocator + Copy>(shelf: &Shelf<A>, place: &mut Place<A>, ticket: u64) -> u64
+fn look_often<M: SharedService<A>, A: Allocator + Copy>(
+    shelf: &Shelf<M, A>,
+    place: &mut Place<M, A>,
+    ticket: u64,
+) -> u64
     requires table { IsShelf place.old.table_id shelf.now.table_id }
     requires waits { (place.old.me.0.ticket ≡ Some ticket) × (place.old.me.0.turn ≡ false) × (place.old.me.1 ≡ []) × (0 < length place.old.me.0.parts) }
     ensures same { (place.new.table_id ≡ place.old.table_id) × (place.new.id ≡ place.old.id) }
@@ -61,7 +78,12 @@ fn look_often<A: Allocator + Copy>(shelf: &Shelf<A>, place: &mut Place<A>, ticke
 }
 
 /// Waits for the turn: looks, and then sleeps until another ticket is served than the one that was found.
-fn wait<A: Allocator + Copy, R: Wait>(rt: &R, shelf: &Shelf<A>, place: &mut Place<A>, ticket: u64)
+fn wait<M: SharedService<A>, A: Allocator + Copy, R: Wait>(
+    rt: &R,
+    shelf: &Shelf<M, A>,
+    place: &mut Place<M, A>,
+    ticket: u64,
+)
     requires table { IsShelf place.old.table_id shelf.now.table_id }
     requires waits { (place.old.me.0.ticket ≡ Some ticket) × (place.old.me.0.turn ≡ false) × (place.old.me.1 ≡ []) × (0 < length place.old.me.0.parts) }
     ensures same { (place.new.table_id ≡ place.old.table_id) × (place.new.id ≡ place.old.id) }
@@ -83,7 +105,11 @@ fn low_half(word: u64) -> u32 {
 }
 
 /// Enters as many requests as the manager in the seat's hands has more than the pass has seen.
-fn decide<A: Allocator + Copy>(shelf: &Shelf<A>, place: &mut Place<A>, entered: u64)
+fn decide<M: SharedService<A>, A: Allocator + Copy>(
+    shelf: &Shelf<M, A>,
+    place: &mut Place<M, A>,
+    entered: u64,
+)
     requires table { IsShelf place.old.table_id shelf.now.table_id }
     requires may { MayDecide place.old.me entered }
     ensures same { (place.new.table_id ≡ place.old.table_id) × (place.new.id ≡ place.old.id) }
@@ -93,7 +119,10 @@ fn decide<A: Allocator + Copy>(shelf: &Shelf<A>, place: &mut Place<A>, entered: 
 }
 
 /// Sends the manager home and serves the next ticket. Returns the ticket that was served until then.
-fn serve<A: Allocator + Copy>(shelf: &Shelf<A>, place: &mut Place<A>) -> u64
+fn serve<M: SharedService<A>, A: Allocator + Copy>(
+    shelf: &Shelf<M, A>,
+    place: &mut Place<M, A>,
+) -> u64
     requires table { IsShelf place.old.table_id shelf.now.table_id }
     requires may { MayServe place.old.me }
     ensures same { (place.new.table_id ≡ place.old.table_id) × (place.new.id ≡ place.old.id) }
@@ -104,7 +133,7 @@ fn serve<A: Allocator + Copy>(shelf: &Shelf<A>, place: &mut Place<A>) -> u64
 
 /// Wakes the passes that sleep, where a ticket was drawn behind the one that was served until now. Where none was,
 /// nobody waits, and the system is not called.
-fn wake<A: Allocator + Copy>(shelf: &Shelf<A>, served: u64)
+fn wake<M: SharedService<A>, A: Allocator + Copy>(shelf: &Shelf<M, A>, served: u64)
     requires { shelf.now.table_id.words ≡ 3 }
 {
     if shelf.peek(TICKET) != served.wrapping_add(1) {
@@ -113,11 +142,11 @@ fn wake<A: Allocator + Copy>(shelf: &Shelf<A>, served: u64)
 }
 
 /// Waits for a turn, and takes the manager.
-pub(crate) fn take<A: Allocator + Copy, R: Wait>(
+fn take<M: SharedService<A>, A: Allocator + Copy, R: Wait>(
     rt: &R,
-    shelf: &Shelf<A>,
-    place: &mut Place<A>,
-) -> Manager<A>
+    shelf: &Shelf<M, A>,
+    place: &mut Place<M, A>,
+) -> Held<M, A>
     requires table { IsShelf place.old.table_id shelf.now.table_id }
     requires rests { (place.old.me.0.ticket ≡ None) × (place.old.me.0.turn ≡ false) × (place.old.me.1 ≡ []) }
     requires left { place.old.me.0.draws + 1 ≤ length place.old.me.0.parts * 2 ^ 40 }
@@ -133,10 +162,10 @@ pub(crate) fn take<A: Allocator + Copy, R: Wait>(
 }
 
 /// Gives the manager back with so many new entries, and ends the turn.
-pub(crate) fn give<A: Allocator + Copy>(
-    shelf: &Shelf<A>,
-    place: &mut Place<A>,
-    manager: Manager<A>,
+fn give<M: SharedService<A>, A: Allocator + Copy>(
+    shelf: &Shelf<M, A>,
+    place: &mut Place<M, A>,
+    manager: Held<M, A>,
     count: u64,
 )
     requires table { IsShelf place.old.table_id shelf.now.table_id }
@@ -152,8 +181,41 @@ pub(crate) fn give<A: Allocator + Copy>(
     wake(shelf, served);
 }
 
+/// One call in the turn of a seat that rests: the manager is taken, answers, and is given back. Returns the reply, and how
+/// many requests are then entered.
+pub(crate) fn call_in_turn<M: SharedService<A>, A: Allocator + Copy, R: Wait>(
+    rt: &R,
+    shelf: &Shelf<M, A>,
+    place: &mut Place<M, A>,
+    number: u32,
+    ae: Ae,
+    moment: u64,
+    ask: Ask<A>,
+) -> (Reply<A>, u64)
+    requires moment { IsMoment moment }
+    requires table { IsShelf place.old.table_id shelf.now.table_id }
+    requires rests { IsAtRest number place.old.me }
+    requires left { place.old.me.0.draws < most_calls }
+    ensures table { place.new.table_id ≡ place.old.table_id }
+    ensures rests { IsAtRest number place.new.me }
+    ensures entries { result.1 ≡ length (seen_in place.new.me.0.parts) }
+    ensures legal { is_legal place.new.me.0.settings (seen_in place.new.me.0.parts) }
+    ensures served { IsServed (standing place.old.table_id number place.old.me.0) ae moment ask result.0 (standing place.new.table_id number place.new.me.0) }
+    ensures small { SmallReply result.0 }
+{
+    let mut manager = take(rt, shelf, place);
+    let before = manager.entries();
+    let reply = manager.answer_as(number, ae, moment, ask);
+    let after = manager.entries();
+    give(shelf, place, manager, after - before);
+    (reply, after)
+}
+
 /// Makes a note of what the seat's passes have seen.
-pub(crate) fn note<A: Allocator + Copy>(shelf: &Shelf<A>, place: &mut Place<A>) -> Place<A>
+pub(crate) fn note<M: SharedService<A>, A: Allocator + Copy>(
+    shelf: &Shelf<M, A>,
+    place: &mut Place<M, A>,
+) -> Place<M, A>
     requires table { IsShelf place.old.table_id shelf.now.table_id }
     ensures same { (place.new.table_id ≡ place.old.table_id) × (place.new.id ≡ place.old.id) × (place.new.me ≡ place.old.me) }
     ensures note { (result.table_id ≡ place.old.table_id) × (result.me ≡ (note_of place.old.me.0, [])) }
@@ -162,7 +224,10 @@ pub(crate) fn note<A: Allocator + Copy>(shelf: &Shelf<A>, place: &mut Place<A>) 
 }
 
 /// Deals out a seat for the first of the seat's passes.
-pub(crate) fn deal<A: Allocator + Copy>(shelf: &Shelf<A>, place: &mut Place<A>) -> Place<A>
+pub(crate) fn deal<M: SharedService<A>, A: Allocator + Copy>(
+    shelf: &Shelf<M, A>,
+    place: &mut Place<M, A>,
+) -> Place<M, A>
     requires table { IsShelf place.old.table_id shelf.now.table_id }
     requires fresh { (place.old.me.0.draws ≡ 0) × (place.old.me.0.turn ≡ false) }
     ensures same { (place.new.table_id ≡ place.old.table_id) × (place.new.id ≡ place.old.id) × (place.new.me ≡ (kept_back place.old.me.0, place.old.me.1)) }
@@ -172,7 +237,11 @@ pub(crate) fn deal<A: Allocator + Copy>(shelf: &Shelf<A>, place: &mut Place<A>) 
 }
 
 /// Makes the seat stand for the other's passes too, with its notes.
-pub(crate) fn absorb<A: Allocator + Copy>(shelf: &Shelf<A>, place: &mut Place<A>, other: Place<A>)
+pub(crate) fn absorb<M: SharedService<A>, A: Allocator + Copy>(
+    shelf: &Shelf<M, A>,
+    place: &mut Place<M, A>,
+    other: Place<M, A>,
+)
     requires table { IsShelf place.old.table_id shelf.now.table_id × (other.table_id ≡ shelf.now.table_id) }
     requires rests { (place.old.me.0.turn ≡ false) × (other.me.0.ticket ≡ None) × (other.me.0.turn ≡ false) × (other.me.1 ≡ []) }
     requires some { 0 < length other.me.0.parts → 0 < length place.old.me.0.parts }
@@ -183,7 +252,10 @@ pub(crate) fn absorb<A: Allocator + Copy>(shelf: &Shelf<A>, place: &mut Place<A>
 }
 
 /// Has the seat's passes learn what was noted.
-pub(crate) fn settle<A: Allocator + Copy>(shelf: &Shelf<A>, place: &mut Place<A>)
+pub(crate) fn settle<M: SharedService<A>, A: Allocator + Copy>(
+    shelf: &Shelf<M, A>,
+    place: &mut Place<M, A>,
+)
     requires table { IsShelf place.old.table_id shelf.now.table_id }
     requires rests { (place.old.me.0.turn ≡ false) × (0 < length place.old.me.0.parts) }
     ensures same { (place.new.table_id ≡ place.old.table_id) × (place.new.id ≡ place.old.id) }

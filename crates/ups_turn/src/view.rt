@@ -1,17 +1,32 @@
 //! What a seat of the desk's table knows, and what the table is told once. A view is never made: the proofs
 //! alone speak of it.
 
+use crate::held::Held;
 use std::alloc::Allocator;
 use std::collections::LinkedList;
+use std::marker::Model;
 use std::snapshot::Snapshot;
 use ups_life::{Configuration, Entry};
-use ups_manager::Manager;
+use ups_service::SharedService;
 
-/// What the desk opens with: the manager as it is then, and how many passes there are.
+/// What the desk opens with: the manager as it is then, and how many passes there are. A contract sees it as these two.
 #[derive(Drop)]
-pub struct Opening<A: Allocator + Copy> {
-    pub manager: Snapshot<Manager<A>>,
+pub struct Opening<M: SharedService<A>, A: Allocator + Copy> {
+    pub manager: Snapshot<Held<M, A>>,
     pub seats: u64,
+}
+
+impl<M: SharedService<A>, A: Allocator + Copy> Model for Opening<M, A> {
+    ghost use Rattle.ups_turn.specs.Opening.{Opening};
+
+    ghost Value = { Opening A };
+
+    ghost use Rattle.std.specs.Coded.{codes};
+    ghost use Rattle.ups_dataset.specs.Code.{set_code};
+
+    ghost coded = { Prim.hlevel (set_code, codes) };
+
+    ghost view = { λ o. record { manager = o.manager.value; seats = o.seats } };
 }
 
 /// A pass as its seat knows it.

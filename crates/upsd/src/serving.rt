@@ -30,9 +30,9 @@ pub struct RanServer {
     /// Whether its threads began. Where one could not be started, or memory ran out before, none did.
     pub begun: bool,
     /// The desk.
-    pub desk: Desk<Global>,
+    pub desk: Desk<Manager<Global>, Global>,
     /// The passes of the workers, of those that deliver and of the sweeper, in this order.
-    pub passes: Vec<Pass<Global>>,
+    pub passes: Vec<Pass<Manager<Global>, Global>>,
 }
 
 /// Listens where the command line says. With port 0 the port that was taken is printed, so that a client can be told.
@@ -58,6 +58,7 @@ fn options_of(alloc: Global, asked: ServeArguments<'_>) -> ServerOptions
     ensures ae { result.config.ae ≡ asked.entry.ae }
     ensures offset { result.config.offset ≡ asked.entry.offset }
     ensures turns { result.turns ≡ turns_limit }
+    ensures idle { result.idle ≡ asked.entry.idle }
     ensures timeout { result.timeout ≡ asked.entry.timeout }
     ensures delivery_timeout { result.delivery_timeout ≡ asked.entry.delivery_timeout }
     ensures workers { result.workers ≡ asked.entry.workers }
@@ -70,6 +71,7 @@ fn options_of(alloc: Global, asked: ServeArguments<'_>) -> ServerOptions
         ae,
         offset,
         workers,
+        idle,
         timeout,
         delivery_timeout,
         watchers,
@@ -80,6 +82,7 @@ fn options_of(alloc: Global, asked: ServeArguments<'_>) -> ServerOptions
         alloc,
         config: Config { ae, offset },
         turns: TURNS,
+        idle,
         timeout,
         delivery_timeout,
         workers,

@@ -1,8 +1,7 @@
-//! How much a script may be, and what happens where its reader, its writer or its memory gives out.
+//! How much a script may be, and what happens where its reader or its writer gives out.
 
 use super::*;
 use crate::devices::Interrupted;
-use fixtures::Refusing;
 use std::io::{self, BufReader, Error, ErrorKind, Read};
 
 // A length of two bytes says 65,534 at most, and what is longer has a representation whose length has four. The front of
@@ -209,103 +208,6 @@ fn a_writer_that_fails_has_the_first_bytes(rt: HostRuntime) -> Result<(), Fail> 
     for room in 0..11 {
         let told = told_over(&rt, "", "0 P none\n", room)?;
         assert!(rt; told.contains("! a write failed\n"), "{room}");
-    }
-    Ok(())
-}
-
-/// What comes of a script that lacks the growth of this number; `all: ` stands before it where there are not so many.
-fn without_growth(rt: &impl AllocGlobal, script: &str, growth: u64) -> Result<String, Fail> {
-    let heap = Refusing::new(rt.alloc());
-    heap.refuse(growth);
-    let mut reader = script.as_bytes();
-    let mut output = Vec::new(rt.alloc());
-    let ended = run(&heap, &mut reader, &mut output, &[], 60, 0);
-    let told = text_of(rt, &Told { ended, output })?;
-    let front = if heap.is_armed() { "all: " } else { "" };
-    Ok(format!(in rt.alloc(); "{front}{told}")?)
-}
-
-/// Whether a script with a growth refused may come to this: it ended for lack of memory behind a beginning of `replies`;
-/// or could do without; or the service told it, so that the replies are one of `others`.
-fn is_allowed(told: &str, replies: &str, others: &str) -> bool {
-    if let Some(front) = told.strip_suffix("! out of memory\n") {
-        return replies.starts_with(front);
-    }
-    for other in others.split("\nor\n") {
-        if told.strip_suffix('\n') == Some(other) {
-            return true;
-        }
-    }
-    told == replies
-}
-
-/// Whether a script has fewer growths than this number; else it may come to what it does without that growth.
-fn is_last<R: Abort + AllocGlobal>(
-    rt: &R,
-    script: &str,
-    growth: u64,
-    replies: &str,
-    others: &str,
-) -> Result<bool, Fail> {
-    let told = without_growth(rt, script, growth)?;
-    if told.strip_prefix("all: ") == Some(replies) {
-        return Ok(true);
-    }
-    assert!(rt; is_allowed(told.as_str(), replies, others), "{told}");
-    Ok(false)
-}
-
-/// Runs a script with each of its growths refused in turn: its rows, and, each behind a line `or`, other replies.
-fn lacks<R: Abort + AllocGlobal>(rt: &R, section: &str) -> Result<(), Fail> {
-    let (rows, others) = section.split_once("\nor\n").unwrap_or((section, ""));
-    let (script, replies) = split_rows(rt, rows)?;
-    for growth in 1..2000 {
-        if is_last(rt, script.as_str(), growth, replies.as_str(), others)? {
-            return Ok(());
-        }
-    }
-    Err("no end of growths".into())
-}
-
-/// Scripts, and what else is replied where memory lacks.
-const LACKING: &str = "\
-0 P1 create U1 B 00404025/00080100=A%20B -> 0000
-0 P1 get U1 00741000 00404025 -> 0000 00404025/00080100=A%20B 00741000=SCHEDULED
-or
-0213
-C307
-or
-0000
-0213
-
-0 P1 create U1 B 00404025/00080100=A%20B -> 0000
-0 P1 find 00080018=1.2%2e3.1 00741202= -> 0000 [00080018=1.2.3.1 00741202=]
-or
-0213
-0000
-or
-0000
-A700
-
-0 P%31 cancel 1%2e2 00741238=A 00741238=B -> C307
-0 P1 held -> 0000
-
-0 P1 create U1 B 00404025/00080100=A%20B -> 0000
-0 P1 set U1 - 00741202=X -> 0000
-0 P1 held -> 0000 1.2.3.1
-or
-0213
-C307
-0000
-or
-0000
-0213
-0000 1.2.3.1";
-
-#[test]
-fn each_refused_growth_ends_the_script_or_is_a_status(rt: HostRuntime) -> Result<(), Fail> {
-    for section in LACKING.split("\n\n") {
-        lacks(&rt, section)?;
     }
     Ok(())
 }

@@ -1,7 +1,7 @@
 //! Deliveries: what a peer answers this side that reports events to it, and what is written and acknowledged then (PS3.4
 //! CC.2.4, PS3.8 section 9.2).
 
-use super::failing::{fate, is_cut_short, without_growth};
+use super::failing::is_cut_short;
 use super::*;
 
 const DELIVERIES: &str = "\
@@ -197,43 +197,4 @@ fn a_writer_that_fails_leaves_pending_what_is_not_acknowledged(
         assert!(rt; is_cut_short(&rt, TWO, &input, written, entries)?, "{room}");
     }
     Ok(())
-}
-
-/// What is written where the service lacks memory: it tells of no event, or takes no acknowledgement. Where it lacks it as
-/// it is asked for the last time what is pending, the association is released as it is without that.
-const LACKING: &str = "\
-PROPOSED RELEASE : Released 3, pending 1 2
-PROPOSED FIRST_REPORT RELEASE : Released 3, pending 1 2
-PROPOSED FIRST_REPORT SECOND_REPORT RELEASE : Released 4, pending 2
-PROPOSED FIRST_REPORT SECOND_REPORT RELEASE : Released 5, pending";
-
-/// Whether what is pending is what was not acknowledged.
-fn keeps_account(told: &str) -> bool {
-    told.ends_with(" 3, pending 1 2")
-        || told.ends_with(" 4, pending 2")
-        || told.ends_with(" 5, pending")
-}
-
-/// What becomes of a delivery that lacks the growth of this number.
-fn fate_without<R: Abort + AllocGlobal>(
-    rt: &R,
-    input: &[u8],
-    expected: &str,
-    growth: u64,
-) -> Result<&'static str, Fail> {
-    let told = without_growth(rt, TWO, input, growth)?;
-    assert!(rt; keeps_account(told.as_str()), "{told}");
-    fate(rt, told.as_str(), expected, LACKING)
-}
-
-#[test]
-fn each_refused_growth_is_memory_or_ends_the_reports(rt: HostRuntime) -> Result<(), Fail> {
-    let input = said(&rt, TAKEN)?;
-    let expected = course_of(&rt, TWO, &input)?;
-    for growth in 1..5000 {
-        if fate_without(&rt, &input, expected.as_str(), growth)? == "all" {
-            return Ok(());
-        }
-    }
-    Err("no end of growths".into())
 }

@@ -1,8 +1,6 @@
-//! Sessions whose reader, writer or memory gives out at each place in turn.
+//! Sessions whose reader or writer gives out at each place in turn.
 
 use super::*;
-use fixtures::Refusing;
-use std::alloc::Global;
 
 /// An association that creates a step and reads it.
 const ASKED: &str = "REQUEST CREATE STEP GET RELEASE";
@@ -79,113 +77,6 @@ fn a_writer_that_fails_within_the_matches_has_the_first_bytes(rt: HostRuntime) -
             is_cut_short(&rt, "(two steps)", &input, written, "2")?,
             "{room}"
         );
-    }
-    Ok(())
-}
-
-/// What a session with a manager comes to that lacks the growth of this number; `all: ` stands before it where there are
-/// not so many.
-fn course_without<'a>(
-    rt: &impl AllocGlobal,
-    heap: &'a Refusing<Global>,
-    manager: &mut Manager<&'a Refusing<Global>>,
-    heading: &str,
-    input: &[u8],
-    growth: u64,
-) -> Result<String, Fail> {
-    heap.refuse(growth);
-    let told = course_with(rt, heap, manager, heading, input)?;
-    let front = if heap.is_armed() { "all: " } else { "" };
-    heap.refuse(0);
-    let course = format!(in rt.alloc(); "{front}{told}")?;
-    with_pending(rt, manager, heading, course.as_str())
-}
-
-/// The same of a new manager.
-pub(super) fn without_growth(
-    rt: &impl AllocGlobal,
-    heading: &str,
-    input: &[u8],
-    growth: u64,
-) -> Result<String, Fail> {
-    let heap = Refusing::new(rt.alloc());
-    let mut manager = manager_of(rt, &heap, heading)?;
-    course_without(rt, &heap, &mut manager, heading, input, growth)
-}
-
-/// Whether a course that ends for lack of memory writes a beginning of what is answered.
-fn is_beginning(told: &str, answered: &str) -> bool {
-    match told.split_once(" : Memory ") {
-        Some((written, _)) => answered.starts_with(written),
-        None => false,
-    }
-}
-
-/// Whether a course is one of these, a line each.
-fn is_among(rt: &impl AllocGlobal, told: &str, others: &str) -> Result<bool, Fail> {
-    for other in others.lines() {
-        if course_in(rt, other)?.as_str() == told {
-            return Ok(true);
-        }
-    }
-    Ok(false)
-}
-
-/// What becomes of a session that lacks a growth: it ends for lack of memory behind a beginning of what is
-/// `expected` (`short`); or the peer is told one of `others` (`told`); or there are not so many growths (`all`).
-pub(super) fn fate<R: Abort + AllocGlobal>(
-    rt: &R,
-    told: &str,
-    expected: &str,
-    others: &str,
-) -> Result<&'static str, Fail> {
-    if told.strip_prefix("all: ") == Some(expected) {
-        return Ok("all");
-    }
-    if is_beginning(told, expected) {
-        return Ok("short");
-    }
-    assert!(rt; is_among(rt, told, others)?, "{told}");
-    Ok(if told == expected { "short" } else { "told" })
-}
-
-/// A session with each of its growths refused in turn: a heading, a row, and, a line each, what else it may come to. One
-/// of the others comes at least once.
-fn lacks<R: Abort + AllocGlobal>(rt: &R, section: &str) -> Result<(), Fail> {
-    let (heading, rest) = section.split_once('\n').ok_or("a heading")?;
-    let (row, others) = rest.split_once('\n').ok_or("a row")?;
-    let (asked, answered) = row.split_once(" -> ").ok_or("what is said")?;
-    let input = said(rt, asked)?;
-    let expected = course_in(rt, answered)?;
-    let mut was_told = false;
-    for growth in 1..500 {
-        let told = without_growth(rt, heading, &input, growth)?;
-        match fate(rt, told.as_str(), expected.as_str(), others)? {
-            "all" if was_told => return Ok(()),
-            "all" => return Err("the peer was never told".into()),
-            fate => was_told |= fate == "told",
-        }
-    }
-    Err("no end of growths".into())
-}
-
-/// Sessions, and what else they come to where memory lacks. Keys for whose preparation memory was refused are tried as
-/// they are.
-const LACKING: &str = "\
-# A step is created and read
-REQUEST CREATE STEP GET RELEASE -> ACCEPTED CREATED GOT GOT_STEP RELEASED : Released 1
-ACCEPTED OUT_OF_RESOURCES NOT_HELD RELEASED : Released 0
-ACCEPTED CREATED NOT_SHOWN RELEASED : Released 1
-
-# Steps are found (two steps)
-PUSH_AND_PULL FIND KEYS RELEASE -> TWO_ACCEPTED MATCH FIRST_MATCH MATCH SECOND_MATCH DONE 0000 RELEASED : Released 2
-TWO_ACCEPTED DONE 00a7 RELEASED : Released 2
-TWO_ACCEPTED MATCH FIRST_MATCH MATCH SECOND_MATCH DONE 0000 RELEASED : Released 2";
-
-#[test]
-fn each_refused_growth_is_memory_or_told_to_the_peer(rt: HostRuntime) -> Result<(), Fail> {
-    for section in LACKING.split("\n\n") {
-        lacks(&rt, section)?;
     }
     Ok(())
 }

@@ -69,7 +69,9 @@ pub(super) const KEYS: &str = r"00080018=|00741000= -> 00080018=
 00404005=20240301-|00741200=HIGH -> 00741200=HIGH
 00100010=|00741204=CT* -> 00080018=
 00100010=DOE*|00741000= -> 00080018=
-00100020=P1|00741202=READS -> 00100020=P1";
+00100020=P1|00741202=READS -> 00100020=P1
+00080018=1.2.3.7|00100020=P1 -> 00080018=1.2.3.7
+00080018=1.2.3.41|00741000= -> 00080018=1.2.3.41";
 
 /// Returns a line that asks for something of one of 40 steps.
 fn any_line(rt: &impl AllocGlobal, dice: &mut Dice, moment: u64) -> Result<String, Fail> {

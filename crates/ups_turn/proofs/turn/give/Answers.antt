@@ -1,6 +1,6 @@
 use Rattle.std.proofs.Common.{ℕ, ◌∷◌, List, Option, None, sym, ap, ◌∙◌}
 use Rattle.atomic_table.specs.Table.{rest}
-use Rattle.ups_manager.specs.State.{State}
+use Rattle.ups_service.specs.State.{State}
 use Rattle.ups_turn.proofs.Turns.{may_decide, may_serve}
 use Rattle.ups_turn.proofs.turn.give.Goals as goal
 

@@ -1,6 +1,8 @@
+use denote.Param.Send.{sendable}
 use Rattle.std.proofs.Common.{◌≡◌, ◌+◌, ◌∙◌, ap, arith, length, subst, sym}
 use Rattle.std.specs.Prelude.{All}
 use Rattle.ups_turn.specs.Pass.{Standing, passes_from}
+use Rattle.ups_manager.proofs.Crosses.{manager_send}
 use Rattle.ups_net.specs.Working.{Ran}
 use Rattle.upsd.specs.Serving.{seats_of}
 use Rattle.upsd.proofs.Seating.{all_here, as_many}
@@ -28,3 +30,6 @@ returns-clause-ran g c =
       record { ae = e.ae; offset = e.offset; turns = e.turns; workers = e.workers; watchers = e.watchers; associations = e.associations; rounds = e.rounds },
       subst (λ l. Ran c.options_of-options.result c.run-begun.result.0 l c.run-begun.result.1.items) passes c.run-begun.ensures.ran,
     )
+
+pub run-begun-requires-send-M : goal.run-begun-requires-send-M
+run-begun-requires-send-M g c κs within = search (sendable, manager_send) depth 30

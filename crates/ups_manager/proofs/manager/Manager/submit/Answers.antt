@@ -12,7 +12,7 @@ use Rattle.ups_live.specs.Held.{held_steps}
 use Rattle.ups_service.specs.Law.{Answers}
 use Rattle.ups_manager.specs.Held.{IsSmallStep}
 use Rattle.ups_manager.specs.Kept.{Stands}
-use Rattle.ups_manager.specs.State.{State}
+use Rattle.ups_service.specs.State.{State}
 use Rattle.ups_manager.proofs.Entering.{of_slice, has_room, answers_full, none_entered, one_entered, small_done, succeeds, legal_with, HaveDates, moments_after}
 use Rattle.ups_manager.proofs.manager.Manager.submit.Goals as goal
 

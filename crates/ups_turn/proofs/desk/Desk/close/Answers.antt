@@ -1,6 +1,6 @@
 use Rattle.std.proofs.Common.{◌≡◌, ℕ, Bool, false, List, slice_index_or, ap, ◌∙◌, arith}
 use Rattle.std.specs.Slots.{slots_filled}
-use Rattle.ups_turn.proofs.Closes.{not_there, emptied, closed_settings, closed_callers, closed_passes, closed_numbers}
+use Rattle.ups_turn.proofs.Closes.{not_there, emptied, closed_settings, closed_legal, closed_callers, closed_passes, closed_numbers}
 use Rattle.ups_turn.proofs.desk.Desk.close.Goals as goal
 
 pub take-slot-requires : goal.take-slot-requires
@@ -29,19 +29,25 @@ pub returns-clause-settings : goal.returns-clause-settings
 returns-clause-settings g c =
     let t = c.self.inside.table.shared in
     let p = c.gather-place in
-    rw (← c.self.view_is) (closed_settings t.key p.result.id p.result.me.0 c.args.passes.items _ _ c.take-slot.result c.close_with-closed.ensures.values.2 p.ensures.rests.1 p.ensures.all (let n = c.args.passes.ok.0 in let l = c.len.ensures in let same = c.if-len-self.false in let seats = c.self.invariant.2 in omega arith) c.take-slot.ensures.value c.in-Some.manager c.in-Some.is)
+    rw (c.into_shared.ensures, ← c.self.view_is) (closed_settings t.key p.result.id p.result.me.0 c.args.passes.items _ _ c.take-slot.result c.close_with-closed.ensures.values.2 p.ensures.rests.1 p.ensures.all (let n = c.args.passes.ok.0 in let l = c.len.ensures in let same = c.if-len-self.false in let seats = c.self.invariant.2 in omega arith) c.take-slot.ensures.value c.in-Some.manager c.in-Some.is)
+
+pub returns-clause-legal : goal.returns-clause-legal
+returns-clause-legal g c =
+    let t = c.self.inside.table.shared in
+    let p = c.gather-place in
+    rw c.into_shared.ensures (closed_legal t.key p.result.id p.result.me.0 c.args.passes.items _ _ c.take-slot.result c.close_with-closed.ensures.values.2 p.ensures.rests.1 p.ensures.all (let n = c.args.passes.ok.0 in let l = c.len.ensures in let same = c.if-len-self.false in let seats = c.self.invariant.2 in omega arith) c.take-slot.ensures.value c.in-Some.manager c.in-Some.is)
 
 pub returns-clause-callers : goal.returns-clause-callers
 returns-clause-callers g c =
     let t = c.self.inside.table.shared in
     let p = c.gather-place in
-    rw (← c.self.view_is) (closed_callers t.key p.result.id p.result.me.0 c.args.passes.items _ _ c.take-slot.result c.close_with-closed.ensures.values.2 p.ensures.rests.1 p.ensures.all (let n = c.args.passes.ok.0 in let l = c.len.ensures in let same = c.if-len-self.false in let seats = c.self.invariant.2 in omega arith) c.take-slot.ensures.value c.in-Some.manager c.in-Some.is)
+    rw (c.into_shared.ensures, ← c.self.view_is) (closed_callers t.key p.result.id p.result.me.0 c.args.passes.items _ _ c.take-slot.result c.close_with-closed.ensures.values.2 p.ensures.rests.1 p.ensures.all (let n = c.args.passes.ok.0 in let l = c.len.ensures in let same = c.if-len-self.false in let seats = c.self.invariant.2 in omega arith) c.take-slot.ensures.value c.in-Some.manager c.in-Some.is)
 
 pub returns-clause-passes : goal.returns-clause-passes
 returns-clause-passes g c =
     let t = c.self.inside.table.shared in
     let p = c.gather-place in
-    closed_passes t.key p.result.id p.result.me.0 c.args.passes.items _ _ c.take-slot.result c.close_with-closed.ensures.values.2 p.ensures.rests.1 p.ensures.all (let n = c.args.passes.ok.0 in let l = c.len.ensures in let same = c.if-len-self.false in let seats = c.self.invariant.2 in omega arith) c.take-slot.ensures.value c.in-Some.manager c.in-Some.is
+    rw c.into_shared.ensures (closed_passes t.key p.result.id p.result.me.0 c.args.passes.items _ _ c.take-slot.result c.close_with-closed.ensures.values.2 p.ensures.rests.1 p.ensures.all (let n = c.args.passes.ok.0 in let l = c.len.ensures in let same = c.if-len-self.false in let seats = c.self.invariant.2 in omega arith) c.take-slot.ensures.value c.in-Some.manager c.in-Some.is)
 
 pub returns-clause-numbers : goal.returns-clause-numbers
 returns-clause-numbers g c =

@@ -1,0 +1,41 @@
+//! What callers with numbers share, in turns.
+
+use std::alloc::Allocator;
+use ups_life::{Ask, Reply};
+use ups_pdu::Ae;
+
+/// What callers share, one call at a time: it has what was fixed at the start, and one history, in which each entry has the
+/// number of its caller. A manager is one.
+pub trait SharedService<A: Allocator + Copy>: Drop {
+    ghost use Rattle.std.specs.Prelude.{◌≡◌, ◌++◌, ℕ, true, is_some, length};
+    ghost use Rattle.std.specs.Option.{IfSome};
+    ghost use Rattle.ups_life.specs.Settings.{IsMoment};
+    ghost use Rattle.ups_service.specs.Law.{Answers, SmallReply, entered, is_legal};
+    ghost use Rattle.ups_service.specs.State.{State};
+
+    /// What was fixed at the start, and the accepted requests, oldest first.
+    ghost state: { Self → State A };
+
+    /// How many requests may be entered.
+    fn limit(&self) -> u64
+        ensures { result ≡ (state self.now).settings.limit };
+
+    /// How many requests are entered.
+    fn entries(&self) -> usize
+        ensures count { result ≡ length (state self.now).history }
+        ensures legal { is_legal (state self.now).settings (state self.now).history };
+
+    /// Takes an ask from its place and answers it for an application entity by the history, and enters it where it is a
+    /// request that is accepted. `caller` is the number of the caller, and `moment` is in seconds since 1970-01-01 UTC. The
+    /// ask is not passed by value, since the toolchain proves no impl yet whose method takes a value that is generic in its
+    /// allocator.
+    fn answer_as(&mut self, caller: u32, ae: Ae, moment: u64, ask: &mut Option<Ask<A>>) -> Reply<A>
+        requires given { is_some ask.old ≡ true }
+        requires moment { IsMoment moment }
+        ensures answer { IfSome ask.old (λ asked. Answers (state self.old).settings (state self.old).history caller ae moment asked result) }
+        ensures history { IfSome ask.old (λ asked. (state self.new).history ≡ (state self.old).history ++ entered caller ae moment asked result) }
+        ensures settings { (state self.new).settings ≡ (state self.old).settings }
+        ensures small { SmallReply result }
+        ensures legal { is_legal (state self.old).settings (state self.old).history }
+        ensures legal_after { is_legal (state self.new).settings (state self.new).history };
+}
