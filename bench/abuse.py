@@ -3,9 +3,9 @@
 
 After each kind of them, 4 working peers have to be served with C-ECHO at the same time, so that each worker is back: within
 2 limits while the hostile peers still hold their connections, and within one limit when they are gone. Then the memory of
-the server (VmHWM) has to have stayed under 100 MB, no thread may be lost, and SIGTERM has to end it. A program that is
-built with checks (`rt try`) may need more memory: the last line tells how much it was.
+the server (VmHWM) has to have stayed under 100 MB, no thread may be lost, and SIGTERM has to end it.
 
+    say nothing         such a connection is closed within 2 limits, though nobody else comes
     close in a PDU      in the header, in the body, in an association and in a message of a megabyte; half of them by a reset
     garbage             random bytes, other protocols, PDUs out of place and with wrong lengths, also in an association: each
                         is hung up on within one limit
@@ -15,22 +15,29 @@ built with checks (`rt try`) may need more memory: the last line tells how much 
     1,000 silent peers  connect at the same time and say nothing. A connection that says nothing is closed where another one
                         waits, so a working peer that comes behind them is served within one limit of 10 seconds
 
-Then come crowds: 200 peers of one kind at the same time, at a server of their own with 4 workers and limits of 2 seconds.
-They are served in order, 4 at a time, and each is cut off at its limit; so a working peer behind all of them is served
-within 52 limits, and when they are gone 4 are within 2 limits. What each of the crowd hears last is an A-ABORT of the
-service provider where the limit is one of reading, and the log names the limit. No thread and no descriptor may be lost, and
-the memory (VmRSS) has to come back. The crowds come at the same time, each to its server:
+Then come crowds: 200 peers of one kind at the same time, at a server of their own with limits of 2 seconds.
 
     opens, never asks   an association, and nothing more
     half open           the same, and the peer is gone without a word (by TCP_REPAIR, as root; else it stays and is silent)
-    slow sender         a byte a second of a P-DATA-TF
+    slow sender         a byte in 0.7 seconds of a P-DATA-TF
     empty fragments     P-DATA-TFs for ever, each with one PDV of no byte, of a command that doesn't end
-    asks, never reads   200 C-FINDs with 50 answers of 10 KB each, of which it reads none
+    asks, never reads   200 C-FINDs with 20 answers of 10 KB each, of which it reads none
     slow taker          the same, of which it reads a byte a second
     storm               connections that are closed at once, half of them by a reset, as fast as 8 threads make them
 
-It starts the servers on free ports of this machine and ends by itself, in five minutes. It prints a line for each
-trial that doesn't agree, and in the end how many agree. It ends with 1 where one doesn't.
+First they come to servers of 4 workers, one for each kind and all at the same time. The peers are served in order, 4 at a
+time, and each is cut off at its limit; so a working peer behind all of them is served within 52 limits, and one beside the
+storm, which connects anew where it can't, within 2. What each of the crowd hears last is an A-ABORT of the service provider
+where the limit is one of reading, and the log names the limit. Then they come, twice, to servers with a worker for each of
+them and 4 more, one kind after the other: 4 working peers beside them are served at the same time within 2 limits.
+
+When a crowd is gone, the server is done with each of its connections within 15 limits. Then 4 working peers are served within
+2 limits; no thread and no descriptor may be lost, and the memory (VmRSS) has to come back: to what it was before, and with so
+many workers to what the first crowd left.
+
+It starts the servers on free ports of this machine and ends by itself, in six minutes. It prints a line for each
+trial that doesn't agree, and in the end how many agree. It ends with 1 where one doesn't. With --no-memory it does not judge
+the memory, for a program that is built with checks.
 """
 
 import argparse
@@ -61,6 +68,10 @@ MEMORY = 100_000_000
 CROWD = 200
 SHORT = 2  # the limits of a server that a crowd holds
 BEHIND = (CROWD // WORKERS + 2) * SHORT  # after how long a peer is served that comes behind a crowd
+LEFT = 15 * SHORT  # after how long no connection of a crowd that is gone waits any more
+PACE = 0.35 * SHORT  # seconds between two bytes of a slow sender: none comes at the moment when a limit is over
+STEPS, FEW_STEPS = 50, 20  # of 10 KB each: what a peer asks for, and one of a crowd
+SEGMENT = 536  # the bytes of a segment to one of a crowd, for which the system then holds some 100 KB that it doesn't read
 GROWTH = 16_000_000  # by how much the memory may grow with a crowd
 STORM = 4  # seconds
 TCP_REPAIR = 19
@@ -81,8 +92,10 @@ class Caller(Peer):
         assert self.pdu()[0] == 2, "not accepted"
 
 
-def connect(port, seconds=LIMIT, buffer=None):
+def connect(port, seconds=LIMIT, buffer=None, source=None):
     it = socket.socket()
+    if source:
+        it.bind((source, 0))
     if buffer:
         it.setsockopt(socket.SOL_SOCKET, socket.SO_RCVBUF, buffer)
     it.settimeout(seconds)
@@ -97,16 +110,18 @@ def begin(port, opened):
 
 def all_back(port, seconds):
     """Why working peers, one for each worker, are not served at the same time within so many seconds, or None."""
-    began, served, over = time.monotonic(), [], threading.Event()
+    served, faults, over = [], [], threading.Event()
 
     def work():
-        with contextlib.suppress(*FAULTS):
+        try:
             peer = Caller(port, seconds)
             assert peer.ask(ECHO) == 0
-            served.append(time.monotonic() - began)
+            served.append(peer)
             while not over.wait(LIMIT / 10):
                 assert peer.ask(ECHO) == 0
             peer.release()
+        except FAULTS as fault:
+            faults.append(repr(fault))
 
     threads = [threading.Thread(target=work, daemon=True) for _ in range(WORKERS)]
     for it in threads:
@@ -115,10 +130,17 @@ def all_back(port, seconds):
     over.set()
     for it in threads:
         it.join(seconds + LIMIT)
-    return None if good else f"{len(served)} of {WORKERS} workers are back after {seconds} s"
+    return None if good else f"{len(served)} of {WORKERS} workers are back after {seconds} s {faults}"
 
 
 # the hostile peers: each function has them say what they say; what they hold is closed with the stack
+
+def say_nothing(port, stack):
+    peers = [stack.enter_context(connect(port)) for _ in range(WORKERS)]
+    deadline = time.monotonic() + SLOW
+    closed = sum(hung_up(it, deadline) for it in peers)
+    assert closed == len(peers), f"{closed} of {len(peers)} silent connections are closed after {SLOW} s"
+
 
 def close_inside(port, stack):
     for opened, said in ((False, REQUEST[:1]), (False, REQUEST[:5]), (False, REQUEST[:6]), (False, REQUEST[:-1]), (True, ECHO[:3]),
@@ -151,11 +173,10 @@ def garbage():
             yield opened, pdu(1 if not opened else 4, chance.randbytes(chance.randrange(68, 2000)))
 
 
-def hung_up(peer):
-    """Whether the server hangs up on a peer within one limit."""
-    deadline = time.monotonic() + LIMIT
+def hung_up(peer, deadline):
+    """Whether the server hangs up on a peer in time."""
     try:
-        while time.monotonic() < deadline:
+        while True:
             peer.settimeout(max(deadline - time.monotonic(), 0.001))
             if not peer.recv(65536):
                 return True
@@ -163,7 +184,6 @@ def hung_up(peer):
         return False
     except OSError:
         return True
-    return False
 
 
 def say_garbage(port, stack):
@@ -171,7 +191,7 @@ def say_garbage(port, stack):
         with begin(port, opened) as peer:
             with contextlib.suppress(ConnectionError):
                 peer.sendall(said)
-            assert hung_up(peer), f"not hung up on {'in' if opened else 'before'} an association after {said[:20].hex()}"
+            assert hung_up(peer, time.monotonic() + LIMIT), f"not hung up on {'in' if opened else 'before'} an association after {said[:20].hex()}"
 
 
 def slowly(opened, said, at_once):
@@ -199,10 +219,10 @@ COMMENT = 0x0040, 0x1400  # Requested Procedure Comments
 BOTH = (PUSH, EXPLICIT), (PULL, EXPLICIT)
 
 
-def create_steps(port):
-    """Steps of 10 KB each."""
+def create_steps(port, count):
+    """So many steps of 10 KB each."""
     peer = Caller(port, SLOW, BOTH)
-    for i in range(50):
+    for i in range(count):
         assert peer.ask(pipe.create(PUSH_ON, 1, b"1.2.0.%d" % i, pipe.step(True, {COMMENT: (b"LT", bytes(10_000))}))) == 0
     peer.release()
 
@@ -214,7 +234,7 @@ def finds():
 
 def never_read(port, stack):
     """Steps, and peers that ask for all of them again and again."""
-    create_steps(port)
+    create_steps(port, STEPS)
     for _ in range(WORKERS):
         peer = Caller(port, LIMIT, BOTH, 4096)
         stack.enter_context(peer.socket)
@@ -225,11 +245,16 @@ def never_read(port, stack):
         before, now = now, unsent(port)
 
 
-def unsent(port):
-    """The bytes that the kernel holds of what the server has written, by connection."""
+def connections(port):
+    """What the kernel tells of the connections to the server that neither side has given up, or the peer alone."""
     with open("/proc/net/tcp") as it:
         rows = [line.split() for line in it][1:]
-    return sorted((row[2], row[4].split(":")[0]) for row in rows if row[1].endswith(f":{port:04X}") and row[3] == "01")
+    return [row for row in rows if row[1].endswith(f":{port:04X}") and row[3] in ("01", "08")]
+
+
+def unsent(port):
+    """The bytes that the kernel holds of what the server has written, by connection."""
+    return sorted((row[2], row[4].split(":")[0]) for row in connections(port) if row[3] == "01")
 
 
 def silent(port, count, stack):
@@ -261,15 +286,17 @@ def hostile_trial(server, tally, name, hostile, seconds):
     tally.tell(f"{name}, when they are gone", all_back(server.port, LIMIT))
 
 
-def served_behind(port, seconds):
-    """After how long a working peer is served that tries anew where it can't connect, or None where it isn't in time."""
+def served(port, seconds, to_connect):
+    """After how long a working peer is served that connects anew where it can't within so many seconds, and then waits for its
+    turn; None where it isn't served in time."""
     began = time.monotonic()
-    while time.monotonic() - began < seconds:
+    while (left := began + seconds - time.monotonic()) > 0:
         with contextlib.suppress(*FAULTS):
-            peer = Caller(port, seconds)
+            peer = Caller(port, left, to_connect=min(left, to_connect))
             assert peer.ask(ECHO) == 0
+            waited = time.monotonic() - began
             peer.release()
-            return time.monotonic() - began
+            return waited if waited <= seconds else None
     return None
 
 
@@ -277,7 +304,7 @@ def silent_trial(program, tally):
     """Silent peers at a server of its own, and a working peer behind them: after how long that was served, and the memory."""
     with Server(program, "--associations", str(WORKERS), "--timeout", str(QUEUE), "--idle", str(QUEUE)) as server, contextlib.ExitStack() as stack:
         silent(server.port, SILENT, stack)
-        waited = served_behind(server.port, QUEUE)
+        waited = served(server.port, QUEUE, QUEUE)
         tally.tell(f"a peer behind {SILENT} silent ones", None if waited else f"it is not served within {QUEUE} s")
         tally.tell(f"{SILENT} silent peers, all workers", all_back(server.port, QUEUE))
         return waited, status(server, "VmHWM")
@@ -305,6 +332,7 @@ class Holder:
         self.socket, self.heard, self.is_cut = socket.socket(), b"", False
         self.socket.setblocking(False)
         self.socket.setsockopt(socket.SOL_SOCKET, socket.SO_RCVBUF, 4096)
+        self.socket.setsockopt(socket.IPPROTO_TCP, socket.TCP_MAXSEG, SEGMENT)
 
     async def connect(self, port):
         await asyncio.get_running_loop().sock_connect(self.socket, ("127.0.0.1", port))
@@ -344,7 +372,7 @@ async def sends_slowly(holder):
     with contextlib.suppress(ConnectionError):
         for i in pdu(4, bytes(16384)):
             await holder.say(bytes([i]))
-            await asyncio.sleep(1)
+            await asyncio.sleep(PACE)
     await holder.hear_all()
 
 
@@ -402,91 +430,130 @@ def crowd(port, kind, holders):
             it.socket.close()
 
 
+@contextlib.contextmanager
 def storm(port):
-    """Connections that are closed at once."""
+    """Connections that are closed at once, each thread's from an address of its own: one address has too few ports."""
     end = time.monotonic() + STORM
 
-    def blow():
+    def blow(source):
         while time.monotonic() < end:
-            with contextlib.suppress(OSError), connect(port) as peer:
+            with contextlib.suppress(OSError), connect(port, source=source) as peer:
                 if random.random() < 0.5:
                     peer.setsockopt(socket.SOL_SOCKET, socket.SO_LINGER, struct.pack("ii", 1, 0))
 
-    threads = [threading.Thread(target=blow, daemon=True) for _ in range(8)]
-    for it in threads:
+    blowing = [threading.Thread(target=blow, args=(f"127.0.0.{2 + i}",), daemon=True) for i in range(8)]
+    for it in blowing:
         it.start()
-    for it in threads:
-        it.join()
+    time.sleep(1)
+    try:
+        yield
+    finally:
+        for it in blowing:
+            it.join()
 
 
-def what_is_lost(server, before):
-    """Why threads, descriptors or memory are not what they were, or None."""
-    def now():
-        return threads(server), descriptors(server), status(server, "VmRSS") * 1024
-
-    good = holds(lambda: now()[0] == before[0] and now()[1] <= before[1] and now()[2] < before[2] + GROWTH, SHORT)
-    return None if good else "threads, descriptors and memory are {}, {} and {:,}, and were {}, {} and {:,}".format(*now(), *before)
+def is_left(port):
+    """Whether it comes to hold that no connection to the server is open, or waits."""
+    return holds(lambda: not connections(port), LEFT)
 
 
-def crowd_trial(program, tally, name, kind, limit, is_aborted):
-    """A crowd of a kind, which runs into a limit, at a server of its own."""
-    with Server(program, "--associations", str(WORKERS), "--timeout", str(SHORT), "--idle", str(SHORT)) as server:
-        create_steps(server.port)
+def resources_of(server):
+    """The threads, the descriptors and the memory of the server."""
+    return threads(server), descriptors(server), status(server, "VmRSS") * 1024
+
+
+def what_is_lost(server, before, growth):
+    """Why threads, descriptors or memory are not what they were, or None. The memory may grow by so many bytes."""
+    def is_back():
+        now = resources_of(server)
+        return now[0] == before[0] and now[1] <= before[1] and now[2] <= before[2] + growth
+
+    if holds(is_back, SHORT):
+        return None
+    return "threads, descriptors and memory are {}, {} and {:,}, and were {}, {} and {:,}".format(*resources_of(server), *before)
+
+
+def settled(server):
+    """The same where nobody is connected: the least of a second, since the last descriptor may be about to be closed."""
+    is_left(server.port)
+    looks = []
+    for _ in range(10):
+        looks.append(resources_of(server))
+        time.sleep(0.1)
+    return looks[-1][0], min(it[1] for it in looks), looks[-1][2]
+
+
+def server_of(program, workers):
+    return Server(program, "--associations", str(workers), "--timeout", str(SHORT), "--idle", str(SHORT))
+
+
+def behind_trial(program, tally, growth, name, kind, limit, is_aborted):
+    """A crowd of a kind, which runs into a limit, at a server of few workers."""
+    with server_of(program, WORKERS) as server:
+        create_steps(server.port, FEW_STEPS)
         tally.tell(f"{name}, before", all_back(server.port, SHORT))
-        before = threads(server), descriptors(server), status(server, "VmRSS") * 1024
-        if kind:
-            holders = [Holder() for _ in range(CROWD)]
-            with crowd(server.port, kind, holders):
-                waited = served_in_turn(server.port, BEHIND)
-                tally.tell(f"a peer behind {CROWD} of: {name}", None if waited else f"it is not served within {BEHIND} s")
+        before = settled(server)
+        holders = [Holder() for _ in range(CROWD if kind else 0)]
+        with crowd(server.port, kind, holders) if kind else storm(server.port):
+            seconds, to_connect = (BEHIND, 1) if kind else (2 * SHORT, 0.1)
+            waited = served(server.port, seconds, to_connect)
+            tally.tell(f"a peer behind {CROWD} of: {name}", None if waited else f"it is not served within {seconds} s")
+        if is_aborted:
             cut = [it.heard for it in holders if it.is_cut]
             aborted = sum(it.endswith(ABORT) for it in cut)
-            if is_aborted:
-                good = len(cut) > CROWD // 2 and aborted == len(cut)
-                tally.tell(f"{name}, A-ABORT", None if good else f"heard by {aborted} of {len(cut)} that were cut off")
-        else:
-            storm(server.port)
-        tally.tell(f"{name}, when they are gone", all_back(server.port, 2 * SHORT))
-        tally.tell(f"{name}, what is lost", what_is_lost(server, before))
+            good = len(cut) > CROWD // 2 and aborted == len(cut)
+            tally.tell(f"{name}, A-ABORT", None if good else f"heard by {aborted} of {len(cut)} that were cut off")
+        tell_gone(server, tally, f"{name}, when they are gone", before, growth)
         if limit:
             tally.tell(f"{name}, log", None if any(f" serve: {limit} #" in it for it in server.log) else f"no line tells {limit}")
 
 
-def served_in_turn(port, seconds):
-    """After how long a working peer is served that connects anew while it can't, and then waits for its turn; None where it
-    isn't in time."""
-    began = time.monotonic()
-    while time.monotonic() - began < seconds:
-        with contextlib.suppress(*FAULTS):
-            peer = Caller(port, seconds, to_connect=1)
-            assert peer.ask(ECHO) == 0
-            peer.release()
-            return time.monotonic() - began
-    return None
+def beside_trial(program, tally, growth, name, kind):
+    """A crowd of a kind at a server that has a worker for each of them, and more; and then another."""
+    with server_of(program, CROWD + WORKERS) as server:
+        create_steps(server.port, FEW_STEPS)
+        for turn in ("the first", "the second"):
+            before = settled(server)
+            holders = [Holder() for _ in range(CROWD if kind else 0)]
+            with crowd(server.port, kind, holders) if kind else storm(server.port):
+                tally.tell(f"peers beside {turn} {CROWD} of: {name}", all_back(server.port, 2 * SHORT))
+            tell_gone(server, tally, f"{name}, when {turn} beside workers are gone", before, growth if turn == "the second" else sys.maxsize)
 
 
-def crowd_trials(program, tally):
-    kinds = (
-        ("opens, never asks", opens_alone, "Idle", True),
-        ("half open", goes_away, "Idle", False),
-        ("slow sender", sends_slowly, "Timeout", True),
-        ("empty fragments", sends_nothing, None, False),
-        ("asks, never reads", never_reads, "Timeout", False),
-        ("slow taker", takes_slowly, "Timeout", False),
-        ("storm", None, None, False),
-    )
+def tell_gone(server, tally, name, before, growth):
+    """What is there again when a crowd is gone."""
+    tally.tell(f"{name}, all connections", None if is_left(server.port) else f"{len(connections(server.port))} are left after {LEFT} s")
+    tally.tell(f"{name}, all workers", all_back(server.port, 2 * SHORT))
+    is_left(server.port)
+    tally.tell(f"{name}, what is lost", what_is_lost(server, before, growth))
 
-    def trial(*kind):
+
+KINDS = (
+    ("opens, never asks", opens_alone, "Idle", True),
+    ("half open", goes_away, "Idle", False),
+    ("slow sender", sends_slowly, "Timeout", True),
+    ("empty fragments", sends_nothing, "Timeout", False),
+    ("asks, never reads", never_reads, "Timeout", False),
+    ("slow taker", takes_slowly, "Timeout", False),
+    ("storm", None, None, False),
+)
+
+
+def crowd_trials(program, tally, growth):
+    """Each kind of crowd, in threads at servers of few workers, and then one after the other."""
+    def attempt(trial, name, *more):
         try:
-            crowd_trial(program, tally, *kind)
-        except FAULTS as it:
-            tally.tell(kind[0], repr(it))
+            trial(program, tally, growth, name, *more)
+        except FAULTS as fault:
+            tally.tell(name, repr(fault))
 
-    running = [threading.Thread(target=trial, args=it, daemon=True) for it in kinds]
+    running = [threading.Thread(target=attempt, args=(behind_trial, *it), daemon=True) for it in KINDS]
     for it in running:
         it.start()
     for it in running:
         it.join()
+    for name, kind, *_ in KINDS:
+        attempt(beside_trial, name, kind)
 
 
 def end_trial(server, tally):
@@ -502,16 +569,18 @@ def main():
     parser = argparse.ArgumentParser(description=__doc__, formatter_class=argparse.RawDescriptionHelpFormatter)
     parser.add_argument("program", nargs="*", default=[os.path.join(HERE, "crates/upsd/out/upsd")],
                         help="the program, and words before those of `serve` (default: crates/upsd/out/upsd, which `rt run` builds)")
+    parser.add_argument("--no-memory", action="store_true", help="don't judge the memory: the program is built with checks")
     asked = parser.parse_args()
     most = resource.getrlimit(resource.RLIMIT_NOFILE)[1]
     resource.setrlimit(resource.RLIMIT_NOFILE, (most, most))
     signal.signal(signal.SIGALRM, lambda *_: sys.exit("abuse.py: it does not end"))
-    signal.alarm(900)
+    signal.alarm(1800)
     tally = Tally()
     with Server(asked.program, "--associations", str(WORKERS), "--timeout", str(LIMIT), "--idle", str(LIMIT)) as server:
         tally.tell("before all", all_back(server.port, LIMIT))
         before, first = threads(server), status(server, "VmHWM")
         for name, hostile, seconds in (
+            ("say nothing", say_nothing, LIMIT),
             ("close in a PDU", close_inside, LIMIT),
             ("garbage", say_garbage, LIMIT),
             ("a byte a second from the first", slowly(False, REQUEST, 0), SLOW),
@@ -527,8 +596,9 @@ def main():
         end_trial(server, tally)
     waited, crowded = silent_trial(asked.program, tally)
     most = max(most, crowded)
-    crowd_trials(asked.program, tally)
-    tally.tell("memory", None if most * 1024 < MEMORY else f"VmHWM is {most * 1024:,} bytes")
+    crowd_trials(asked.program, tally, sys.maxsize if asked.no_memory else GROWTH)
+    if not asked.no_memory:
+        tally.tell("memory", None if most * 1024 < MEMORY else f"VmHWM is {most * 1024:,} bytes")
     waited = f", a peer behind {SILENT} silent ones served after {waited:.1f} s" if waited else ""
     tally.end(f"VmHWM {first / 1024:.1f} MiB at the start, {most / 1024:.1f} MiB in the end{waited}")
 

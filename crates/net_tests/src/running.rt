@@ -1,9 +1,9 @@
 //! A server with one worker, two that deliver and a sweeper, a client of it, and a watcher.
-ghost use Rattle.std.specs.Prelude.{◌≡◌, ◌≤◌, All, IfOk, length};
-ghost use denote.Param.Send.{IsSync};
+ghost use Rattle.std.specs.Prelude.{◌≡◌, ◌≤◌, All, length};
+ghost use denote.Param.Send.{IsSend, IsSync};
 ghost use Rattle.ups_life.specs.Settings.{IsMoment};
 
-use crate::peers::{Lines, answered, knock, silent_peers, watched};
+use crate::peers::{Lines, heard, knock, silent_peers};
 use fixtures::vectors::{
     ACCEPTED, CREATED, EVENT_REPORT, EVENT_REQUEST, EVENT_STATE, GOT, GOT_STEP, RELEASE, RELEASED,
 };
@@ -19,83 +19,91 @@ use std::{io, thread};
 use ups_assoc::Config;
 use ups_dataset::DataSet;
 use ups_dataset::dictionary::*;
-use ups_life::{Entry, Peer, Reply, Request, StepUid, Target};
+use ups_life::{Ask, Entry, Peer, Reply, Request, StepUid, Target};
 use ups_manager::Manager;
-use ups_net::{Door, Premises, ServerOptions, Watcher, run};
+use ups_net::{Door, Network, Premises, ServerOptions, Watcher, run};
 use ups_pdu::Ae;
+use ups_service::{Service, SharedService};
 use ups_turn::{Desk, Pass};
 
-/// What a server and its peers come to.
+/// What a server and its peers come to, beside its passes.
 #[derive(Drop)]
 struct Ended {
     /// Whether the server began.
     began: bool,
-    /// Its passes.
-    passes: Vec<Pass<Manager<Global>, Global>>,
     /// What the client was answered.
     answer: io::Result<Vec<u8>>,
     /// What the watcher heard.
     heard: io::Result<Vec<u8>>,
 }
 
+impl Ended {
+    /// The server did not begin, since its peers have no thread.
+    fn without_peers() -> Ended {
+        Ended {
+            began: false,
+            answer: Err(io::Error::other("no thread for the client")),
+            heard: Err(io::Error::other("no thread for the watcher")),
+        }
+    }
+}
+
 /// Runs a server, a client and a watcher. Once the server is done, the test itself connects to the watcher, which accepts
-/// one connection in any case.
-///
-/// Errors: a thread of a peer can't be started.
-fn run_with_peers<R>(
+/// one connection in any case. The server does not begin where the thread of the peers can't be started.
+fn run_with_peers<M: SharedService<Global> + Send, R>(
     rt: &R,
     premises: &Premises,
-    desk: &Desk<Manager<Global>, Global>,
-    passes: Vec<Pass<Manager<Global>, Global>>,
+    desk: &Desk<M, Global>,
+    passes: Vec<Pass<M, Global>>,
     options: &ServerOptions,
     watching: &TcpListener,
     lines: &Lines,
-) -> io::Result<Ended>
+) -> (Vec<Pass<M, Global>>, Ended)
 where
-    R: Threads + Wait + Clock + Log + Sync + Net<Listener = TcpListener, Stream = TcpStream>,
+    R: Threads
+        + Wait
+        + Clock
+        + Log
+        + Sync
+        + Network
+        + Net<Listener = TcpListener, Stream = TcpStream>,
     requires some { 2 ≤ length passes.items }
     requires here { All (λ p. p.table ≡ desk.now.table) passes.items }
-    ensures stay { IfOk result (λ ended. All (λ p. p.table ≡ desk.now.table) ended.passes.items) }
+    ensures stay { All (λ p. p.table ≡ desk.now.table) result.0.items }
 {
     thread::scope(
         thread::scope_env(),
         rt,
-        |scope| -> io::Result<Ended>
+        |scope| -> (Vec<Pass<M, Global>>, Ended)
+            requires send { IsSend M.row }
             requires sync { IsSync R.row }
             requires some { 2 ≤ length passes.items }
             requires here { All (λ p. p.table ≡ desk.now.table) passes.items }
-            ensures stay { IfOk result (λ ended. All (λ p. p.table ≡ desk.entry.now.table) ended.passes.items) }
+            ensures stay { All (λ p. p.table ≡ desk.entry.now.table) result.0.items }
         {
             let alloc = options.alloc;
             let door = premises.door();
-            let Ok(client) = scope.spawn(move || answered(rt, alloc, door, lines)) else {
-                return Err(io::Error::other("no thread for the client"));
-            };
-            let Ok(watcher) = scope.spawn(move || watched(alloc, watching, lines)) else {
-                return Err(io::Error::other("no thread for the watcher"));
+            let Ok(peers) = scope.spawn(move || heard(rt, alloc, door, watching, lines)) else {
+                return (passes, Ended::without_peers());
             };
             let (began, passes) = run(rt, premises, desk, passes, options);
             knock(rt, watching);
-            Ok(Ended {
+            let (answer, heard) = peers.join(rt);
+            let ended = Ended {
                 began,
-                passes,
-                answer: client.join(rt),
-                heard: watcher.join(rt),
-            })
+                answer,
+                heard,
+            };
+            (passes, ended)
         },
     )
 }
 
-/// Enters a request of the caller 0.
-fn enter(manager: &mut Manager<Global>, ae: Ae, moment: u64, request: Request<Global>)
+/// Enters a request.
+fn enter<S: Service<Global>>(service: &mut S, ae: Ae, moment: u64, request: Request<Global>)
     requires { IsMoment moment }
 {
-    let _ = manager.submit(Entry {
-        caller: 0,
-        ae,
-        moment,
-        request,
-    });
+    let _ = service.call(ae, moment, Ask::Do(request));
 }
 
 /// What a step is created with.
@@ -112,35 +120,47 @@ fn attributes(alloc: Global) -> Result<DataSet<Global>, Fail> {
     )
 }
 
-/// A manager that holds a step, 1.2.3.1, that was canceled two minutes after 1970 began; then W1 was subscribed to it,
-/// without a deletion lock. So one event waits for W1, and the step is due to be removed.
-fn manager_of(alloc: Global) -> Result<Manager<Global>, Fail> {
-    let scheduler = title("SCHED1")?;
-    let watcher = title("W1")?;
-    let step = StepUid::of(uid("1.2.3.1")?).ok_or("a step")?;
+/// Creates a step as 1970 begins.
+fn create<S: Service<Global>>(
+    alloc: Global,
+    service: &mut S,
+    ae: Ae,
+    step: StepUid,
+) -> Result<(), Fail> {
     let attributes = attributes(alloc)?;
-    let peers = [Peer {
-        ae: watcher,
-        lock: false,
-    }];
-    let mut manager = Manager::new(alloc, &peers, 60, 0, 1_000)?;
-    enter(
-        &mut manager,
-        scheduler,
-        0,
-        Request::Create { step, attributes },
-    );
+    enter(service, ae, 0, Request::Create { step, attributes });
+    Ok(())
+}
+
+/// Has a service hold a step, 1.2.3.1, that was canceled two minutes after 1970 began; then W1 was subscribed to it, without
+/// a deletion lock. So one event waits for W1, and the step is due to be removed.
+fn prepare<S: Service<Global>>(alloc: Global, service: &mut S) -> Result<(), Fail> {
+    let scheduler = title("SCHED1")?;
+    let receiver = title("W1")?;
+    let step = StepUid::of(uid("1.2.3.1")?).ok_or("a step")?;
+    create(alloc, service, scheduler, step)?;
     let cancel = Request::AskCancel {
         step: Some(step),
         reasons: DataSet::new(alloc),
     };
-    enter(&mut manager, scheduler, 120, cancel);
+    enter(service, scheduler, 120, cancel);
     let subscribe = Request::Subscribe {
         target: Target::Single(Some(step)),
-        receiver: watcher,
+        receiver,
         lock: false,
     };
-    enter(&mut manager, watcher, 120, subscribe);
+    enter(service, receiver, 120, subscribe);
+    Ok(())
+}
+
+/// A manager of the watcher W1 that is so prepared. Its requests are those of the caller 0.
+fn manager_of(alloc: Global) -> Result<Manager<Global>, Fail> {
+    let watcher = Peer {
+        ae: title("W1")?,
+        lock: false,
+    };
+    let mut manager = Manager::new(alloc, &[watcher], 60, 0, 1_000)?;
+    prepare(alloc, &mut manager)?;
     Ok(manager)
 }
 
@@ -168,9 +188,9 @@ fn count_of(history: &[Entry<Global>], caller: u32, ae: &str, verb: &str) -> u64
     count
 }
 
-/// How many events wait for W1.
-fn pending_of(manager: &Manager<Global>) -> Result<usize, Fail> {
-    match manager.pending(title("W1")?, 16) {
+/// How many events a reply tells of.
+fn count_in(reply: Reply<Global>) -> Result<usize, Fail> {
+    match reply {
         Reply::Reports(reports) => Ok(reports.as_slice().len()),
         _ => Err("no reports".into()),
     }
@@ -187,29 +207,60 @@ struct Left {
     pending: usize,
 }
 
-/// What a manager tells of that.
-fn left_in(manager: &Manager<Global>) -> Result<Left, Fail> {
-    let history = manager.history();
-    Ok(Left {
+/// What a history, and the number of events that wait for W1, tell of that.
+fn left_of(history: &[Entry<Global>], pending: usize) -> Left {
+    Left {
         entries: history.len(),
         created: count_of(history, 1, "SCHED1", "create"),
         acknowledged: count_of(history, 2, "W1", "ack 1"),
         swept: count_of(history, 4, "UPSD", "sweep"),
-        pending: pending_of(manager)?,
-    })
+        pending,
+    }
 }
 
-/// The same of the manager that a desk leaves.
-fn left_by(
-    desk: Desk<Manager<Global>, Global>,
-    passes: Vec<Pass<Manager<Global>, Global>>,
-) -> Result<Left, Fail>
+/// What a manager tells of that.
+fn left_in(manager: &Manager<Global>) -> Result<Left, Fail> {
+    let watcher = title("W1")?;
+    let pending = count_in(manager.pending(watcher, 16))?;
+    Ok(left_of(manager.history(), pending))
+}
+
+/// What the passes of a desk share, which is closed.
+fn closed<M: SharedService<Global>>(
+    desk: Desk<M, Global>,
+    passes: Vec<Pass<M, Global>>,
+) -> Result<M, Fail>
     requires here { All (λ p. p.table ≡ desk.table) passes.items }
 {
     match desk.close(passes) {
-        Ok(manager) => left_in(&manager),
+        Ok(shared) => Ok(shared),
         Err(_) => Err("not closed".into()),
     }
+}
+
+/// Runs a server with its peers over what its passes share: that comes back, with what they come to.
+fn served<M: SharedService<Global> + Send, R>(
+    rt: &R,
+    shared: M,
+    options: &ServerOptions,
+    premises: &Premises,
+    watching: &TcpListener,
+    lines: &Lines,
+) -> Result<(M, Ended), Fail>
+where
+    R: Threads
+        + Wait
+        + Clock
+        + Log
+        + Sync
+        + Network
+        + Net<Listener = TcpListener, Stream = TcpStream>,
+{
+    let Ok((desk, passes)) = Desk::open(options.alloc, shared, 4) else {
+        return Err("not opened".into());
+    };
+    let (passes, ended) = run_with_peers(rt, premises, &desk, passes, options, watching, lines);
+    Ok((closed(desk, passes)?, ended))
 }
 
 /// What a server leaves, and what its peers heard.
@@ -224,22 +275,24 @@ struct Outcome {
     left: Left,
 }
 
+/// The watcher W1 at a port of this host.
+fn watchers_at(alloc: Global, port: u16) -> Result<Vec<Watcher>, Fail> {
+    let ae = title("W1")?;
+    let host = "127.0.0.1".to_string(alloc)?;
+    let mut watchers = Vec::new(alloc);
+    watchers.push(Watcher { ae, host, port })?;
+    Ok(watchers)
+}
+
 /// The options of a server with one worker, which serves one association, and one round of the sweeper and of those that
 /// deliver.
 /// W1 is looked for at a port of this host.
 pub(crate) fn options_of(alloc: Global, port: u16) -> Result<ServerOptions, Fail> {
-    let mut watchers = Vec::new(alloc);
-    watchers.push(Watcher {
-        ae: title("W1")?,
-        host: "127.0.0.1".to_string(alloc)?,
-        port,
-    })?;
+    let ae = title("UPSD")?;
+    let watchers = watchers_at(alloc, port)?;
     Ok(ServerOptions {
         alloc,
-        config: Config {
-            ae: title("UPSD")?,
-            offset: 0,
-        },
+        config: Config { ae, offset: 0 },
         turns: 100,
         idle: 10,
         timeout: 10,
@@ -273,35 +326,30 @@ fn is_told(rt: &impl AllocGlobal, heard: io::Result<Vec<u8>>) -> Result<Option<b
     Ok(Some(are_bytes_of(rt, &heard, &texts)?))
 }
 
-/// What a server and its peers come to, once its desk is closed.
-fn outcome_at(
-    rt: &impl AllocGlobal,
-    desk: Desk<Manager<Global>, Global>,
-    ended: Ended,
-) -> Result<Outcome, Fail>
-    requires here { All (λ p. p.table ≡ desk.table) ended.passes.items }
-{
+/// What a server leaves, and what its peers heard of it.
+fn outcome_with(rt: &impl AllocGlobal, left: Left, ended: Ended) -> Result<Outcome, Fail> {
     let Ended {
         began,
-        passes,
         answer,
         heard,
     } = ended;
-    let left = left_by(desk, passes)?;
+    let is_served = is_served(rt, answer)?;
+    let is_told = is_told(rt, heard)?;
     Ok(Outcome {
         began,
-        is_served: is_served(rt, answer)?,
-        is_told: is_told(rt, heard)?,
+        is_served,
+        is_told,
         left,
     })
 }
 
-/// Runs a server with its peers, at a door of its own and a listener of the watcher.
-fn outcome_on<R>(
+/// Runs a server with its peers over a manager.
+fn outcome_over<R>(
     rt: &R,
     options: &ServerOptions,
     premises: &Premises,
     watching: &TcpListener,
+    lines: &Lines,
 ) -> Result<Outcome, Fail>
 where
     R: AllocGlobal
@@ -310,15 +358,49 @@ where
         + Clock
         + Log
         + Sync
+        + Network
         + Net<Listener = TcpListener, Stream = TcpStream>,
 {
-    let alloc = rt.alloc();
-    let lines = Lines::new(rt)?;
-    let Ok((desk, passes)) = Desk::open(alloc, manager_of(alloc)?, 4) else {
-        return Err("not opened".into());
-    };
-    let ended = run_with_peers(rt, premises, &desk, passes, options, watching, &lines)?;
-    outcome_at(rt, desk, ended)
+    let manager = manager_of(options.alloc)?;
+    let (manager, ended) = served(rt, manager, options, premises, watching, lines)?;
+    let left = left_in(&manager)?;
+    outcome_with(rt, left, ended)
+}
+
+/// How many peers say nothing, and have connected before the client.
+const SILENT: usize = 3;
+
+/// The premises of a server at a port of this host, and peers that have connected there and say nothing.
+fn premises_of<R: Net<Listener = TcpListener, Stream = TcpStream>>(
+    rt: &R,
+    alloc: Global,
+) -> Result<(Premises, Vec<TcpStream>), Fail> {
+    let door = Door::new(TcpListener::bind(rt, "127.0.0.1:0")?);
+    let silent = silent_peers(rt, alloc, &door, SILENT)?;
+    let premises = Premises::new(alloc, door, 1, true)?;
+    Ok((premises, silent))
+}
+
+/// Runs a server with its peers at a port of this host. The client is behind peers that say nothing, so that it is served
+/// only where these make way.
+fn outcome_on<R>(
+    rt: &R,
+    options: &ServerOptions,
+    watching: &TcpListener,
+    lines: &Lines,
+) -> Result<Outcome, Fail>
+where
+    R: AllocGlobal
+        + Threads
+        + Wait
+        + Clock
+        + Log
+        + Sync
+        + Network
+        + Net<Listener = TcpListener, Stream = TcpStream>,
+{
+    let (premises, _silent) = premises_of(rt, options.alloc)?;
+    outcome_over(rt, options, &premises, watching, lines)
 }
 
 /// A port on which nobody listens any more.
@@ -327,11 +409,20 @@ fn closed_port<R: Net<Listener = TcpListener, Stream = TcpStream>>(rt: &R) -> io
     Ok(listener.local_addr()?.port())
 }
 
-/// How many peers say nothing, and have connected before the client.
-const SILENT: usize = 3;
+/// Where the server looks for W1: where that listens, or where nobody does.
+fn port_of<R: Net<Listener = TcpListener, Stream = TcpStream>>(
+    rt: &R,
+    watching: &TcpListener,
+    is_reachable: bool,
+) -> io::Result<u16> {
+    if is_reachable {
+        return Ok(watching.local_addr()?.port());
+    }
+    closed_port(rt)
+}
 
-/// Runs a server with its peers, on ports of this host. It looks for W1 where that listens, or where nobody does.
-/// The client is behind peers that say nothing, so that it is served only where these make way.
+/// Runs a server with its peers, of which a watcher listens on a port of this host. The server looks for it there, or where
+/// nobody listens.
 fn outcome_of<R>(rt: &R, is_reachable: bool) -> Result<Outcome, Fail>
 where
     R: AllocGlobal
@@ -340,19 +431,14 @@ where
         + Clock
         + Log
         + Sync
+        + Network
         + Net<Listener = TcpListener, Stream = TcpStream>,
 {
-    let door = Door::new(TcpListener::bind(rt, "127.0.0.1:0")?);
+    let lines = Lines::new(rt)?;
     let watching = TcpListener::bind(rt, "127.0.0.1:0")?;
-    let port = if is_reachable {
-        watching.local_addr()?.port()
-    } else {
-        closed_port(rt)?
-    };
+    let port = port_of(rt, &watching, is_reachable)?;
     let options = options_of(rt.alloc(), port)?;
-    let _silent = silent_peers(rt, rt.alloc(), &door, SILENT)?;
-    let premises = Premises::new(rt.alloc(), door, 1, true)?;
-    outcome_on(rt, &options, &premises, &watching)
+    outcome_on(rt, &options, &watching, &lines)
 }
 
 #[test]

@@ -1,10 +1,12 @@
 //! An association whose last bytes can't be sent.
+ghost use Rattle.std.specs.Prelude.{◌≡◌};
 
 use crate::peers::connect;
 use crate::running::options_of;
 use fixtures::bytes_of;
 use fixtures::vectors::REQUEST_OF_OTHER;
 use log::Log;
+use std::alloc::Global;
 use std::io::Write;
 use std::net::{Net, Shutdown, TcpListener, TcpStream};
 use std::sync::Wait;
@@ -12,8 +14,9 @@ use std::test::Fail;
 use std::time::Clock;
 use ups_manager::Manager;
 use ups_net::{Account, ServerOptions, end_told, serve_one};
+use ups_service::SharedService;
 use ups_session::{End, SessionFault};
-use ups_turn::Desk;
+use ups_turn::{Desk, Pass};
 
 /// A connection of a server, whose client has asked for an association with another application entity, and the client.
 /// Where it is cut, nothing can be sent to the client any more.
@@ -32,23 +35,47 @@ where
     Ok((server, client))
 }
 
-/// What is told of an association on a connection of a server.
-fn told_on<R: AllocGlobal + Wait + Clock + Log>(
+/// What is told of an association on a connection of a server, which a pass serves.
+fn told_by<M: SharedService<Global>, R: Wait + Clock + Log>(
     rt: &R,
     server: &TcpStream,
+    account: &Account,
+    desk: &Desk<M, Global>,
+    pass: Pass<M, Global>,
+    options: &ServerOptions,
+) -> Result<End, SessionFault>
+    requires here { pass.table ≡ desk.now.table }
+{
+    let (_, ended, is_sent) = serve_one(rt, server, account, desk, pass, options);
+    end_told(ended, is_sent)
+}
+
+/// The same at a desk over what its passes share.
+fn told_over<M: SharedService<Global>, R: Wait + Clock + Log>(
+    rt: &R,
+    server: &TcpStream,
+    account: &Account,
+    shared: M,
     options: &ServerOptions,
 ) -> Result<Result<End, SessionFault>, Fail> {
-    let alloc = rt.alloc();
-    let manager = Manager::new(alloc, &[], 60, 0, 10)?;
-    let Ok((desk, mut passes)) = Desk::open(alloc, manager, 1) else {
+    let Ok((desk, mut passes)) = Desk::open(options.alloc, shared, 1) else {
         return Err("not opened".into());
     };
     let Some(pass) = passes.pop() else {
         return Err("no pass".into());
     };
-    let account = Account::new(rt, alloc, 1, server.peer_addr()?, true);
-    let (_, ended, is_sent) = serve_one(rt, server, &account, &desk, pass, options);
-    Ok(end_told(ended, is_sent))
+    Ok(told_by(rt, server, account, &desk, pass, options))
+}
+
+/// The same of a new manager.
+fn told_on<R: Wait + Clock + Log>(
+    rt: &R,
+    server: &TcpStream,
+    options: &ServerOptions,
+) -> Result<Result<End, SessionFault>, Fail> {
+    let account = Account::new(rt, options.alloc, 1, server.peer_addr()?, true);
+    let manager = Manager::new(options.alloc, &[], 60, 0, 10)?;
+    told_over(rt, server, &account, manager, options)
 }
 
 /// What is told of an association that is rejected, where the rejection can be sent, or can't.
@@ -56,8 +83,8 @@ fn rejected<R>(rt: &R, is_cut: bool) -> Result<Result<End, SessionFault>, Fail>
 where
     R: AllocGlobal + Wait + Clock + Log + Net<Listener = TcpListener, Stream = TcpStream>,
 {
-    let options = options_of(rt.alloc(), 0)?;
     let (server, _client) = asked_of_other(rt, is_cut)?;
+    let options = options_of(rt.alloc(), 0)?;
     told_on(rt, &server, &options)
 }
 

@@ -14,6 +14,7 @@ use std::thread::{Threads, join, yield_now};
 use ups_assoc::Config;
 use ups_manager::Manager;
 use ups_pdu::Ae;
+use ups_service::{Service, SharedService};
 use ups_session::{CutReader, CutWriter, Gate, WatchedReader, WatchedWriter, serve};
 use ups_turn::{Desk, Pass};
 
@@ -93,31 +94,26 @@ impl Lines {
     }
 }
 
-/// Serves a session of a pass over memory; whether it ends without a fault.
-fn is_served<R: Wait>(
-    rt: &R,
+/// Serves a session over memory by a service; whether it ends without a fault.
+fn is_served<S: Service<Global>>(
     alloc: Global,
-    desk: &Desk<Manager<Global>, Global>,
-    mut pass: Pass<Manager<Global>, Global>,
-    mut gate: HoldingGate<'_>,
+    service: &mut S,
+    gate: &mut HoldingGate<'_>,
     input: &[u8],
     taken: &mut CutWriter<Global>,
-) -> bool
-    requires here { pass.table ≡ desk.now.table }
-{
+) -> bool {
     let Some(ae) = Ae::of(b"UPSD") else {
         return false;
     };
     let mut reader = WatchedReader::new(CutReader::new(input, false));
     let mut writer = WatchedWriter::new(taken);
-    let mut service = desk.at(rt, &mut pass);
     let config = Config { ae, offset: 0 };
     serve(
         alloc,
         &mut reader,
         &mut writer,
-        &mut service,
-        &mut gate,
+        service,
+        gate,
         &config,
         TURNS,
     )
@@ -125,51 +121,66 @@ fn is_served<R: Wait>(
 }
 
 /// Creates the step, and holds the response until the other session has got it; whether both were as they should be.
-fn creates<R: Wait>(
-    rt: &R,
+fn creates<S: Service<Global>>(
     alloc: Global,
-    desk: &Desk<Manager<Global>, Global>,
-    pass: Pass<Manager<Global>, Global>,
+    service: &mut S,
     stage: &Stage,
     lines: &Lines,
-) -> bool
-    requires here { pass.table ≡ desk.now.table }
-{
-    let gate = HoldingGate {
+) -> bool {
+    let mut gate = HoldingGate {
         before: 1,
         tells: &stage.created,
         awaits: &stage.got,
     };
     let mut taken = CutWriter::new(alloc, ROOM);
-    let is_served = is_served(rt, alloc, desk, pass, gate, &lines.create, &mut taken);
+    let is_served = is_served(alloc, service, &mut gate, &lines.create, &mut taken);
     let is_held = stage.got.load(Ordering::SeqCst) == 1;
     is_served && is_held && taken.written() == lines.created.as_slice()
 }
 
 /// Gets the step once the other session is about to tell that it was created; whether it was told of it.
-fn gets<R: Wait>(
-    rt: &R,
-    alloc: Global,
-    desk: &Desk<Manager<Global>, Global>,
-    pass: Pass<Manager<Global>, Global>,
-    stage: &Stage,
-    lines: &Lines,
-) -> bool
-    requires here { pass.table ≡ desk.now.table }
-{
+fn gets<S: Service<Global>>(alloc: Global, service: &mut S, stage: &Stage, lines: &Lines) -> bool {
     let unheard = AtomicU64::new(0);
-    let gate = HoldingGate {
+    let mut gate = HoldingGate {
         before: 0,
         tells: &unheard,
         awaits: &stage.created,
     };
     let mut taken = CutWriter::new(alloc, ROOM);
-    let is_served = is_served(rt, alloc, desk, pass, gate, &lines.get, &mut taken);
+    let is_served = is_served(alloc, service, &mut gate, &lines.get, &mut taken);
     let is_told = is_served && taken.written() == lines.got.as_slice();
     if is_told {
         stage.got.store(1, Ordering::SeqCst);
     }
     is_told
+}
+
+/// The session that creates the step, by a pass.
+fn creates_by<M: SharedService<Global>, R: Wait>(
+    rt: &R,
+    alloc: Global,
+    desk: &Desk<M, Global>,
+    mut pass: Pass<M, Global>,
+    stage: &Stage,
+    lines: &Lines,
+) -> bool
+    requires here { pass.table ≡ desk.now.table }
+{
+    creates(alloc, &mut desk.at(rt, &mut pass), stage, lines)
+}
+
+/// The session that gets it, by another pass.
+fn gets_by<M: SharedService<Global>, R: Wait>(
+    rt: &R,
+    alloc: Global,
+    desk: &Desk<M, Global>,
+    mut pass: Pass<M, Global>,
+    stage: &Stage,
+    lines: &Lines,
+) -> bool
+    requires here { pass.table ≡ desk.now.table }
+{
+    gets(alloc, &mut desk.at(rt, &mut pass), stage, lines)
 }
 
 /// Runs both sessions, each in a thread of its own.
@@ -187,17 +198,20 @@ fn side_by_side<R: Threads + Wait + Sync>(
 {
     join(
         rt,
-        || creates(rt, alloc, desk, one, stage, lines),
-        || gets(rt, alloc, desk, two, stage, lines),
+        || creates_by(rt, alloc, desk, one, stage, lines),
+        || gets_by(rt, alloc, desk, two, stage, lines),
     )
 }
 
-/// Whether the session that creates a step, and the one that gets it meanwhile, are as they should be.
-fn outcome<R: Threads + Wait + Sync + AllocGlobal>(rt: &R) -> Result<(bool, bool), Fail> {
-    let alloc = rt.alloc();
-    let lines = Lines::new(rt)?;
-    let manager = Manager::new(alloc, &[], 60, 0, 10)?;
-    let Ok((desk, mut passes)) = Desk::open(alloc, manager, 2) else {
+/// Runs both at a desk over what they share.
+fn outcome_over<R: Threads + Wait + Sync>(
+    rt: &R,
+    alloc: Global,
+    shared: Manager<Global>,
+    stage: &Stage,
+    lines: &Lines,
+) -> Result<(bool, bool), Fail> {
+    let Ok((desk, mut passes)) = Desk::open(alloc, shared, 2) else {
         return Err("not opened".into());
     };
     let Some(two) = passes.pop() else {
@@ -206,11 +220,28 @@ fn outcome<R: Threads + Wait + Sync + AllocGlobal>(rt: &R) -> Result<(bool, bool
     let Some(one) = passes.pop() else {
         return Err("no pass".into());
     };
+    Ok(side_by_side(rt, alloc, &desk, one, two, stage, lines))
+}
+
+/// The same of a new manager.
+fn outcome_with<R: Threads + Wait + Sync>(
+    rt: &R,
+    alloc: Global,
+    stage: &Stage,
+    lines: &Lines,
+) -> Result<(bool, bool), Fail> {
+    let manager = Manager::new(alloc, &[], 60, 0, 10)?;
+    outcome_over(rt, alloc, manager, stage, lines)
+}
+
+/// Whether the session that creates a step, and the one that gets it meanwhile, are as they should be.
+fn outcome<R: Threads + Wait + Sync + AllocGlobal>(rt: &R) -> Result<(bool, bool), Fail> {
+    let lines = Lines::new(rt)?;
     let stage = Stage {
         created: AtomicU64::new(0),
         got: AtomicU64::new(0),
     };
-    Ok(side_by_side(rt, alloc, &desk, one, two, &stage, &lines))
+    outcome_with(rt, rt.alloc(), &stage, &lines)
 }
 
 #[test]

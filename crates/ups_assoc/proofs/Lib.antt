@@ -1,6 +1,8 @@
 pub mod Announced
+pub mod Classes
 pub mod Cuts
 pub mod Different
+pub mod Going
 pub mod Outcomes
 pub mod Pieces
 pub mod Shapes

@@ -8,7 +8,7 @@ use Rattle.std.proofs.lemmas.List.{length-append, take-append-drop}
 use Rattle.std.proofs.lemmas.Grind.{flat_map-append}
 use Rattle.ups_pdu.specs.declared.pdu.Pdu.{Pdu}
 use Rattle.ups_pdu.specs.declared.pdv.Pdv.{Pdv}
-use Rattle.ups_pdu.specs.Written.{written_pdv, pdv_content}
+use Rattle.ups_pdu.specs.Written.{written_pdv, pdv_content, written_pdu}
 use Rattle.ups_pdu.specs.Fits.{Fits}
 use Rattle.ups_assoc.specs.declared.message.RawMessage.{RawMessage}
 use Rattle.ups_assoc.specs.declared.assembling.Begun.TheVariants.{Nothing}
@@ -20,14 +20,35 @@ use Rattle.ups_assoc.specs.Cutting.{room, fragment, fragments, run, body_run, pi
 use Rattle.ups_assoc.specs.Negotiation.{counted}
 use Rattle.ups_assoc.proofs.Cuts.{every_cut}
 
+-- the bytes of a fragment in a PDU of its own
+pub written_fragment : (A : Type 0) (context : ℕ) (command last : Bool) (bytes : List ℕ)
+    → written_pdu {A = A} (fragment context command last bytes)
+    ≡ (4 ∷ 0 ∷ []) ++ (to_be_bytes w32 (length bytes + 6) ++ (to_be_bytes w32 (length bytes + 2) ++ ((context ∷ (cond command 1 0 + cond last 2 0) ∷ []) ++ bytes)))
+written_fragment A context command last bytes =
+    let pdv : Pdv A = record { context = context; command = command; last = last; bytes = bytes } in
+    let whole : length (written_pdv pdv) ≡ length bytes + 6 = omega arith in
+    let content : length (pdv_content pdv) ≡ length bytes + 2 = omega arith in
+    ap (λ (w : List ℕ). (4 ∷ 0 ∷ []) ++ (to_be_bytes w32 (length w) ++ w)) (append-nil (written_pdv pdv))
+    ∙ ap (λ (n : ℕ). (4 ∷ 0 ∷ []) ++ (to_be_bytes w32 n ++ written_pdv pdv)) whole
+    ∙ ap (λ (n : ℕ). (4 ∷ 0 ∷ []) ++ (to_be_bytes w32 (length bytes + 6) ++ (to_be_bytes w32 n ++ pdv_content pdv))) content
+
+-- five texts, one behind the other
+pub put_five : (old first second third fourth new a b c d e : List ℕ) → first ≡ old ++ a → second ≡ first ++ b → third ≡ second ++ c → fourth ≡ third ++ d → new ≡ fourth ++ e
+    → new ≡ old ++ (a ++ (b ++ (c ++ (d ++ e))))
+put_five old first second third fourth new a b c d e p q r s t =
+    t ∙ ap (λ (l : List ℕ). l ++ e) s ∙ append_assoc third d e
+    ∙ ap (λ (l : List ℕ). l ++ (d ++ e)) r ∙ append_assoc second c (d ++ e)
+    ∙ ap (λ (l : List ℕ). l ++ (c ++ (d ++ e))) q ∙ append_assoc first b (c ++ (d ++ e))
+    ∙ ap (λ (l : List ℕ). l ++ (b ++ (c ++ (d ++ e)))) p ∙ append_assoc old a (b ++ (c ++ (d ++ e)))
+
 -- the last fragment
-fragments-last : (A : Type 0) (most size context : ℕ) (command : Bool) (bytes : List ℕ) → length bytes ≤ size → fragments {A = A} most size context command bytes ≡ fragment context command true bytes ∷ []
+pub fragments-last : (A : Type 0) (most size context : ℕ) (command : Bool) (bytes : List ℕ) → length bytes ≤ size → fragments {A = A} most size context command bytes ≡ fragment context command true bytes ∷ []
 fragments-last A zero size context command bytes h = refl
 fragments-last A (suc most) size context command bytes h =
     ap (λ (b : Bool). cond b (fragment {A = A} context command true bytes ∷ []) (fragment context command false (take size bytes) ∷ fragments most size context command (drop size bytes))) (le-leb (length bytes) size h)
 
 -- a fragment that isn't the last
-fragments-more : (A : Type 0) (most size context : ℕ) (command : Bool) (bytes : List ℕ) → 0 < size → length bytes ≤ most → size < length bytes
+pub fragments-more : (A : Type 0) (most size context : ℕ) (command : Bool) (bytes : List ℕ) → 0 < size → length bytes ≤ most → size < length bytes
     → (n : ℕ) × (length (drop size bytes) ≤ n) × (fragments {A = A} most size context command bytes ≡ fragment context command false (take size bytes) ∷ fragments n size context command (drop size bytes))
 fragments-more A zero size context command bytes some h long = absurd (omega (arith, h, long))
 fragments-more A (suc most) size context command bytes some h long = (

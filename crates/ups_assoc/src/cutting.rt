@@ -1,7 +1,8 @@
 //! Cutting messages into fragments (PS3.8 annexes D.1 and E, PS3.7 section 6.3.1).
 
-ghost use Rattle.std.specs.Prelude.{◌≡◌, ◌≤◌, ◌<◌, ◌⊎◌, ◌+◌, ◌-◌, ◌++◌, List, [], ◌∷◌, ℕ, Some, length, true, is_some, option_copied, unwrap_or, OnOk, IfOk, IfErr};
+ghost use Rattle.std.specs.Prelude.{◌≡◌, ◌≤◌, ◌<◌, ◌⊎◌, ◌+◌, ◌-◌, ◌++◌, List, [], ◌∷◌, ℕ, Some, length, true, is_some, option_copied, unwrap_or, if◌then◌else◌, OnOk, IfOk, IfErr};
 ghost use Rattle.std.specs.List.{flat_map, AllByRecursion};
+ghost use Rattle.ups_pdu.specs.Written.{written_pdu};
 ghost use Rattle.ups_pdu.specs.Fits.{Fits};
 ghost use Rattle.ups_pdu.specs.Limits.{max_data_length};
 ghost use Rattle.ups_assoc.specs.declared.fault.AssocFault.TheVariants.{Memory};
@@ -16,11 +17,11 @@ ghost use Rattle.ups_assoc.specs.Cutting.{room, fragment, run, body_run, pieces,
 use crate::fault::AssocFault;
 use crate::negotiating::counted;
 use std::alloc::{AllocError, Allocator};
-use ups_pdu::{Bytes, Pdu, Pdv, Pdvs};
+use ups_pdu::{Bytes, Pdu, PduKind, Pdv, Pdvs};
 
 /// How many bytes of a message stand in one PDU at most, where a peer announces this maximum length: the largest
 /// even number that leaves room for the length, the context id and the control header of the fragment.
-fn room(max: u32) -> usize
+pub fn room(max: u32) -> usize
     requires { (max ≡ 0) ⊎ (8 ≤ max) }
     ensures room { result ≡ room max }
     ensures some { 2 ≤ result }
@@ -43,7 +44,7 @@ fn fragment<A: Allocator + Copy>(
     ensures { IfOk result (λ p. p ≡ fragment context command last bytes.now) }
 {
     let bytes = Bytes::copy_of(alloc, bytes)?;
-    let mut pdvs = Vec::new(alloc);
+    let mut pdvs = Vec::with_capacity(alloc, 1)?;
     pdvs.push(Pdv {
         context,
         command,
@@ -51,6 +52,36 @@ fn fragment<A: Allocator + Copy>(
         bytes,
     })?;
     Ok(Pdu::Data(Pdvs::from_vec(pdvs)))
+}
+
+/// The message control header (PS3.8 annex E.2).
+fn control_of(command: bool, last: bool) -> u8
+    ensures { result ≡ (if command then 1 else 0) + (if last then 2 else 0) }
+{
+    u8::from(command) + if last { 2 } else { 0 }
+}
+
+/// Writes one fragment at the end, as the bytes of a P-DATA-TF of its own (PS3.8 sections 9.3.5 and 9.3.5.1).
+///
+/// Errors: lack of memory.
+pub fn put_fragment<A: Allocator + Copy>(
+    out: &mut Vec<u8, A>,
+    context: u8,
+    command: bool,
+    last: bool,
+    bytes: &[u8],
+) -> Result<(), AllocError>
+    requires { length bytes.now ≤ max_data_length - 6 }
+    ensures { OnOk result (out.new.items ≡ out.old.items ++ written_pdu {A = A} (fragment context command last bytes.now)) }
+{
+    let len = bytes.len() as u32;
+    out.reserve(bytes.len() + 12)?;
+    out.extend_from_slice(&[PduKind::Data.code(), 0])?;
+    out.extend_from_slice(&(len + 6).to_be_bytes())?;
+    out.extend_from_slice(&(len + 2).to_be_bytes())?;
+    out.extend_from_slice(&[context, control_of(command, last)])?;
+    out.extend_from_slice(bytes)?;
+    Ok(())
 }
 
 /// Puts the fragments of a command or of a data set at the end, each in a PDU of its own. All but the last have
@@ -97,6 +128,17 @@ fn put_body<A: Allocator + Copy>(
     }
 }
 
+/// In how many PDUs a message stands, at most.
+fn count(size: usize, command: &[u8], body: Option<&[u8]>) -> usize
+    requires { 0 < size }
+{
+    let commands = command.len() / size;
+    match body {
+        Some(body) => commands.saturating_add(body.len() / size).saturating_add(2),
+        None => commands.saturating_add(1),
+    }
+}
+
 /// A message as PDUs, for a peer that announces this maximum length: the fragments of its command, then those of
 /// its data set where there is one, each in a PDU of its own.
 ///
@@ -114,7 +156,7 @@ pub fn cut<A: Allocator + Copy>(
     ensures memory { IfErr result (λ e. e ≡ Memory) }
 {
     let size = room(max);
-    let mut pdus = Vec::new(alloc);
+    let mut pdus = Vec::with_capacity(alloc, count(size, command, body))?;
     put_run(alloc, &mut pdus, size, context, true, command)?;
     put_body(alloc, &mut pdus, size, context, body)?;
     Ok(pdus)

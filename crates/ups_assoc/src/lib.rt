@@ -12,7 +12,7 @@ mod sop_class;
 mod walking;
 
 pub use assembling::{Assembler, every_cut_gives_its_messages, every_message_is_of_its_fragments};
-pub use cutting::{a_cut_message_is_whole_again, cut};
+pub use cutting::{a_cut_message_is_whole_again, cut, put_fragment, room};
 pub use fault::AssocFault;
 pub use limits::{LONGEST_MESSAGE, limits_are_those_of_the_profile};
 pub use message::RawMessage;

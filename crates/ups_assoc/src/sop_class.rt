@@ -3,6 +3,7 @@
 ghost use Rattle.std.specs.Prelude.{◌≡◌, MatchOption};
 ghost use Rattle.ups_assoc.specs.declared.sop_class.SopClass.{SopClass};
 ghost use Rattle.ups_assoc.specs.Classes.{registered_of, uid_of, class_of};
+ghost use Rattle.ups_assoc.specs.Same.{is_same};
 
 use ups_pdu::{RegisteredUid, Uid};
 
@@ -35,21 +36,27 @@ impl SopClass {
         }
     }
 
+    /// Whether a UID is that of the SOP class.
+    fn has_uid(self, uid: &Uid) -> bool
+        ensures { result ≡ is_same uid.now (uid_of self) }
+    {
+        uid.as_bytes() == self.registered().text()
+    }
+
     /// The SOP class of a UID; None where it is of none of the five.
     pub fn of(uid: &Uid) -> Option<SopClass>
         ensures class { result ≡ class_of uid.now }
         ensures both_ways { MatchOption result ((class : SopClass) → uid_of class ≡ uid.now → ⊥) (λ class. uid_of class ≡ uid.now) }
     {
-        let text = uid.as_bytes();
-        if text == RegisteredUid::Verification.text() {
+        if SopClass::Verification.has_uid(uid) {
             Some(SopClass::Verification)
-        } else if text == RegisteredUid::UpsPush.text() {
+        } else if SopClass::UpsPush.has_uid(uid) {
             Some(SopClass::UpsPush)
-        } else if text == RegisteredUid::UpsPull.text() {
+        } else if SopClass::UpsPull.has_uid(uid) {
             Some(SopClass::UpsPull)
-        } else if text == RegisteredUid::UpsWatch.text() {
+        } else if SopClass::UpsWatch.has_uid(uid) {
             Some(SopClass::UpsWatch)
-        } else if text == RegisteredUid::UpsEvent.text() {
+        } else if SopClass::UpsEvent.has_uid(uid) {
             Some(SopClass::UpsEvent)
         } else {
             None

@@ -187,7 +187,7 @@ pub fn write_set<A: Allocator + Copy>(
     ensures again { KeepsVrs syntax set.now → IfOk result (λ v. SpellsSet syntax v.items set.now) }
 {
     set.is_a_data_set();
-    let mut out = Vec::new(alloc);
+    let mut out = Vec::with_capacity(alloc, set_size(syntax, set) as usize)?;
     put_set(&mut out, syntax, set)?;
     Ok(out)
 }

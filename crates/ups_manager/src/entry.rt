@@ -9,16 +9,19 @@ ghost use Rattle.ups_manager.specs.Indexing.{IsIndexed};
 
 use crate::deciding::Decision;
 use crate::indexing::{change_index, make_index_room};
+use crate::reserve::leave_reserve;
 use std::alloc::{AllocError, Allocator};
 use ups_index::Index;
 use ups_life::{Configuration, Entry, Reply};
 use ups_tables::{Tables, carry_out, make_room};
 
-/// Enters a call that is accepted, by what is decided of it: room is made for all of it, and then it is carried out. The reply
-/// to it is returned.
+/// Enters a call that is accepted, by what is decided of it: room is made for all of it, a creation leaves the reserve beside
+/// that, and then it is carried out. The reply to it is returned.
 ///
-/// Errors: where memory runs out. The history is then as before, and the tables and the index say the same as before.
+/// Errors: where memory runs out, or a creation would not leave the reserve. The history is then as before, and the tables and
+/// the index say the same as before.
 pub(crate) fn enter<A: Allocator + Copy>(
+    alloc: A,
     configuration: &Configuration<A>,
     history: &mut Vec<Entry<A>, A>,
     tables: &mut Tables<A>,
@@ -38,6 +41,7 @@ pub(crate) fn enter<A: Allocator + Copy>(
 {
     make_index_room(index, &decision.change)?;
     make_room(configuration, history, tables, &call, &decision.plan)?;
+    leave_reserve(alloc, &call.request)?;
     let Decision {
         reply,
         plan,

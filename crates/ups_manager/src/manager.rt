@@ -240,7 +240,7 @@ impl<A: Allocator + Copy> Manager<A> {
     }
 
     /// Answers a call by the history: the entry that it would be. It is entered where it is accepted. After 0213, which also tells
-    /// that memory ran out, and after any other refusal nothing has changed.
+    /// that memory ran out or that a creation would not leave 16 MiB of it, and after any other refusal nothing has changed.
     pub fn submit(&mut self, call: Entry<A>) -> Reply<A>
         requires moment { IsMoment call.moment }
         ensures answer { Answers self.old.settings self.old.history call.caller call.ae call.moment (Do call.request) result }
@@ -266,7 +266,15 @@ impl<A: Allocator + Copy> Manager<A> {
         if is_full(configuration, entries) {
             return Reply::Status(Status::ResourceLimitation);
         }
-        let Ok(reply) = enter(configuration, history, tables, index, call, decision) else {
+        let Ok(reply) = enter(
+            *alloc,
+            configuration,
+            history,
+            tables,
+            index,
+            call,
+            decision,
+        ) else {
             return Reply::Status(Status::ResourceLimitation);
         };
         reply

@@ -1,6 +1,6 @@
 //! A log that loses lines where it would have to wait.
 
-use libc::net::{POLLERR, POLLOUT, poll};
+use libc::net::{POLLERR, POLLNVAL, POLLOUT, poll};
 use libc::types::pollfd;
 use log::kv::Source;
 use log::span::Spans;
@@ -18,22 +18,34 @@ const PATIENCE: i32 = 20;
 /// or a socket that nobody reads stops no thread. How many lines were lost is told before the next one that is taken.
 ///
 /// Each line is to be one write of at most 4,096 bytes: a pipe that takes any bytes takes so many. The lock has a thread look
-/// and write before the next one looks. Nothing is promised of it: `bench/abuse.py` tries it.
+/// and write before the next one looks. Where standard error is closed when the log is made, no line is ever written: a
+/// connection may get its descriptor later. No contract promises any of it: `bench/ending.py` tries it.
 #[derive(Drop)]
 pub struct LossyLog<L> {
     log: L,
+    /// Whether standard error was open when the log was made.
+    is_open: bool,
     /// How many lines were lost since the last line.
     lost: Mutex<u64>,
 }
 
-/// Whether standard error takes a line within so many milliseconds. One that is closed takes none.
-fn takes_line(milliseconds: i32) -> bool {
+/// What is so of standard error, by `poll`, within so many milliseconds.
+fn events(milliseconds: i32) -> i16 {
     let mut asked = [pollfd {
         fd: STANDARD_ERROR,
         events: POLLOUT,
         revents: 0,
     }];
-    poll(&mut asked, milliseconds) > 0 && asked[0].revents & (POLLOUT | POLLERR) == POLLOUT
+    if poll(&mut asked, milliseconds) > 0 {
+        asked[0].revents
+    } else {
+        0
+    }
+}
+
+/// Whether standard error takes a line within so many milliseconds. One that is closed takes none.
+fn takes_line(milliseconds: i32) -> bool {
+    events(milliseconds) & (POLLOUT | POLLERR) == POLLOUT
 }
 
 impl<L: Log + Wait> LossyLog<L> {
@@ -41,6 +53,7 @@ impl<L: Log + Wait> LossyLog<L> {
     pub fn new(log: L) -> LossyLog<L> {
         LossyLog {
             log,
+            is_open: events(0) & POLLNVAL == 0,
             lost: Mutex::new(0),
         }
     }
@@ -57,6 +70,9 @@ impl<L: Log + Wait> Log for LossyLog<L> {
     }
 
     fn log<D: Display, K: Source, S: Spans>(&self, record: &Record<'_, D, K, S>) {
+        if !self.is_open {
+            return;
+        }
         let mut lost = self.lost.lock(&self.log);
         if *lost > 0 && takes_line(0) {
             tell_lost(&self.log, *lost);

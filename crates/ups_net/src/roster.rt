@@ -44,6 +44,13 @@ pub enum Share {
     Nobody,
 }
 
+impl Share {
+    /// Whether the deliverer with this share counts what waits for each watcher: one of those of a server does.
+    pub(crate) fn counts(self) -> bool {
+        matches!(self, Share::All | Share::Here)
+    }
+}
+
 /// Whether a watcher is away, by how its deliveries ended. The deliverer that takes the watcher is the only one that writes
 /// here.
 #[derive(Drop)]

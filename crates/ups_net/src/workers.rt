@@ -13,13 +13,13 @@ use crate::account::Account;
 use crate::delivering::deliver_rounds;
 use crate::door::{Caller, Door};
 use crate::journal::end_told;
+use crate::network::Network;
 use crate::options::ServerOptions;
 use crate::premises::Premises;
 use crate::serving::serve_one;
 use crate::sweeping::sweep;
 use log::Log;
 use std::alloc::Global;
-use std::net::{Net, TcpListener, TcpStream};
 use std::snapshot::Snapshot;
 use std::sync::{OnceLock, OnceToken, Wait};
 use std::thread::{self, Promise, PromisedHandle, Threads};
@@ -96,7 +96,7 @@ fn settle<'a, R: Wait>(
 }
 
 /// The pass of the sweeper: it sweeps where the threads begin, and else is as it was.
-fn sweep_begun<M: SharedService<Global>, R: Wait + Clock>(
+fn sweep_begun<M: SharedService<Global>, R: Wait + Clock + Log>(
     rt: &R,
     desk: &Desk<M, Global>,
     mut pass: Pass<M, Global>,
@@ -122,7 +122,7 @@ fn do_job<M: SharedService<Global>, R>(
     options: &ServerOptions,
 ) -> Pass<M, Global>
 where
-    R: Wait + Clock + Log + Net<Listener = TcpListener, Stream = TcpStream>,
+    R: Wait + Clock + Log + Network,
     requires here { pass.table ≡ desk.now.table }
     ensures works { EndsThread options.now true pass result }
 {
@@ -144,7 +144,7 @@ fn attend<'a, M: SharedService<Global>, R>(
     options: &ServerOptions,
 ) -> (Pass<M, Global>, OnceToken<'a, bool>)
 where
-    R: Wait + Clock + Log + Net<Listener = TcpListener, Stream = TcpStream>,
+    R: Wait + Clock + Log + Network,
     requires here { pass.table ≡ desk.now.table }
     ensures lock { result.1.of ≡ start.now.id }
     ensures ends { EndsThread options.now result.1.value pass result.0 }
@@ -220,7 +220,7 @@ fn run_threads<M: SharedService<Global> + Send, R>(
     options: &ServerOptions,
 ) -> (bool, Vec<Pass<M, Global>>)
 where
-    R: Threads + Wait + Clock + Log + Sync + Net<Listener = TcpListener, Stream = TcpStream>,
+    R: Threads + Wait + Clock + Log + Sync + Network,
     requires here { All (λ p. p.table ≡ desk.now.table) passes.items }
     requires sweeper { sweeper.table ≡ desk.now.table }
     requires room { length passes.items + 1 ≤ vec_capacity back }
@@ -302,7 +302,7 @@ pub fn run<M: SharedService<Global> + Send, R>(
     options: &ServerOptions,
 ) -> (bool, Vec<Pass<M, Global>>)
 where
-    R: Threads + Wait + Clock + Log + Sync + Net<Listener = TcpListener, Stream = TcpStream>,
+    R: Threads + Wait + Clock + Log + Sync + Network,
     requires some { 2 ≤ length passes.items }
     requires here { All (λ p. p.table ≡ desk.now.table) passes.items }
     ensures ran { Ran options.now result.0 passes.items result.1.items }

@@ -78,6 +78,18 @@ fn close_pdu<A: Allocator + Copy>(out: &mut Vec<u8, A>)
     out[5] = fourth;
 }
 
+/// How many bytes a P-DATA-TF takes, and for another PDU those that each has at least.
+fn capacity_for<A: Allocator + Copy>(pdu: &Pdu<A>) -> usize {
+    let Pdu::Data(pdvs) = pdu else {
+        return 10;
+    };
+    let mut capacity: usize = 6;
+    for pdv in pdvs.as_slice() {
+        capacity = capacity.saturating_add(pdv.bytes.len()).saturating_add(6);
+    }
+    capacity
+}
+
 /// The bytes of a PDU.
 pub fn write_pdu<A: Allocator + Copy>(alloc: A, pdu: &Pdu<A>) -> Result<Vec<u8, A>, AllocError>
     requires { Fits pdu.now }
@@ -85,7 +97,7 @@ pub fn write_pdu<A: Allocator + Copy>(alloc: A, pdu: &Pdu<A>) -> Result<Vec<u8, 
     // They are read again, whatever follows.
     ensures again { IfOk result (λ v. SpellsPdu v.items pdu.now) }
 {
-    let mut out = Vec::new(alloc);
+    let mut out = Vec::with_capacity(alloc, capacity_for(pdu))?;
     out.extend_from_slice(&[pdu.kind().code(), 0, 0, 0, 0, 0])?;
     put_body(&mut out, pdu)?;
     close_pdu(&mut out);

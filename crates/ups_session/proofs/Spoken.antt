@@ -77,14 +77,14 @@ sends_one pdu bytes sent failed (Ok y) is all = (refl, all ∙ is ∙ sym (appen
 sends_one pdu bytes sent failed (Err e) is (why, really, (rest, some, part)) = (([], refl), inl (why, really, (rest, some, part ∙ is ∙ sym (append-nil (pdus.written_pdu pdu)))))
 
 -- one PDU was written between two calls
-pub says_one : {A Y : Type 0} (pdu : Pdu A) (o p : Output) (t u v : Told) (bytes sent : List ℕ) (r : Result Y SessionFault) → bytes ≡ pdus.written_pdu pdu → Appends o.written p.written sent → Sent bytes sent p.failed r
-    → Tells t u (Before ∷ []) → Tells u v (After ∷ []) → SendsPdus (pdu ∷ []) o p t v r
-says_one pdu o p t u v bytes sent r is writes all before after = record {
+pub says_one : {A Y : Type 0} (pdu : Pdu A) (o p : Output) (t v : Told) (bytes sent : List ℕ) (r : Result Y SessionFault) → bytes ≡ pdus.written_pdu pdu → Appends o.written p.written sent → Sent bytes sent p.failed r
+    → Tells t v (Before ∷ After ∷ []) → SendsPdus (pdu ∷ []) o p t v r
+says_one pdu o p t v bytes sent r is writes all told = record {
   visits = wrote pdu ∷ [];
   sent = sent;
   timeless = refl;
   writes = writes;
-  tells = Tells-trans t u v (Before ∷ []) (After ∷ []) before after;
+  tells = told;
   sends = sends_one pdu bytes sent p.failed r is all;
 }
 

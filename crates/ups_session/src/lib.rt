@@ -21,6 +21,7 @@ mod proposing;
 mod reports;
 mod requestor;
 mod response;
+mod sending;
 mod watched_io;
 
 pub use acceptor::serve;

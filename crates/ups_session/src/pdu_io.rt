@@ -4,7 +4,8 @@ ghost use Rattle.std.specs.Prelude.{◌≡◌, ℕ, List, ◌++◌, ◌<◌, ◌
 ghost use Rattle.std.specs.Io.KnownBytes.{Appends, Consumes};
 ghost use Rattle.ups_session.specs.WatchedIo.{HasEnded};
 ghost use Rattle.ups_session.specs.declared.watched_io.LastRead.TheVariants as last_reads;
-ghost use Rattle.ups_session.specs.Tells.{IsAnnounced};
+ghost use Rattle.ups_session.specs.declared.gate.GateCall.TheVariants.{Before, After};
+ghost use Rattle.ups_session.specs.Tells.{IsAnnounced, Tells};
 ghost use Rattle.ups_session.specs.Wire.{Sent};
 ghost use Rattle.ups_pdu.specs.declared.kind.PduKind.{PduKind};
 ghost use Rattle.ups_pdu.specs.Header.{IsHeader, type_code, limit};
@@ -206,6 +207,23 @@ pub(crate) fn read_one<A: Allocator + Copy, R: Read>(
     }
 }
 
+/// Sends the bytes of one PDU, between two calls of the gate.
+///
+/// Errors: a failed write; a beginning of the bytes was then written.
+pub(crate) fn send_bytes<W: Write, G: Gate>(
+    writer: &mut WatchedWriter<W>,
+    gate: &mut G,
+    bytes: &[u8],
+) -> Result<(), SessionFault>
+    ensures bytes { (sent : List ℕ) × Appends writer.old.written writer.new.written sent × Sent bytes.now sent writer.new.failed result }
+    ensures told { Tells (G.told gate.old) (G.told gate.new) (Before ∷ After ∷ []) }
+{
+    gate.before_write();
+    let sent = write_announced(writer, gate, bytes);
+    gate.after_write();
+    sent
+}
+
 /// Sends one PDU, between two calls of the gate.
 ///
 /// Errors: a failed write, or out of memory; a beginning of the bytes was then written.
@@ -219,10 +237,7 @@ pub(crate) fn send_pdu<A: Allocator + Copy, W: Write, G: Gate>(
     ensures { SendsPdus (pdu.now ∷ []) writer.old writer.new (G.told gate.old) (G.told gate.new) result }
 {
     let bytes = write_pdu(alloc, pdu)?;
-    gate.before_write();
-    let sent = write_announced(writer, gate, &bytes);
-    gate.after_write();
-    sent
+    send_bytes(writer, gate, &bytes)
 }
 
 /// Sends PDUs, each written by itself.

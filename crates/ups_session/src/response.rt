@@ -1,11 +1,9 @@
 //! Responses: built as PDUs, and sent.
 
-ghost use Rattle.std.specs.Prelude.{◌≡◌, ◌≤◌, ◌<◌, ◌^◌, ◌⊎◌, Some, IfOk, IfErr, length, option_copied};
+ghost use Rattle.std.specs.Prelude.{◌≡◌, ◌≤◌, ◌⊎◌, Some, IfOk, IfErr, option_copied};
 ghost use Rattle.std.specs.List.{AllByRecursion, flat_map};
 ghost use Rattle.ups_pdu.specs.Fits.{Fits};
 ghost use Rattle.ups_assoc.specs.Cutting.{pieces};
-ghost use Rattle.ups_pdu.specs.declared.syntax.TransferSyntax.TheVariants.{Explicit};
-ghost use Rattle.ups_dataset.specs.Written.{written};
 ghost use Rattle.ups_cycle.specs.Statuses.{code};
 ghost use Rattle.ups_session.specs.declared.fault.SessionFault.TheVariants.{Memory};
 ghost use Rattle.ups_session.specs.Responses.{response_bytes, bare_response, with_set, set_response, response};
@@ -16,6 +14,7 @@ ghost use Rattle.ups_session.specs.Visits.{SendsPdus};
 use crate::fault::SessionFault;
 use crate::gate::Gate;
 use crate::pdu_io::send_pdus;
+use crate::sending::send_message;
 use crate::watched_io::WatchedWriter;
 use std::alloc::{AllocError, Allocator};
 use std::io::Write;
@@ -82,47 +81,6 @@ pub(crate) fn bare_response<A: Allocator + Copy>(
     pieces(alloc, max, context.id, &command, None)
 }
 
-/// A response with a data set, in PDUs of at most `max` bytes: `command` is its command set, encoded.
-///
-/// Errors: out of memory.
-fn with_set<A: Allocator + Copy>(
-    alloc: A,
-    max: u32,
-    context: &AcceptedContext,
-    command: &[u8],
-    set: &DataSet<A>,
-) -> Result<Vec<Pdu<A>, A>, SessionFault>
-    requires max { 8 ≤ max }
-    requires short { length (written Explicit set.now) < 2 ^ 32 }
-    ensures response { IfOk result (λ v. v.items ≡ with_set max context.now command.now set.now) }
-    ensures writable { IfOk result (λ v. AllByRecursion (λ p. Fits p) v.items) }
-    ensures memory { IfErr result (λ e. e ≡ Memory) }
-{
-    let body = write_set(alloc, context.transfer_syntax, set)?;
-    pieces(alloc, max, context.id, command, Some(body.as_slice()))
-}
-
-/// A response with a data set, in PDUs of at most `max` bytes.
-///
-/// Errors: out of memory.
-pub(crate) fn set_response<A: Allocator + Copy>(
-    alloc: A,
-    max: u32,
-    context: &AcceptedContext,
-    request: &RequestCommand<A>,
-    status: Status,
-    set: &DataSet<A>,
-) -> Result<Vec<Pdu<A>, A>, SessionFault>
-    requires max { 8 ≤ max }
-    requires short { length (written Explicit set.now) < 2 ^ 32 }
-    ensures response { IfOk result (λ v. v.items ≡ set_response max context.now request.now status set.now) }
-    ensures writable { IfOk result (λ v. AllByRecursion (λ p. Fits p) v.items) }
-    ensures memory { IfErr result (λ e. e ≡ Memory) }
-{
-    let command = response_bytes(alloc, request, status, true)?;
-    with_set(alloc, max, context, &command, set)
-}
-
 /// Sends a response without a data set.
 ///
 /// Errors: a failed write, or out of memory; a beginning of the bytes was then written.
@@ -142,14 +100,14 @@ fn send_status<A: Allocator + Copy, W: Write, G: Gate>(
     send_pdus(alloc, writer, gate, said.as_slice())
 }
 
-/// Sends one match of a query: a response with its data set, whose command set `command` is, encoded. A match of 2^32
-/// bytes or more counts as out of memory.
+/// Sends a response with its data set, whose command set `command` is, encoded. The buffer is for the bytes of one PDU
+/// after the other. A data set of 2^32 bytes or more counts as out of memory.
 ///
 /// Errors: a failed write, or out of memory; a beginning of the bytes was then written.
-fn send_match<A: Allocator + Copy, W: Write, G: Gate>(
-    alloc: A,
+fn send_set<A: Allocator + Copy, W: Write, G: Gate>(
     writer: &mut WatchedWriter<W>,
     gate: &mut G,
+    buffer: &mut Vec<u8, A>,
     max: u32,
     context: &AcceptedContext,
     command: &[u8],
@@ -161,12 +119,12 @@ fn send_match<A: Allocator + Copy, W: Write, G: Gate>(
     if set.size() > u64::from(u32::MAX) {
         return Err(SessionFault::Memory);
     }
-    let said = with_set(alloc, max, context, command, set)?;
-    send_pdus(alloc, writer, gate, said.as_slice())
+    let body = write_set(*buffer.allocator(), context.transfer_syntax, set)?;
+    send_message(writer, gate, buffer, max, context.id, command, &body)
 }
 
-/// Sends the matches of a query, one after another; memory is taken for one at a time. All have the same command set, of
-/// status Pending, which is encoded once.
+/// Sends the matches of a query, one after another; memory is taken for one at a time, and one buffer serves all. All have
+/// the same command set, of status Pending, which is encoded once.
 ///
 /// Errors: a failed write, or out of memory; a beginning of the bytes was then written.
 fn send_matches<A: Allocator + Copy, W: Write, G: Gate>(
@@ -182,8 +140,9 @@ fn send_matches<A: Allocator + Copy, W: Write, G: Gate>(
     ensures { SendsPdus (flat_map (set_response max context.now request.now Pending) sets.now) writer.old writer.new (G.told gate.old) (G.told gate.new) result }
 {
     let command = response_bytes(alloc, request, Status::Pending, true)?;
+    let mut buffer = Vec::new(alloc);
     for set in sets {
-        send_match(alloc, writer, gate, max, context, &command, set)?;
+        send_set(writer, gate, &mut buffer, max, context, &command, set)?;
     }
     Ok(())
 }
@@ -212,8 +171,9 @@ pub(crate) fn send_reply<A: Allocator + Copy, W: Write, G: Gate>(
             send_status(alloc, writer, gate, max, context, request, Status::Success)
         }
         Reply::Set(status, set) => {
-            let said = set_response(alloc, max, context, request, *status, set)?;
-            send_pdus(alloc, writer, gate, said.as_slice())
+            let command = response_bytes(alloc, request, *status, true)?;
+            let mut buffer = Vec::new(alloc);
+            send_set(writer, gate, &mut buffer, max, context, &command, set)
         }
         Reply::Sets(sets) => {
             send_matches(alloc, writer, gate, max, context, request, sets.as_slice())?;

@@ -43,6 +43,13 @@ impl<M: SharedService<A>, A: Allocator + Copy> Pass<M, A> {
         self.number
     }
 
+    /// How many entries of the history the pass has seen.
+    pub fn seen(&self) -> u64
+        ensures { result ≡ length self.now.seen }
+    {
+        self.front
+    }
+
     /// The seat of the pass.
     pub(crate) fn into_place(self) -> Place<M, A>
         ensures table { result.table_id ≡ self.table }

@@ -21,13 +21,12 @@ use clap::ArgMatches;
 pub use ending::{Status, parse_status, script_status, session_status};
 pub use hexing::DigitFault;
 pub use limits::limits_are_as_defined;
-use log::Log;
+use log::{LevelFilter, Log, Logged};
 pub use piping::{Piped, pipe, pipe_told};
 pub use scripting::script;
 pub use serving::{RanServer, answer_network};
 use std::alloc::{AllocError, Global};
 use std::io::{self, BufReader, ErrorKind};
-use std::net::{Net, TcpListener, TcpStream};
 use std::process::ExitCode;
 use std::sync::Wait;
 use std::thread::Threads;
@@ -35,6 +34,7 @@ use std::time::Clock;
 use ups_args::{
     ArgumentFault, PipeArguments, command, pipe_arguments, script_arguments, serve_arguments,
 };
+use ups_net::{LossyLog, Network};
 pub use ups_net::{ServerOptions, work};
 pub use ups_session::{End, SessionFault, WatchedReader, WatchedWriter};
 
@@ -112,15 +112,7 @@ fn perform<R: Input + Print + Eprint + AllocGlobal>(
 /// Errors: lack of memory.
 fn perform_network<R>(rt: &R, matches: &ArgMatches<'_>) -> Result<Status, AllocError>
 where
-    R: Threads
-        + Wait
-        + Clock
-        + Log
-        + Sync
-        + AllocGlobal
-        + Print
-        + Eprint
-        + Net<Listener = TcpListener, Stream = TcpStream>,
+    R: Threads + Wait + Clock + Log + Sync + AllocGlobal + Print + Eprint + Network,
 {
     match serve_arguments(rt.alloc(), matches) {
         Ok(asked) => server_status(answer_network(rt, asked)?),
@@ -156,23 +148,16 @@ fn end_of<R: Eprint>(rt: &R, performed: Result<Status, AllocError>) -> Status {
     }
 }
 
-/// Does what the words of a command line ask, and gives how the program ends.
-fn run<R>(rt: &R, words: &[String]) -> Status
+/// Does what the words of a command line ask, and gives how the program ends. A server has a runtime of its own, whose log
+/// keeps none of its threads waiting.
+fn run<R, S>(rt: &R, serving: &S, words: &[String]) -> Status
 where
-    R: Threads
-        + Wait
-        + Clock
-        + Log
-        + Sync
-        + AllocGlobal
-        + Input
-        + Print
-        + Eprint
-        + Net<Listener = TcpListener, Stream = TcpStream>,
+    R: AllocGlobal + Input + Print + Eprint,
+    S: Threads + Wait + Clock + Log + Sync + AllocGlobal + Print + Eprint + Network,
 {
     let performed = match matches_of(rt, words) {
         Ok(Ok(matches)) => match matches.subcommand() {
-            Some(("serve", matches)) => perform_network(rt, matches),
+            Some(("serve", matches)) => perform_network(serving, matches),
             _ => perform(rt, &matches),
         },
         Ok(Err(status)) => Ok(status),
@@ -199,8 +184,9 @@ fn unread<R: Eprint>(rt: &R, error: ErrorKind) -> Status {
 }
 
 fn main(rt: HostRuntime) -> ExitCode {
+    let serving = Logged::new(rt, LevelFilter::Info, LossyLog::new(rt));
     let status = match words(&rt) {
-        Ok(words) => run(&rt, &words),
+        Ok(words) => run(&rt, &serving, &words),
         Err(error) => unread(&rt, error.kind()),
     };
     ExitCode::from(status)

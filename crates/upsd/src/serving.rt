@@ -12,7 +12,6 @@ use crate::ending::Status;
 use crate::limits::TURNS;
 use log::{Log, info};
 use std::alloc::{AllocError, Global};
-use std::net::{Net, TcpListener, TcpStream};
 use std::sync::Wait;
 use std::thread::Threads;
 use std::time::Clock;
@@ -21,7 +20,7 @@ use ups_args::{MAX_WORKERS, ServeArguments};
 use ups_assoc::Config;
 use ups_life::MAX_HISTORY;
 use ups_manager::Manager;
-use ups_net::{Door, Premises, ServerOptions, run};
+use ups_net::{Door, Network, Premises, ServerOptions, run};
 use ups_turn::{Desk, Pass};
 
 /// What a server leaves: whether its threads began, its desk, and the passes there.
@@ -38,11 +37,8 @@ pub struct RanServer {
 /// Listens where the command line says. With port 0 the port that was taken is printed, so that a client can be told.
 ///
 /// Errors: those of the network, and of the output.
-fn listen<R>(rt: &R, asked: &ServeArguments<'_>) -> io::Result<Door>
-where
-    R: Net<Listener = TcpListener, Stream = TcpStream> + Print + Log,
-{
-    let listener = TcpListener::bind(rt, (asked.bind, asked.port))?;
+fn listen<R: Network + Print + Log>(rt: &R, asked: &ServeArguments<'_>) -> io::Result<Door> {
+    let listener = rt.listen(asked.bind, asked.port)?;
     let door = Door::new(listener);
     let address = door.address()?;
     if asked.port == 0 {
@@ -110,13 +106,7 @@ fn deliverers_of(workers: u32) -> u32
 /// Errors: lack of memory before the threads are started.
 fn serve_on<R>(rt: &R, door: Door, asked: ServeArguments<'_>) -> Result<RanServer, AllocError>
 where
-    R: Threads
-        + Wait
-        + Clock
-        + Log
-        + Sync
-        + AllocGlobal
-        + Net<Listener = TcpListener, Stream = TcpStream>,
+    R: Threads + Wait + Clock + Log + Sync + AllocGlobal + Network,
     requires some { 1 ≤ asked.workers }
     requires most { asked.workers ≤ workers_limit }
     requires few { length asked.peers.items ≤ peer_limit }
@@ -156,15 +146,7 @@ where
 /// Lack of memory before the threads are started.
 pub fn answer_network<R>(rt: &R, asked: ServeArguments<'_>) -> Result<Option<RanServer>, AllocError>
 where
-    R: Threads
-        + Wait
-        + Clock
-        + Log
-        + Sync
-        + AllocGlobal
-        + Print
-        + Eprint
-        + Net<Listener = TcpListener, Stream = TcpStream>,
+    R: Threads + Wait + Clock + Log + Sync + AllocGlobal + Print + Eprint + Network,
     requires some { 1 ≤ asked.workers }
     requires most { asked.workers ≤ workers_limit }
     requires few { length asked.peers.items ≤ peer_limit }

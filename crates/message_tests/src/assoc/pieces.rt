@@ -92,6 +92,50 @@ fn each_piece_is_as_long_as_the_peer_takes(rt: HostRuntime) -> Result<(), Fail> 
     Ok(())
 }
 
+/// The bytes of a P-DATA-TF with one fragment on the presentation context 3, behind a byte that was there before.
+fn fragment_of(rt: &impl AllocGlobal, kind: &str, bytes: &str) -> Result<Vec<u8>, Fail> {
+    let bytes = bytes_of(rt, bytes)?;
+    if bytes.len() > 16_378 {
+        return Err("too long a fragment".into());
+    }
+    let mut out = Vec::from_slice(rt.alloc(), &[0xff])?;
+    let (command, last) = (kind.starts_with("command"), kind.ends_with("last"));
+    put_fragment(&mut out, 3, command, last, &bytes)?;
+    Ok(out)
+}
+
+/// In each row which fragment it is, its bytes, and the P-DATA-TF: the type 04H, a reserved byte and the length of the
+/// rest, then the length of the fragment, its context and its control header (PS3.8 section 9.3.5 and annex E.2).
+const FRAGMENTS: &str = "command|AABB|FF 0400 00000008 00000004 03 01 AABB
+command last|AABB|FF 0400 00000008 00000004 03 03 AABB
+data|AABB|FF 0400 00000008 00000004 03 00 AABB
+data last|AABB|FF 0400 00000008 00000004 03 02 AABB
+data last||FF 0400 00000006 00000002 03 02
+data last|00*16378|FF 0400 00004000 00003FFC 03 02 00*16378";
+
+/// Whether a row says which bytes a fragment is written as.
+fn is_fragment_of(rt: &impl AllocGlobal, row: &str) -> Result<bool, Fail> {
+    let (kind, bytes, expected) = cut_twice(row, "|", "|")?;
+    let expected = bytes_of(rt, expected)?;
+    Ok(fragment_of(rt, kind, bytes)?.as_slice() == expected.as_slice())
+}
+
+#[test]
+fn a_fragment_is_written_as_a_pdu_of_its_own(rt: HostRuntime) -> Result<(), Fail> {
+    for row in FRAGMENTS.lines() {
+        assert!(rt; is_fragment_of(&rt, row)?, "at {row}");
+    }
+    Ok(())
+}
+
+#[test]
+fn the_longest_fragment_is_even(rt: HostRuntime) -> Result<(), Fail> {
+    assert_eq!(rt; room(0), 16_378);
+    assert_eq!(rt; room(8), 2);
+    assert_eq!(rt; room(16_383), 16_376);
+    Ok(())
+}
+
 /// Whether a fragment makes a message whole, and it is this; an error where it is another.
 fn is_given(
     assembler: &mut Assembler<Global>,

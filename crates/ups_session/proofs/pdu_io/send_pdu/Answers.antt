@@ -1,4 +1,3 @@
-use Rattle.ups_session.proofs.Telling.{announced}
 use Rattle.ups_session.proofs.Spoken.{says_lost, says_one}
 use Rattle.std.proofs.Common.{[], ◌∷◌, ◌∙◌}
 use Rattle.std.proofs.lemmas.Result.{err_from_is_err_and}
@@ -9,10 +8,7 @@ returns-in_err-bytes g c =
     let p = err_from_is_err_and c.from_residual.result c.from_residual.ensures.1 in
     rw (p.1, p.2) (says_lost (c.args.pdu.now ∷ []) _ _)
 
-pub write_announced-sent-requires : goal.write_announced-sent-requires
-write_announced-sent-requires g c = announced _ _ c.before_write.ensures
-
 pub returns : goal.returns
 returns g c =
-    let (sent, writes, all) = c.write_announced-sent.ensures in
-    says_one c.args.pdu.now _ _ _ _ _ c.deref.result.now sent c.write_announced-sent.result (c.deref.ensures.value ∙ c.in_ok-bytes.ensures.written) writes all c.before_write.ensures c.after_write.ensures
+    let (sent, writes, all) = c.send_bytes.ensures.bytes in
+    says_one c.args.pdu.now _ _ _ _ c.deref.result.now sent c.send_bytes.result (c.deref.ensures.value ∙ c.in_ok-bytes.ensures.written) writes all c.send_bytes.ensures.told

@@ -20,20 +20,20 @@ returns-in_err-command g c =
     let p = err_from_is_err_and c.from_residual.result c.from_residual.ensures.1 in
     rw (p.1, p.2) (says_lost _ _ _)
 
-pub returns-in_err-send_match : goal.returns-in_err-send_match
-returns-in_err-send_match g c =
+pub returns-in_err-send_set : goal.returns-in_err-send_set
+returns-in_err-send_set g c =
     let f = set_response c.args.max c.args.context.now c.args.request.now Pending in
     let one = set-response c.args.max c.args.context.now c.args.request.now Pending c.set-item.result c.deref.result.now (c.deref.ensures.value ∙ c.in_ok-command.ensures) in
-    let p = err_from_is_err_and c.from_residual-in_err-send_match.result c.from_residual-in_err-send_match.ensures.1 in
-    rw (p.1, p.2) (each_stop f c.args.sets.now c.loop-set.set-index c.set-item.result _ _ _ _ _ _ c.in_err-send_match.field-0.0 c.loop-set-test.true c.set-item.is c.loop-set.invariant
-    (subst (λ (l : List (Pdu _)). SendsPdus l c.loop-set.writer c.send_match.new.writer (g.G.Gate.told c.loop-set.gate) (g.G.Gate.told c.send_match.new.gate) (failing c.in_err-send_match.field-0.0)) one c.in_err-send_match.ensures))
+    let p = err_from_is_err_and c.from_residual-in_err-send_set.result c.from_residual-in_err-send_set.ensures.1 in
+    rw (p.1, p.2) (each_stop f c.args.sets.now c.loop-set.set-index c.set-item.result _ _ _ _ _ _ c.in_err-send_set.field-0.0 c.loop-set-test.true c.set-item.is c.loop-set.invariant
+    (subst (λ (l : List (Pdu _)). SendsPdus l c.loop-set.writer c.send_set.new.writer (g.G.Gate.told c.loop-set.gate) (g.G.Gate.told c.send_set.new.gate) (failing c.in_err-send_set.field-0.0)) one c.in_err-send_set.ensures))
 
 pub loop-set-preserved : goal.loop-set-preserved
 loop-set-preserved g c =
     let f = set_response c.args.max c.args.context.now c.args.request.now Pending in
     let one = set-response c.args.max c.args.context.now c.args.request.now Pending c.set-item.result c.deref.result.now (c.deref.ensures.value ∙ c.in_ok-command.ensures) in
     each_step f c.args.sets.now c.loop-set.set-index c.set-item.result _ _ _ _ _ _ c.loop-set-test.true c.set-item.is c.loop-set.invariant
-    (subst (λ (l : List (Pdu _)). SendsPdus l c.loop-set.writer c.send_match.new.writer (g.G.Gate.told c.loop-set.gate) (g.G.Gate.told c.send_match.new.gate) okay) one c.in_ok-send_match.ensures)
+    (subst (λ (l : List (Pdu _)). SendsPdus l c.loop-set.writer c.send_set.new.writer (g.G.Gate.told c.loop-set.gate) (g.G.Gate.told c.send_set.new.gate) okay) one c.in_ok-send_set.ensures)
 
 pub returns : goal.returns
 returns g c =

@@ -1,0 +1,328 @@
+#!/usr/bin/env python3
+"""Tries `upsd serve` where what is around it gives out: standard error, descriptors, and its own life.
+
+    bench/ending.py [PROGRAM..]      (default: crates/upsd/out/upsd)
+
+Standard error, with --verbose, so that each request has a line. 20 associations with a C-ECHO each have to be served:
+
+    a full pipe         that nobody reads. When it is read again, a line tells how many were lost, and the log goes on
+    a pipe that fills   of 8,192 bytes that nobody reads, while 100 associations are served
+    a full socket       that nobody reads; the same
+    a broken pipe       whose reader is gone
+    /dev/full           each write fails
+    closed              as by `2>&-`
+    closed with input   as by `<&- 2>&-`: a connection may get the number of standard error, and no line may go there
+
+SIGTERM, five times, while 8 associations ask as fast as they can: the signal ends the process within a second, each peer sees
+the end of its connection, a new server listens on the same port at once, serves, and has none of the steps of before.
+
+16 descriptors (RLIMIT_NOFILE), 32 workers and 40 peers that keep their associations: at least 10 are served, and go on being
+answered. The others wait, and cost less than a fifth of a processor. When those that are served go, all others are served,
+none loses its connection, and the server has the descriptors and threads that it had.
+
+It starts the servers on ports of this machine, and ends by itself, in a minute where all is well. It prints a line for each
+trial that doesn't agree, and in the end how many agree. It ends with 1 where one doesn't.
+"""
+
+from __future__ import annotations
+
+import argparse
+import contextlib
+import fcntl
+import os
+import re
+import resource
+import select
+import signal
+import socket
+import subprocess
+import sys
+import threading
+import time
+from collections.abc import Callable, Iterator
+from typing import Optional
+
+sys.path.insert(0, os.path.dirname(os.path.abspath(__file__)))
+import pipe
+from abuse import FAULTS, Caller, descriptors, is_left, threads
+from ledger import Ledger
+from pipe import EXPLICIT, IMPLICIT, PULL, PUSH, VERIFICATION
+from serve import processor
+from stock import HERE, Tally, free_port, holds, listens
+
+LIMIT = 10  # seconds for an answer, and the limits of the servers
+COUNT, MANY = 20, 100
+ROOM = 8192  # bytes of a pipe: two pages, as one that has a page alone takes a line only where each before it was read
+AT_ONCE = 1  # second in which a signal ends the program
+ROUNDS, LOAD = 5, 8
+DESCRIPTORS, WORKERS, PEERS, FEWEST = 16, 32, 40, 10
+WATCHED, MOST = 3, 0.2  # for so many seconds, and this share of a processor
+LOST = re.compile(r"\d+ lines of the log were lost")
+
+
+class Launched:
+    """`upsd serve` with any standard error, and what is done in its process before it begins. It prints its port, or has one."""
+
+    def __init__(self, program: list[str], *options: str, error: object = subprocess.DEVNULL, port: int = 0,
+                 prepare: Optional[Callable[[], None]] = None) -> None:
+        words = program + ["serve", "--ae", "UPSD", "--port", str(port), "--timeout", str(LIMIT), "--idle", str(LIMIT), *options]
+        self.process = subprocess.Popen(words, stdin=subprocess.DEVNULL, stdout=subprocess.PIPE, stderr=error, preexec_fn=prepare)
+        self.port = port or self.printed()
+
+    def printed(self) -> int:
+        """The port that it prints; 0 where it prints none in time."""
+        is_there, _, _ = select.select([self.process.stdout], [], [], LIMIT)
+        line = self.process.stdout.readline() if is_there else b""
+        return int(line) if re.fullmatch(rb"\d+\s*", line) else 0
+
+    def __enter__(self) -> Launched:
+        return self
+
+    def __exit__(self, *_: object) -> None:
+        self.process.kill()
+        self.process.wait()
+        self.process.stdout.close()
+
+
+def echo_once(port: int, number: int = 1) -> None:
+    """An association with a C-ECHO, which is released."""
+    peer = Caller(port, LIMIT, ((VERIFICATION, IMPLICIT),))
+    assert peer.ask(pipe.echo(number)) == 0, "a C-ECHO is not answered 0000"
+    peer.release()
+
+
+def not_served(server: Launched, count: int) -> Optional[str]:
+    """Why so many associations, one after the other, are not served, or None."""
+    for number in range(count):
+        try:
+            echo_once(server.port, number + 1)
+        except FAULTS as fault:
+            return f"association {number + 1} of {count} is not served: {fault!r}; the program has ended with {server.process.poll()}"
+    return None
+
+
+# standard error
+
+def fill(descriptor: int) -> None:
+    """Leaves no room in a pipe or a socket, which blocks again afterwards."""
+    os.set_blocking(descriptor, False)
+    for size in (ROOM, 64, 1):
+        with contextlib.suppress(BlockingIOError):
+            while True:
+                os.write(descriptor, b"\n" * size)
+    os.set_blocking(descriptor, True)
+
+
+def small_pipe() -> tuple[int, int]:
+    reader, writer = os.pipe()
+    fcntl.fcntl(writer, fcntl.F_SETPIPE_SZ, ROOM)
+    return reader, writer
+
+
+def socket_pair() -> tuple[int, int]:
+    one, other = socket.socketpair()
+    return one.detach(), other.detach()
+
+
+def unread_trial(program: list[str], tally: Tally, name: str, ends: tuple[int, int], is_full: bool, count: int) -> None:
+    """A standard error that nobody reads, and that is read again in the end."""
+    reader, writer = ends
+    if is_full:
+        fill(writer)
+    with Launched(program, "--verbose", error=writer) as server:
+        os.close(writer)
+        tally.tell(f"standard error, {name}", not_served(server, count))
+        told = Reading(reader)
+        tally.tell(f"standard error, {name}, when it is read again", told.goes_on(server))
+    os.close(reader)
+
+
+class Reading:
+    """What is read of a standard error."""
+
+    def __init__(self, reader: int) -> None:
+        self.reader, self.text = reader, ""
+        os.set_blocking(reader, False)
+
+    def more(self) -> str:
+        with contextlib.suppress(BlockingIOError):
+            while more := os.read(self.reader, 65536):
+                self.text += more.decode()
+        return self.text
+
+    def goes_on(self, server: Launched) -> Optional[str]:
+        """Why the lines of another association don't come behind one that tells how many were lost, or None."""
+        self.more()
+        time.sleep(0.5)  # so that what waited for room has come too
+        before = len(self.more())
+        if fault := not_served(server, 1):
+            return fault
+        is_told = holds(lambda: " serve: Released #" in self.more()[before:], LIMIT)
+        lost = LOST.search(self.text)
+        if is_told and lost:
+            return None
+        return f"it is told {self.text[before:][-400:]!r}" + ("" if lost else ", and no line tells how many lines were lost")
+
+
+def failing_trial(program: list[str], tally: Tally, name: str, error: object, prepare: Optional[Callable[[], None]] = None) -> None:
+    """A standard error that takes nothing."""
+    with Launched(program, "--verbose", error=error, prepare=prepare) as server:
+        tally.tell(f"standard error, {name}", not_served(server, COUNT))
+
+
+def close_all(*numbers: int) -> Callable[[], None]:
+    """Closes these descriptors in the process that is to be the program."""
+    def close() -> None:
+        for it in numbers:
+            os.close(it)
+
+    return close
+
+
+def standard_error_trials(program: list[str], tally: Tally) -> None:
+    unread_trial(program, tally, "a full pipe", small_pipe(), True, COUNT)
+    unread_trial(program, tally, "a pipe that fills", small_pipe(), False, MANY)
+    unread_trial(program, tally, "a full socket", socket_pair(), True, COUNT)
+    reader, writer = os.pipe()
+    os.close(reader)
+    failing_trial(program, tally, "a broken pipe", writer)
+    os.close(writer)
+    with open("/dev/full", "wb") as full:
+        failing_trial(program, tally, "/dev/full", full)
+    failing_trial(program, tally, "closed", None, close_all(2))
+    failing_trial(program, tally, "closed with input", None, close_all(0, 2))
+
+
+# SIGTERM
+
+class Load:
+    """Associations that ask as fast as they can, each in a thread, until their connections end."""
+
+    def __init__(self, port: int) -> None:
+        self.port, self.ended, self.asked = port, 0, 0
+        self.ledgers = [Ledger(port, it, "load", LIMIT) for it in range(LOAD)]
+        self.threads = [threading.Thread(target=self.ask, args=(it,), daemon=True) for it in self.ledgers]
+        for it in self.threads:
+            it.start()
+
+    def ask(self, ledger: Ledger) -> None:
+        with contextlib.suppress(*FAULTS):
+            while True:
+                ledger.choose()
+                self.asked += 1
+        self.ended += 1
+
+
+def term_trial(program: list[str], tally: Tally) -> None:
+    """SIGTERM under load, and the same port again, so many times."""
+    port, uid = free_port(), None
+    for turn in range(1, ROUNDS + 1):
+        with Launched(program, "--associations", str(LOAD + 1), port=port) as server:
+            tally.tell(f"start {turn}", None if holds(lambda: listens(port), LIMIT) else f"nobody listens: {server.process.poll()}")
+            tally.tell(f"start {turn}, an association", not_served(server, 1))
+            if uid:
+                tally.tell(f"start {turn}, the steps of before", still_there(port, uid))
+            load = Load(port)
+            holds(lambda: load.asked > 5 * LOAD, LIMIT)
+            uid = load.ledgers[0].steps[0].uid if load.ledgers[0].steps else None
+            began = time.monotonic()
+            server.process.send_signal(signal.SIGTERM)
+            ended = holds(lambda: server.process.poll() is not None, AT_ONCE)
+            fault = f"it has ended with {server.process.poll()} after {time.monotonic() - began:.1f} s"
+            tally.tell(f"SIGTERM {turn}", None if ended and server.process.returncode == -signal.SIGTERM else fault)
+            seen = holds(lambda: load.ended == LOAD, LIMIT)
+            tally.tell(f"SIGTERM {turn}, the peers", None if seen else f"{load.ended} of {LOAD} see the end of their connections")
+
+
+def still_there(port: int, uid: bytes) -> Optional[str]:
+    """Why a step is not unknown, or None."""
+    try:
+        peer = Caller(port, LIMIT, ((PUSH, EXPLICIT), (PULL, EXPLICIT)))
+        status = peer.ask(pipe.get(1, 1, uid))
+        peer.release()
+    except FAULTS as fault:
+        return repr(fault)
+    return None if status == 0xC307 else f"an N-GET is answered {status:04X}"
+
+
+# descriptors
+
+class Visitor:
+    """A peer that keeps its association until it is told to go, and asks twice a second."""
+
+    def __init__(self, port: int, over: threading.Event) -> None:
+        self.is_served, self.fault, self.over = False, "", over
+        self.thread = threading.Thread(target=self.visit, args=(port,), daemon=True)
+        self.thread.start()
+
+    def visit(self, port: int) -> None:
+        try:
+            peer = Caller(port, 4 * LIMIT)
+            assert peer.ask(pipe.echo(1)) == 0
+            self.is_served = True
+            while not self.over.wait(0.5):
+                assert peer.ask(pipe.echo(1)) == 0
+            peer.release()
+        except FAULTS as fault:
+            self.fault = repr(fault)
+
+
+def at_most(number: int) -> Callable[[], None]:
+    return lambda: resource.setrlimit(resource.RLIMIT_NOFILE, (number, number))
+
+
+def descriptor_trial(program: list[str], tally: Tally) -> None:
+    """More peers than descriptors."""
+    with Launched(program, "--associations", str(WORKERS), prepare=at_most(DESCRIPTORS)) as server:
+        tally.tell("few descriptors, before", not_served(server, 1))
+        is_left(server.port)
+        before = threads(server), descriptors(server)
+        over = threading.Event()
+        visitors = [Visitor(server.port, over) for _ in range(PEERS)]
+        with watched(server, tally):
+            holds(lambda: count_served(visitors) >= DESCRIPTORS - before[1], LIMIT)
+        served = count_served(visitors)
+        tally.tell("few descriptors, peers that are served", None if FEWEST <= served < PEERS else f"{served} of {PEERS}")
+        over.set()
+        for it in visitors:
+            it.thread.join(5 * LIMIT)
+        faults = [it.fault or "it is not served" for it in visitors if it.fault or not it.is_served]
+        tally.tell("few descriptors, all peers in turn", f"{len(faults)} of {PEERS} are not served: {faults[0]}" if faults else None)
+        is_left(server.port)
+        back = holds(lambda: (threads(server), descriptors(server)) == before, LIMIT)
+        now = threads(server), descriptors(server)
+        tally.tell("few descriptors, what is lost", None if back else f"threads and descriptors are {now}, and were {before}")
+        tally.tell("few descriptors, behind them", not_served(server, COUNT))
+
+
+def count_served(visitors: list[Visitor]) -> int:
+    return sum(it.is_served for it in visitors)
+
+
+@contextlib.contextmanager
+def watched(server: Launched, tally: Tally) -> Iterator[None]:
+    """Measures what the server takes of a processor for some seconds, behind what is done within."""
+    yield
+    before, began = processor(server.process.pid), time.monotonic()
+    time.sleep(WATCHED)
+    share = (processor(server.process.pid) - before) / (time.monotonic() - began)
+    tally.tell("few descriptors, processor", None if share < MOST else f"it takes {share:.0%} of a processor")
+
+
+def main() -> None:
+    about, _, more = (__doc__ or "").partition("\n\n")
+    parser = argparse.ArgumentParser(description=about, epilog=more, formatter_class=argparse.RawDescriptionHelpFormatter)
+    parser.add_argument("program", nargs="*", default=[os.path.join(HERE, "crates/upsd/out/upsd")],
+                        help="the program, and words before those of `serve` (default: crates/upsd/out/upsd, which `rt run` builds)")
+    given = parser.parse_args()
+    signal.signal(signal.SIGALRM, lambda *_: sys.exit("ending.py: it does not end"))
+    signal.alarm(600)
+    tally = Tally()
+    standard_error_trials(given.program, tally)
+    term_trial(given.program, tally)
+    descriptor_trial(given.program, tally)
+    tally.end("standard error, SIGTERM, descriptors")
+
+
+if __name__ == "__main__":
+    main()
