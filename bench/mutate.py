@@ -228,7 +228,8 @@ class Association:
         if self.way in ("resets", "hangs up"):
             return None
         if self.way == "reads on":
-            connection.shutdown(socket.SHUT_WR)
+            with contextlib.suppress(OSError):  # the server has reset it already
+                connection.shutdown(socket.SHUT_WR)
         heard = []
         while more := connection.recv(65536):
             heard.append(more)
