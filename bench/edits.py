@@ -3,9 +3,9 @@
 
 The gate tries the edits in `must-fail`: those of named rules and of the headline's promises, in the lowest crate that can
 refuse them. All others stand in `edits`, and are tried by this script after a change of the crate. It works on a copy of
-the tree, in which they stand in the place of the gate's, and runs `rt ci` for the crates. What was proved on this machine
-is kept; each crate is proved once more, as what its edits are tried over, and an edit takes 10 to 70 seconds. As many run
-side by side as RT_JOBS says.
+the tree, in which they stand in the place of the gate's, and runs `rt must-fail` for the crates. The libraries below are
+those that `rt check` has left in the tree, or are proved first; each crate is proved once more, as what its edits are tried
+over, and an edit takes 10 to 70 seconds.
 """
 
 import argparse
@@ -70,7 +70,7 @@ def main():
         copied(root, f"{room}/tree")
         for name, edits in chosen.items():
             put_in(f"{room}/tree", name, edits)
-        sys.exit(subprocess.run(["rt", "ci", *chosen], cwd=f"{room}/tree").returncode)
+        sys.exit(subprocess.run(["rt", "must-fail", *chosen], cwd=f"{room}/tree").returncode)
 
 
 if __name__ == "__main__":

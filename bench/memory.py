@@ -214,7 +214,7 @@ def main() -> None:
     tally = Tally()
     limited = ["prlimit", f"--as={ADDRESSES}", *asked.program]
     for name, words in (("memory as it is", limited), ("one memory for all threads", ["env", "MALLOC_ARENA_MAX=1", *limited])):
-        with Server(words, "--keep", "1", "--idle", "0") as server:
+        with Server(words, "--associations", "4", "--keep", "1", "--idle", "0") as server:
             Trials(server, tally, name).run()
     tally.end(f"{ADDRESSES:,} bytes of addresses, steps of {SIZE:,} bytes")
 

@@ -6,13 +6,14 @@
     bench/rows.py --self-test rows/*.rows examples  spoils what each expects, in each way, and sees that this is found
 
 A file of rows has sections. The first line of a section is `# ` and a heading; its rows follow. The first line of the file
-may say what the rows are: `sessions`, `commands`, `deliveries`, `readings` or `courses`. Otherwise each section is a script.
+may say what the rows are: `sessions`, `commands`, `deliveries`, `readings`, `courses` or `services`. Otherwise each section
+is a script.
 
 A script has in each row a line of it, ` -> ` and its reply; or a line without a reply; or `! ` and what the program says on
 standard error where the script ends early. `N times: ` repeats a row, with the number of the time in the place of a `#` in
 the line; behind that, `{N: text}` so repeats a text of the line or of the reply. In a heading `(peers)` names the peers W1,
 which may lock steps, and W2, which may not; `(offset N)` sets the local time, in minutes east of UTC; `(without its line
-feed)` takes the line feed from the last line. In a line U1 to U3 stand for three steps, B for the attributes of a new one,
+feed)` takes the line feed from the last line; `(as it is typed)` gives each line once the reply to the one before has come. In a line U1 to U3 stand for three steps, B for the attributes of a new one,
 IP for the state in progress, `=x*N` for a value of N letters x, and `\\r` for a carriage return.
 
 A row of `sessions` is `FORM | ASKED | ANSWERED | ENDED`, an association of `upsd pipe` as UPSD, without peers: in `bytes`; or
@@ -44,10 +45,25 @@ that this side asks W1 for, behind `deliver`; and scripts, behind `script`, whos
 is `ASKED | ANSWERED | LACKING | ENTRIES`: what is asked, what is answered, what is answered where memory lacks, if that is
 ever told, and how many requests the history has then. In a delivery ID is the message ID of a report, which counts them.
 
+A row of `services` is `ASKED -> ANSWERED : ENDED N`, by the program `refusals`: what a new service is asked in an association,
+and what it answers; how that ends, and how many requests the history has then. In its heading `(delivers)` says that this
+side asks W1 for the association: `, pending` stands then at the end, with the numbers of the events that are left pending for
+W1; `(script)`, that a script is asked and answered. `(two events)` or another name stands for what is asked before, an
+association in each row of the section whose heading is `before: ` and that name. `(turns N)` limits the PDUs or lines that are
+read, `(history N)` the requests that are entered, and `(room N)` the bytes that are taken; `(offset N)` is the local time, as
+above. Where the input `(fails)` it does so behind its bytes; each of the `(reads)` or `(writes)` is interrupted once; and
+`(in full)` tells behind the number the calls of the gate, and of each request in the history the caller, the title and the
+moment. Before a row and ` | ` may stand what is short, as above: `end`, `break` or `room`, with the first and the last number.
+
+A section of `services` that goes `(line by line)` has lines of a script with their replies. Three other ones ask the program:
+`entries`, how many requests the history has; `size U1`, how many bytes the row of a step takes; `due N U1`, whether that step
+is to be removed at a moment, as the plain program says. A line that enters no request leaves as it was all that is told of
+the steps U1 to U3; and behind the last line the plain programs list the steps that are held, and that W1 and W2 watch.
+
 Bytes are words: hex digits, as often as a number behind `*` says; text in quotes; the names of the SOP classes, as PUSH; and
 the names of bytes: of the stored PDUs in crates/fixtures/src/vectors.rt, and of the sections whose heading begins with
-`names: `, where a row is a name, `: ` and bytes. A `#` in these is an odd number, which goes up by two where the name is
-repeated.
+`names: `, where a row is a name, `: ` and bytes. A heading `names of ` and a file takes over the names of that file of rows. A
+`#` in these is an odd number, which goes up by two where the name is repeated.
 
 A folder has examples: a script in NAME, the words of the command line in NAME.args, a line each, and what the program
 writes in NAME.stdout.
@@ -63,6 +79,7 @@ import sys
 
 import courses
 import runs
+import services
 import spelling
 
 WORDS = {
@@ -144,9 +161,15 @@ class Script:
             other.said = "X\n"
         return [other]
 
+    def run(self, words, script):
+        """Runs the program on the script, at once or line by line."""
+        if self.name.endswith("(as it is typed)"):
+            return runs.run_typed(words, script.splitlines(keepends=True))
+        return runs.run(words, script)
+
     def difference(self, program):
         """How what the program does differs from the script; None where it doesn't."""
-        ran = runs.run([program, *self.words], self.script.encode())
+        ran = self.run([program, *self.words], self.script.encode())
         found, said = ran.output.decode(errors="replace"), ran.said.decode(errors="replace")
         if found != self.replies:
             pairs = zip([*found.split("\n"), ""], [*self.replies.split("\n"), ""])
@@ -365,19 +388,32 @@ def rows_of(file):
     """What is to be run of a file: its scripts, or its rows."""
     kind, *sections = re.split(r"(?m)^# ", content(file))
     kind = kind.removesuffix("\n")
-    if kind not in ("", "courses", *KINDS) or not sections:
+    if kind not in ("", "courses", "services", *KINDS) or not sections:
         sys.exit(f"{file}: no section at its beginning")
-    names = spelling.stored() if kind else {}
+    names, befores = spelling.stored() if kind else {}, {}
     for section in sections:
         heading, *rows = section.removesuffix("\n").split("\n")
-        if not kind:
-            yield Script(heading, rows)
-        elif heading.startswith("names: "):
+        what, _, name = heading.partition(": ")
+        if kind and what == "names":
             names.update(row.split(": ", 1) for row in rows)
-        elif kind == "courses":
-            yield courses.Course(heading, courses.parts_of(names, rows, spelled))
+        elif kind and heading.startswith("names of "):
+            names.update(names_in(os.path.join(os.path.dirname(file), heading.removeprefix("names of "))))
+        elif kind == "services" and what == "before":
+            befores[name] = rows
         else:
-            yield from (KINDS[kind](names, row) for row in rows)
+            yield from rows_of_section(kind, heading, rows, names, befores)
+
+
+def rows_of_section(kind, heading, rows, names, befores):
+    """What is to be run of a section."""
+    if not kind:
+        yield Script(heading, rows)
+    elif kind == "courses":
+        yield courses.Course(heading, courses.parts_of(names, rows, spelled))
+    elif kind == "services":
+        yield from services.rows_of(names, befores, heading, rows, lambda row: unfolded(spelled(row)))
+    else:
+        yield from (KINDS[kind](names, row) for row in rows)
 
 
 def names_in(file):

@@ -42,6 +42,21 @@ def run(words, given=b"", *, source=None, room=None, memory=None):
         return Ran(ran.returncode, output.read(), ran.stderr)
 
 
+def run_typed(words, lines):
+    """Runs a program that is given each line once the reply to the line before has come."""
+    with subprocess.Popen(words, stdin=subprocess.PIPE, stdout=subprocess.PIPE, stderr=subprocess.PIPE) as child:
+        guard = threading.Timer(SECONDS, child.kill)
+        guard.start()
+        output = b""
+        for line in lines:
+            child.stdin.write(line)
+            child.stdin.flush()
+            output += child.stdout.readline()
+        rest, said = child.communicate()
+        guard.cancel()
+    return Ran(child.returncode, output + rest, said)
+
+
 @contextlib.contextmanager
 def files_of(room):
     """Lets programs that begin meanwhile write files of so many bytes. Behind them a write fails: the signal for that is one

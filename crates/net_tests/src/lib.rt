@@ -1,10 +1,12 @@
-//! Tests of the server over sockets, and of sessions that share a desk.
+//! Tests of desks and of sessions that share one, of a connection that can't be sent to, and of how many connections wait.
+//! What a server does on sockets, and that its threads share a manager, is seen from outside, by `bench/sharing.py` and
+//! others.
 #![tactic(auto)]
 
 #[cfg(test)]
-mod peers;
+mod backlog;
 #[cfg(test)]
-mod running;
+mod seats;
 #[cfg(test)]
 mod sending;
 #[cfg(test)]

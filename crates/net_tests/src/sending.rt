@@ -1,10 +1,8 @@
 //! An association whose last bytes can't be sent.
 ghost use Rattle.std.specs.Prelude.{◌≡◌};
 
-use crate::peers::connect;
-use crate::running::options_of;
-use fixtures::bytes_of;
 use fixtures::vectors::REQUEST_OF_OTHER;
+use fixtures::{bytes_of, title};
 use log::Log;
 use std::alloc::Global;
 use std::io::Write;
@@ -12,6 +10,7 @@ use std::net::{Net, Shutdown, TcpListener, TcpStream};
 use std::sync::Wait;
 use std::test::Fail;
 use std::time::Clock;
+use ups_assoc::Config;
 use ups_manager::Manager;
 use ups_net::{Account, ServerOptions, end_told, serve_one};
 use ups_service::SharedService;
@@ -25,7 +24,7 @@ where
     R: AllocGlobal + Net<Listener = TcpListener, Stream = TcpStream>,
 {
     let listener = TcpListener::bind(rt, "127.0.0.1:0")?;
-    let mut client = connect(rt, listener.local_addr()?)?;
+    let mut client = TcpStream::connect(rt, listener.local_addr()?)?;
     let request = bytes_of(rt, REQUEST_OF_OTHER)?;
     client.write_all(&request)?;
     let (server, _) = listener.accept()?;
@@ -33,6 +32,26 @@ where
         server.shutdown(Shutdown::Write)?;
     }
     Ok((server, client))
+}
+
+/// The options of a server without watchers, which serves one association.
+fn options_of(alloc: Global) -> Result<ServerOptions, Fail> {
+    Ok(ServerOptions {
+        alloc,
+        config: Config {
+            ae: title("UPSD")?,
+            offset: 0,
+        },
+        turns: 100,
+        idle: 10,
+        timeout: 10,
+        delivery_timeout: 10,
+        workers: 1,
+        associations: 1,
+        rounds: 1,
+        verbose: true,
+        watchers: Vec::new(alloc),
+    })
 }
 
 /// What is told of an association on a connection of a server, which a pass serves.
@@ -84,7 +103,7 @@ where
     R: AllocGlobal + Wait + Clock + Log + Net<Listener = TcpListener, Stream = TcpStream>,
 {
     let (server, _client) = asked_of_other(rt, is_cut)?;
-    let options = options_of(rt.alloc(), 0)?;
+    let options = options_of(rt.alloc())?;
     told_on(rt, &server, &options)
 }
 

@@ -1,11 +1,12 @@
 //! A course: parts that one service takes, one after the other.
 
-use crate::lines::{bytes_of, no_course};
-use crate::parts::{Kind, end_of_part, title_of};
+use crate::lines::{no_course, title_of};
+use crate::options::Settings;
+use crate::parts::add_part;
 use fixtures::Refusing;
 use std::alloc::{Allocator, Global};
 use std::io;
-use ups_life::{MAX_HISTORY, Peer};
+use ups_life::Peer;
 use ups_manager::Manager;
 
 /// For how many seconds a finished step is kept.
@@ -15,23 +16,21 @@ const KEEP: u32 = 60;
 ///
 /// Errors: InvalidData where the line is none; lack of memory elsewhere.
 pub(crate) fn course_of(alloc: Global, line: &str) -> io::Result<String> {
-    let Some((number, parts)) = line.split_once(' ') else {
+    let Some((first, parts)) = line.split_once(' ') else {
         return Err(no_course());
     };
-    let Ok(number) = number.parse::<u64>() else {
-        return Err(no_course());
-    };
+    let settings = Settings::of(first)?;
     let mut text = String::new(alloc);
-    add_course(alloc, &mut text, number, parts)?;
+    add_course(alloc, &mut text, settings, parts)?;
     Ok(text)
 }
 
-/// Adds what comes of a course from which the growth of this number is withheld, and whether one was.
-fn add_course(alloc: Global, text: &mut String, number: u64, parts: &str) -> io::Result<()> {
+/// Adds what comes of a course from which the growth that the settings name is withheld, and whether one was.
+fn add_course(alloc: Global, text: &mut String, settings: Settings, parts: &str) -> io::Result<()> {
     let heap = Refusing::new(alloc);
-    heap.refuse(number);
-    add_parts(alloc, &heap, text, parts)?;
-    let is_whole = number == 0 || heap.is_armed();
+    heap.refuse(settings.refused);
+    add_parts(alloc, &heap, text, settings, parts)?;
+    let is_whole = settings.refused == 0 || heap.is_armed();
     text.push_str(if is_whole { "all" } else { "refused" })?;
     Ok(())
 }
@@ -43,6 +42,7 @@ fn add_parts<A: Allocator + Copy>(
     alloc: Global,
     heap: A,
     text: &mut String,
+    settings: Settings,
     parts: &str,
 ) -> io::Result<()> {
     let first = Peer {
@@ -53,7 +53,8 @@ fn add_parts<A: Allocator + Copy>(
         ae: title_of(b"W2")?,
         lock: false,
     };
-    match Manager::new(heap, &[first, second], KEEP, 0, MAX_HISTORY) {
+    let peers = [first, second];
+    match Manager::new(heap, &peers, KEEP, settings.offset, settings.history) {
         Ok(mut manager) => add_each(alloc, heap, &mut manager, text, parts),
         Err(_) => Ok(()),
     }
@@ -71,38 +72,4 @@ fn add_each<A: Allocator + Copy>(
         add_part(alloc, heap, manager, text, part)?;
     }
     Ok(())
-}
-
-/// Adds what comes of a part.
-fn add_part<A: Allocator + Copy>(
-    alloc: Global,
-    heap: A,
-    manager: &mut Manager<A>,
-    text: &mut String,
-    part: &str,
-) -> io::Result<()> {
-    let Some((kind, digits)) = part.split_once(':') else {
-        return Err(no_course());
-    };
-    let Some(kind) = Kind::of(kind) else {
-        return Err(no_course());
-    };
-    let given = bytes_of(alloc, digits)?;
-    add_end(alloc, heap, manager, text, kind, &given)
-}
-
-/// Adds what is written to a part, how it ends, and how many requests there are in the history.
-fn add_end<A: Allocator + Copy>(
-    alloc: Global,
-    heap: A,
-    manager: &mut Manager<A>,
-    text: &mut String,
-    kind: Kind,
-    given: &[u8],
-) -> io::Result<()> {
-    let mut output = Vec::new(alloc);
-    let end = end_of_part(alloc, heap, manager, kind, given, &mut output)?;
-    let digits = hex::encode(alloc, &output)?;
-    let entries = manager.history().len();
-    Ok(write!(text, "{digits} {end:?} {entries} | ")?)
 }

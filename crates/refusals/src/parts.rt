@@ -1,39 +1,14 @@
-//! A part of a course: an association that a peer asks for, one that this side asks for, or a script.
+//! A part of a course: an association that a peer asks for, one that this side asks for, a script, or what is told of the
+//! service.
 
-use crate::lines::no_course;
+use crate::associations::add_association;
+use crate::lines::{bytes_of, no_course};
+use crate::options::{Kind, Part};
+use crate::plainly::{due_of, lists_of, size_of};
 use std::alloc::{Allocator, Global};
 use std::io;
-use ups_assoc::Config;
 use ups_manager::Manager;
-use ups_pdu::Ae;
 use ups_script::{ScriptFault, answer_lines};
-use ups_session::{End, ListGate, SessionFault, WatchedReader, WatchedWriter, deliver, serve};
-
-/// How many PDUs are read in an association, and lines in a script, at most.
-const LIMIT: u16 = 60_000;
-
-/// Who begins a part, and what it is.
-#[derive(Clone, Copy, Debug, PartialEq, Eq)]
-pub(crate) enum Kind {
-    /// A peer asks for an association.
-    Serve,
-    /// This side asks W1 for one, and reports events over it.
-    Deliver,
-    /// A script is answered.
-    Script,
-}
-
-impl Kind {
-    /// The kind of a word; None where there is none.
-    pub(crate) fn of(word: &str) -> Option<Kind> {
-        match word {
-            "serve" => Some(Kind::Serve),
-            "deliver" => Some(Kind::Deliver),
-            "script" => Some(Kind::Script),
-            _ => None,
-        }
-    }
-}
 
 /// How a part ends.
 #[derive(Clone, Copy, Debug, PartialEq, Eq)]
@@ -43,113 +18,118 @@ pub(crate) enum PartEnd {
     AbortReceived,
     Closed,
     Rejected,
-    /// A script is answered to its end.
+    /// A script is answered to its end, or what was asked is told.
     Done,
     Read,
     Write,
-    /// A script has a line that is none, or there is more than is read at most.
+    /// There are more PDUs or lines than are read at most.
+    Turns,
+    /// A script has a line that is none.
     Stopped,
     Memory,
-}
-
-/// How an association ends.
-fn end_of_session(ended: Result<End, SessionFault>) -> PartEnd {
-    match ended {
-        Ok(End::Released) => PartEnd::Released,
-        Ok(End::AbortSent) => PartEnd::AbortSent,
-        Ok(End::AbortReceived) => PartEnd::AbortReceived,
-        Ok(End::Closed) => PartEnd::Closed,
-        Ok(End::Rejected) => PartEnd::Rejected,
-        Err(SessionFault::Read) => PartEnd::Read,
-        Err(SessionFault::Write) => PartEnd::Write,
-        Err(SessionFault::Turns) => PartEnd::Stopped,
-        Err(SessionFault::Memory) => PartEnd::Memory,
-    }
 }
 
 /// How a script ends.
 fn end_of_script(ended: Result<(), ScriptFault>) -> PartEnd {
     match ended {
         Ok(()) => PartEnd::Done,
+        Err(ScriptFault::BadLine(_)) => PartEnd::Stopped,
+        Err(ScriptFault::TooManyLines) => PartEnd::Turns,
         Err(ScriptFault::Read) => PartEnd::Read,
         Err(ScriptFault::Write) => PartEnd::Write,
         Err(ScriptFault::Memory) => PartEnd::Memory,
-        Err(_) => PartEnd::Stopped,
     }
 }
 
-/// The title of letters.
-///
-/// Errors: InvalidData where they are none.
-pub(crate) fn title_of(letters: &[u8]) -> io::Result<Ae> {
-    match Ae::of(letters) {
-        Some(title) => Ok(title),
-        None => Err(no_course()),
-    }
+/// Adds what is written to a part, how it ends, and how many requests there are in the history.
+pub(crate) fn add_end(
+    alloc: Global,
+    text: &mut String,
+    written: &[u8],
+    end: PartEnd,
+    entries: usize,
+) -> io::Result<()> {
+    let digits = hex::encode(alloc, written)?;
+    Ok(write!(text, "{digits} {end:?} {entries}")?)
 }
 
-/// How an association ends, in which a peer asks this, or W1 answers it where this side asks for it. What is written to it
-/// goes to `output`. Each request is made at 1970-01-01, 00:00 UTC.
-fn end_of_association<A: Allocator + Copy>(
+/// Adds what comes of a script.
+fn add_script<A: Allocator + Copy>(
     alloc: Global,
     heap: A,
     manager: &mut Manager<A>,
-    delivers: bool,
+    text: &mut String,
+    turns: u16,
     given: &[u8],
-    output: &mut Vec<u8>,
-) -> io::Result<PartEnd> {
-    let config = Config {
-        ae: title_of(b"UPSD")?,
-        offset: 0,
-    };
-    let watcher = title_of(b"W1")?;
-    let mut gate = ListGate::new(alloc, &[]);
-    let mut reader = WatchedReader::new(given);
-    let mut writer = WatchedWriter::new(output);
-    let turns = u64::from(LIMIT);
-    let ended = if delivers {
-        deliver(
-            heap,
-            &mut reader,
-            &mut writer,
-            manager,
-            &mut gate,
-            &config,
-            watcher,
-            turns,
-        )
-    } else {
-        serve(
-            heap,
-            &mut reader,
-            &mut writer,
-            manager,
-            &mut gate,
-            &config,
-            turns,
-        )
-    };
-    Ok(end_of_session(ended))
+) -> io::Result<()> {
+    let mut lines = given;
+    let mut output = Vec::new(alloc);
+    let ended = answer_lines(heap, manager, &mut lines, &mut output, u64::from(turns));
+    add_end(
+        alloc,
+        text,
+        &output,
+        end_of_script(ended),
+        manager.history().len(),
+    )
 }
 
-/// How a part ends. What is written to it goes to `output`.
-///
-/// Errors: InvalidData where a title is none, which does not happen.
-pub(crate) fn end_of_part<A: Allocator + Copy>(
+/// Adds what is told of the service.
+fn add_told<A: Allocator + Copy>(
     alloc: Global,
     heap: A,
-    manager: &mut Manager<A>,
+    manager: &Manager<A>,
+    text: &mut String,
     kind: Kind,
     given: &[u8],
-    output: &mut Vec<u8>,
-) -> io::Result<PartEnd> {
-    match kind {
-        Kind::Serve => end_of_association(alloc, heap, manager, false, given, output),
-        Kind::Deliver => end_of_association(alloc, heap, manager, true, given, output),
-        Kind::Script => {
-            let mut lines = given;
-            let ended = answer_lines(heap, manager, &mut lines, output, u64::from(LIMIT));
-            Ok(end_of_script(ended))
+) -> io::Result<()> {
+    let told = match kind {
+        Kind::Due => due_of(alloc, heap, manager, given)?,
+        Kind::Size => size_of(alloc, manager, given)?,
+        _ => lists_of(alloc, heap, manager)?,
+    };
+    add_end(
+        alloc,
+        text,
+        told.as_bytes(),
+        PartEnd::Done,
+        manager.history().len(),
+    )
+}
+
+/// Adds what comes of a part.
+///
+/// Errors: InvalidData where the word says none; lack of memory.
+pub(crate) fn add_part<A: Allocator + Copy>(
+    alloc: Global,
+    heap: A,
+    manager: &mut Manager<A>,
+    text: &mut String,
+    word: &str,
+) -> io::Result<()> {
+    let Some((front, digits)) = word.split_once(':') else {
+        return Err(no_course());
+    };
+    let part = Part::of(front)?;
+    let given = bytes_of(alloc, digits)?;
+    add_by_kind(alloc, heap, manager, text, part, &given)?;
+    Ok(text.push_str(" | ")?)
+}
+
+/// Adds what comes of a part by its kind.
+fn add_by_kind<A: Allocator + Copy>(
+    alloc: Global,
+    heap: A,
+    manager: &mut Manager<A>,
+    text: &mut String,
+    part: Part,
+    given: &[u8],
+) -> io::Result<()> {
+    match part.kind {
+        Kind::Serve | Kind::Deliver => add_association(alloc, heap, manager, text, part, given),
+        Kind::Script => add_script(alloc, heap, manager, text, part.turns, given),
+        Kind::Plain | Kind::Due | Kind::Size => {
+            add_told(alloc, heap, manager, text, part.kind, given)
         }
     }
 }

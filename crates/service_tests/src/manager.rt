@@ -1,5 +1,5 @@
 //! The manager as code asks it: by numbers of callers, and as a service. Its rows for a service alone are scripts
-//! (`program_tests`).
+//! (`rows/services.rows`).
 
 ghost use Rattle.std.specs.Prelude.{[], ◌∷◌};
 ghost use Rattle.ups_life.specs.Settings.{IsMoment};

@@ -15,7 +15,7 @@ workers_limit = 1022
 
 -- and those that are where nothing else is said
 abbrev pub default_workers : ℕ
-default_workers = 4
+default_workers = 16
 
 -- the seconds for which an association may be silent between two messages
 abbrev pub idle_seconds : ℕ

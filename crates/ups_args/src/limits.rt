@@ -13,8 +13,9 @@ pub const OFFSET: i16 = 0;
 /// delivers event reports.
 pub const MAX_WORKERS: u32 = 1_022;
 
-/// How many associations are served at the same time, where nothing else is said.
-pub(crate) const WORKERS: u32 = 4;
+/// How many associations are served at the same time, where nothing else is said: a workstation may keep one open, and a
+/// small hospital has some ten of these, with a scheduler or two.
+pub(crate) const WORKERS: u32 = 16;
 
 /// For how many seconds an association may be silent between two messages, where nothing else is said.
 pub(crate) const IDLE: u32 = 60;

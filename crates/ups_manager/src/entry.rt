@@ -9,7 +9,7 @@ ghost use Rattle.ups_manager.specs.Indexing.{IsIndexed};
 
 use crate::deciding::Decision;
 use crate::indexing::{change_index, make_index_room};
-use crate::reserve::leave_reserve;
+use crate::reserve::Reserve;
 use std::alloc::{AllocError, Allocator};
 use ups_index::Index;
 use ups_life::{Configuration, Entry, Reply};
@@ -21,8 +21,8 @@ use ups_tables::{Tables, carry_out, make_room};
 /// Errors: where memory runs out, or a creation would not leave the reserve. The history is then as before, and the tables and
 /// the index say the same as before.
 pub(crate) fn enter<A: Allocator + Copy>(
-    alloc: A,
     configuration: &Configuration<A>,
+    reserve: &mut Reserve<A>,
     history: &mut Vec<Entry<A>, A>,
     tables: &mut Tables<A>,
     index: &mut Index<A>,
@@ -41,7 +41,7 @@ pub(crate) fn enter<A: Allocator + Copy>(
 {
     make_index_room(index, &decision.change)?;
     make_room(configuration, history, tables, &call, &decision.plan)?;
-    leave_reserve(alloc, &call.request)?;
+    reserve.leave(&call.request)?;
     let Decision {
         reply,
         plan,

@@ -27,6 +27,7 @@ use crate::deciding::decide;
 use crate::entry::enter;
 use crate::peers::{first_pending, watched_in};
 use crate::reporting::reports_of;
+use crate::reserve::Reserve;
 use crate::rows::{find, uids_of};
 use crate::submitting::is_full;
 use crate::worklist::matches_of_class;
@@ -50,6 +51,7 @@ pub struct Manager<A: Allocator + Copy> {
     history: Vec<Entry<A>, A>,
     tables: Tables<A>,
     index: Index<A>,
+    reserve: Reserve<A>,
 }
 
 impl<A: Allocator + Copy> Model for Manager<A> {
@@ -104,6 +106,7 @@ impl<A: Allocator + Copy> Manager<A> {
             history: Vec::new(alloc),
             tables,
             index: Index::new(alloc, offset),
+            reserve: Reserve::new(alloc),
         })
     }
 
@@ -256,6 +259,7 @@ impl<A: Allocator + Copy> Manager<A> {
             history,
             tables,
             index,
+            reserve,
         } = self;
         let entries = history.as_slice();
         let decided = decide(*alloc, configuration, entries, tables, &call);
@@ -267,8 +271,8 @@ impl<A: Allocator + Copy> Manager<A> {
             return Reply::Status(Status::ResourceLimitation);
         }
         let Ok(reply) = enter(
-            *alloc,
             configuration,
+            reserve,
             history,
             tables,
             index,

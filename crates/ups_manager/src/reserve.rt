@@ -5,7 +5,10 @@ use ups_life::Request;
 
 /// How much memory a creation leaves, in bytes: room for sixteen messages of the largest size (1,048,576 bytes) that are
 /// being read at the same time.
-const RESERVE: usize = 16_777_216;
+const SIZE: usize = 16_777_216;
+
+/// How much of it is kept between two creations, in bytes.
+const KEPT: usize = 4_096;
 
 /// The size of a block that takes the largest message, in bytes.
 const LARGE: usize = 1_048_576;
@@ -44,21 +47,41 @@ fn probe_blocks<A: Allocator + Copy>(alloc: A) -> Result<(), AllocError> {
     Ok(())
 }
 
-/// Whether the reserve can be had: as one block, or else as fourteen of 1 MiB and 2,048 of 1 KiB. Nothing of it is kept.
-fn has_reserve<A: Allocator + Copy>(alloc: A) -> bool {
-    Vec::<u8, A>::with_capacity(alloc, RESERVE).is_ok() || probe_blocks(alloc).is_ok()
+/// The reserve: a block that grows to its size at each creation, and shrinks again at once.
+///
+/// A block that is taken anew and given back each time would have the C library take blocks up to that size from its own
+/// memory from then on. It copies such a block when it grows, as it does not copy one that the system has mapped: the
+/// largest tables would be copied, in the midst of a creation.
+#[derive(Drop)]
+pub(crate) struct Reserve<A: Allocator + Copy> {
+    alloc: A,
+    block: Vec<u8, A>,
 }
 
-/// Sees that a request which creates a step leaves the reserve. Every other request may take of it: what the reserve is for
-/// are the steps that are there.
-///
-/// Errors: where it does not.
-pub(crate) fn leave_reserve<A: Allocator + Copy>(
-    alloc: A,
-    request: &Request<A>,
-) -> Result<(), AllocError> {
-    match request {
-        Request::Create { .. } if !has_reserve(alloc) => Err(AllocError),
-        _ => Ok(()),
+impl<A: Allocator + Copy> Reserve<A> {
+    /// A reserve of which nothing is taken yet.
+    pub(crate) fn new(alloc: A) -> Reserve<A> {
+        Reserve {
+            alloc,
+            block: Vec::new(alloc),
+        }
+    }
+
+    // Whether the reserve can be had: as one block, or else as fourteen of 1 MiB and 2,048 of 1 KiB.
+    fn is_there(&mut self) -> bool {
+        let is_whole = self.block.reserve_exact(SIZE).is_ok();
+        self.block.shrink_to(KEPT);
+        is_whole || probe_blocks(self.alloc).is_ok()
+    }
+
+    /// Sees that a request which creates a step leaves the reserve. Every other request may take of it: what the reserve is
+    /// for are the steps that are there.
+    ///
+    /// Errors: where it does not.
+    pub(crate) fn leave(&mut self, request: &Request<A>) -> Result<(), AllocError> {
+        match request {
+            Request::Create { .. } if !self.is_there() => Err(AllocError),
+            _ => Ok(()),
+        }
     }
 }

@@ -6,6 +6,7 @@
 
 mod account;
 mod arrival;
+mod backlog;
 mod clock;
 mod delivering;
 mod door;
@@ -23,6 +24,7 @@ mod wire;
 mod workers;
 
 pub use account::Account;
+pub use backlog::waiting_at;
 pub use clock::{HostClock, moment_of};
 pub use delivering::deliver_rounds;
 pub use door::{Caller, Door};

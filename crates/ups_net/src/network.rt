@@ -1,7 +1,9 @@
 //! The network of a runtime, whatever it logs to.
 
+use crate::backlog::{list_of, waiting_at};
 use log::Handle;
-use std::io;
+use std::fs;
+use std::io::{self, BufReader};
 use std::net::{SocketAddr, TcpListener, TcpStream, ToSocketAddrs};
 use std::time::Duration;
 
@@ -28,6 +30,9 @@ pub trait Network {
     ///
     /// Those of looking a name up, and of listening.
     fn listen(&self, host: &str, port: u16) -> io::Result<TcpListener>;
+
+    /// How many connections wait to be accepted at an address at which this program listens; None where the system does not tell.
+    fn waiting_at(&self, address: SocketAddr) -> Option<u64>;
 }
 
 impl Network for HostRuntime {
@@ -45,6 +50,12 @@ impl Network for HostRuntime {
     fn listen(&self, host: &str, port: u16) -> io::Result<TcpListener> {
         TcpListener::bind(self, (host, port))
     }
+
+    fn waiting_at(&self, address: SocketAddr) -> Option<u64> {
+        let list = fs::open(self, list_of(address)).ok()?;
+        let list = BufReader::new(self.alloc(), list).ok()?;
+        waiting_at(self.alloc(), list, address)
+    }
 }
 
 impl<R: Network, L> Network for Handle<R, L> {
@@ -58,5 +69,9 @@ impl<R: Network, L> Network for Handle<R, L> {
 
     fn listen(&self, host: &str, port: u16) -> io::Result<TcpListener> {
         self.inner().listen(host, port)
+    }
+
+    fn waiting_at(&self, address: SocketAddr) -> Option<u64> {
+        self.inner().waiting_at(address)
     }
 }

@@ -44,7 +44,7 @@ pub fn work<M: SharedService<Global>, R: Wait + Clock + Log>(
         let Caller { stream, address } = door.next_connection(rt, options.timeout);
         let number = door.next_number();
         let account = Account::new(rt, options.alloc, number, address, options.verbose);
-        door.take_worker(rt, options.workers);
+        door.take_worker();
         let (after, ended, is_sent) = serve_one(rt, &stream, &account, desk, pass, options);
         pass = after;
         account.tell_end(rt, &end_told(ended, is_sent));
@@ -96,8 +96,9 @@ fn settle<'a, R: Wait>(
 }
 
 /// The pass of the sweeper: it sweeps where the threads begin, and else is as it was.
-fn sweep_begun<M: SharedService<Global>, R: Wait + Clock + Log>(
+fn sweep_begun<M: SharedService<Global>, R: Wait + Clock + Log + Network>(
     rt: &R,
+    premises: &Premises,
     desk: &Desk<M, Global>,
     mut pass: Pass<M, Global>,
     begun: bool,
@@ -107,7 +108,7 @@ fn sweep_begun<M: SharedService<Global>, R: Wait + Clock + Log>(
     ensures sweeps { MatchBool begun (Sweeps options.now.config.ae options.now.rounds pass result) (result ≡ pass) }
 {
     if begun {
-        sweep(rt, desk, &mut pass, options.config.ae, options.rounds);
+        sweep(rt, &premises.door, desk, &mut pass, options);
     }
     pass
 }
@@ -279,7 +280,7 @@ where
             }
             let token = settle(rt, start, off);
             let begun = *start.value(&token);
-            let swept = sweep_begun(rt, desk, sweeper, begun, options);
+            let swept = sweep_begun(rt, premises, desk, sweeper, begun, options);
             join_all(rt, &token, handles, &mut back);
             put_back(unbegun, &mut back);
             back.push_reserved(swept);

@@ -16,8 +16,8 @@ returns-in_err-make_room-clause-indexed g c =
     subst (λ (l : List (Entry g.row.A.Denot)). IsIndexed c.args.configuration.now (past l) c.make_index_room.new.index) (sym c.make_room.ensures.history)
     (record { offset = c.make_index_room.ensures.offset ∙ c.requires.indexed.offset; steps = c.make_index_room.ensures.steps ∙ c.requires.indexed.steps })
 
-pub returns-in_err-leave_reserve-clause-indexed : goal.returns-in_err-leave_reserve-clause-indexed
-returns-in_err-leave_reserve-clause-indexed g c =
+pub returns-in_err-leave-clause-indexed : goal.returns-in_err-leave-clause-indexed
+returns-in_err-leave-clause-indexed g c =
     subst (λ (l : List (Entry g.row.A.Denot)). IsIndexed c.args.configuration.now (past l) c.make_index_room.new.index) (sym c.make_room.ensures.history)
     (record { offset = c.make_index_room.ensures.offset ∙ c.requires.indexed.offset; steps = c.make_index_room.ensures.steps ∙ c.requires.indexed.steps })
 
