@@ -97,12 +97,9 @@ small_done A (Answered status) h = tt
 small_done A (Swept count) h = tt
 small_done A x h = absurd cc
 
--- a history that is not full has room
-pub has_room : {A : Type 0} (limit : ℕ) (slice history : List (Entry A)) (full : Bool) → slice ≡ history → full ≡ nat_le limit (length slice) → full ≡ false → length history < limit
-has_room {A} limit slice history full same is room = left limit (length history) (ap (λ (l : List (Entry A)). nat_le limit (length l)) (sym same) ∙ sym is ∙ room)
-  where
-    left : (m n : ℕ) → nat_le m n ≡ false → n < m
-    left m n h = grind (arith, nat_tests)
+-- the room in a slice is that in what it lends
+pub room_of_slice : {A : Type 0} (limit : ℕ) (slice history : List (Entry A)) → slice ≡ history → length slice < limit → length history < limit
+room_of_slice {A} limit slice history same room = subst (λ (l : List (Entry A)). length l < limit) same room
 
 -- what is decided of a slice is decided of what it lends
 pub of_slice : {A : Type 0} (s : Settings) (slice history : List (Entry A)) (t : Tables A) (call : Entry A) (d : Decision A) → slice ≡ history → IsDecided s slice t call d → IsDecided s history t call d

@@ -23,13 +23,11 @@ ghost use Rattle.ups_service.specs.Law.{OrLacking, Answers, SmallReply, entered,
 ghost use Rattle.ups_settings.specs.Refusal.{refusal};
 ghost use Rattle.ups_service.specs.Reporting.{reports_to};
 
-use crate::deciding::decide;
-use crate::entry::enter;
+use crate::answering::answer_call;
 use crate::peers::{first_pending, watched_in};
 use crate::reporting::reports_of;
 use crate::reserve::Reserve;
 use crate::rows::{find, uids_of};
-use crate::submitting::is_full;
 use crate::worklist::matches_of_class;
 use std::alloc::{AllocError, Allocator};
 use std::marker::Model;
@@ -261,27 +259,7 @@ impl<A: Allocator + Copy> Manager<A> {
             index,
             reserve,
         } = self;
-        let entries = history.as_slice();
-        let decided = decide(*alloc, configuration, entries, tables, &call);
-        let decision = match decided {
-            Ok(decision) => decision,
-            Err(reply) => return reply,
-        };
-        if is_full(configuration, entries) {
-            return Reply::Status(Status::ResourceLimitation);
-        }
-        let Ok(reply) = enter(
-            configuration,
-            reserve,
-            history,
-            tables,
-            index,
-            call,
-            decision,
-        ) else {
-            return Reply::Status(Status::ResourceLimitation);
-        };
-        reply
+        answer_call(*alloc, configuration, reserve, history, tables, index, call)
     }
 
     /// Answers what an application entity asks by the history, and enters it where it is a request that is

@@ -101,7 +101,7 @@ impl Presence {
 ///
 /// A watcher that fails is away until a delivery to it succeeds. It is passed over for a second, and at each further failure
 /// for twice as long as before, for a minute at most. Where two deliver, the one takes the watchers that are not away, and
-/// lets each of these wait for a second at most: so a watcher that doesn't answer holds up none of the others for longer.
+/// waits for each of these for 0.4 seconds at most: so a watcher that doesn't answer holds up none of the others for longer.
 /// The other one takes those that are away, with all the time that they are to have. No contract speaks of that.
 #[derive(Drop)]
 pub struct Roster {
