@@ -177,4 +177,5 @@ fn the_laws_are_of_each_allocator() {
     laws::a_removed_step_stays_away::<Global>();
     laws::a_locked_step_stays::<Global>();
     laws::an_unfinished_step_stays::<Global>();
+    laws::only_a_final_step_is_removed::<Global>();
 }

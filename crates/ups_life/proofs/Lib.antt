@@ -1,5 +1,6 @@
 pub mod Accepted
 pub mod Current
+mod Finals
 pub mod HeldOnce
 pub mod NewSets
 pub mod Newly

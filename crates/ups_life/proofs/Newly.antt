@@ -14,7 +14,7 @@ use Rattle.ups_life.specs.declared.request.Transaction.{Transaction}
 use Rattle.ups_life.specs.declared.watching.Subscription.{Subscription}
 use Rattle.ups_life.specs.declared.watching.Watcher.{Watcher}
 use Rattle.ups_life.specs.Settings.{Settings}
-use Rattle.ups_life.specs.Steps.{row}
+use Rattle.ups_life.specs.Steps.{is_step, row}
 use Rattle.ups_life.specs.Watching.{is_peer, cover, newly_covered, watch_after, watch, new_watcher, newly}
 use Rattle.ups_life.specs.Events.{as_it_is, only_if, told_of, reports_of}
 use Rattle.ups_life.proofs.Texts.{same_text, text_is_itself}
@@ -34,20 +34,31 @@ left_out true None old new is = rw (is)
 left_out true (Some how) old new is = refl
 left_out false before old new is = refl
 
+-- nor does an N-SET on another step subscribe anybody
+only_by : (on : Bool) (before old new : Option Subscription) (how : Subscription) → before ≡ None → cond on (option_or before (cond (is_some old) None new)) before ≡ Some how → (on ≡ true) × (old ≡ None) × (new ≡ Some how)
+only_by true None None new how none is = (refl, refl, is)
+only_by true None (Some x) new how none is = absurd cc
+only_by false None old new how none is = absurd cc
+only_by on (Some x) old new how none is = absurd cc
+
+that_step : (u : List ℕ) (step : Option (List ℕ)) → is_step u step ≡ true → step ≡ Some u
+that_step u None on = absurd cc
+that_step u (Some v) on = ap (λ (x : List ℕ). Some x) (same_text v u on)
+
 told_once : (before after : Bool) (told : List Report) (x : Report) → before ≡ false → after ≡ true → cond before told (only_if after x) ≡ x ∷ []
 told_once true after told x h k = absurd cc
 told_once false true told x h k = refl
 told_once false false told x h k = absurd cc
 
 -- how w is subscribed after an N-SET
-set_watch : {A : Type 0} (s : Settings) (e : Entry A) (es : List (Entry A)) (w u : List ℕ) (t : Transaction) (set : List El) → e.request ≡ Set (Some u) t set
-    → watch s (e ∷ es) w u ≡ cond (bytes_eq u u) (option_or (watch s es w u) (newly_covered s es e w u)) (watch s es w u)
-set_watch {A} s e es w u t set is = ap (λ (r : Request A). watch_after s es e w u (watch s es w u) r) is
+set_watch : {A : Type 0} (s : Settings) (e : Entry A) (es : List (Entry A)) (w u : List ℕ) (step : Option (List ℕ)) (t : Transaction) (set : List El) → e.request ≡ Set step t set
+    → watch s (e ∷ es) w u ≡ cond (is_step u step) (option_or (watch s es w u) (newly_covered s es e w u)) (watch s es w u)
+set_watch {A} s e es w u step t set is = ap (λ (r : Request A). watch_after s es e w u (watch s es w u) r) is
 
 pub newly_subscribed : {A : Type 0} (s : Settings) (e : Entry A) (es : List (Entry A)) (w u : List ℕ) (t : Transaction) (set : List El) (how : Subscription) → e.request ≡ Set (Some u) t set
     → watch s es w u ≡ None → cover s.peers es w (row s es u) ≡ None → cover s.peers es w (row s (e ∷ es) u) ≡ Some how → watch s (e ∷ es) w u ≡ Some how
 newly_subscribed s e es w u t set how is none away here =
-    set_watch s e es w u t set is ∙ begun (bytes_eq u u) (watch s es w u) (cover s.peers es w (row s es u)) (cover s.peers es w (row s (e ∷ es) u)) how (text_is_itself u) none away here
+    set_watch s e es w u (Some u) t set is ∙ begun (bytes_eq u u) (watch s es w u) (cover s.peers es w (row s es u)) (cover s.peers es w (row s (e ∷ es) u)) how (text_is_itself u) none away here
 
 -- who begins to watch is told of the step as it is, and no more
 pub newly_told : {A : Type 0} (s : Settings) (e : Entry A) (es : List (Entry A)) (w u : List ℕ) (t : Transaction) (set : List El) → e.request ≡ Set (Some u) t set
@@ -56,14 +67,21 @@ newly_told {A} s e es w u t set is none some =
     ap (λ (r : Request A). reports_of s es e w r) is
     ∙ told_once (is_some (watch s es w u)) (is_some (watch s (e ∷ es) w u)) (told_of s es e u (Set (Some u) t set)) (as_it_is s (e ∷ es) u) (ap is_some none) some
 
-pub still_subscribed : {A : Type 0} (s : Settings) (e : Entry A) (es : List (Entry A)) (w u : List ℕ) (t : Transaction) (set : List El) (how : Subscription) → e.request ≡ Set (Some u) t set
+pub still_subscribed : {A : Type 0} (s : Settings) (e : Entry A) (es : List (Entry A)) (w u : List ℕ) (step : Option (List ℕ)) (t : Transaction) (set : List El) (how : Subscription) → e.request ≡ Set step t set
     → watch s es w u ≡ Some how → watch s (e ∷ es) w u ≡ Some how
-still_subscribed s e es w u t set how is so = set_watch s e es w u t set is ∙ left_so (bytes_eq u u) (watch s es w u) (newly_covered s es e w u) how so
+still_subscribed s e es w u step t set how is so = set_watch s e es w u step t set is ∙ left_so (is_step u step) (watch s es w u) (newly_covered s es e w u) how so
 
 pub not_subscribed : {A : Type 0} (s : Settings) (e : Entry A) (es : List (Entry A)) (w u : List ℕ) (t : Transaction) (set : List El) → e.request ≡ Set (Some u) t set
     → is_some (cover s.peers es w (row s es u)) ≡ true → watch s (e ∷ es) w u ≡ watch s es w u
 not_subscribed s e es w u t set is covered =
-    set_watch s e es w u t set is ∙ left_out (bytes_eq u u) (watch s es w u) (cover s.peers es w (row s es u)) (cover s.peers es w (row s (e ∷ es) u)) covered
+    set_watch s e es w u (Some u) t set is ∙ left_out (bytes_eq u u) (watch s es w u) (cover s.peers es w (row s es u)) (cover s.peers es w (row s (e ∷ es) u)) covered
+
+-- whom an N-SET subscribes: who has a filter that its step matches only by it
+pub only_so_subscribed : {A : Type 0} (s : Settings) (e : Entry A) (es : List (Entry A)) (w u : List ℕ) (step : Option (List ℕ)) (t : Transaction) (set : List El) (how : Subscription) → e.request ≡ Set step t set
+    → watch s es w u ≡ None → watch s (e ∷ es) w u ≡ Some how → (step ≡ Some u) × (cover s.peers es w (row s es u) ≡ None) × (cover s.peers es w (row s (e ∷ es) u) ≡ Some how)
+only_so_subscribed s e es w u step t set how is none some =
+    let by = only_by (is_step u step) (watch s es w u) (cover s.peers es w (row s es u)) (cover s.peers es w (row s (e ∷ es) u)) how none (sym (set_watch s e es w u step t set is) ∙ some) in
+    (that_step u step by.0, by.1, by.2)
 
 -- THE WATCHERS THAT ARE NEWLY SUBSCRIBED
 
@@ -120,7 +138,7 @@ pub newly_are_subscribed : {A : Type 0} (s : Settings) (e : Entry A) (es : List 
 newly_are_subscribed {A} s e es u t set is = more (newly s es e u) (each_new (λ w. watch s es w u) (λ w. newly_covered s es e w u) s.peers)
   where
     so : (w : List ℕ) (how : Subscription) → watch s es w u ≡ None → newly_covered s es e w u ≡ Some how → watch s (e ∷ es) w u ≡ Some how
-    so w how none here = set_watch s e es w u t set is ∙ ap (λ b. cond b (option_or (watch s es w u) (newly_covered s es e w u)) (watch s es w u)) (text_is_itself u) ∙ ap (λ o. option_or o (newly_covered s es e w u)) none ∙ here
+    so w how none here = set_watch s e es w u (Some u) t set is ∙ ap (λ b. cond b (option_or (watch s es w u) (newly_covered s es e w u)) (watch s es w u)) (text_is_itself u) ∙ ap (λ o. option_or o (newly_covered s es e w u)) none ∙ here
 
     more : (ws : List Watcher) → AllByRecursion (λ (x : Watcher). (watch s es x.ae u ≡ None) × (newly_covered s es e x.ae u ≡ Some x.subscription)) ws
         → AllByRecursion (λ (x : Watcher). (watch s es x.ae u ≡ None) × (watch s (e ∷ es) x.ae u ≡ Some x.subscription)) ws
@@ -132,4 +150,4 @@ pub subscribed_is_newly : {A : Type 0} (s : Settings) (e : Entry A) (es : List (
     → watch s es w u ≡ None → is_some (watch s (e ∷ es) w u) ≡ true → is_newly w (newly s es e u) ≡ true
 subscribed_is_newly {A} s e es w u t set is peer none some =
     each_is_new (λ v. watch s es v u) (λ v. newly_covered s es e v u) w s.peers peer none
-    (ap is_some (sym (set_watch s e es w u t set is ∙ ap (λ b. cond b (option_or (watch s es w u) (newly_covered s es e w u)) (watch s es w u)) (text_is_itself u) ∙ ap (λ o. option_or o (newly_covered s es e w u)) none)) ∙ some)
+    (ap is_some (sym (set_watch s e es w u (Some u) t set is ∙ ap (λ b. cond b (option_or (watch s es w u) (newly_covered s es e w u)) (watch s es w u)) (text_is_itself u) ∙ ap (λ o. option_or o (newly_covered s es e w u)) none)) ∙ some)

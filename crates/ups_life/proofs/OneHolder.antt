@@ -27,7 +27,7 @@ use Rattle.ups_life.proofs.Accepted.{said, succeeded, succeeded_of, legal_tail, 
 use Rattle.ups_life.proofs.HeldOnce.{is_held_used}
 
 -- an entry on a step that was never created creates it
-not_on : {A : Type 0} (s : Settings) (es : List (Entry A)) (u : List ℕ) (r : Request A) → said s es r ≡ Success → used es u ≡ false → creates u r ≡ false → is_on u r ≡ false
+pub not_on : {A : Type 0} (s : Settings) (es : List (Entry A)) (u : List ℕ) (r : Request A) → said s es r ≡ Success → used es u ≡ false → creates u r ≡ false → is_on u r ≡ false
 not_on s es u r d unused new = is_false (is_on u r) (λ on. differ (used es u) unused (is_held_used s es u (on_held s es u r d on new)))
   where
     is_false : (b : Bool) → (b ≡ true → ⊥) → b ≡ false

@@ -1,5 +1,6 @@
 -- What a sweep leaves, and what it removes for ever.
-use Rattle.std.proofs.Common.{◌≡◌, ℕ, Bool, true, false, not, ◌&&◌, ◌||◌, cond, List, [], ◌∷◌, ◌++◌, filter, refl, ap, ◌∙◌}
+use Rattle.std.proofs.Common.{◌≡◌, ℕ, Bool, true, false, not, ◌&&◌, ◌||◌, cond, List, [], ◌∷◌, ◌++◌, filter, Option, None, Some, refl, ap, ◌∙◌}
+use Rattle.std.specs.Prelude.{is_some}
 use Rattle.std.specs.List.{list_any}
 use Rattle.std.specs.Str.{bytes_eq}
 use Rattle.std.proofs.lemmas.List.Folds.{list_any-append}
@@ -8,11 +9,13 @@ use Rattle.ups_life.specs.declared.request.Request.{Request}
 use Rattle.ups_life.specs.declared.request.Request.TheVariants.{Create, Sweep}
 use Rattle.ups_cycle.specs.declared.status.Status.TheVariants.{Success}
 use Rattle.ups_life.specs.Settings.{Settings}
-use Rattle.ups_life.specs.Steps.{used, creates, final_at}
+use Rattle.ups_cycle.specs.States.{is_final}
+use Rattle.ups_life.specs.Steps.{used, creates, state, final_at}
 use Rattle.ups_life.specs.Watching.{is_among, is_kept, has_passed, is_due, held_after, held, is_held}
 use Rattle.ups_life.specs.History.{legal}
 use Rattle.ups_life.proofs.Texts.{same_text}
 use Rattle.ups_life.proofs.Accepted.{said, succeeded, legal_tail, created_fresh, differ}
+use Rattle.ups_life.proofs.Finals.{ended_is_final}
 use Rattle.ups_life.proofs.HeldOnce.{not_among_more}
 use Rattle.ups_life.proofs.RowsTell.{any_filter}
 
@@ -56,6 +59,14 @@ locked_stays s e es u h k = stays s es e.moment u e.request h (not_due_kept (has
 -- nor is one that is not final, or is so for too short a time
 pub early_stays : {A : Type 0} (s : Settings) (e : Entry A) (es : List (Entry A)) (u : List ℕ) → is_held s es u ≡ true → has_passed s.keep e.moment (final_at es u) ≡ false → is_held s (e ∷ es) u ≡ true
 early_stays s e es u h k = stays s es e.moment u e.request h (not_due_early (has_passed s.keep e.moment (final_at es u)) (not (is_kept s es u)) k)
+
+not_passed : (seconds moment : ℕ) (since : Option ℕ) → is_some since ≡ false → has_passed seconds moment since ≡ false
+not_passed seconds moment None h = refl
+not_passed seconds moment (Some x) h = absurd cc
+
+-- a step whose state is not final is held on
+pub unfinished_stays : {A : Type 0} (s : Settings) (e : Entry A) (es : List (Entry A)) (u : List ℕ) → legal s (e ∷ es) ≡ true → is_held s es u ≡ true → is_final (state es u) ≡ false → is_held s (e ∷ es) u ≡ true
+unfinished_stays s e es u l h unfinished = early_stays s e es u h (not_passed s.keep e.moment (final_at es u) (ended_is_final s es u (legal_tail s e es l) ∙ unfinished))
 
 -- A STEP THAT WAS REMOVED
 

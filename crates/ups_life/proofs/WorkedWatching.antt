@@ -150,6 +150,11 @@ an_n_set_that_still_matches_subscribes_nobody : watched site (after_all site [] 
 unfolding moment day_number days_of_month field is_date is_time date_number second_of_day microsecond_of offset_of signed_offset matches vr_of
 an_n_set_that_still_matches_subscribes_nobody = refl
 
+-- which takes two N-SETs: one by which it ceases to match, and one by which it matches again
+what_matches_anew_subscribes_again : watched site (after_all site [] (followed ++ at 0 (Unsubscribe (At (Some u2)) w1) ∷ relabel (codes "REPROC") ∷ relabel (codes "READS ") ∷ [])) w1 ≡ watched_as u1 Free ∷ watched_as u2 Free ∷ []
+unfolding moment day_number days_of_month field is_date is_time date_number second_of_day microsecond_of offset_of signed_offset matches vr_of
+what_matches_anew_subscribes_again = refl
+
 -- a claim subscribes nobody, though the filter names the state that it makes
 a_claim_subscribes_nobody : watched site (after_all site [] (at 0 (Subscribe (Filtered (record { attributes = says PROCEDURE_STEP_STATE Cs (codes "IN PROGRESS ") ∷ []; offset = pos 0 })) w1 false) ∷ create u1 ∷ claim u1 ∷ [])) w1 ≡ []
 unfolding moment day_number days_of_month field is_date is_time date_number second_of_day microsecond_of offset_of signed_offset matches vr_of
@@ -160,6 +165,11 @@ a_lock_keeps_a_step : replies site [] (create u1 ∷ subscribe u1 w1 true ∷ ca
     ≡ done ∷ done ∷ done ∷ Swept 0 ∷ done ∷ Swept 1 ∷ Answered DuplicateSopInstance ∷ Answered UnknownInstance ∷ []
 unfolding moment day_number days_of_month field is_date is_time date_number second_of_day microsecond_of offset_of signed_offset cancellation stamp begun date_stamp time_stamp offset_stamp year_on month_on
 a_lock_keeps_a_step = refl
+
+-- a step that isn't final is removed by no sweep, however late
+an_unfinished_step_is_kept : replies site [] (create u1 ∷ create u2 ∷ claim u1 ∷ sweep 1000000 ∷ []) ≡ done ∷ done ∷ done ∷ Swept 0 ∷ []
+unfolding moment day_number days_of_month field is_date is_time date_number second_of_day microsecond_of offset_of signed_offset
+an_unfinished_step_is_kept = refl
 
 -- a finished step is kept for a while, and each sweep looks at its own moment
 a_finished_step_is_kept_for_a_minute : replies site [] (create u1 ∷ cancel 120 ∷ sweep 179 ∷ sweep 50 ∷ sweep 180 ∷ sweep 180 ∷ []) ≡ done ∷ done ∷ Swept 0 ∷ Swept 0 ∷ Swept 1 ∷ Swept 0 ∷ []

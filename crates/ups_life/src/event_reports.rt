@@ -1,6 +1,6 @@
 //! Events as they are reported.
 
-ghost use Rattle.std.specs.Prelude.{◌≡◌, [], ◌∷◌, ◌++◌, OnOk};
+ghost use Rattle.std.specs.Prelude.{◌≡◌, [], ◌∷◌, ◌++◌, OnOk, OnErr};
 
 use crate::event::Event;
 use std::alloc::{AllocError, Allocator};
@@ -49,9 +49,10 @@ impl<A: Allocator + Copy> EventReports<A> {
     ///
     /// # Errors
     ///
-    /// Where memory runs out.
+    /// Where memory runs out. The list is then as it was.
     pub fn push(&mut self, report: EventReport<A>) -> Result<(), AllocError>
-        ensures { OnOk result (self.new ≡ self.old ++ report ∷ []) }
+        ensures ok { OnOk result (self.new ≡ self.old ++ report ∷ []) }
+        ensures err { OnErr result (self.new ≡ self.old) }
     {
         self.reports.push(report)?;
         Ok(())

@@ -1,7 +1,7 @@
 //! What the life cycle of a step owes (PS3.4 CC.1.1), and which tables it stands on: laws, each the contract of a
 //! function that changes nothing.
 
-ghost use Rattle.std.specs.Prelude.{◌≡◌, ◌≤◌, ℕ, List, [], ◌∷◌, ◌++◌, length, filter, is_some, true, false, None, Some};
+ghost use Rattle.std.specs.Prelude.{◌≡◌, ◌≤◌, ℕ, List, [], ◌∷◌, ◌++◌, length, filter, is_some, true, false, Option, None, Some};
 ghost use Rattle.std.specs.List.{list_any, AllByRecursion};
 ghost use Rattle.std.specs.Str.{bytes_eq};
 ghost use Rattle.ups_dataset.specs.declared.dictionary.TheConstants.{TRANSACTION_UID};
@@ -99,10 +99,18 @@ pub fn a_locked_step_stays<A: Allocator + Copy>()
     ensures { (s : Settings) → (e : Entry A) → (es : List (Entry A)) → (u : List ℕ) → is_held s es u ≡ true → is_kept s es u ≡ true → is_held s (e ∷ es) u ≡ true }
 {}
 
-/// So does a step that is not final, or is so for a shorter time than it is kept.
+/// So does a step that became final at no moment, or less long ago than steps are kept.
 pub fn an_unfinished_step_stays<A: Allocator + Copy>()
     ensures { (s : Settings) → (e : Entry A) → (es : List (Entry A)) → (u : List ℕ) → is_held s es u ≡ true
         → has_passed s.keep e.moment (final_at es u) ≡ false → is_held s (e ∷ es) u ≡ true }
+{}
+
+/// In a history of accepted requests only a step whose state is final is removed: one that is held and is not final is still
+/// held after each request that is accepted, a sweep too. And a final state stays (PS3.4 CC.1.1).
+pub fn only_a_final_step_is_removed<A: Allocator + Copy>()
+    ensures unfinished { (s : Settings) → (e : Entry A) → (es : List (Entry A)) → (u : List ℕ) → legal s (e ∷ es) ≡ true → is_held s es u ≡ true
+        → is_final (state es u) ≡ false → is_held s (e ∷ es) u ≡ true }
+    ensures finished { (s : Settings) → (e : Entry A) → (es : List (Entry A)) → (u : List ℕ) → legal s (e ∷ es) ≡ true → is_final (state es u) ≡ true → state (e ∷ es) u ≡ state es u }
 {}
 
 /// Of each step that a watcher watches, its view is what is so: the last State Report that it was told of the step shows
@@ -113,18 +121,22 @@ pub fn a_view_shows_what_is_so<A: Allocator + Copy>()
 {}
 
 /// An N-SET also subscribes who does not watch its step, and has a global subscription that takes the step in by it: a
-/// filter that it matches now, and did not match before. That watcher is told of the step as it is, and no more. Who
-/// watches the step stays subscribed as it was, also where a filter does not match it any longer; and who did not watch it
-/// although its global subscription took it in, having unsubscribed, is not subscribed again (PS3.4 CC.2.3).
+/// filter that it matches now, and did not match before. That watcher is told of the step as it is, and no more. No N-SET
+/// subscribes anybody else, nor to another step, and who watches a step stays subscribed as it was, also where a filter does
+/// not match it any longer. Who did not watch the step although its global subscription took it in, having unsubscribed, is
+/// not subscribed again (PS3.4 CC.2.3): for that the step has to cease to match first.
 pub fn a_filter_follows_changes<A: Allocator + Copy>()
     ensures subscribed { (s : Settings) → (e : Entry A) → (es : List (Entry A)) → (w u : List ℕ) → (t : Transaction) → (attributes : List El) → (how : Subscription)
         → e.request ≡ Set (Some u) t attributes → watch s es w u ≡ None → cover s.peers es w (row s es u) ≡ None → cover s.peers es w (row s (e ∷ es) u) ≡ Some how
         → watch s (e ∷ es) w u ≡ Some how }
+    ensures only { (s : Settings) → (e : Entry A) → (es : List (Entry A)) → (w u : List ℕ) → (step : Option (List ℕ)) → (t : Transaction) → (attributes : List El) → (how : Subscription)
+        → e.request ≡ Set step t attributes → watch s es w u ≡ None → watch s (e ∷ es) w u ≡ Some how
+        → (step ≡ Some u) × (cover s.peers es w (row s es u) ≡ None) × (cover s.peers es w (row s (e ∷ es) u) ≡ Some how) }
     ensures told { (s : Settings) → (e : Entry A) → (es : List (Entry A)) → (w u : List ℕ) → (t : Transaction) → (attributes : List El)
         → e.request ≡ Set (Some u) t attributes → watch s es w u ≡ None → is_some (watch s (e ∷ es) w u) ≡ true
         → reports_of s es e w e.request ≡ as_it_is s (e ∷ es) u ∷ [] }
-    ensures stays { (s : Settings) → (e : Entry A) → (es : List (Entry A)) → (w u : List ℕ) → (t : Transaction) → (attributes : List El) → (how : Subscription)
-        → e.request ≡ Set (Some u) t attributes → watch s es w u ≡ Some how → watch s (e ∷ es) w u ≡ Some how }
+    ensures stays { (s : Settings) → (e : Entry A) → (es : List (Entry A)) → (w u : List ℕ) → (step : Option (List ℕ)) → (t : Transaction) → (attributes : List El) → (how : Subscription)
+        → e.request ≡ Set step t attributes → watch s es w u ≡ Some how → watch s (e ∷ es) w u ≡ Some how }
     ensures not_again { (s : Settings) → (e : Entry A) → (es : List (Entry A)) → (w u : List ℕ) → (t : Transaction) → (attributes : List El)
         → e.request ≡ Set (Some u) t attributes → is_some (cover s.peers es w (row s es u)) ≡ true → watch s (e ∷ es) w u ≡ watch s es w u }
 {}

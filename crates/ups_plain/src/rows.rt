@@ -185,8 +185,7 @@ fn add_answer<A: Allocator + Copy>(
 ///
 /// # Errors
 ///
-/// `Memory` where memory runs out; `TooDeep`, only where the entries are no legal history, where items would nest more than
-/// 8 deep.
+/// `Memory` where memory runs out; `TooDeep`, only where the entries are no legal history.
 pub fn plain_find<A: Allocator + Copy>(
     alloc: A,
     configuration: &Configuration<A>,

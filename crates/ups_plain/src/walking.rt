@@ -596,8 +596,7 @@ fn has_passed(seconds: u32, moment: u64, since: Option<u64>) -> bool
 ///
 /// # Errors
 ///
-/// `Memory` where memory runs out; `TooDeep`, only where the entries are no legal history, where items would nest more than
-/// 8 deep.
+/// `Memory` where memory runs out; `TooDeep`, only where the entries are no legal history.
 pub fn is_due<A: Allocator + Copy>(
     alloc: A,
     configuration: &Configuration<A>,

@@ -1,6 +1,6 @@
 //! What a request tells of its step.
 
-ghost use Rattle.std.specs.Prelude.{◌≡◌, ◌++◌, IfOk, OnOk};
+ghost use Rattle.std.specs.Prelude.{◌≡◌, ◌++◌, IfOk, OnOk, OnErr};
 ghost use Rattle.ups_life.specs.Readiness.{readiness_in, readiness_word, is_same_readiness};
 ghost use Rattle.ups_life.specs.Events.{report, only_if, cancel_reports, has, set_reports};
 
@@ -68,13 +68,14 @@ fn has<A: Allocator + Copy>(attributes: &DataSet<A>, tag: Tag) -> bool
 ///
 /// # Errors
 ///
-/// Where memory runs out.
+/// Where memory runs out. The reports are then as they were.
 pub fn add_if<A: Allocator + Copy>(
     reports: &mut Vec<Report, A>,
     told: bool,
     report: Report,
 ) -> Result<(), AllocError>
-    ensures { OnOk result (reports.new.items ≡ reports.old.items ++ only_if told report) }
+    ensures ok { OnOk result (reports.new.items ≡ reports.old.items ++ only_if told report) }
+    ensures err { OnErr result (reports.new.items ≡ reports.old.items) }
 {
     if told {
         reports.push(report)?;

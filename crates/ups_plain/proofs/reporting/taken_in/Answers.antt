@@ -11,7 +11,7 @@ loop-step-preserved g c =
     let s = c.args.configuration.now in
     let es = past c.args.entries.now in
     taken_step (as_it_is s es) (λ u. takes_in c.args.target.now u (row s es u)) c.args.steps.now c.loop-step.step-index c.step-item.result c.loop-step.reports.items c.add_if.new.reports.items
-    c.in_ok-told.told c.in_ok-report.report c.loop-step-test.true c.step-item.is c.loop-step.invariant c.in_ok-told.ensures c.in_ok-report.ensures c.in_ok-add_if.ensures
+    c.in_ok-told.told c.in_ok-report.report c.loop-step-test.true c.step-item.is c.loop-step.invariant c.in_ok-told.ensures c.in_ok-report.ensures c.in_ok-add_if.ensures.ok
 
 pub returns : goal.returns
 returns g c =
