@@ -1,6 +1,6 @@
 //! The queue of a watcher.
 
-ghost use Rattle.std.specs.Prelude.{◌≡◌, ◌<◌, ◌≤◌, ◌+◌, [], take, None, Some, IfOk, OnOk, OnErr, MatchResult};
+ghost use Rattle.std.specs.Prelude.{◌≡◌, ◌<◌, ◌≤◌, ◌+◌, [], take, None, Some, IfOk, IsOk, OnOk, OnErr, MatchResult};
 ghost use Rattle.ups_events.specs.Queue.{IsAdded, IsAcked, ack_fault};
 ghost use Rattle.ups_events.specs.Telling.{event_of};
 
@@ -61,9 +61,10 @@ impl<A: Allocator + Copy> Queue<A> {
     ///
     /// # Errors
     ///
-    /// Where memory runs out. Events and numbers then stay as they are.
+    /// Where memory runs out, and never where there is that room already. Events and numbers then stay as they are.
     pub fn reserve(&mut self, more: usize) -> Result<(), AllocError>
         ensures room { OnOk result (more ≤ self.new.spare) }
+        ensures succeeds { more ≤ self.old.spare → IsOk result }
         ensures keeps { self.old.spare ≤ self.new.spare }
         ensures made { self.new.made ≡ self.old.made }
         ensures acked { self.new.acked ≡ self.old.acked }

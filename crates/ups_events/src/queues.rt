@@ -1,6 +1,6 @@
 //! The queues of all watchers.
 
-ghost use Rattle.std.specs.Prelude.{◌≡◌, ◌≢◌, ◌<◌, ◌≤◌, ◌+◌, ℕ, List, true, false, None, Some, is_some, length, slice_index_or, if◌then◌else◌, IfOk, OnOk, OnErr, MatchResult};
+ghost use Rattle.std.specs.Prelude.{◌≡◌, ◌≢◌, ◌<◌, ◌≤◌, ◌+◌, ℕ, List, true, false, None, Some, is_some, length, slice_index_or, if◌then◌else◌, IfOk, IsOk, OnOk, OnErr, MatchResult};
 ghost use Rattle.ups_events.specs.Queue.{Standing, queue_at, IsAdded, IsAcked, IsReserved, IsNew, ack_fault};
 ghost use Rattle.ups_events.specs.Telling.{event_of, line_at, told};
 
@@ -47,10 +47,11 @@ impl<A: Allocator + Copy> Queues<A> {
     ///
     /// # Errors
     ///
-    /// Where memory runs out. Events and numbers then stay as they are.
+    /// Where memory runs out, and never where there is that room already. Events and numbers then stay as they are.
     pub fn reserve(&mut self, peer: usize, more: usize) -> Result<(), AllocError>
         requires peer { peer < length self.old }
         ensures room { OnOk result (more ≤ (queue_at self.new peer).spare) }
+        ensures succeeds { more ≤ (queue_at self.old peer).spare → IsOk result }
         ensures kept { IsReserved (queue_at self.old peer) (queue_at self.new peer) }
         ensures others { (p : ℕ) → p ≢ peer → queue_at self.new p ≡ queue_at self.old p }
         ensures peers { length self.new ≡ length self.old }
@@ -95,8 +96,8 @@ impl<A: Allocator + Copy> Queues<A> {
         self.queues[peer].ack(upto)
     }
 
-    /// Tells a peer of reports of the entry at a place of the history: each is an event, in their order (PS3.4 CC.2.4). It
-    /// uses the room of one event for each, and takes no memory.
+    /// Tells a peer of reports of the entry at a place of the history, for which there is room: each is an event, in their
+    /// order (PS3.4 CC.2.4). It takes no memory.
     pub fn tell(&mut self, peer: usize, entry: u64, reports: &[Report])
         requires peer { peer < length self.old }
         requires room { length reports.now ≤ (queue_at self.old peer).spare }
@@ -123,9 +124,8 @@ impl<A: Allocator + Copy> Queues<A> {
         }
     }
 
-    /// Tells each peer that is subscribed of reports of the entry at a place of the history (PS3.4 CC.2.3, CC.2.4);
-    /// `cells` are the subscriptions, by the places of peers. It uses the room of one event of such a peer for each report, and
-    /// takes no memory.
+    /// Tells each peer that is subscribed of reports of the entry at a place of the history, for which the peer has room
+    /// (PS3.4 CC.2.3, CC.2.4); `cells` are the subscriptions, by the places of peers. It takes no memory.
     pub fn tell_each(&mut self, cells: &[Option<Subscription>], entry: u64, reports: &[Report])
         requires peers { length cells.now ≤ length self.old }
         requires room { (p : ℕ) → is_some (slice_index_or cells.now p None) ≡ true → length reports.now ≤ (queue_at self.old p).spare }

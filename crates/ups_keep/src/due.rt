@@ -1,6 +1,6 @@
 //! The list of the final steps that nobody locks.
 
-ghost use Rattle.std.specs.Prelude.{◌≡◌, ◌<◌, ◌≤◌, ◌+◌, ◌++◌, ℕ, [], true, false, length, IfOk, OnOk, MatchOption, slice_index_or};
+ghost use Rattle.std.specs.Prelude.{◌≡◌, ◌<◌, ◌≤◌, ◌+◌, ◌++◌, ℕ, [], true, false, length, IfOk, IsOk, OnOk, MatchOption, slice_index_or};
 ghost use Rattle.std.specs.Fn.{CalledAt};
 ghost use Rattle.std.specs.List.Retain.{IsFiltered};
 ghost use Rattle.std.specs.VecDeque.{deque_len, deque_capacity};
@@ -219,9 +219,10 @@ impl<A: Allocator + Copy> Due<A> {
     ///
     /// # Errors
     ///
-    /// Where memory runs out. The list stays, and so does the room that there was.
+    /// Where memory runs out, and never where there is that room already. The list stays, and so does the room that there was.
     pub fn reserve(&mut self, more: usize) -> Result<(), AllocError>
         ensures room { OnOk result (more ≤ self.new.spare) }
+        ensures succeeds { more ≤ self.old.spare → IsOk result }
         ensures keeps { self.old.spare ≤ self.new.spare }
         ensures steps { self.new.steps ≡ self.old.steps }
     {

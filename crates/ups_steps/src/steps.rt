@@ -1,6 +1,6 @@
 //! The table of the steps held.
 
-ghost use Rattle.std.specs.Prelude.{◌≡◌, ◌≤◌, ◌<◌, ◌+◌, ◌++◌, ◌∷◌, [], ◌^◌, not, ℕ, List, None, is_some, true, filter, length, IfOk, OnOk};
+ghost use Rattle.std.specs.Prelude.{◌≡◌, ◌≤◌, ◌<◌, ◌+◌, ◌++◌, ◌∷◌, [], ◌^◌, not, ℕ, List, None, is_some, true, filter, length, IfOk, IsOk, OnOk};
 ghost use Rattle.std.specs.List.{IsDistinct};
 ghost use Rattle.std.specs.Map.{keys_of};
 ghost use Rattle.std.specs.Map.Iter.{ShowsInOrder, deref_pair};
@@ -63,9 +63,11 @@ impl<A: Allocator + Copy> Steps<A> {
     ///
     /// # Errors
     ///
-    /// Where memory runs out. The steps held stay, and so does the room that there was.
+    /// Where memory runs out, and never where there is that room already. The steps held stay, and so does the room that there
+    /// was.
     pub fn reserve(&mut self, more: usize) -> Result<(), AllocError>
         ensures room { OnOk result (more ≤ self.new.spare) }
+        ensures succeeds { more ≤ self.old.spare → IsOk result }
         ensures keeps { self.old.spare ≤ self.new.spare }
         ensures entries { self.new.entries ≡ self.old.entries }
     {

@@ -98,6 +98,11 @@ module _ {A : Type 0} (t t' : Tables A) (r : Reserved t t') where
   plan_reserved s es e (ToSweep due moment) p = record { request = p.request; since = p.since; due_are = p.due_are ∙ ap (up_to moment) (sym r.due) }
   plan_reserved s es e ToIdle p = record { request = p.request; none = λ n le. ap (up_to n) r.due ∙ p.none n le }
 
+-- what is so anyhow is so where a result is right
+pub on_any : {X E : Type 0} (x : Result X E) (P : Type 0) → P → OnOk x P
+on_any (Ok v) P p = p
+on_any (Err e) P p = tt
+
 -- two facts where a result is right
 pub on_both : {X E : Type 0} (x : Result X E) (P Q : Type 0) → OnOk x P → OnOk x Q → OnOk x (P × Q)
 on_both (Ok v) P Q p q = (p, q)
@@ -126,6 +131,13 @@ room_one (Err e) room left n m k l is js a b = tt
 pub room_single : {X E : Type 0} (x : Result X E) (room left n m : ℕ) → n ≡ m → OnOk x (0 < room) → OnOk x (n ≤ left) → OnOk x ((0 < room) × (m ≤ left))
 room_single (Ok v) room left n m is a b = (a, omega (arith, is, b))
 room_single (Err e) room left n m is a b = tt
+
+-- what a plan needs is what is asked for
+pub has_changed : {A : Type 0} (t : Tables A) (step : List ℕ) (n m : ℕ) → n ≡ m → (0 < t.due.spare) × RoomFor (λ p. is_some (how t p step)) m t.queues → RoomToChange t step n [] 0
+has_changed t step n m is r = record { due_room = r.0; news_room = subst (λ k. RoomFor (λ p. is_some (how t p step)) k t.queues) (sym is) r.1; first_room = λ p w. omega arith }
+
+pub has_set : {A : Type 0} (t : Tables A) (step : List ℕ) (n m i j : ℕ) (lent newly : List (Option Subscription)) → n ≡ m → i ≡ j → lent ≡ newly → RoomToChange t step m newly j → RoomToChange t step n lent i
+has_set t step n m i j lent newly is js same r = subst (λ k. RoomToChange t step k lent i) (sym is) (subst (λ k. RoomToChange t step m lent k) (sym js) (subst (λ (xs : List (Option Subscription)). RoomToChange t step m xs j) (sym same) r))
 
 -- NOTHING YET
 

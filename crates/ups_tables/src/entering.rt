@@ -1,6 +1,6 @@
 //! The tables of an empty history, and room for all that a request makes of the history and the tables.
 
-ghost use Rattle.std.specs.Prelude.{◌≡◌, ◌<◌, ◌∷◌, [], true, vec_len, vec_capacity, IfOk, OnOk};
+ghost use Rattle.std.specs.Prelude.{◌≡◌, ◌<◌, ◌∷◌, [], true, vec_len, vec_capacity, IfOk, IsOk, OnOk};
 ghost use Rattle.ups_life.specs.Steps.{past};
 ghost use Rattle.ups_life.specs.History.{legal};
 ghost use Rattle.ups_live.specs.Seen.{Once};
@@ -10,7 +10,8 @@ ghost use Rattle.ups_tables.specs.Stands.{Stands};
 
 use crate::plan::Plan;
 use crate::room::{
-    make_room_to_change, make_room_to_create, make_room_to_free, make_room_to_subscribe,
+    make_room_to_change, make_room_to_cover, make_room_to_create, make_room_to_free,
+    make_room_to_subscribe,
 };
 use crate::tables::Tables;
 use std::alloc::{AllocError, Allocator};
@@ -38,7 +39,7 @@ pub fn begin<A: Allocator + Copy>(
 ///
 /// # Errors
 ///
-/// Where memory runs out. The tables then say the same as before.
+/// Where memory runs out, and never where there is that room already. The tables then say the same as before.
 pub fn room_for_plan<A: Allocator + Copy>(
     configuration: &Configuration<A>,
     history: &[Entry<A>],
@@ -50,6 +51,7 @@ pub fn room_for_plan<A: Allocator + Copy>(
     requires legal { legal configuration.now (entry.now ∷ past history.now) ≡ true }
     requires plan { IsPlan configuration.now (past history.now) entry.now tables.old plan.now }
     ensures room { OnOk result (room_for tables.new plan.now) }
+    ensures succeeds { room_for tables.old plan.now → IsOk result }
     ensures same { Reserved tables.old tables.new }
 {
     match plan {
@@ -68,9 +70,9 @@ pub fn room_for_plan<A: Allocator + Copy>(
             freed,
             news,
             ..
-        } => make_room_to_subscribe(tables, *peer, news.len(), freed.len()),
+        } => make_room_to_cover(tables, *peer, news.len(), freed.len()),
         Plan::End { .. } => make_room_to_free(tables, 0),
-        Plan::EndAll { freed, .. } => make_room_to_free(tables, freed.len()),
+        Plan::EndAll { freed, .. } => tables.due.reserve(freed.len()),
         Plan::Suspend { .. } => Ok(()),
         Plan::Ack { .. } => Ok(()),
         Plan::Sweep { .. } => Ok(()),
@@ -83,7 +85,8 @@ pub fn room_for_plan<A: Allocator + Copy>(
 ///
 /// # Errors
 ///
-/// Where memory runs out. The history is then as before, and the tables say the same as before.
+/// Where memory runs out, and never where there is that room already. The history is then as before, and the tables say the
+/// same as before.
 pub fn make_room<A: Allocator + Copy>(
     configuration: &Configuration<A>,
     history: &mut Vec<Entry<A>, A>,
@@ -100,6 +103,7 @@ pub fn make_room<A: Allocator + Copy>(
     ensures plan { IsPlan configuration.now (past history.new.items) entry.now tables.new plan.now }
     ensures room { OnOk result (room_for tables.new plan.now) }
     ensures history_room { OnOk result (vec_len history.new < vec_capacity history.new) }
+    ensures succeeds { room_for tables.old plan.now → vec_len history.old < vec_capacity history.old → IsOk result }
 {
     room_for_plan(configuration, history.as_slice(), tables, entry, plan)?;
     history.reserve(1)

@@ -1,10 +1,11 @@
 //! Room for what a request makes of the tables, so that it can be carried out without memory.
 
-ghost use Rattle.std.specs.Prelude.{◌≡◌, ◌≤◌, ◌<◌, ℕ, None, is_some, true, length, slice_index_or, OnOk};
+ghost use Rattle.std.specs.Prelude.{◌≡◌, ◌≤◌, ◌<◌, ℕ, None, is_some, true, length, slice_index_or, IsOk, OnOk};
 ghost use Rattle.std.specs.HashSet as set;
 ghost use Rattle.ups_events.specs.Queue.{queue_at, IsReserved};
 ghost use Rattle.ups_tables.specs.Fit.{how, Fits};
 ghost use Rattle.ups_tables.specs.Effects.{Reserved, RoomFor};
+ghost use Rattle.ups_tables.specs.Planned.{RoomToCreate, RoomToChange};
 
 use crate::tables::Tables;
 use std::alloc::{AllocError, Allocator};
@@ -14,7 +15,7 @@ use ups_watch::Watchers;
 
 /// Makes room for so many more events of a peer, where it is wanted.
 ///
-/// Errors: where memory runs out.
+/// Errors: where memory runs out, and never where there is that room already.
 fn reserve_if<A: Allocator + Copy>(
     queues: &mut Queues<A>,
     wanted: bool,
@@ -23,6 +24,7 @@ fn reserve_if<A: Allocator + Copy>(
 ) -> Result<(), AllocError>
     requires { peer < length queues.old }
     ensures room { OnOk result (wanted ≡ true → more ≤ (queue_at queues.new peer).spare) }
+    ensures succeeds { (wanted ≡ true → more ≤ (queue_at queues.old peer).spare) → IsOk result }
     ensures same { (p : ℕ) → IsReserved (queue_at queues.old p) (queue_at queues.new p) }
     ensures peers { length queues.new ≡ length queues.old }
 {
@@ -34,7 +36,7 @@ fn reserve_if<A: Allocator + Copy>(
 
 /// Makes room for so many more events of each peer that is subscribed; `cells` are the subscriptions, by the places of peers.
 ///
-/// Errors: where memory runs out.
+/// Errors: where memory runs out, and never where there is that room already.
 fn reserve_cells<A: Allocator + Copy>(
     queues: &mut Queues<A>,
     cells: &[Option<Subscription>],
@@ -42,6 +44,7 @@ fn reserve_cells<A: Allocator + Copy>(
 ) -> Result<(), AllocError>
     requires { length cells.now ≤ length queues.old }
     ensures room { OnOk result (RoomFor (λ p. is_some (slice_index_or cells.now p None)) more queues.new) }
+    ensures succeeds { RoomFor (λ p. is_some (slice_index_or cells.now p None)) more queues.old → IsOk result }
     ensures same { (p : ℕ) → IsReserved (queue_at queues.old p) (queue_at queues.new p) }
     ensures peers { length queues.new ≡ length queues.old }
 {
@@ -53,7 +56,7 @@ fn reserve_cells<A: Allocator + Copy>(
 
 /// Makes room for so many more events of each peer that has a global subscription.
 ///
-/// Errors: where memory runs out.
+/// Errors: where memory runs out, and never where there is that room already.
 fn reserve_covered<A: Allocator + Copy>(
     queues: &mut Queues<A>,
     watchers: &Watchers<A>,
@@ -61,6 +64,7 @@ fn reserve_covered<A: Allocator + Copy>(
 ) -> Result<(), AllocError>
     requires { length watchers.now.covers ≤ length queues.old }
     ensures room { OnOk result (RoomFor (λ p. is_some (slice_index_or watchers.now.covers p None)) more queues.new) }
+    ensures succeeds { RoomFor (λ p. is_some (slice_index_or watchers.now.covers p None)) more queues.old → IsOk result }
     ensures same { (p : ℕ) → IsReserved (queue_at queues.old p) (queue_at queues.new p) }
     ensures peers { length queues.new ≡ length queues.old }
 {
@@ -75,7 +79,7 @@ fn reserve_covered<A: Allocator + Copy>(
 ///
 /// # Errors
 ///
-/// Where memory runs out. The tables then say the same as before.
+/// Where memory runs out, and never where there is that room already. The tables then say the same as before.
 pub fn make_room_to_create<A: Allocator + Copy>(
     tables: &mut Tables<A>,
     news: usize,
@@ -85,6 +89,7 @@ pub fn make_room_to_create<A: Allocator + Copy>(
     ensures used { OnOk result (0 < set.spare tables.new.used) }
     ensures rows { OnOk result (0 < tables.new.watchers.spare) }
     ensures events { OnOk result (RoomFor (λ p. is_some (slice_index_or tables.new.watchers.covers p None)) news tables.new.queues) }
+    ensures succeeds { RoomToCreate tables.old news → IsOk result }
     ensures same { Reserved tables.old tables.new }
     ensures fits { Fits tables.new }
 {
@@ -99,7 +104,7 @@ pub fn make_room_to_create<A: Allocator + Copy>(
 ///
 /// # Errors
 ///
-/// Where memory runs out. The tables then say the same as before.
+/// Where memory runs out, and never where there is that room already. The tables then say the same as before.
 pub fn make_room_to_change<A: Allocator + Copy>(
     tables: &mut Tables<A>,
     step: StepUid,
@@ -112,6 +117,7 @@ pub fn make_room_to_change<A: Allocator + Copy>(
     ensures due { OnOk result (0 < tables.new.due.spare) }
     ensures news { OnOk result (RoomFor (λ p. is_some (how tables.new p step)) news tables.new.queues) }
     ensures first { OnOk result (RoomFor (λ p. is_some (slice_index_or newly.now p None)) first tables.new.queues) }
+    ensures succeeds { RoomToChange tables.old step news newly.now first → IsOk result }
     ensures same { Reserved tables.old tables.new }
     ensures fits { Fits tables.new }
 {
@@ -124,7 +130,7 @@ pub fn make_room_to_change<A: Allocator + Copy>(
 ///
 /// # Errors
 ///
-/// Where memory runs out. The tables then say the same as before.
+/// Where memory runs out, and never where there is that room already. The tables then say the same as before.
 pub fn make_room_to_subscribe<A: Allocator + Copy>(
     tables: &mut Tables<A>,
     peer: usize,
@@ -136,10 +142,31 @@ pub fn make_room_to_subscribe<A: Allocator + Copy>(
     ensures due { OnOk result (freed ≤ tables.new.due.spare) }
     ensures one { OnOk result (0 < tables.new.due.spare) }
     ensures events { OnOk result (news ≤ (queue_at tables.new.queues peer).spare) }
+    ensures succeeds { freed ≤ tables.old.due.spare → 0 < tables.old.due.spare → news ≤ (queue_at tables.old.queues peer).spare → IsOk result }
     ensures same { Reserved tables.old tables.new }
     ensures fits { Fits tables.new }
 {
-    tables.due.reserve(freed.max(1))?;
+    make_room_to_cover(tables, peer, news, freed.max(1))
+}
+
+/// Makes room for `news` more events of a peer, and for the waits of `freed` steps.
+///
+/// Errors: where memory runs out, and never where there is that room already. The tables then say the same as before.
+pub(crate) fn make_room_to_cover<A: Allocator + Copy>(
+    tables: &mut Tables<A>,
+    peer: usize,
+    news: usize,
+    freed: usize,
+) -> Result<(), AllocError>
+    requires fits { Fits tables.old }
+    requires peer { peer < length tables.old.watchers.covers }
+    ensures due { OnOk result (freed ≤ tables.new.due.spare) }
+    ensures events { OnOk result (news ≤ (queue_at tables.new.queues peer).spare) }
+    ensures succeeds { freed ≤ tables.old.due.spare → news ≤ (queue_at tables.old.queues peer).spare → IsOk result }
+    ensures same { Reserved tables.old tables.new }
+    ensures fits { Fits tables.new }
+{
+    tables.due.reserve(freed)?;
     reserve_if(&mut tables.queues, true, peer, news)
 }
 
@@ -147,7 +174,7 @@ pub fn make_room_to_subscribe<A: Allocator + Copy>(
 ///
 /// # Errors
 ///
-/// Where memory runs out. The tables then say the same as before.
+/// Where memory runs out, and never where there is that room already. The tables then say the same as before.
 pub fn make_room_to_free<A: Allocator + Copy>(
     tables: &mut Tables<A>,
     freed: usize,
@@ -155,6 +182,7 @@ pub fn make_room_to_free<A: Allocator + Copy>(
     requires { Fits tables.old }
     ensures due { OnOk result (freed ≤ tables.new.due.spare) }
     ensures one { OnOk result (0 < tables.new.due.spare) }
+    ensures succeeds { freed ≤ tables.old.due.spare → 0 < tables.old.due.spare → IsOk result }
     ensures same { Reserved tables.old tables.new }
     ensures fits { Fits tables.new }
 {

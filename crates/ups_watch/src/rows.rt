@@ -1,7 +1,7 @@
 //! The rows of the steps that are known. `width` is the number of peers: most functions take it for their contracts alone,
 //! which say by it that each row has a cell for each peer.
 
-ghost use Rattle.std.specs.Prelude.{◌≡◌, ◌<◌, ◌≤◌, ◌+◌, ◌&&◌, ◌||◌, not, ℕ, List, None, true, length, nat_eq, slice_index_or, if◌then◌else◌, OnOk};
+ghost use Rattle.std.specs.Prelude.{◌≡◌, ◌<◌, ◌≤◌, ◌+◌, ◌&&◌, ◌||◌, not, ℕ, List, None, true, length, nat_eq, slice_index_or, if◌then◌else◌, IsOk, OnOk};
 ghost use Rattle.std.specs.HashMap.{spare};
 ghost use Rattle.std.specs.Vec.{vec_len};
 ghost use Rattle.ups_watch.specs.Table.{AreBlank};
@@ -88,7 +88,7 @@ pub(crate) fn put_row<A: Allocator + Copy>(
 
 /// Adds rows without a subscription until there are so many.
 ///
-/// Errors: where memory runs out.
+/// Errors: where memory runs out, and never where there are so many already.
 pub(crate) fn add_blanks<A: Allocator + Copy>(
     alloc: A,
     blanks: &mut Vec<Row<A>, A>,
@@ -98,6 +98,7 @@ pub(crate) fn add_blanks<A: Allocator + Copy>(
     requires blank { AreBlank width blanks.old.items }
     ensures blank { AreBlank width blanks.new.items }
     ensures enough { OnOk result (count ≤ vec_len blanks.new) }
+    ensures succeeds { count ≤ vec_len blanks.old → IsOk result }
     ensures more { vec_len blanks.old ≤ vec_len blanks.new }
 {
     while blanks.len() < count {

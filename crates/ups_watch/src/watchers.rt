@@ -1,6 +1,6 @@
 //! The table of subscriptions.
 
-ghost use Rattle.std.specs.Prelude.{◌≡◌, ◌<◌, ◌≤◌, ◌+◌, ◌&&◌, ◌||◌, not, ℕ, List, [], None, Some, is_some, true, false, length, replicate, nat_eq, slice_index_or, slice_set, if◌then◌else◌, IfOk, OnOk};
+ghost use Rattle.std.specs.Prelude.{◌≡◌, ◌<◌, ◌≤◌, ◌+◌, ◌&&◌, ◌||◌, not, ℕ, List, [], None, Some, is_some, true, false, length, replicate, nat_eq, slice_index_or, slice_set, if◌then◌else◌, IfOk, IsOk, OnOk};
 ghost use Rattle.std.specs.Option.{option_or};
 ghost use Rattle.std.specs.Str.{bytes_eq};
 ghost use Rattle.ups_life.specs.Watching.{is_among, is_at};
@@ -72,9 +72,11 @@ impl<A: Allocator + Copy> Watchers<A> {
     ///
     /// # Errors
     ///
-    /// Where memory runs out. The subscriptions are then as they were, and there is no less room.
+    /// Where memory runs out, and never where there is that room already. The subscriptions are then as they were, and there is
+    /// no less room.
     pub fn reserve(&mut self, steps: usize) -> Result<(), AllocError>
         ensures room { OnOk result (steps ≤ self.new.spare) }
+        ensures succeeds { steps ≤ self.old.spare → IsOk result }
         ensures keeps { self.old.spare ≤ self.new.spare }
         ensures covers { self.new.covers ≡ self.old.covers }
         ensures watching { (p : ℕ) → (u : List ℕ) → watching self.new p u ≡ watching self.old p u }
