@@ -1,5 +1,8 @@
 //! The memory that a creation leaves, for what is asked of the steps that are there.
 
+ghost use Rattle.std.specs.Prelude.{◌≡◌, true, OnErr};
+ghost use Rattle.ups_live.specs.Live.{is_create};
+
 use std::alloc::{AllocError, Allocator};
 use ups_life::Request;
 
@@ -77,8 +80,10 @@ impl<A: Allocator + Copy> Reserve<A> {
     /// Sees that a request which creates a step leaves the reserve. Every other request may take of it: what the reserve is
     /// for are the steps that are there.
     ///
-    /// Errors: where it does not.
-    pub(crate) fn leave(&mut self, request: &Request<A>) -> Result<(), AllocError> {
+    /// Errors: where it does not; of a request which creates a step alone.
+    pub(crate) fn leave(&mut self, request: &Request<A>) -> Result<(), AllocError>
+        ensures request { OnErr result (is_create request.now ≡ true) }
+    {
         match request {
             Request::Create { .. } if !self.is_there() => Err(AllocError),
             _ => Ok(()),

@@ -1,11 +1,13 @@
-use super::{answer_to, with};
+ghost use Rattle.std.specs.Prelude.{true, false};
+
+use super::{answer_to, told, with};
 use fixtures::rows::{check, cut};
 use std::alloc::{Allocator, Global};
 use std::test::Fail;
 use ups_dataset::DataSet;
 use ups_life::Reply;
 use ups_manager::*;
-use ups_match::{Keys, Probe};
+use ups_match::{Keys, Matcher, Probe};
 
 /// Requests with what they are answered, and finds with how many steps the matcher is asked of and how many match. Before
 /// the keys of a find stands their offset in minutes.
@@ -41,6 +43,49 @@ find 0 00100020=P1 -> 2/2
 find 0 00100020=P1 -> 1/1
 find 0 00100020=P2 -> 1/1";
 
+/// A matcher to which all that it is asked of matches.
+#[derive(Drop)]
+struct Always {
+    count: u64,
+}
+
+impl Matcher for Always {
+    ghost says = { λ _ _. true };
+
+    ghost asked = { λ m. m.count };
+
+    fn matches<A: Allocator + Copy>(&mut self, _keys: &Keys<A>, _row: &DataSet<A>) -> bool {
+        self.count += 1;
+        true
+    }
+}
+
+/// A matcher to which nothing matches.
+#[derive(Drop)]
+struct Never {
+    count: u64,
+}
+
+impl Matcher for Never {
+    ghost says = { λ _ _. false };
+
+    ghost asked = { λ m. m.count };
+
+    fn matches<A: Allocator + Copy>(&mut self, _keys: &Keys<A>, _row: &DataSet<A>) -> bool {
+        self.count += 1;
+        false
+    }
+}
+
+/// Steps, and finds by the two matchers: of how many steps they are asked, and what is found. Two of the three steps are of
+/// the patient of the query.
+const OWN: &str = "\
+0 SCHED1 1709208000 create 1.2.3.1 - -|00741202=READS|00100020=P1 -> 0000
+0 SCHED1 1709208000 create 1.2.3.2 - -|00741202=READS|00100020=P2 -> 0000
+0 SCHED1 1709208000 create 1.2.3.3 - -|00741202=REPROC|00100020=P1 -> 0000
+always 0 00080018=|00100020=P1|00741202=READS -> 2: 0000 00080018=1.2.3.1_ 00100020=P1 00741202=READS_ 00080018=1.2.3.3_ 00100020=P1 00741202=REPROC
+never 0 00080018=|00100020=P1|00741202=READS -> 2: 0000";
+
 /// Finds by a manager: of how many steps its matcher is asked, and how many match.
 pub(super) fn counts<A: Allocator + Copy>(
     manager: &Manager<A>,
@@ -71,15 +116,48 @@ fn counted(rt: &impl AllocGlobal, manager: &Manager<Global>, find: &str) -> Resu
     Ok(format!(in rt.alloc(); "{asked}/{found}")?)
 }
 
+/// Finds by a manager and the matcher to which all matches: the reply, and how often the matcher was asked.
+fn found_always(manager: &Manager<Global>, keys: &Keys<Global>) -> (Reply<Global>, u64) {
+    let mut matcher = Always { count: 0 };
+    (manager.find(keys, &mut matcher), matcher.count)
+}
+
+/// The same by the matcher to which nothing matches.
+fn found_never(manager: &Manager<Global>, keys: &Keys<Global>) -> (Reply<Global>, u64) {
+    let mut matcher = Never { count: 0 };
+    (manager.find(keys, &mut matcher), matcher.count)
+}
+
+/// Finds by the matcher of this name, and by keys behind their offset: how often the matcher was asked, and the reply, as a
+/// text.
+fn found_by(
+    rt: &impl AllocGlobal,
+    manager: &Manager<Global>,
+    name: &str,
+    find: &str,
+) -> Result<String, Fail> {
+    let keys = keys_with_offset(rt.alloc(), find)?;
+    let (reply, count) = if name == "always" {
+        found_always(manager, &keys)
+    } else {
+        found_never(manager, &keys)
+    };
+    let told = told(rt, &reply)?;
+    Ok(format!(in rt.alloc(); "{count}: {told}")?)
+}
+
 /// Asks what a row says: what comes of it, as a text.
 fn come_of(
     rt: &impl AllocGlobal,
     manager: &mut Manager<Global>,
     asked: &str,
 ) -> Result<String, Fail> {
-    match asked.strip_prefix("find ") {
-        Some(find) => counted(rt, manager, find),
-        None => answer_to(rt, manager, asked, false),
+    match asked.split_once(' ') {
+        Some(("find", find)) => counted(rt, manager, find),
+        Some((name, find)) if name == "always" || name == "never" => {
+            found_by(rt, manager, name, find)
+        }
+        _ => answer_to(rt, manager, asked, false),
     }
 }
 
@@ -89,9 +167,13 @@ fn row_is_so(rt: &impl AllocGlobal, manager: &mut Manager<Global>, row: &str) ->
     check(row, come_of(rt, manager, asked)?.as_str() == due)
 }
 
-/// Asks all rows, one after the other.
-fn rows_are_so(rt: &impl AllocGlobal, manager: &mut Manager<Global>) -> Result<(), Fail> {
-    for row in ROWS.lines() {
+/// Asks rows, one after the other.
+fn rows_are_so(
+    rt: &impl AllocGlobal,
+    manager: &mut Manager<Global>,
+    rows: &str,
+) -> Result<(), Fail> {
+    for row in rows.lines() {
         row_is_so(rt, manager, row)?;
     }
     Ok(())
@@ -100,7 +182,13 @@ fn rows_are_so(rt: &impl AllocGlobal, manager: &mut Manager<Global>) -> Result<(
 #[test]
 fn a_matcher_is_asked_of_the_class_of_a_query_alone(rt: HostRuntime) -> Result<(), Fail> {
     let mut manager = Manager::new(rt.alloc(), &[], 60, 0, 100)?;
-    rows_are_so(&rt, &mut manager)?;
+    rows_are_so(&rt, &mut manager, ROWS)?;
     assert_eq!(rt; manager.history().len(), 9);
     Ok(())
+}
+
+#[test]
+fn a_matcher_decides_which_steps_of_the_class_are_found(rt: HostRuntime) -> Result<(), Fail> {
+    let mut manager = Manager::new(rt.alloc(), &[], 60, 0, 100)?;
+    rows_are_so(&rt, &mut manager, OWN)
 }

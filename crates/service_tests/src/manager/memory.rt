@@ -13,6 +13,9 @@ use ups_pdu::Ae;
 /// The greatest number of growths that a test refuses in turn.
 const GROWTHS: u64 = 100;
 
+/// The size of the blocks that a creation leaves, where it can't leave all in one, in bytes: that of the largest message.
+const LARGE: usize = 1_048_576;
+
 /// Lines, how many growths each makes at least, what it is answered where one is refused, and where none is.
 const ROWS: &str = "\
 0 SCHED1 1709208000 create 1.2.3.1 - -| -> 8 0213 0000
@@ -136,21 +139,44 @@ fn is_whole<A: Allocator + Copy>(
     Ok(whole(rt, alloc, manager)?.as_str() == text)
 }
 
-/// Asks what a line says with the growth of a number refused: the reply as a text.
+/// What is refused of memory.
+#[derive(Clone, Copy)]
+enum Lack {
+    /// The growth of a number.
+    Growth(u64),
+    /// Each block of more bytes.
+    Above(usize),
+}
+
+/// Has memory refuse what it is to.
+fn arm(heap: &Refusing<Global>, lack: Lack) {
+    match lack {
+        Lack::Growth(number) => heap.refuse(number),
+        Lack::Above(size) => heap.refuse_above(size),
+    }
+}
+
+/// Has memory refuse nothing.
+fn disarm(heap: &Refusing<Global>) {
+    heap.refuse(0);
+    heap.refuse_above(usize::MAX);
+}
+
+/// Asks what a line says where memory is lacking: the reply as a text.
 fn lacking<'a>(
     rt: &impl AllocGlobal,
     heap: &'a Refusing<Global>,
     manager: &mut Manager<&'a Refusing<Global>>,
     line: &str,
     is_service: bool,
-    growth: u64,
+    lack: Lack,
 ) -> Result<String, Fail> {
     let (front, attributes) = line.split_once('|').ok_or("attributes")?;
     let line = line_of(front)?;
     let ask = ask_of(heap, &line, attributes)?;
-    heap.refuse(growth);
+    arm(heap, lack);
     let reply = reply_to(manager, &line, ask, is_service);
-    heap.refuse(0);
+    disarm(heap);
     told(rt, &reply?)
 }
 
@@ -176,8 +202,8 @@ fn due_of(row: &str) -> Result<Due<'_>, Fail> {
     })
 }
 
-/// What comes of a line with a growth refused.
-#[derive(Clone, Copy)]
+/// What comes of a line where memory is lacking.
+#[derive(Clone, Copy, PartialEq, Eq)]
 enum Outcome {
     /// It was answered as where none is refused.
     Answered,
@@ -187,17 +213,17 @@ enum Outcome {
     Odd,
 }
 
-/// Asks the line of a row with the growth of a number refused.
+/// Asks the line of a row where memory is lacking.
 fn tried<'a>(
     rt: &impl AllocGlobal,
     heap: &'a Refusing<Global>,
     manager: &mut Manager<&'a Refusing<Global>>,
     due: &Due<'_>,
     is_service: bool,
-    growth: u64,
+    lack: Lack,
     before: &str,
 ) -> Result<Outcome, Fail> {
-    let found = lacking(rt, heap, manager, due.line, is_service, growth)?;
+    let found = lacking(rt, heap, manager, due.line, is_service, lack)?;
     if found.as_str() == due.answered {
         return Ok(Outcome::Answered);
     }
@@ -219,7 +245,8 @@ fn is_so<'a>(
     let due = due_of(row)?;
     let before = whole(rt, heap, manager)?;
     for growth in 1..GROWTHS {
-        match tried(rt, heap, manager, &due, is_service, growth, before.as_str())? {
+        let lack = Lack::Growth(growth);
+        match tried(rt, heap, manager, &due, is_service, lack, before.as_str())? {
             Outcome::Answered => return Ok(growth > due.least),
             Outcome::Refused => {}
             Outcome::Odd => return Ok(false),
@@ -312,4 +339,73 @@ fn rows_are_so_beside_anew<R: Abort + AllocGlobal>(rt: &R, is_service: bool) -> 
 fn watchers_are_told_nothing_where_a_growth_is_refused(rt: HostRuntime) -> Result<(), Fail> {
     rows_are_so_beside_anew(&rt, false)?;
     rows_are_so_beside_anew(&rt, true)
+}
+
+/// What comes of the line of a row where no block is larger than so many bytes.
+fn confined<'a>(
+    rt: &impl AllocGlobal,
+    heap: &'a Refusing<Global>,
+    manager: &mut Manager<&'a Refusing<Global>>,
+    row: &str,
+    size: usize,
+) -> Result<Outcome, Fail> {
+    let due = due_of(row)?;
+    let before = whole(rt, heap, manager)?;
+    tried(
+        rt,
+        heap,
+        manager,
+        &due,
+        false,
+        Lack::Above(size),
+        before.as_str(),
+    )
+}
+
+/// Whether the line of a row creates a step.
+fn is_creation(row: &str) -> bool {
+    row.contains(" create ") || row.contains("|create ")
+}
+
+/// Whether a row leaves the reserve, or need not: where no block has the size of the largest message a creation is refused,
+/// and where one has, it is answered; any other request is answered in either case.
+fn is_so_confined<'a>(
+    rt: &impl AllocGlobal,
+    heap: &'a Refusing<Global>,
+    manager: &mut Manager<&'a Refusing<Global>>,
+    row: &str,
+) -> Result<bool, Fail> {
+    let outcome = confined(rt, heap, manager, row, LARGE - 1)?;
+    if !is_creation(row) {
+        return Ok(outcome == Outcome::Answered);
+    }
+    Ok(outcome == Outcome::Refused && confined(rt, heap, manager, row, LARGE)? == Outcome::Answered)
+}
+
+/// Asks a manager rows, one after the other.
+fn rows_are_so_confined<'a, R: Abort + AllocGlobal>(
+    rt: &R,
+    heap: &'a Refusing<Global>,
+    manager: &mut Manager<&'a Refusing<Global>>,
+    rows: &str,
+) -> Result<(), Fail> {
+    for row in rows.lines() {
+        assert!(rt; is_so_confined(rt, heap, manager, row)?, "{row}");
+    }
+    Ok(())
+}
+
+/// The same of a new manager.
+fn rows_are_so_confined_anew<R: Abort + AllocGlobal>(rt: &R, rows: &str) -> Result<(), Fail> {
+    let heap = Refusing::new(rt.alloc());
+    let mut manager = a_manager(&heap)?;
+    rows_are_so_confined(rt, &heap, &mut manager, rows)
+}
+
+#[test]
+fn a_creation_alone_is_refused_where_it_would_not_leave_the_reserve(
+    rt: HostRuntime,
+) -> Result<(), Fail> {
+    rows_are_so_confined_anew(&rt, ROWS)?;
+    rows_are_so_confined_anew(&rt, WATCHING)
 }
