@@ -1,5 +1,5 @@
 -- What the words of a command line are cut into.
-use Rattle.std.proofs.Common.{◌≡◌, ◌≢◌, ℕ, ◌<◌, ◌≤◌, ◌+◌, Bool, true, false, ◌&&◌, List, [], ◌∷◌, ◌++◌, length, get_or, take, drop, map, Option, None, Some, MatchOption, Bor, refl, sym, ◌∙◌, ap, subst, arith, lit<, length-append, append-nil, ◌==◌, Result, Ok, Err, ◌^◌, nat_lt, IsTrue, add-one, suc}
+use Rattle.std.proofs.Common.{◌≡◌, ◌≢◌, ℕ, ◌<◌, ◌≤◌, ◌+◌, Bool, true, false, ◌&&◌, List, [], ◌∷◌, ◌++◌, length, get_or, take, drop, map, Option, None, Some, MatchOption, Bor, refl, sym, ◌∙◌, ap, subst, arith, lit<, length-append, append-nil, ◌==◌, Result, Ok, Err, ◌^◌, nat_lt, IsTrue, add-one, zero, suc}
 use Rattle.std.specs.Char.{is_ascii_digit, digit_value}
 use Rattle.std.specs.Int.{IsInRange}
 use Rattle.std.specs.List.{list_all}
@@ -250,3 +250,18 @@ stops_here words i d ps l n once =
       named = n;
       once = once;
     }
+
+-- where words name things, each of the words names one
+pub named_at : {P : Type 0} (Names : List ℕ → P → Type 0) (words : List (Bor (List ℕ))) (i : ℕ) (d : Bor (List ℕ)) (ps : List P) → i < length words → EachNames Names (map (λ (w : Bor (List ℕ)). w.now) words) ps
+    → (p : P) × Names (get_or words i d).now p
+named_at Names [] i d ps l n = absurd (omega (arith, l))
+named_at Names (w ∷ words) i d [] l n = absurd n
+named_at Names (w ∷ words) zero d (p ∷ ps) l n = (p, n.0)
+named_at Names (w ∷ words) (suc i) d (p ∷ ps) l n = named_at Names words i d ps (omega (arith, l)) n.1
+
+-- and there are as many of these
+pub as_many : {P : Type 0} (Names : List ℕ → P → Type 0) (words : List (List ℕ)) (ps : List P) → EachNames Names words ps → length words ≡ length ps
+as_many Names [] [] n = refl
+as_many Names [] (p ∷ ps) n = absurd n
+as_many Names (w ∷ words) [] n = absurd n
+as_many Names (w ∷ words) (p ∷ ps) n = ap suc (as_many Names words ps n.1)

@@ -1,8 +1,8 @@
 -- What the words of a command line say.
-use Rattle.std.specs.Prelude.{◌≡◌, ◌≢◌, ℕ, ◌<◌, ◌≤◌, ◌^◌, ℤ, Bool, true, false, List, [], ◌∷◌, ◌++◌, length, slice_index, codes, string_bytes, Option, Some, None, option_map, unwrap_or}
+use Rattle.std.specs.Prelude.{◌≡◌, ◌≢◌, ◌⊎◌, ℕ, ◌<◌, ◌≤◌, ◌^◌, ℤ, Bool, true, false, List, [], ◌∷◌, ◌++◌, length, slice_index, codes, string_bytes, Option, Some, None, option_map, unwrap_or}
 use Rattle.std.specs.Str.Parse.{IsNumeral, digits_value, signed_digits_value, without_leading_plus, without_leading_sign}
 use Rattle.clap.specs.declared.parser.matches.Found.{Found}
-use Rattle.clap.specs.Matches.{matched_of, one_text, raw_values}
+use Rattle.clap.specs.Matches.{first_value, matched_of, one_text, raw_values}
 use Rattle.ups_life.specs.declared.peer.Peer.{Peer}
 use Rattle.ups_life.specs.Limits.{peer_limit}
 use Rattle.ups_settings.specs.Refusal.{is_bad_offset, is_named, is_twice}
@@ -170,3 +170,34 @@ pub record IsFlag (found : Found) (id : List ℕ) (flag : Bool) : Type 0 where
   pub unset : one_text found id ≡ None → flag ≡ false
   pub set : one_text found id ≡ Some (codes "true") → flag ≡ true
   pub reset : one_text found id ≡ Some (codes "false") → flag ≡ false
+
+-- the word behind `--ae`, or where there is none an empty one, spells no title
+abbrev pub NoTitle : Found → Type 0
+NoTitle found = (title : List ℕ) → SpellsAe (unwrap_or (first_value found (codes "ae")) []) title → ⊥
+
+-- why nothing is asked of `pipe`: the word behind `--ae` spells no title; or the words name no peers
+abbrev pub FailToAskPipe : Found → ArgumentFault → Type 0
+FailToAskPipe found faults.Ae = NoTitle found
+FailToAskPipe found fault = FailToName (argument_words found (codes "peer")) fault
+
+-- why nothing is asked of `script`: the word behind `--keep` says no seconds, or that behind `--offset` no offset; or the
+-- words name no peers
+abbrev pub FailToAskScript : Found → ArgumentFault → Type 0
+FailToAskScript found faults.Keep = (keep : ℕ) → SaysKeep (first_value found (codes "keep")) keep → ⊥
+FailToAskScript found faults.Offset = (offset : ℤ) → SaysOffset (first_value found (codes "offset")) offset → ⊥
+FailToAskScript found fault = FailToName (argument_words found (codes "peer")) fault
+
+-- why the words say no limits of a server: the word behind the option that is told says none
+abbrev pub FailToLimit : Found → ArgumentFault → Type 0
+FailToLimit found faults.Associations = (count : ℕ) → SaysWorkersOrNot (first_value found (codes "associations")) count → ⊥
+FailToLimit found faults.Idle = (idle : ℕ) → SaysIdle (first_value found (codes "idle")) idle → ⊥
+FailToLimit found faults.Timeout = (timeout : ℕ) → SaysTimeout (first_value found (codes "timeout")) timeout → ⊥
+FailToLimit found faults.DeliveryTimeout = (timeout : ℕ) → SaysDeliveryTimeout (first_value found (codes "delivery-timeout")) timeout → ⊥
+FailToLimit found fault = ⊥
+
+-- why nothing is asked of `serve`: the word behind `--ae` spells no title, or that behind `--port` says no port; the words
+-- say no limits; or they fail as those of `script`
+abbrev pub FailToAskServe : Found → ArgumentFault → Type 0
+FailToAskServe found faults.Ae = NoTitle found
+FailToAskServe found faults.Port = (port : ℕ) → SaysPort (unwrap_or (first_value found (codes "port")) []) port → ⊥
+FailToAskServe found fault = FailToLimit found fault ⊎ FailToAskScript found fault

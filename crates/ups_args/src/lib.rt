@@ -17,6 +17,6 @@ mod title;
 pub use fault::ArgumentFault;
 pub use limits::{KEEP, MAX_WORKERS, OFFSET, limits_are_as_defined};
 pub use pipe::{PipeArguments, pipe_arguments};
-pub use program::command;
+pub use program::{VERSION, command};
 pub use script::{ScriptArguments, script_arguments};
 pub use server::{ServeArguments, serve_arguments};

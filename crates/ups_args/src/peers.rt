@@ -1,6 +1,6 @@
 //! The application entities that may watch steps, and where each of them listens.
 
-ghost use Rattle.std.specs.Prelude.{◌≡◌, ◌≤◌, Bool, false, length, map, IfErr, IfOk, MatchOption};
+ghost use Rattle.std.specs.Prelude.{◌≡◌, ◌≤◌, Bool, List, false, length, map, IfErr, IfOk, MatchOption};
 ghost use Rattle.ups_args.specs.Arguments.{FailToName, NamePeers, NamesPeer, NamesPlace, NameWatchers, SaysLock, SaysPlace};
 ghost use Rattle.ups_life.specs.declared.peer.Peer.{Peer};
 ghost use Rattle.ups_life.specs.Limits.{peer_limit};
@@ -103,6 +103,7 @@ pub(crate) fn watchers_of<'a>(
     words: &[&'a str],
 ) -> Result<Vec<Watcher>, ArgumentFault<'a>>
     ensures named { IfOk result (λ watchers. NameWatchers (map (λ w. w.now) words.now) watchers.items) }
+    ensures fault { IfErr result (λ fault. (peers : List Peer) → NamePeers (map (λ w. w.now) words.now) peers → fault ≡ ArgumentFault.Memory) }
 {
     let mut watchers = Vec::new(alloc);
     for word in words {

@@ -1,8 +1,8 @@
 //! What is asked of `pipe`.
 
-ghost use Rattle.std.specs.Prelude.{◌≡◌, ◌≤◌, [], codes, length, None, IfOk, unwrap_or};
+ghost use Rattle.std.specs.Prelude.{◌≡◌, ◌≤◌, [], codes, length, None, IfErr, IfOk, unwrap_or};
 ghost use Rattle.clap.specs.Matches.{first_value, found_of};
-ghost use Rattle.ups_args.specs.Arguments.{IsFlag, NamePeers, argument_words};
+ghost use Rattle.ups_args.specs.Arguments.{FailToAskPipe, IsFlag, NamePeers, argument_words};
 ghost use Rattle.ups_args.specs.Limits.{local_offset};
 ghost use Rattle.ups_life.specs.Limits.{history_limit, peer_limit};
 ghost use Rattle.ups_settings.specs.Refusal.{refusal};
@@ -53,6 +53,7 @@ pub fn pipe_arguments<'a>(
     ensures peers { IfOk result (λ asked. NamePeers (argument_words (found_of matches.now) (codes "peer")) asked.peers.items) }
     ensures few { IfOk result (λ asked. length asked.peers.items ≤ peer_limit) }
     ensures allowed { IfOk result (λ asked. refusal asked.peers.items local_offset history_limit ≡ None) }
+    ensures refused { IfErr result (FailToAskPipe (found_of matches.now)) }
 {
     Ok(PipeArguments {
         ae: ae_of(matches.get_str("ae").unwrap_or(""))?,

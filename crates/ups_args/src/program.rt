@@ -6,6 +6,9 @@ use crate::server::serve_command;
 use clap::Command;
 use std::alloc::{AllocError, Global};
 
+/// The version of `upsd`.
+pub const VERSION: &str = "0.1.0";
+
 /// A command line with another command; or that lacked memory.
 fn with_command<'a>(
     command: Command<'a>,
@@ -21,7 +24,7 @@ fn with_command<'a>(
 /// Lack of memory.
 pub fn command<'a>(alloc: Global) -> Result<Command<'a>, AllocError> {
     let command = Command::new(alloc, "upsd")
-        .version("0.1.0")
+        .version(VERSION)
         .about("a DICOM Unified Procedure Step manager")
         .subcommand_required(true);
     let command = with_command(command, pipe_command(alloc))?;

@@ -1,8 +1,8 @@
 //! What is asked of `script`.
 
-ghost use Rattle.std.specs.Prelude.{◌≡◌, ◌≤◌, codes, length, None, IfOk};
+ghost use Rattle.std.specs.Prelude.{◌≡◌, ◌≤◌, codes, length, None, IfErr, IfOk};
 ghost use Rattle.clap.specs.Matches.{first_value, found_of};
-ghost use Rattle.ups_args.specs.Arguments.{NamePeers, SaysKeep, SaysOffset, argument_words};
+ghost use Rattle.ups_args.specs.Arguments.{FailToAskScript, NamePeers, SaysKeep, SaysOffset, argument_words};
 ghost use Rattle.ups_life.specs.Limits.{history_limit, peer_limit};
 ghost use Rattle.ups_settings.specs.Refusal.{refusal};
 
@@ -47,6 +47,7 @@ pub fn script_arguments<'a>(
     ensures offset { IfOk result (λ asked. SaysOffset (first_value (found_of matches.now) (codes "offset")) asked.offset) }
     ensures few { IfOk result (λ asked. length asked.peers.items ≤ peer_limit) }
     ensures allowed { IfOk result (λ asked. refusal asked.peers.items asked.offset history_limit ≡ None) }
+    ensures refused { IfErr result (FailToAskScript (found_of matches.now)) }
 {
     Ok(ScriptArguments {
         peers: peers_of(alloc, matches.get_strs("peer").unwrap_or(&[]))?,

@@ -2,7 +2,7 @@
 
 ghost use Rattle.std.specs.Prelude.{◌≡◌, ◌≤◌, ℕ, [], codes, length, None, option_map, IfErr, IfOk, MatchResult, unwrap_or};
 ghost use Rattle.clap.specs.Matches.{first_value, found_of};
-ghost use Rattle.ups_args.specs.Arguments.{IsFlag, NamePeers, NameWatchers, SaysBind, SaysDeliveryTimeout, SaysIdle, SaysKeep, SaysOffset, SaysPort, SaysTimeout, SaysWorkers, SaysWorkersOrNot, argument_words};
+ghost use Rattle.ups_args.specs.Arguments.{FailToAskServe, FailToLimit, IsFlag, NamePeers, NameWatchers, SaysBind, SaysDeliveryTimeout, SaysIdle, SaysKeep, SaysOffset, SaysPort, SaysTimeout, SaysWorkers, SaysWorkersOrNot, argument_words};
 ghost use Rattle.ups_args.specs.Limits.{workers_limit};
 ghost use Rattle.ups_life.specs.Limits.{history_limit, peer_limit};
 ghost use Rattle.ups_settings.specs.Refusal.{refusal};
@@ -11,8 +11,9 @@ ghost use Rattle.ups_pdu.specs.Title.{SpellsAe};
 use crate::fault::ArgumentFault;
 use crate::limits::{DELIVERY_TIMEOUT, IDLE, LOOPBACK, MAX_WORKERS, TIMEOUT, WORKERS};
 use crate::options::{flag, worded};
-use crate::peers::{peer_words, peers_of, watchers_of};
-use crate::times::{keep_asked, keep_of, offset_asked, with_times};
+use crate::peers::{peer_words, watchers_of};
+use crate::script::script_arguments;
+use crate::times::{keep_of, with_times};
 use crate::title::{ae_of, ae_word};
 use clap::{ArgMatches, Command};
 use std::alloc::{AllocError, Global};
@@ -36,7 +37,7 @@ fn with_door<'a>(alloc: Global, command: Command<'a>) -> Result<Command<'a>, All
 
 /// The options of a server that say how it serves.
 fn with_workers<'a>(alloc: Global, command: Command<'a>) -> Result<Command<'a>, AllocError> {
-    let associations = "how many associations are served at the same time [default: 4]";
+    let associations = "how many associations are served at the same time [default: 16]";
     let idle = "how long an association may be silent, 0 for any time [default: 60]";
     command
         .arg(worded(alloc, "associations", "N", associations))?
@@ -95,11 +96,12 @@ fn workers_of(word: &str) -> Result<u32, ArgumentFault<'_>>
     }
 }
 
-/// How many associations are served at the same time, by the word behind `--associations`, or 4 where there is none.
+/// How many associations are served at the same time, by the word behind `--associations`, or 16 where there is none.
 ///
 /// Errors: those of `workers_of`.
 fn workers_asked(word: Option<&str>) -> Result<u32, ArgumentFault<'_>>
-    ensures { IfOk result (SaysWorkersOrNot (option_map (λ w. w.now) word.entry)) }
+    ensures said { MatchResult result (SaysWorkersOrNot (option_map (λ w. w.now) word.entry)) (λ _. (count : ℕ) → SaysWorkersOrNot (option_map (λ w. w.now) word.entry) count → ⊥) }
+    ensures fault { IfErr result (λ fault. fault ≡ ArgumentFault.Associations) }
 {
     match word {
         Some(word) => workers_of(word),
@@ -112,7 +114,8 @@ fn workers_asked(word: Option<&str>) -> Result<u32, ArgumentFault<'_>>
 ///
 /// Errors: Idle where the word says no number of seconds.
 fn idle_asked(word: Option<&str>) -> Result<u32, ArgumentFault<'_>>
-    ensures { IfOk result (SaysIdle (option_map (λ w. w.now) word.entry)) }
+    ensures said { MatchResult result (SaysIdle (option_map (λ w. w.now) word.entry)) (λ _. (idle : ℕ) → SaysIdle (option_map (λ w. w.now) word.entry) idle → ⊥) }
+    ensures fault { IfErr result (λ fault. fault ≡ ArgumentFault.Idle) }
 {
     let Some(word) = word else {
         return Ok(IDLE);
@@ -128,7 +131,8 @@ fn idle_asked(word: Option<&str>) -> Result<u32, ArgumentFault<'_>>
 ///
 /// Errors: Timeout where the word says no number of seconds.
 fn timeout_asked(word: Option<&str>) -> Result<u32, ArgumentFault<'_>>
-    ensures { IfOk result (SaysTimeout (option_map (λ w. w.now) word.entry)) }
+    ensures said { MatchResult result (SaysTimeout (option_map (λ w. w.now) word.entry)) (λ _. (timeout : ℕ) → SaysTimeout (option_map (λ w. w.now) word.entry) timeout → ⊥) }
+    ensures fault { IfErr result (λ fault. fault ≡ ArgumentFault.Timeout) }
 {
     let Some(word) = word else {
         return Ok(TIMEOUT);
@@ -144,7 +148,8 @@ fn timeout_asked(word: Option<&str>) -> Result<u32, ArgumentFault<'_>>
 ///
 /// Errors: DeliveryTimeout where the word says no number of seconds.
 fn delivery_timeout_asked(word: Option<&str>) -> Result<u32, ArgumentFault<'_>>
-    ensures { IfOk result (SaysDeliveryTimeout (option_map (λ w. w.now) word.entry)) }
+    ensures said { MatchResult result (SaysDeliveryTimeout (option_map (λ w. w.now) word.entry)) (λ _. (timeout : ℕ) → SaysDeliveryTimeout (option_map (λ w. w.now) word.entry) timeout → ⊥) }
+    ensures fault { IfErr result (λ fault. fault ≡ ArgumentFault.DeliveryTimeout) }
 {
     let Some(word) = word else {
         return Ok(DELIVERY_TIMEOUT);
@@ -163,6 +168,35 @@ fn bind_asked<'a>(word: Option<&'a str>) -> &'a str
         Some(word) => word,
         None => LOOPBACK,
     }
+}
+
+/// How a server serves: how many associations at the same time, and for how long it waits for each side, in seconds.
+#[derive(Clone, Copy)]
+struct Limits {
+    workers: u32,
+    idle: u32,
+    timeout: u32,
+    delivery_timeout: u32,
+}
+
+/// How a server serves, by what was found.
+///
+/// Errors: Associations, Idle, Timeout or DeliveryTimeout by the first word of these that says nothing of its kind.
+fn limits_asked<'a>(matches: &ArgMatches<'a>) -> Result<Limits, ArgumentFault<'a>>
+    ensures workers { IfOk result (λ limits. SaysWorkersOrNot (first_value (found_of matches.now) (codes "associations")) limits.workers) }
+    ensures idle { IfOk result (λ limits. SaysIdle (first_value (found_of matches.now) (codes "idle")) limits.idle) }
+    ensures timeout { IfOk result (λ limits. SaysTimeout (first_value (found_of matches.now) (codes "timeout")) limits.timeout) }
+    ensures delivery_timeout { IfOk result (λ limits. SaysDeliveryTimeout (first_value (found_of matches.now) (codes "delivery-timeout")) limits.delivery_timeout) }
+    ensures some { IfOk result (λ limits. 1 ≤ limits.workers) }
+    ensures most { IfOk result (λ limits. limits.workers ≤ workers_limit) }
+    ensures refused { IfErr result (FailToLimit (found_of matches.now)) }
+{
+    Ok(Limits {
+        workers: workers_asked(matches.get_str("associations"))?,
+        idle: idle_asked(matches.get_str("idle"))?,
+        timeout: timeout_asked(matches.get_str("timeout"))?,
+        delivery_timeout: delivery_timeout_asked(matches.get_str("delivery-timeout"))?,
+    })
 }
 
 /// What a command line asks of `serve`.
@@ -200,7 +234,6 @@ pub struct ServeArguments<'a> {
 /// # Errors
 ///
 /// Those of its words, as [`ArgumentFault`] has them.
-#[tactic(auto, using(crate::proofs::Naming::unrefused_at))]
 pub fn serve_arguments<'a>(
     alloc: Global,
     matches: &ArgMatches<'a>,
@@ -221,19 +254,25 @@ pub fn serve_arguments<'a>(
     ensures most { IfOk result (λ asked. asked.workers ≤ workers_limit) }
     ensures few { IfOk result (λ asked. length asked.peers.items ≤ peer_limit) }
     ensures allowed { IfOk result (λ asked. refusal asked.peers.items asked.offset history_limit ≡ None) }
+    ensures refused { IfErr result (FailToAskServe (found_of matches.now)) }
 {
+    let ae = ae_of(matches.get_str("ae").unwrap_or(""))?;
+    let port = port_of(matches.get_str("port").unwrap_or(""))?;
+    let service = script_arguments(alloc, matches)?;
+    let watchers = watchers_of(alloc, matches.get_strs("peer").unwrap_or(&[]))?;
+    let limits = limits_asked(matches)?;
     Ok(ServeArguments {
-        ae: ae_of(matches.get_str("ae").unwrap_or(""))?,
+        ae,
         bind: bind_asked(matches.get_str("bind")),
-        port: port_of(matches.get_str("port").unwrap_or(""))?,
-        peers: peers_of(alloc, matches.get_strs("peer").unwrap_or(&[]))?,
-        watchers: watchers_of(alloc, matches.get_strs("peer").unwrap_or(&[]))?,
-        keep: keep_asked(matches.get_str("keep"))?,
-        offset: offset_asked(matches.get_str("offset"))?,
-        workers: workers_asked(matches.get_str("associations"))?,
-        idle: idle_asked(matches.get_str("idle"))?,
-        timeout: timeout_asked(matches.get_str("timeout"))?,
-        delivery_timeout: delivery_timeout_asked(matches.get_str("delivery-timeout"))?,
+        port,
+        peers: service.peers,
+        watchers,
+        keep: service.keep,
+        offset: service.offset,
+        workers: limits.workers,
+        idle: limits.idle,
+        timeout: limits.timeout,
+        delivery_timeout: limits.delivery_timeout,
         verbose: matches.get_flag("verbose"),
     })
 }

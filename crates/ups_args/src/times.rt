@@ -1,6 +1,6 @@
 //! How long a finished step is kept, and the local time.
 
-ghost use Rattle.std.specs.Prelude.{◌≡◌, ℕ, ℤ, option_map, IfErr, IfOk, MatchResult};
+ghost use Rattle.std.specs.Prelude.{◌≡◌, ℕ, ℤ, option_map, IfErr, MatchResult};
 ghost use Rattle.ups_args.specs.Arguments.{SaysKeep, SaysMinutes, SaysOffset, SaysSeconds};
 
 use crate::fault::ArgumentFault;
@@ -51,7 +51,8 @@ fn offset_of(word: &str) -> Result<i16, ArgumentFault<'_>>
 ///
 /// Errors: those of `keep_of`.
 pub(crate) fn keep_asked(word: Option<&str>) -> Result<u32, ArgumentFault<'_>>
-    ensures { IfOk result (SaysKeep (option_map (λ w. w.now) word.entry)) }
+    ensures said { MatchResult result (SaysKeep (option_map (λ w. w.now) word.entry)) (λ _. (keep : ℕ) → SaysKeep (option_map (λ w. w.now) word.entry) keep → ⊥) }
+    ensures fault { IfErr result (λ fault. fault ≡ ArgumentFault.Keep) }
 {
     match word {
         Some(word) => keep_of(word),
@@ -63,7 +64,8 @@ pub(crate) fn keep_asked(word: Option<&str>) -> Result<u32, ArgumentFault<'_>>
 ///
 /// Errors: those of `offset_of`.
 pub(crate) fn offset_asked(word: Option<&str>) -> Result<i16, ArgumentFault<'_>>
-    ensures { IfOk result (SaysOffset (option_map (λ w. w.now) word.entry)) }
+    ensures said { MatchResult result (SaysOffset (option_map (λ w. w.now) word.entry)) (λ _. (offset : ℤ) → SaysOffset (option_map (λ w. w.now) word.entry) offset → ⊥) }
+    ensures fault { IfErr result (λ fault. fault ≡ ArgumentFault.Offset) }
 {
     match word {
         Some(word) => offset_of(word),

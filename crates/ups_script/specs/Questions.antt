@@ -1,7 +1,12 @@
--- How a line begins, by its words: when is asked, by whom and what for.
-use Rattle.std.specs.Prelude.{◌≡◌, ◌≢◌, ◌⊎◌, ◌<◌, ◌^◌, ℕ, List, [], ◌∷◌, length, codes}
+-- What a line asks, by its words: when, by whom and what.
+use Rattle.std.specs.Prelude.{◌≡◌, ◌≢◌, ◌⊎◌, ◌<◌, ◌≤◌, ◌^◌, ℕ, List, [], ◌∷◌, length, codes, Option, None, Some, MatchOption}
 use Rattle.std.specs.Str.Parse.{IsNumeral, digits_value}
+use Rattle.ups_pdu.specs.Identifier.{SpellsUid}
+use Rattle.ups_pdu.specs.declared.registered.RegisteredUid.TheVariants.{GlobalSubscription, FilteredGlobalSubscription}
+use Rattle.ups_pdu.specs.Registered.{text_of}
 use Rattle.ups_pdu.specs.Title.{SpellsAe}
+use Rattle.ups_dimse.specs.declared.command.Operation.{Operation}
+use Rattle.ups_dimse.specs.declared.command.Operation.TheVariants as operations
 use Rattle.ups_lines.specs.Escapes.{StandsFor, IsText}
 use Rattle.ups_lines.specs.Words.{words_of, NoWord}
 use Rattle.ups_lines.specs.declared.fault.LineFault.{LineFault}
@@ -10,6 +15,8 @@ use Rattle.ups_lines.specs.declared.fault.LineReason.{LineReason}
 use Rattle.ups_lines.specs.declared.fault.LineReason.TheVariants as reasons
 use Rattle.ups_life.specs.Settings.{IsMoment}
 use Rattle.ups_script.specs.Limits.{max_line}
+use Rattle.ups_script.specs.declared.asking.Question.{Question}
+use Rattle.ups_script.specs.declared.asking.Question.TheVariants as questions
 use Rattle.ups_script.specs.declared.line.Verb.{Verb}
 use Rattle.ups_script.specs.declared.line.Verb.TheVariants.{Create, Get, Set, Change, Cancel, Subscribe, Unsubscribe, Suspend, Find, Pending, Ack, Watches, Sweep, Held, Holder}
 
@@ -47,9 +54,77 @@ pub record IsHeading (words : List (List ℕ)) (moment : ℕ) (ae : List ℕ) (v
   pub is_moment : IsMomentWord moment_word moment
   pub is_title : IsTitleWord title_word ae
 
--- the words of a line ask at a moment, by an application entity
-abbrev pub AsksAt : List (List ℕ) → ℕ → List ℕ → Type 0
-AsksAt words moment ae = (verb : Verb) × (arguments : List (List ℕ)) × IsHeading words moment ae verb arguments
+-- a text stands for the UID of an instance; None is for what is no UID
+abbrev pub StandsForInstance : List ℕ → Option (List ℕ) → Type 0
+StandsForInstance word instance = (bytes : List ℕ) × StandsFor word bytes × MatchOption instance ((uid : List ℕ) → SpellsUid bytes uid → ⊥) (SpellsUid bytes)
+
+-- a word names an instance: `global` and `filtered` those that stand for global subscriptions (PS3.4 CC.2.3), each other word
+-- the one whose UID it stands for
+abbrev pub NamesInstance : List ℕ → Option (List ℕ) → Type 0
+NamesInstance word instance =
+    ((word ≡ codes "global") × (instance ≡ Some (text_of GlobalSubscription)))
+    ⊎ (((word ≡ codes "filtered") × (instance ≡ Some (text_of FilteredGlobalSubscription)))
+    ⊎ ((word ≢ codes "global") × (word ≢ codes "filtered") × StandsForInstance word instance))
+
+-- the first of some words does, and the rest stands behind it
+abbrev pub Names : List (List ℕ) → Option (List ℕ) → List (List ℕ) → Type 0
+Names words instance rest = (word : List ℕ) × (words ≡ word ∷ rest) × NamesInstance word instance
+
+-- the only word is a number in decimal digits
+abbrev pub IsCount : List (List ℕ) → ℕ → Type 0
+IsCount words count = (word : List ℕ) × (words ≡ word ∷ []) × IsNumeral 10 word × (count ≡ digits_value 10 word)
+
+-- a question is a message that asks for such an operation
+abbrev pub IsMessage : {A : Type 0} → (Operation A → Type 0) → Question A → Type 0
+IsMessage Is (questions.Message operation data_set) = Is operation
+IsMessage Is question = ⊥
+
+-- N-CREATE, N-GET and N-SET of the instance that the first word names (PS3.7 sections 10.3.5, 10.3.2 and 10.3.3)
+abbrev pub IsCreate : {A : Type 0} → List (List ℕ) → Operation A → Type 0
+IsCreate words (operations.Create instance) = (rest : List (List ℕ)) × Names words instance rest
+IsCreate words operation = ⊥
+
+abbrev pub IsGet : {A : Type 0} → List (List ℕ) → Operation A → Type 0
+IsGet words (operations.Get instance attributes) = (rest : List (List ℕ)) × Names words instance rest
+IsGet words operation = ⊥
+
+abbrev pub IsSet : {A : Type 0} → List (List ℕ) → Operation A → Type 0
+IsSet words (operations.Set instance) = (rest : List (List ℕ)) × Names words instance rest
+IsSet words operation = ⊥
+
+-- N-ACTION of this type on the instance that the first word names (PS3.7 section 10.3.4)
+abbrev pub IsAction : {A : Type 0} → ℕ → List (List ℕ) → Operation A → Type 0
+IsAction kind words (operations.Action instance action) = ((rest : List (List ℕ)) × Names words instance rest) × (action ≡ kind)
+IsAction kind words operation = ⊥
+
+-- C-FIND, which has no instance, without a priority (PS3.7 section 9.3.2)
+abbrev pub IsFind : {A : Type 0} → Operation A → Type 0
+IsFind (operations.Find priority) = priority ≡ None
+IsFind operation = ⊥
+
+-- What a verb asks with the words behind it: what only the service can be asked, as it is; and else the operation of a
+-- message, with its instance, and the type of an N-ACTION (PS3.4 table CC.2.1-1 and CC.2.2 to CC.2.8).
+abbrev pub IsOf : {A : Type 0} → Verb → List (List ℕ) → Question A → Type 0
+IsOf Create words question = IsMessage (IsCreate words) question
+IsOf Get words question = IsMessage (IsGet words) question
+IsOf Set words question = IsMessage (IsSet words) question × (2 ≤ length words)
+IsOf Change words question = IsMessage (IsAction 1 words) question × (length words ≡ 3)
+IsOf Cancel words question = IsMessage (IsAction 2 words) question
+IsOf Subscribe words question = IsMessage (IsAction 3 words) question × (3 ≤ length words)
+IsOf Unsubscribe words question = IsMessage (IsAction 4 words) question × (length words ≡ 2)
+IsOf Suspend words question = IsMessage (IsAction 5 words) question × (length words ≡ 2)
+IsOf Find words question = IsMessage IsFind question
+IsOf Pending words (questions.Pending max) = IsCount words max
+IsOf Ack words (questions.Acknowledge upto) = IsCount words upto
+IsOf Watches words questions.Watches = words ≡ []
+IsOf Sweep words questions.Sweep = words ≡ []
+IsOf Held words questions.Held = words ≡ []
+IsOf Holder words (questions.Holder instance) = Names words instance []
+IsOf verb words question = ⊥
+
+-- the words of a line ask this at a moment, by an application entity
+abbrev pub AsksAt : {A : Type 0} → List (List ℕ) → ℕ → List ℕ → Question A → Type 0
+AsksAt words moment ae question = (verb : Verb) × (arguments : List (List ℕ)) × IsHeading words moment ae verb arguments × IsOf verb arguments question
 
 -- a word is no moment: no number in decimal digits, or one behind the last moment
 abbrev pub NoMoment : List ℕ → Type 0
@@ -73,13 +148,15 @@ abbrev pub FailsHeading : List (List ℕ) → LineReason → Type 0
 FailsHeading words reason =
     NoWord words reason ⊎ ((word : List ℕ) × (rest : List (List ℕ)) × (words ≡ word ∷ rest) × (((reason ≡ reasons.Moment) × NoMoment word) ⊎ FailsTitle rest reason))
 
--- the words behind a verb are not such as it takes: said of the verbs that take none, and of those that take a number
+-- the words behind a verb are not such as it takes: said of the verbs that take none, a number, or the UID of an instance
+-- alone
 abbrev pub FailsArguments : Verb → List (List ℕ) → Type 0
 FailsArguments Watches arguments = arguments ≢ []
 FailsArguments Sweep arguments = arguments ≢ []
 FailsArguments Held arguments = arguments ≢ []
 FailsArguments Pending arguments = (word : List ℕ) → arguments ≡ word ∷ [] → IsNumeral 10 word → digits_value 10 word < 2 ^ 64 → ⊥
 FailsArguments Ack arguments = (word : List ℕ) → arguments ≡ word ∷ [] → IsNumeral 10 word → digits_value 10 word < 2 ^ 64 → ⊥
+FailsArguments Holder arguments = (word : List ℕ) → arguments ≡ word ∷ [] → word ≢ [] → IsText word → ⊥
 FailsArguments verb arguments = Unit {0}
 
 -- words begin a line, and what stands behind its verb fails

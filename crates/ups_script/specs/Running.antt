@@ -33,9 +33,9 @@ IsReading Read = Unit {0}
 IsReading Memory = Unit {0}
 IsReading fault = ⊥
 
--- a line asks something, at its moment and by its application entity, and its question is told something by a history
+-- a line asks what its words say, at their moment and by their application entity, and is told something by a history
 abbrev pub AnswersLine : {A : Type 0} → Settings → List (Entry A) → List ℕ → Told A → List (Entry A) → Type 0
-AnswersLine {A} settings history line told after = (asked : Asked A) × AsksAt (words_of line) asked.moment asked.ae × TellsAsked settings history asked told after
+AnswersLine {A} settings history line told after = (asked : Asked A) × AsksAt (words_of line) asked.moment asked.ae asked.question × TellsAsked settings history asked told after
 
 -- the same of lines, one after the other
 abbrev pub AnswersAll : {A : Type 0} → Settings → List (Entry A) → List (List ℕ) → List (Told A) → List (Entry A) → Type 0

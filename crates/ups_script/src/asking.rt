@@ -1,11 +1,12 @@
 //! What a line asks.
 
-ghost use Rattle.std.specs.Prelude.{◌≡◌, ◌<◌, ◌^◌, ◌∷◌, [], ℕ, List, IfOk, IfErr, OnErr};
+ghost use Rattle.std.specs.Prelude.{◌≡◌, ◌≢◌, ◌<◌, ◌+◌, ◌^◌, ◌∷◌, [], ℕ, List, length, IfOk, IfErr, OnOk, OnErr};
 ghost use Rattle.std.specs.Option.{option_copied};
 ghost use Rattle.std.specs.Str.Parse.{IsNumeral, digits_value};
 ghost use Rattle.ups_life.specs.Settings.{IsMoment};
+ghost use Rattle.ups_lines.specs.Escapes.{IsText};
 ghost use Rattle.ups_lines.specs.Words.{words_of, words_left};
-ghost use Rattle.ups_script.specs.Questions.{AsksAt, FailsArguments, IsBad, OnBad};
+ghost use Rattle.ups_script.specs.Questions.{AsksAt, FailsArguments, IsAction, IsBad, IsCount, IsMessage, IsOf, Names, NamesInstance, OnBad};
 
 use crate::limits::MAX_LINE;
 use crate::line::{Heading, Verb};
@@ -58,28 +59,44 @@ pub(crate) struct Asked<A: Allocator + Copy> {
     ghost in_range: { IsMoment moment },
 }
 
+/// The instance that a word names; None where it is no UID.
+///
+/// Errors: Escape; lack of memory.
+fn instance_by<A: Allocator + Copy>(alloc: A, word: &[u8]) -> Result<Option<Uid>, LineFault>
+    ensures named { IfOk result (NamesInstance word.now) }
+    ensures fault { IfErr result (λ fault. OnBad fault (λ _. IsText word.now → ⊥)) }
+{
+    if word == b"global".as_slice() {
+        return Ok(Some(RegisteredUid::GlobalSubscription.uid()));
+    }
+    if word == b"filtered".as_slice() {
+        return Ok(Some(RegisteredUid::FilteredGlobalSubscription.uid()));
+    }
+    let text = Text::of(word).ok_or(LineReason::Escape)?;
+    Ok(Uid::of(text.bytes(alloc)?.as_slice()))
+}
+
 /// The instance that the next word names; None where it is no UID.
 ///
 /// Errors: MissingWord or EmptyWord; Escape; lack of memory.
 fn instance_of<A: Allocator + Copy>(
     alloc: A,
     words: &mut Words<'_>,
-) -> Result<Option<Uid>, LineFault> {
+) -> Result<Option<Uid>, LineFault>
+    ensures named { IfOk result (λ instance. Names (words_left (option_copied words.old.rest)) instance (words_left (option_copied words.new.rest))) }
+    ensures taken { OnOk result (length (words_left (option_copied words.old.rest)) ≡ length (words_left (option_copied words.new.rest)) + 1) }
+    ensures fault { IfErr result (λ fault. OnBad fault (λ _. (word : List ℕ) → (rest : List (List ℕ)) → words_left (option_copied words.old.rest) ≡ word ∷ rest → word ≢ [] → IsText word → ⊥)) }
+{
     let word = words.word()?;
-    match word {
-        b"global" => Ok(Some(RegisteredUid::GlobalSubscription.uid())),
-        b"filtered" => Ok(Some(RegisteredUid::FilteredGlobalSubscription.uid())),
-        _ => {
-            let text = Text::of(word).ok_or(LineReason::Escape)?;
-            Ok(Uid::of(text.bytes(alloc)?.as_slice()))
-        }
-    }
+    instance_by(alloc, word)
 }
 
 /// The attribute of a tag that the next word is the value of.
 ///
 /// Errors: MissingWord or EmptyWord; Escape.
-fn argument_of<'a>(tag: &'static [u8], words: &mut Words<'a>) -> Result<Attribute<'a>, LineReason> {
+fn argument_of<'a>(tag: &'static [u8], words: &mut Words<'a>) -> Result<Attribute<'a>, LineReason>
+    ensures taken { OnOk result (length (words_left (option_copied words.old.rest)) ≡ length (words_left (option_copied words.new.rest)) + 1) }
+{
     let word = words.word()?;
     Attribute::new(tag, word)
 }
@@ -87,7 +104,9 @@ fn argument_of<'a>(tag: &'static [u8], words: &mut Words<'a>) -> Result<Attribut
 /// The Transaction UID that the next word is; None where it is `-`.
 ///
 /// Errors: MissingWord or EmptyWord; Escape.
-fn transaction_of<'a>(words: &mut Words<'a>) -> Result<Option<Attribute<'a>>, LineReason> {
+fn transaction_of<'a>(words: &mut Words<'a>) -> Result<Option<Attribute<'a>>, LineReason>
+    ensures taken { OnOk result (length (words_left (option_copied words.old.rest)) ≡ length (words_left (option_copied words.new.rest)) + 1) }
+{
     let word = words.word()?;
     if word == b"-".as_slice() {
         return Ok(None);
@@ -114,14 +133,26 @@ fn message<'a, A: Allocator + Copy>(
     operation: Operation<A>,
     arguments: &[Option<Attribute<'a>>],
     words: Words<'a>,
-) -> Result<Question<A>, LineFault> {
+) -> Result<Question<A>, LineFault>
+    ensures { IfOk result (IsMessage (λ asked. asked ≡ operation)) }
+{
     let attributes = attributes_of(alloc, arguments, words)?;
     let data_set = spelled(alloc, &attributes)?;
     Ok(Question::Message(operation, data_set))
 }
 
+/// What `create UID attr..` asks.
+fn creating<A: Allocator + Copy>(alloc: A, mut words: Words<'_>) -> Result<Question<A>, LineFault>
+    ensures { IfOk result (IsOf Verb.Create (words_left (option_copied words.entry.rest))) }
+{
+    let instance = instance_of(alloc, &mut words)?;
+    message(alloc, Operation::Create { instance }, &[], words)
+}
+
 /// What `get UID tag..` asks.
-fn getting<A: Allocator + Copy>(alloc: A, mut words: Words<'_>) -> Result<Question<A>, LineFault> {
+fn getting<A: Allocator + Copy>(alloc: A, mut words: Words<'_>) -> Result<Question<A>, LineFault>
+    ensures { IfOk result (IsOf Verb.Get (words_left (option_copied words.entry.rest))) }
+{
     let operation = Operation::Get {
         instance: instance_of(alloc, &mut words)?,
         attributes: tags_of(alloc, words)?,
@@ -130,14 +161,18 @@ fn getting<A: Allocator + Copy>(alloc: A, mut words: Words<'_>) -> Result<Questi
 }
 
 /// What `set UID TX attr..` asks.
-fn setting<A: Allocator + Copy>(alloc: A, mut words: Words<'_>) -> Result<Question<A>, LineFault> {
+fn setting<A: Allocator + Copy>(alloc: A, mut words: Words<'_>) -> Result<Question<A>, LineFault>
+    ensures { IfOk result (IsOf Verb.Set (words_left (option_copied words.entry.rest))) }
+{
     let instance = instance_of(alloc, &mut words)?;
     let arguments = [transaction_of(&mut words)?];
     message(alloc, Operation::Set { instance }, &arguments, words)
 }
 
 /// What `change UID STATE TX` asks.
-fn changing<A: Allocator + Copy>(alloc: A, mut words: Words<'_>) -> Result<Question<A>, LineFault> {
+fn changing<A: Allocator + Copy>(alloc: A, mut words: Words<'_>) -> Result<Question<A>, LineFault>
+    ensures { IfOk result (IsOf Verb.Change (words_left (option_copied words.entry.rest))) }
+{
     let operation = Operation::Action {
         instance: instance_of(alloc, &mut words)?,
         action: CHANGE_STATE,
@@ -148,11 +183,24 @@ fn changing<A: Allocator + Copy>(alloc: A, mut words: Words<'_>) -> Result<Quest
     message(alloc, operation, &arguments, words)
 }
 
+/// What `cancel UID attr..` asks.
+fn canceling<A: Allocator + Copy>(alloc: A, mut words: Words<'_>) -> Result<Question<A>, LineFault>
+    ensures { IfOk result (IsOf Verb.Cancel (words_left (option_copied words.entry.rest))) }
+{
+    let operation = Operation::Action {
+        instance: instance_of(alloc, &mut words)?,
+        action: REQUEST_CANCEL,
+    };
+    message(alloc, operation, &[], words)
+}
+
 /// What `subscribe UID RECEIVER LOCK attr..` asks.
 fn subscribing<A: Allocator + Copy>(
     alloc: A,
     mut words: Words<'_>,
-) -> Result<Question<A>, LineFault> {
+) -> Result<Question<A>, LineFault>
+    ensures { IfOk result (IsOf Verb.Subscribe (words_left (option_copied words.entry.rest))) }
+{
     let operation = Operation::Action {
         instance: instance_of(alloc, &mut words)?,
         action: SUBSCRIBE,
@@ -167,7 +215,10 @@ fn ending<A: Allocator + Copy>(
     alloc: A,
     action: u16,
     mut words: Words<'_>,
-) -> Result<Question<A>, LineFault> {
+) -> Result<Question<A>, LineFault>
+    ensures action { IfOk result (IsMessage (IsAction action (words_left (option_copied words.entry.rest)))) }
+    ensures two { OnOk result (length (words_left (option_copied words.entry.rest)) ≡ 2) }
+{
     let operation = Operation::Action {
         instance: instance_of(alloc, &mut words)?,
         action,
@@ -177,11 +228,22 @@ fn ending<A: Allocator + Copy>(
     message(alloc, operation, &arguments, words)
 }
 
+/// What `holder UID` asks.
+fn holding<A: Allocator + Copy>(alloc: A, mut words: Words<'_>) -> Result<Question<A>, LineFault>
+    ensures asks { IfOk result (IsOf Verb.Holder (words_left (option_copied words.entry.rest))) }
+    ensures bad { IfErr result (λ fault. OnBad fault (λ _. FailsArguments Verb.Holder (words_left (option_copied words.entry.rest)))) }
+{
+    let instance = instance_of(alloc, &mut words)?;
+    words.end()?;
+    Ok(Question::Holder(instance))
+}
+
 /// The number that the last word is.
 ///
 /// Errors: MissingWord or EmptyWord; Number; ExtraWord.
 fn last_number(mut words: Words<'_>) -> Result<u64, LineReason>
-    ensures { OnErr result ((word : List ℕ) → words_left (option_copied words.entry.rest) ≡ word ∷ [] → IsNumeral 10 word → digits_value 10 word < 2 ^ 64 → ⊥) }
+    ensures number { IfOk result (IsCount (words_left (option_copied words.entry.rest))) }
+    ensures bad { OnErr result ((word : List ℕ) → words_left (option_copied words.entry.rest) ≡ word ∷ [] → IsNumeral 10 word → digits_value 10 word < 2 ^ 64 → ⊥) }
 {
     let number = number_of(words.word()?).ok_or(LineReason::Number)?;
     words.end()?;
@@ -194,23 +256,17 @@ fn last_number(mut words: Words<'_>) -> Result<u64, LineReason>
 fn question_of<A: Allocator + Copy>(
     alloc: A,
     verb: Verb,
-    mut words: Words<'_>,
+    words: Words<'_>,
 ) -> Result<Question<A>, LineFault>
-    ensures { IfErr result (λ fault. OnBad fault (λ _. FailsArguments verb (words_left (option_copied words.entry.rest)))) }
+    ensures asks { IfOk result (IsOf verb (words_left (option_copied words.entry.rest))) }
+    ensures bad { IfErr result (λ fault. OnBad fault (λ _. FailsArguments verb (words_left (option_copied words.entry.rest)))) }
 {
     match verb {
-        Verb::Create => {
-            let instance = instance_of(alloc, &mut words)?;
-            message(alloc, Operation::Create { instance }, &[], words)
-        }
+        Verb::Create => creating(alloc, words),
         Verb::Get => getting(alloc, words),
         Verb::Set => setting(alloc, words),
         Verb::Change => changing(alloc, words),
-        Verb::Cancel => {
-            let instance = instance_of(alloc, &mut words)?;
-            let action = REQUEST_CANCEL;
-            message(alloc, Operation::Action { instance, action }, &[], words)
-        }
+        Verb::Cancel => canceling(alloc, words),
         Verb::Subscribe => subscribing(alloc, words),
         Verb::Unsubscribe => ending(alloc, UNSUBSCRIBE, words),
         Verb::Suspend => ending(alloc, SUSPEND, words),
@@ -229,11 +285,7 @@ fn question_of<A: Allocator + Copy>(
             words.end()?;
             Ok(Question::Held)
         }
-        Verb::Holder => {
-            let instance = instance_of(alloc, &mut words)?;
-            words.end()?;
-            Ok(Question::Holder(instance))
-        }
+        Verb::Holder => holding(alloc, words),
     }
 }
 
@@ -241,7 +293,7 @@ fn question_of<A: Allocator + Copy>(
 ///
 /// Errors: the first of the reasons for which the bytes are no line; lack of memory.
 pub(crate) fn asked_by<A: Allocator + Copy>(alloc: A, bytes: &[u8]) -> Result<Asked<A>, LineFault>
-    ensures asks { IfOk result (λ asked. AsksAt (words_of bytes.now) asked.moment asked.ae) }
+    ensures asks { IfOk result (λ asked. AsksAt (words_of bytes.now) asked.moment asked.ae asked.question) }
     ensures bad { IfErr result (λ fault. OnBad fault (IsBad bytes.now)) }
 {
     if bytes.len() > MAX_LINE {

@@ -56,7 +56,7 @@ fn put_answer<A: Allocator + Copy, W: Write>(
 
 /// What a line asks, of which nothing is kept.
 fn asked_of<A: Allocator + Copy>(alloc: A, line: Vec<u8, A>) -> Result<Asked<A>, LineFault>
-    ensures asks { IfOk result (λ asked. AsksAt (words_of line.items) asked.moment asked.ae) }
+    ensures asks { IfOk result (λ asked. AsksAt (words_of line.items) asked.moment asked.ae asked.question) }
     ensures bad { IfErr result (λ fault. OnBad fault (IsBad line.items)) }
 {
     asked_by(alloc, &line)
