@@ -1,6 +1,7 @@
 """Courses: parts that one service takes, one after the other, and what is due where one growth of its memory is refused.
 
-A part is an association that a peer asks for (`serve`), one that this side asks the watcher W1 for (`deliver`), or a script.
+A part is an association that a peer asks for (`serve`), one whose input ends without a release (`cut`), one that this side asks
+the watcher W1 for (`deliver`), or a script.
 Its rows are what is asked and what is answered, one after the other. The program `refusals` runs a course.
 """
 
@@ -11,7 +12,7 @@ import re
 import runs
 import spelling
 
-ENDS = {"serve": "Released", "deliver": "Released", "script": "Done"}
+ENDS = {"serve": "Released", "cut": "Closed", "deliver": "Released", "script": "Done"}
 # the verbs of a script whose requests are entered in the history, and those that are answered a status of lacking memory
 ENTERED = ("create", "set", "change", "cancel", "subscribe", "unsubscribe", "suspend", "ack")
 TOLD = {"find": "A700", **dict.fromkeys(("get", "pending", "sweep", *ENTERED), "0213")}
@@ -54,7 +55,8 @@ class Part:
 
     def words(self):
         """The word that asks for it."""
-        return f"{self.kind}:{self.asked().hex()}"
+        kind = "serve" if self.kind == "cut" else self.kind
+        return f"{kind}:{self.asked().hex()}"
 
     def entries_before(self, place):
         """How many requests the history has before a row."""
@@ -66,7 +68,7 @@ class Part:
             return Part(self.kind, self.entries_before(place), self.rows[place:])
         if place == 0:
             return copy.copy(self)
-        if self.kind == "serve":
+        if self.kind in ("serve", "cut"):
             first = copy.copy(self.rows[0])
             first.entries = self.entries_before(place)
             return Part(self.kind, first.entries, [first, *self.rows[place:]])

@@ -5,9 +5,11 @@
 
 Standard error, with --verbose, so that each request has a line. 20 associations with a C-ECHO each have to be served:
 
-    a full pipe         that nobody reads. When it is read again, a line tells how many were lost, and the log goes on
-    a pipe that fills   of 8,192 bytes that nobody reads, while 100 associations are served
-    a full socket       that nobody reads; the same
+    a full pipe         that nobody reads. When it is read again, its lines are there, and the log goes on
+    a pipe that fills   of 8,192 bytes that nobody reads, while 700 associations are served: then also a line tells how many
+                        lines were lost, since 1,024 wait at most
+    a full socket       that nobody reads; as a full pipe
+    a terminal          in its usual mode, that nobody reads; as a pipe that fills
     a broken pipe       whose reader is gone
     /dev/full           each write fails
     closed              as by `2>&-`
@@ -30,6 +32,7 @@ import argparse
 import contextlib
 import fcntl
 import os
+import pty
 import re
 import resource
 import select
@@ -51,7 +54,7 @@ from serve import processor
 from stock import HERE, Tally, free_port, holds, listens
 
 LIMIT = 10  # seconds for an answer, and the limits of the servers
-COUNT, MANY = 20, 100
+COUNT, MANY = 20, 700  # so many associations: each has three lines
 ROOM = 8192  # bytes of a pipe: two pages, as one that has a page alone takes a line only where each before it was read
 AT_ONCE = 1  # second in which a signal ends the program
 ROUNDS, LOAD = 5, 8
@@ -133,7 +136,7 @@ def unread_trial(program: list[str], tally: Tally, name: str, ends: tuple[int, i
         os.close(writer)
         tally.tell(f"standard error, {name}", not_served(server, count))
         told = Reading(reader)
-        tally.tell(f"standard error, {name}, when it is read again", told.goes_on(server))
+        tally.tell(f"standard error, {name}, when it is read again", told.goes_on(server, count >= MANY))
     os.close(reader)
 
 
@@ -150,18 +153,17 @@ class Reading:
                 self.text += more.decode()
         return self.text
 
-    def goes_on(self, server: Launched) -> Optional[str]:
-        """Why the lines of another association don't come behind one that tells how many were lost, or None."""
-        self.more()
-        time.sleep(0.5)  # so that what waited for room has come too
+    def goes_on(self, server: Launched, is_lossy: bool) -> Optional[str]:
+        """Why the lines of another association don't come, or no line tells how many were lost where some were, or None."""
+        holds(lambda: len(self.text) == len(self.more()), LIMIT)
+        time.sleep(0.5)  # so that what waited has come too
         before = len(self.more())
         if fault := not_served(server, 1):
             return fault
         is_told = holds(lambda: " serve: Released #" in self.more()[before:], LIMIT)
-        lost = LOST.search(self.text)
-        if is_told and lost:
+        if is_told and bool(LOST.search(self.text)) == is_lossy:
             return None
-        return f"it is told {self.text[before:][-400:]!r}" + ("" if lost else ", and no line tells how many lines were lost")
+        return f"it is told {self.text[before:][-400:]!r}, and that lines were lost: {LOST.findall(self.text)}"
 
 
 def failing_trial(program: list[str], tally: Tally, name: str, error: object, prepare: Optional[Callable[[], None]] = None) -> None:
@@ -183,6 +185,7 @@ def standard_error_trials(program: list[str], tally: Tally) -> None:
     unread_trial(program, tally, "a full pipe", small_pipe(), True, COUNT)
     unread_trial(program, tally, "a pipe that fills", small_pipe(), False, MANY)
     unread_trial(program, tally, "a full socket", socket_pair(), True, COUNT)
+    unread_trial(program, tally, "a terminal", pty.openpty(), False, MANY)
     reader, writer = os.pipe()
     os.close(reader)
     failing_trial(program, tally, "a broken pipe", writer)

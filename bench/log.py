@@ -9,7 +9,7 @@ The lines of an association have its number, its calling title and its address, 
     serve: Released #17 PERFORM1 192.0.2.7:51234, 12 requests, 3.1 s
 
 which is the last of them. With --verbose there is a line for each request before it, which names the operation, the step and
-the status; without, there is no other line. The script finds the lines of each association by the number, and compares the
+the status; without, there is one for each request that is refused, and no other. The script finds the lines of each association by the number, and compares the
 title, the address, the number of requests, the seconds, and the requests with their statuses and their order.
 
 It starts servers on free ports of this machine, with and without --verbose, and ends by itself. It prints a line for each
@@ -129,11 +129,11 @@ def compare_end(caller: Caller, line: str) -> None:
         raise ValueError(f"the last line has {end[2]} s, and it took {caller.seconds:.1f} s")
 
 
-def compare_requests(caller: Caller, lines: list[str]) -> None:
+def compare_requests(requests: list[Request], lines: list[str]) -> None:
     """Compares the lines of requests with those that were made."""
-    if len(lines) != len(caller.requests):
-        raise ValueError(f"{len(lines)} lines name an operation, and {len(caller.requests)} requests were made")
-    for place, (line, request) in enumerate(zip(lines, caller.requests), 1):
+    if len(lines) != len(requests):
+        raise ValueError(f"{len(lines)} lines name an operation, and {len(requests)} requests are to have one")
+    for place, (line, request) in enumerate(zip(lines, requests), 1):
         missing = set(request.words) - set(re.findall(r"[\w.-]+", line))
         if missing:
             raise ValueError(f"the line of request {place} lacks {sorted(missing)}: {line!r}")
@@ -149,10 +149,10 @@ def fault_of(caller: Caller, found: dict[int, list[str]], verbose: bool) -> Opti
             if f"#{number} {caller.title} {caller.address}" not in line:
                 raise ValueError(f"a line of number {number} is {line!r}, and the peer is {caller.title} at {caller.address}")
         compare_end(caller, lines[-1])
-        if verbose:
-            compare_requests(caller, [line for line in lines[:-1] if OPERATION.search(line)])
-        elif len(lines) > 1:
-            raise ValueError(f"there are {len(lines)} lines without --verbose")
+        told = [it for it in caller.requests if verbose or it.status]
+        compare_requests(told, [line for line in lines[:-1] if OPERATION.search(line)])
+        if not verbose and len(lines) > len(told) + 1:
+            raise ValueError(f"there are {len(lines)} lines without --verbose, and {len(told)} requests were refused")
         return None
     except ValueError as fault:
         return str(fault)

@@ -18,6 +18,7 @@ import argparse
 import contextlib
 import os
 import random
+import re
 import socket
 import struct
 import sys
@@ -174,7 +175,7 @@ def is_idle(log, count):
     end = time.monotonic() + runs.SECONDS
     while time.monotonic() < end:
         log.seek(0)
-        if log.read().count(b" serve: ") >= count:
+        if len(re.findall(rb" serve: \w+ #.* requests, ", log.read())) >= count:
             return True
         time.sleep(0.02)
     return False

@@ -40,8 +40,9 @@ which are given to the program `readings`; what they are told to be, with bytes 
 `..` before it a part of that; and the bytes that are written for them: `=` stands for those that are given, `..` for any, and
 without this column there are none. Behind its first words the kind may say where the bytes `end`.
 
-A section of `courses` is what one service takes, in parts: associations that a peer asks for, behind a row `serve`; those
-that this side asks W1 for, behind `deliver`; and scripts, behind `script`, whose rows are as above. A row of an association
+A section of `courses` is what one service takes, in parts: associations that a peer asks for, behind a row `serve`, or behind
+`cut` where its input ends without a release; those that this side asks W1 for, behind `deliver`; and scripts, behind `script`,
+whose rows are as above. A row of an association
 is `ASKED | ANSWERED | LACKING | ENTRIES`: what is asked, what is answered, what is answered where memory lacks, if that is
 ever told, and how many requests the history has then. In a delivery ID is the message ID of a report, which counts them.
 

@@ -17,6 +17,7 @@ import time
 from subprocess import TimeoutExpired
 
 SECONDS = 30  # for one run
+ACTIONS = "Change", "Cancel", "Subscribe", "Unsubscribe", "Suspend"  # how a line names an N-ACTION that was refused
 LIMIT = struct.pack("ll", SECONDS, 0)
 PAUSE = 0.0001
 
@@ -232,8 +233,9 @@ def exchange(connection, given, lasts=False):
 
 
 def end_in(log, who):
-    """How the first association of this kind ended that a log tells of."""
+    """How the first association of this kind ended that a log tells of. The lines of requests that were refused are none."""
     for line in log:
-        if found := re.search(rf"{who}: (\w+)( #.*)?$", line.decode()):
+        found = re.search(rf"{who}: (\w+)( #.*|, .*)?$", line.decode())
+        if found and found[1] not in ACTIONS:
             return found[1]
     return "nothing"

@@ -1,7 +1,8 @@
 #!/usr/bin/env python3
-"""Has eight workstations share the steps of one server, and sees what a server does by itself.
+"""Has eight workstations share the steps of one server, and sees what a server does by itself, and what one leaves that ends.
 
-    bench/sharing.py [PROGRAM] [--steps 100] [--seed 1]      (default: crates/upsd/out/upsd)
+    bench/sharing.py [PROGRAM] [--passes PASSES] [--steps 100] [--seed 1]
+                                     (default: crates/upsd/out/upsd, and crates/passes/out/passes)
 
 Each of eight workstations creates each step, claims it, sets what it has performed, finds it, finishes it and shows it: some
 5,600 requests. A request has to be answered with a status that is due where the others may have been first, as docs/profile.md
@@ -14,6 +15,12 @@ step is canceled and no longer kept, it has to be gone.
 
 Where an association has the only worker and three connections wait, the log has to tell how many.
 
+The program `passes` runs a server that ends: with one worker for two associations, and with two workers for one each. In the
+first association W1 is subscribed to all steps and a step is created, of which W1 hears; in the second one the subscription
+ends and the step is canceled, and it is no longer kept. What the history then has in order, once the desk is closed, has to
+be the requests of these associations by the passes of the workers, the acknowledgement by that of the deliverer, and the
+sweep by that of the sweeper.
+
 A line tells each of these, and then comes `N passed, M failed`. The status is 1 where one failed.
 """
 
@@ -21,9 +28,11 @@ from __future__ import annotations
 
 import argparse
 import collections
+import concurrent.futures
 import os
 import random
 import socket
+import subprocess
 import threading
 import time
 from typing import Optional
@@ -196,12 +205,12 @@ def tried_sharing(program: str, steps: int, chance: random.Random) -> tuple[str,
 
 
 class Alone:
-    """A server of one worker, to which W1 is a watcher that does not listen yet; and three peers that say nothing."""
+    """A server of one worker, to which W1 is a watcher that does not listen yet; and some peers that say nothing."""
 
-    def __init__(self, port: int, watcher: socket.socket) -> None:
+    def __init__(self, port: int, watcher: socket.socket, silent: int) -> None:
         self.port, self.watcher = port, watcher
         self.names = spelling.stored() | rows.names_in(f"{HERE}/rows/courses.rows") | rows.names_in(f"{HERE}/rows/deliveries.rows")
-        self.silent = [runs.connected(port) for _ in range(3)]
+        self.silent = [runs.connected(port) for _ in range(silent)]
 
     def spelled(self, words: str) -> bytes:
         return spelling.bytes_of(self.names, words)
@@ -244,7 +253,7 @@ def try_alone(program: str, results: Results) -> None:
         watcher.bind(("127.0.0.1", 0))
         words = ["--associations", "1", "--keep", "1", f"W1=127.0.0.1:{watcher.getsockname()[1]}"]
         with runs.logging(program, words) as (_, port):
-            server = Alone(port, watcher)
+            server = Alone(port, watcher, 3)
             results.tell("a peer behind three that say nothing is answered", server.subscribes())
             results.tell("a watcher that listens late hears one report", server.reports())
             results.tell("a canceled step is removed once it is no longer kept", server.sweeps())
@@ -264,10 +273,71 @@ def tried_queue(program: str) -> Optional[str]:
     return None if wanted in told else f"the log has {told!r}"
 
 
+class Ending:
+    """A server that ends, whose port is told, and W1, which listens."""
+
+    ROUNDS = 8  # of the sweeper and of the deliverer, one a second
+
+    def __init__(self, port: int, watcher: socket.socket) -> None:
+        self.alone = Alone(port, watcher, 0)
+
+    def serves(self) -> Optional[str]:
+        """Has two associations, and W1 hear of the first."""
+        fault = self.alone.subscribes() or self.alone.reports()
+        if fault:
+            return fault
+        asked = "PUSH_AND_WATCH GLOBAL_ACTION 0400 WATCHER ACTION_ON_1 0200 NOTHING_ON_1 RELEASE"
+        due = "TWO_ACCEPTED GLOBAL_ACTED 0000 GLOBAL_ACTED_ON 0400 ACTED_ON_1 0000 ACTED_ON 0200 RELEASED"
+        return None if self.alone.answered(asked, due) else "the second association is answered something else"
+
+
+def history_of(first: int, second: int, deliverer: int) -> list[str]:
+    """What a server leaves by the number of the pass that has the first association, of the one that has the second, and of
+    the deliverer."""
+    return [
+        f"{first} SCHED1 subscribe",
+        f"{first} SCHED1 create",
+        f"{deliverer} W1 ack 1",
+        f"{second} SCHED1 unsubscribe",
+        f"{second} SCHED1 ask to cancel",
+        f"{deliverer + 1} UPSD sweep",
+    ]
+
+
+def tried_ending(passes: str, workers: int, associations: int) -> Optional[str]:
+    """What a server leaves that has so many workers, each of which has so many associations."""
+    with socket.socket() as watcher:
+        watcher.bind(("127.0.0.1", 0))
+        watcher.listen()
+        words = [passes, str(associations), str(Ending.ROUNDS), "serve", "--ae", "UPSD", "--port", "0", "--keep", "0"]
+        words += ["--associations", str(workers), f"W1=127.0.0.1:{watcher.getsockname()[1]}"]
+        with subprocess.Popen(words, stdout=subprocess.PIPE, stderr=subprocess.DEVNULL, text=True) as server:
+            guard = threading.Timer(runs.SECONDS, server.kill)
+            guard.start()
+            assert server.stdout
+            fault = Ending(int(server.stdout.readline()), watcher).serves()
+            told = server.stdout.read().splitlines()
+            guard.cancel()
+    orders = [(1, 1)] if workers == 1 else [(1, 2), (2, 1)]
+    if fault or told in [history_of(*order, workers + 1) for order in orders] and server.returncode == 0:
+        return fault
+    return f"it ends with {server.returncode}, and the history has {told}"
+
+
+def try_endings(passes: str, results: Results) -> None:
+    """Tells what servers leave that end, which run at the same time."""
+    with concurrent.futures.ThreadPoolExecutor() as pool:
+        one = pool.submit(tried_ending, passes, 1, 2)
+        two = pool.submit(tried_ending, passes, 2, 1)
+        results.tell("a server that ends leaves what its worker, its deliverer and its sweeper asked", one.result())
+        results.tell("a server that ends leaves what its two workers, its deliverer and its sweeper asked", two.result())
+
+
 def main() -> None:
     about, _, more = (__doc__ or "").partition("\n\n")
     asked = argparse.ArgumentParser(description=about, epilog=more, formatter_class=argparse.RawDescriptionHelpFormatter)
     asked.add_argument("program", nargs="?", default="crates/upsd/out/upsd", help="the program (default: %(default)s)")
+    asked.add_argument("--passes", default="crates/passes/out/passes", help="that of servers that end (default: %(default)s)")
     asked.add_argument("--steps", type=int, default=100, help="how many steps there are (default: %(default)s)")
     asked.add_argument("--seed", type=int, default=1, help="when the workstations pause (default: %(default)s)")
     given = asked.parse_args()
@@ -275,6 +345,7 @@ def main() -> None:
     results.tell(*tried_sharing(program, given.steps, random.Random(given.seed)))
     try_alone(program, results)
     results.tell("the log tells how many connections wait for the only worker", tried_queue(program))
+    try_endings(os.path.abspath(given.passes), results)
     results.end()
 
 

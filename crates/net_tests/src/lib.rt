@@ -1,6 +1,6 @@
 //! Tests of desks and of sessions that share one, of a connection that can't be sent to, and of how many connections wait.
-//! What a server does on sockets, and that its threads share a manager, is seen from outside, by `bench/sharing.py` and
-//! others.
+//! What a server does on sockets, and what threads that share a manager leave, is seen from outside: by `bench/sharing.py`
+//! and others, and by the program `passes`.
 #![tactic(auto)]
 
 #[cfg(test)]

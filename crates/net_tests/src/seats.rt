@@ -15,12 +15,12 @@ use ups_turn::{CloseFault, Desk, OpenFault, Pass};
 const NOON: u64 = 1_709_208_000;
 
 /// The step.
-fn step() -> Result<StepUid, Fail> {
+pub(crate) fn step() -> Result<StepUid, Fail> {
     Ok(StepUid::of(uid("1.2.3.1")?).ok_or("a step")?)
 }
 
 /// The request that creates it.
-fn creation<A: Allocator + Copy>(alloc: A) -> Result<Request<A>, Fail> {
+pub(crate) fn creation<A: Allocator + Copy>(alloc: A) -> Result<Request<A>, Fail> {
     Ok(Request::Create {
         step: step()?,
         attributes: a_step(alloc)?,
@@ -183,7 +183,11 @@ fn a_step_that_one_pass_has_claimed_is_refused_to_the_other(rt: HostRuntime) -> 
 }
 
 /// Enters a request of the caller 0.
-fn enter<A: Allocator + Copy, M: SharedService<A>>(shared: &mut M, ae: Ae, request: Request<A>) {
+pub(crate) fn enter<A: Allocator + Copy, M: SharedService<A>>(
+    shared: &mut M,
+    ae: Ae,
+    request: Request<A>,
+) {
     let _ = shared.answer_as(0, ae, NOON, &mut Some(Ask::Do(request)));
 }
 

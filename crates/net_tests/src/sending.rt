@@ -12,7 +12,7 @@ use std::test::Fail;
 use std::time::Clock;
 use ups_assoc::Config;
 use ups_manager::Manager;
-use ups_net::{Account, ServerOptions, end_told, serve_one};
+use ups_net::{Account, ServerOptions, Tally, end_told, serve_one};
 use ups_service::SharedService;
 use ups_session::{End, SessionFault};
 use ups_turn::{Desk, Pass};
@@ -58,14 +58,14 @@ fn options_of(alloc: Global) -> Result<ServerOptions, Fail> {
 fn told_by<M: SharedService<Global>, R: Wait + Clock + Log>(
     rt: &R,
     server: &TcpStream,
-    account: &Account,
+    account: &Account<'_>,
     desk: &Desk<M, Global>,
     pass: Pass<M, Global>,
     options: &ServerOptions,
 ) -> Result<End, SessionFault>
     requires here { pass.table ≡ desk.now.table }
 {
-    let (_, ended, is_sent) = serve_one(rt, server, account, desk, pass, options);
+    let (_, ended, is_sent) = serve_one(rt, server, account, None, desk, pass, options);
     end_told(ended, is_sent)
 }
 
@@ -73,7 +73,7 @@ fn told_by<M: SharedService<Global>, R: Wait + Clock + Log>(
 fn told_over<M: SharedService<Global>, R: Wait + Clock + Log>(
     rt: &R,
     server: &TcpStream,
-    account: &Account,
+    account: &Account<'_>,
     shared: M,
     options: &ServerOptions,
 ) -> Result<Result<End, SessionFault>, Fail> {
@@ -92,7 +92,8 @@ fn told_on<R: Wait + Clock + Log>(
     server: &TcpStream,
     options: &ServerOptions,
 ) -> Result<Result<End, SessionFault>, Fail> {
-    let account = Account::new(rt, options.alloc, 1, server.peer_addr()?, true);
+    let tally = Tally::new(options.alloc);
+    let account = Account::new(rt, options.alloc, 1, server.peer_addr()?, true, &tally);
     let manager = Manager::new(options.alloc, &[], 60, 0, 10)?;
     told_over(rt, server, &account, manager, options)
 }

@@ -1,5 +1,6 @@
 pub mod Delivering
 pub mod Journal
 pub mod Serving
+pub mod Sharing
 pub mod Sweeping
 pub mod Working

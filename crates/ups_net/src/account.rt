@@ -1,7 +1,11 @@
 //! An association that a peer asked for, as the log tells of it.
 
-use crate::journal::{Overrun, name_with, operation_of, reason_of, title_of, warn_of};
-use log::{Log, info};
+use crate::journal::{
+    Because, Overrun, Time, name_with, operation_of, reason_in, reason_of, title_of, warn_of,
+};
+use crate::responses::is_failure;
+use crate::tally::Tally;
+use log::{Level, Log, info, log};
 use std::alloc::Global;
 use std::cell::{Cell, RefCell};
 use std::net::SocketAddr;
@@ -11,10 +15,10 @@ use ups_dimse::{Command, ResponseCommand, read_command};
 use ups_pdu::{Ae, PduKind, calling_title};
 use ups_session::{End, SessionFault};
 
-/// Where the source and the reason of a rejection stand (PS3.8 table 9-21).
-const SOURCE_AT: usize = 8;
+/// Where the title of the called application entity begins in an A-ASSOCIATE-RQ, and where it ends (PS3.8 table 9-11).
+const CALLED_FROM: usize = 10;
 
-const REASON_AT: usize = 9;
+const CALLED_TO: usize = 26;
 
 /// Where the message control header of the one fragment of a P-DATA-TF stands, and behind it the fragment
 /// (PS3.8 section 9.3.5.1 and annex E.2).
@@ -30,10 +34,36 @@ const END_OF_COMMAND: u8 = 3;
 /// The status of a response behind which others come to the same request (PS3.4 section C.4.1.1.4).
 const PENDING: u16 = 0xff00;
 
+/// The title of the application entity that is asked for an association, by the beginning of its A-ASSOCIATE-RQ, where that
+/// spells one (PS3.8 section 9.3.2).
+fn called_title(beginning: &[u8]) -> Option<Ae> {
+    if beginning.first() != Some(&PduKind::AssociateRq.code()) {
+        return None;
+    }
+    Ae::of(beginning.get(CALLED_FROM..CALLED_TO)?)
+}
+
+/// Why an association ended as it did, as a line has it.
+#[derive(Clone, Copy)]
+struct Cause {
+    /// The title that was called.
+    called: Option<Ae>,
+    reason: Because,
+}
+
+impl fmt::Display for Cause {
+    fn fmt<W: fmt::Write>(&self, f: &mut fmt::Formatter<W>) -> fmt::Result {
+        if let Some(called) = self.called {
+            write!(f, ", it called {}", title_of(&called))?;
+        }
+        write!(f, "{}", self.reason)
+    }
+}
+
 /// An association that a peer asked for: its number, who asks for it and from where, how many requests were answered, and
 /// which limit the peer ran into. It learns of these by the bytes that are read and sent. Nothing rests on it but the log.
 #[derive(Drop)]
-pub struct Account {
+pub struct Account<'a> {
     /// 1 for the first association since the start, and so on.
     number: u64,
     /// From where the peer is connected.
@@ -42,21 +72,26 @@ pub struct Account {
     begun: Option<Instant>,
     /// Whether each answer is told of.
     is_verbose: bool,
-    /// The title of who asks for the association, where that is known.
+    /// What the server counts.
+    tally: &'a Tally,
+    /// The title of who asks for the association, where that is known, and the one that is asked.
     calling: Cell<Option<Ae>>,
+    called: Cell<Option<Ae>>,
     /// Whether the request for the association was answered.
     is_answered: Cell<bool>,
     /// How many requests were answered.
     requests: Cell<u64>,
     /// The limit that the peer ran into.
     overrun: Cell<Option<Overrun>>,
+    /// Why the association was rejected or aborted by this side: the source and the reason.
+    reason: Cell<Option<(u8, u8)>>,
     /// The fragments of a command that is not there as a whole yet.
     command: RefCell<Vec<u8>>,
     /// The last pending response. A find sends the same for each match, so none of the others is read.
     pending: RefCell<Vec<u8>>,
 }
 
-impl fmt::Display for Account {
+impl<'a> fmt::Display for Account<'a> {
     fn fmt<W: fmt::Write>(&self, f: &mut fmt::Formatter<W>) -> fmt::Result {
         let number = self.number;
         let address = self.address;
@@ -67,39 +102,59 @@ impl fmt::Display for Account {
     }
 }
 
-impl Account {
-    /// That of an association which begins now.
+impl<'a> Account<'a> {
+    /// That of an association which begins now, at a server that counts here.
     pub fn new<R: Clock>(
         rt: &R,
         alloc: Global,
         number: u64,
         address: SocketAddr,
         is_verbose: bool,
-    ) -> Account {
+        tally: &'a Tally,
+    ) -> Account<'a> {
+        tally.add_association();
         Account {
             number,
             address,
             begun: Instant::now(rt).ok(),
             is_verbose,
+            tally,
             calling: Cell::new(None),
+            called: Cell::new(None),
             is_answered: Cell::new(false),
             requests: Cell::new(0),
             overrun: Cell::new(None),
+            reason: Cell::new(None),
             command: RefCell::new(Vec::new(alloc)),
             pending: RefCell::new(Vec::new(alloc)),
         }
     }
 
-    /// Learns from bytes that were read who asks for the association.
+    /// Learns from bytes that were read who asks for the association, and whom.
     pub(crate) fn hear(&self, bytes: &[u8]) {
         if !self.is_answered.get() && self.calling.get().is_none() {
             self.calling.set(calling_title(bytes));
+            self.called.set(called_title(bytes));
         }
     }
 
     /// Learns which limit the peer ran into, where it ran into one.
     pub(crate) fn note_overrun(&self, overrun: Option<Overrun>) {
         self.overrun.set(overrun);
+    }
+
+    /// Whether a request was answered.
+    pub(crate) fn has_asked(&self) -> bool {
+        self.requests.get() > 0
+    }
+
+    /// How many associations in a row have kept a worker waiting with this one, until they made way or ran into a limit, where
+    /// so many had before it.
+    pub(crate) fn in_row(&self, before: u32) -> u32 {
+        match self.overrun.get() {
+            Some(_) => before.saturating_add(1),
+            None => 0,
+        }
     }
 
     /// Learns from a PDU that is sent how something is answered, and tells of that where each answer is told of.
@@ -116,17 +171,9 @@ impl Account {
             }
         } else if *code == PduKind::AssociateRj.code() {
             self.is_answered.set(true);
-            self.tell_rejection(rt, pdu);
-        }
-    }
-
-    /// Tells that the association was rejected, and why, where each answer is told of.
-    fn tell_rejection<R: Log>(&self, rt: &R, pdu: &[u8]) {
-        if self.is_verbose {
-            let source = pdu.get(SOURCE_AT).copied().unwrap_or(0);
-            let reason = pdu.get(REASON_AT).copied().unwrap_or(0);
-            let reason = reason_of(source, reason);
-            info!(rt; target: "upsd", "serve: rejected {self}, {reason}");
+            self.reason.set(reason_in(pdu));
+        } else if *code == PduKind::Abort.code() {
+            self.reason.set(reason_in(pdu));
         }
     }
 
@@ -166,29 +213,41 @@ impl Account {
             pending.clear();
             let _ = pending.extend_from_slice(bytes);
         } else {
-            self.note_response(rt, response);
+            self.note_response(rt, alloc, response);
+        }
+    }
+
+    /// Who asks, by title and address; None where memory runs out.
+    fn peer(&self, alloc: Global) -> Option<String> {
+        let address = self.address.ip();
+        match self.calling.get() {
+            Some(ae) => format!(in alloc; "{} {address}", title_of(&ae)).ok(),
+            None => format!(in alloc; "- {address}").ok(),
         }
     }
 
     /// Learns of a response that answers a request.
-    fn note_response<R: Log>(&self, rt: &R, response: &ResponseCommand) {
+    fn note_response<R: Log>(&self, rt: &R, alloc: Global, response: &ResponseCommand) {
         self.requests.set(self.requests.get().saturating_add(1));
-        self.tell_response(rt, response);
+        self.tally.add_request();
+        let is_refused = is_failure(response.status);
+        let is_told = is_refused && self.tally.add_refusal(self.peer(alloc));
+        if self.is_verbose || is_told {
+            let level = if is_refused { Level::Warn } else { Level::Info };
+            self.tell_response(rt, level, response);
+        }
     }
 
-    /// Tells of a request by its response, where each answer is told of: the operation, the step and the status.
-    fn tell_response<R: Log>(&self, rt: &R, response: &ResponseCommand) {
-        if !self.is_verbose {
-            return;
-        }
+    /// Tells of a request by its response: the operation, the step and the status.
+    fn tell_response<R: Log>(&self, rt: &R, level: Level, response: &ResponseCommand) {
         let (operation, step) = operation_of(&response.result);
         let status = response.status;
         match &step {
             Some(uid) => {
                 let step = str::from_utf8(uid.as_bytes()).unwrap_or("");
-                info!(rt; target: "upsd", "serve: {operation} {self}, {step}, {status:04X}");
+                log!(rt; target: "upsd", level, "serve: {operation} {self}, {step}, {status:04X}");
             }
-            None => info!(rt; target: "upsd", "serve: {operation} {self}, {status:04X}"),
+            None => log!(rt; target: "upsd", level, "serve: {operation} {self}, {status:04X}"),
         }
     }
 
@@ -200,14 +259,25 @@ impl Account {
         }
     }
 
+    /// What is told of why the association ended as it did: of a rejection also the title that was called.
+    fn cause(&self, ended: &Result<End, SessionFault>) -> Cause {
+        let called = match ended {
+            Ok(End::Rejected) => self.called.get(),
+            _ => None,
+        };
+        Cause {
+            called,
+            reason: reason_of(ended, self.reason.get()),
+        }
+    }
+
     /// Tells what the association came to.
     pub(crate) fn tell_end<R: Clock + Log>(&self, rt: &R, ended: &Result<End, SessionFault>) {
         let name = name_with(ended, self.overrun.get());
+        let cause = self.cause(ended);
         let requests = self.requests.get();
-        let elapsed = self.elapsed(rt);
-        let seconds = elapsed.as_secs();
-        let tenths = elapsed.subsec_millis() / 100;
-        info!(rt; target: "upsd", "serve: {name} {self}, {requests} requests, {seconds}.{tenths} s");
+        let time = Time(self.elapsed(rt));
+        info!(rt; target: "upsd", "serve: {name} {self}{cause}, {requests} requests, {time}");
         warn_of(rt, ended);
     }
 }

@@ -1,5 +1,6 @@
 //! How far into a message the bytes go that a peer has sent.
 
+use crate::responses::Responses;
 use ups_pdu::{PduKind, be_u32_at};
 
 /// How many bytes stand at the front of a PDU: its type, a reserved byte and its length (PS3.8 section 9.3.1). As many
@@ -15,7 +16,10 @@ const LENGTH_AT: usize = 2;
 /// How many bytes of the head of a fragment its length counts.
 const COUNTED: usize = 2;
 
-/// The bit of a message control header that says that the fragment is the last one of its command or data set.
+/// The bit of a message control header that says that the fragment is of a command, and the one that says that it is the last
+/// one of its command or data set.
+const COMMAND: u8 = 1;
+
 const LAST: u8 = 2;
 
 /// How far into a message the bytes go that have come. A command and a data set count as a message each, so that a peer is
@@ -32,6 +36,8 @@ pub(crate) struct Arrival {
     behind: usize,
     /// Whether the message ends with what is still to come of the fragment or the PDU.
     is_last: bool,
+    /// Whether the fragment is of a command.
+    is_command: bool,
 }
 
 impl Arrival {
@@ -43,6 +49,7 @@ impl Arrival {
             body: 0,
             behind: 0,
             is_last: true,
+            is_command: false,
         }
     }
 
@@ -60,6 +67,27 @@ impl Arrival {
                 break;
             }
             left = self.step(left);
+            is_ended = is_ended || self.is_between();
+        }
+        is_ended
+    }
+
+    /// These bytes come from a peer that responds; whether a message ends among them.
+    pub(crate) fn take_responses(&mut self, bytes: &[u8], responses: &mut Responses) -> bool {
+        let mut left = bytes;
+        let mut is_ended = false;
+        for _ in 0..bytes.len() {
+            if left.is_empty() {
+                break;
+            }
+            let is_command = self.is_command && self.body > 0;
+            let rest = self.step(left);
+            if is_command {
+                let count = left.len().saturating_sub(rest.len());
+                let is_whole = self.is_last && self.body == 0;
+                responses.hear(left.get(..count).unwrap_or(&[]), is_whole);
+            }
+            left = rest;
             is_ended = is_ended || self.is_between();
         }
         is_ended
@@ -97,6 +125,7 @@ impl Arrival {
         let length = self.length_at(LENGTH_AT);
         let is_data = self.head[0] == PduKind::Data.code();
         self.is_last = !is_data;
+        self.is_command = false;
         if is_data {
             self.behind = length;
         } else {
@@ -109,6 +138,7 @@ impl Arrival {
         self.body = self.length_at(0).saturating_sub(COUNTED);
         self.behind = self.behind.saturating_sub(HEAD).saturating_sub(self.body);
         self.is_last = self.head[CONTROL_AT] & LAST != 0;
+        self.is_command = self.head[CONTROL_AT] & COMMAND != 0;
     }
 
     // The length that stands there in the head.

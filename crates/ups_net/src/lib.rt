@@ -1,25 +1,34 @@
 //! The server: workers that share a listener and a desk, each with a pass of its own, over TCP (PS3.8 section 9.1).
 //!
 //! Of what a socket carries nothing is promised, nor of when: a contract here says what becomes of the passes, whatever
-//! was read. Of time limits, of the second between two rounds and of the door none speaks.
+//! was read. Of time limits, of when a round begins and of the door none speaks.
 #![tactic(auto)]
 
 mod account;
 mod arrival;
 mod backlog;
+mod bell;
 mod clock;
+mod counted;
 mod delivering;
+mod digest;
 mod door;
+mod grace;
+mod heading;
 mod journal;
+mod line_queue;
+mod lookout;
 mod lossy_log;
 mod network;
 mod options;
+mod patience;
 mod premises;
+mod responses;
 mod roster;
-mod rounds;
 mod serving;
 mod socket;
 mod sweeping;
+mod tally;
 mod wire;
 mod workers;
 
@@ -28,15 +37,19 @@ pub use backlog::waiting_at;
 pub use clock::{HostClock, moment_of};
 pub use delivering::deliver_rounds;
 pub use door::{Caller, Door};
+pub use grace::{Pressure, idle_grace, request_grace};
+pub use heading::LineStyle;
 pub use journal::end_told;
 pub use lossy_log::LossyLog;
 pub use network::Network;
 pub use options::ServerOptions;
+pub use patience::{Patience, answer_seconds, opening_milliseconds};
 pub use premises::Premises;
-pub use roster::{Roster, Share, is_passed_over, longer_pause};
+pub use roster::{Roster, Share, is_passed_over, longer_pause, may_take, share_of};
 pub use serving::serve_one;
 pub use socket::tune;
 pub use sweeping::sweep;
+pub use tally::Tally;
 pub use ups_settings::Watcher;
-pub use wire::{Allowance, Deadline, Patience, Wire, WireReader, WireWriter};
+pub use wire::{Deadline, TimeLimits, Wire, WireReader, WireWriter};
 pub use workers::{run, work};

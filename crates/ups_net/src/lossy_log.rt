@@ -1,32 +1,41 @@
 //! A log that loses lines where it would have to wait.
 
+use crate::clock::moment_of;
+use crate::heading::{Heading, LineStyle};
+use crate::line_queue::{LineQueue, QueuedLine};
 use libc::net::{POLLERR, POLLNVAL, POLLOUT, poll};
 use libc::types::pollfd;
 use log::kv::Source;
 use log::span::Spans;
-use log::{Log, Metadata, Record, warn};
+use log::{Level, Line, Log, Metadata, Record};
+use std::alloc::{AllocError, Global};
 use std::fmt::Display;
-use std::sync::{Mutex, Wait};
+use std::sync::{Arc, Wait};
+use std::thread::{self, Threads};
+use std::time::Clock;
 
 /// The number of the descriptor of standard error.
 const STANDARD_ERROR: i32 = 2;
 
-/// For how many milliseconds a line waits for standard error to take it, where none was lost before it.
-const PATIENCE: i32 = 20;
+/// That a descriptor is looked at without waiting, and that it is waited for until it takes something.
+const AT_ONCE: i32 = 0;
 
-/// Logs to standard error by what is inside, where standard error takes the line soon. Else the line is lost, so that a pipe
-/// or a socket that nobody reads stops no thread. How many lines were lost is told before the next one that is taken.
+const FOR_EVER: i32 = -1;
+
+/// Logs to standard error by a thread of its own, which alone waits where standard error takes nothing: a pipe or a socket
+/// that nobody reads, or a terminal, which may take no line though the system says that it takes some bytes. So no other
+/// thread is stopped by its log. Up to 1,024 lines wait, and others are lost; how many is told before the next one that is
+/// not.
 ///
-/// Each line is to be one write of at most 4,096 bytes: a pipe that takes any bytes takes so many. The lock has a thread look
-/// and write before the next one looks. Where standard error is closed when the log is made, no line is ever written: a
-/// connection may get its descriptor later. No contract promises any of it: `bench/ending.py` tries it.
+/// Where standard error is closed when the log is made, no line is ever written: a connection may get its descriptor later.
+/// No contract promises any of it: `bench/ending.py` tries it.
 #[derive(Drop)]
-pub struct LossyLog<L> {
-    log: L,
-    /// Whether standard error was open when the log was made.
-    is_open: bool,
-    /// How many lines were lost since the last line.
-    lost: Mutex<u64>,
+pub struct LossyLog<R> {
+    rt: R,
+    alloc: Global,
+    style: LineStyle,
+    /// The lines that wait; None where none is ever written.
+    lines: Option<Arc<LineQueue>>,
 }
 
 /// What is so of standard error, by `poll`, within so many milliseconds.
@@ -43,53 +52,89 @@ fn events(milliseconds: i32) -> i16 {
     }
 }
 
-/// Whether standard error takes a line within so many milliseconds. One that is closed takes none.
-fn takes_line(milliseconds: i32) -> bool {
-    events(milliseconds) & (POLLOUT | POLLERR) == POLLOUT
+/// What stands before a line of this level that is told now.
+fn heading_of<R: Clock>(rt: &R, style: LineStyle, level: Level) -> Heading {
+    Heading::new(style, level, moment_of(rt))
 }
 
-impl<L: Log + Wait> LossyLog<L> {
-    /// A log of which no line is lost yet.
-    pub fn new(log: L) -> LossyLog<L> {
-        LossyLog {
-            log,
-            is_open: events(0) & POLLNVAL == 0,
-            lost: Mutex::new(0),
-        }
+/// Writes a line once standard error takes some bytes, and before it how many were lost. Where nobody is left to read them
+/// nothing is written.
+fn write_line<R: Clock + Eprint>(rt: &R, style: LineStyle, line: QueuedLine) {
+    if events(FOR_EVER) & (POLLERR | POLLNVAL) != 0 {
+        return;
+    }
+    let lost = line.lost;
+    if lost > 0 {
+        let heading = heading_of(rt, style, Level::Warn);
+        let _ = eprintln!(rt;
+            "{heading}[WARN  upsd] {lost} lines of the log were lost: standard error took none"
+        );
+    }
+    let _ = rt.eprintln(line.text);
+}
+
+/// Writes each line that is put into a queue, for as long as the program lives.
+fn write_lines<R: Wait + Clock + Eprint>(rt: &R, style: LineStyle, lines: &LineQueue) {
+    for _ in rt.forever() {
+        write_line(rt, style, lines.next(rt));
     }
 }
 
-/// Tells how many lines were lost.
-fn tell_lost<L: Log>(log: &L, lost: u64) {
-    warn!(log; target: "upsd", "{lost} lines of the log were lost: standard error took none");
+impl<R> LossyLog<R> {
+    /// A log that writes nothing.
+    pub fn silent(rt: R, alloc: Global) -> LossyLog<R> {
+        LossyLog {
+            rt,
+            alloc,
+            style: LineStyle::Time,
+            lines: None,
+        }
+    }
+
+    /// A log of which no line is lost yet, with its thread, and lines in this style.
+    ///
+    /// # Errors
+    ///
+    /// Lack of memory, or of a thread.
+    pub fn start(rt: R, alloc: Global, style: LineStyle) -> Result<LossyLog<R>, AllocError>
+    where
+        R: Threads + Wait + Clock + Eprint + Copy + Send + 'static,
+    {
+        if events(AT_ONCE) & POLLNVAL != 0 {
+            return Ok(LossyLog::silent(rt, alloc));
+        }
+        let lines = Arc::new(alloc, LineQueue::new(alloc)?)?;
+        let theirs = Arc::try_clone(&lines)?;
+        thread::spawn(&rt, move || write_lines(&rt, style, &theirs))?;
+        Ok(LossyLog {
+            rt,
+            alloc,
+            style,
+            lines: Some(lines),
+        })
+    }
 }
 
-impl<L: Log + Wait> Log for LossyLog<L> {
+impl<R: Wait + Clock + Log> Log for LossyLog<R> {
     fn enabled(&self, metadata: &Metadata<'_>) -> bool {
-        self.log.enabled(metadata)
+        self.rt.enabled(metadata)
     }
 
     fn log<D: Display, K: Source, S: Spans>(&self, record: &Record<'_, D, K, S>) {
-        if !self.is_open {
-            return;
-        }
-        let mut lost = self.lost.lock(&self.log);
-        if *lost > 0 && takes_line(0) {
-            tell_lost(&self.log, *lost);
-            *lost = 0;
-        }
-        if *lost == 0 && takes_line(PATIENCE) {
-            self.log.log(record);
-        } else {
-            *lost = lost.saturating_add(1);
+        if let Some(lines) = &self.lines {
+            let heading = heading_of(&self.rt, self.style, record.level());
+            let line = Line::new(record);
+            lines.put(&self.rt, format!(in self.alloc; "{heading}{line}").ok());
         }
     }
 
     fn flush(&self) {
-        self.log.flush();
+        if let Some(lines) = &self.lines {
+            lines.drain(&self.rt);
+        }
     }
 
     fn target(&self) -> &str {
-        self.log.target()
+        self.rt.target()
     }
 }

@@ -2,17 +2,19 @@
 
 use crate::door::Door;
 use crate::roster::Roster;
+use crate::tally::Tally;
 use std::alloc::{AllocError, Global};
 
-/// What the threads of a server share, beside its desk: the door, and the roster of its watchers.
+/// What the threads of a server share, beside its desk: the door, the roster of its watchers, and what is counted for its log.
 #[derive(Drop)]
 pub struct Premises {
     pub(crate) door: Door,
     pub(crate) roster: Roster,
+    pub(crate) tally: Tally,
 }
 
 impl Premises {
-    /// The premises of a server with this door and so many watchers, none of which is away, for two deliverers or for one.
+    /// The premises of a server with this door and so many watchers, none of which is away, for so many deliverers.
     ///
     /// # Errors
     ///
@@ -21,10 +23,14 @@ impl Premises {
         alloc: Global,
         door: Door,
         watchers: usize,
-        is_shared: bool,
+        deliverers: u32,
     ) -> Result<Premises, AllocError> {
-        let roster = Roster::new(alloc, watchers, is_shared)?;
-        Ok(Premises { door, roster })
+        let roster = Roster::new(alloc, watchers, deliverers)?;
+        Ok(Premises {
+            door,
+            roster,
+            tally: Tally::new(alloc),
+        })
     }
 
     /// The door.

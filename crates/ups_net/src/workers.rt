@@ -11,7 +11,8 @@ ghost use Rattle.ups_net.specs.declared.options.ServerOptions.{ServerOptions};
 
 use crate::account::Account;
 use crate::delivering::deliver_rounds;
-use crate::door::{Caller, Door};
+use crate::door::Caller;
+use crate::grace::Pressure;
 use crate::journal::end_told;
 use crate::network::Network;
 use crate::options::ServerOptions;
@@ -27,10 +28,10 @@ use std::time::Clock;
 use ups_service::SharedService;
 use ups_turn::{Desk, Pass};
 
-/// Serves so many associations, one after another, each on a connection that the door gives.
+/// Serves so many associations, one after another, each on a connection that the door of the premises gives.
 pub fn work<M: SharedService<Global>, R: Wait + Clock + Log>(
     rt: &R,
-    door: &Door,
+    premises: &Premises,
     desk: &Desk<M, Global>,
     pass: Pass<M, Global>,
     options: &ServerOptions,
@@ -39,14 +40,21 @@ pub fn work<M: SharedService<Global>, R: Wait + Clock + Log>(
     ensures serves { ServesAssociations options.now.config options.now.turns options.now.associations pass result }
     ensures stays { result.table ≡ pass.table }
 {
+    let door = &premises.door;
+    let tally = &premises.tally;
     let mut pass = pass;
+    let mut in_row = 0;
     for _ in 0..options.associations {
         let Caller { stream, address } = door.next_connection(rt, options.timeout);
         let number = door.next_number();
-        let account = Account::new(rt, options.alloc, number, address, options.verbose);
+        let account = Account::new(rt, options.alloc, number, address, options.verbose, tally);
         door.take_worker();
-        let (after, ended, is_sent) = serve_one(rt, &stream, &account, desk, pass, options);
+        let pressure = Some(Pressure { door, in_row });
+        let (after, ended, is_sent) = serve_one(
+            rt, &stream, &account, pressure, desk, pass, options,
+        );
         pass = after;
+        in_row = account.in_row(in_row);
         account.tell_end(rt, &end_told(ended, is_sent));
         door.free_worker();
     }
@@ -108,7 +116,7 @@ fn sweep_begun<M: SharedService<Global>, R: Wait + Clock + Log + Network>(
     ensures sweeps { MatchBool begun (Sweeps options.now.config.ae options.now.rounds pass result) (result ≡ pass) }
 {
     if begun {
-        sweep(rt, &premises.door, desk, &mut pass, options);
+        sweep(rt, premises, desk, &mut pass, options);
     }
     pass
 }
@@ -128,7 +136,7 @@ where
     ensures works { EndsThread options.now true pass result }
 {
     if pass.number() <= options.workers {
-        return work(rt, &premises.door, desk, pass, options);
+        return work(rt, premises, desk, pass, options);
     }
     let roster = &premises.roster;
     let share = roster.share_of(pass.number() - options.workers);
@@ -290,8 +298,8 @@ where
 }
 
 /// Runs a server: of the passes the last sweeps, in this thread. Each other one has a thread of its own: those with the
-/// numbers up to `options.workers` are the workers', and those with greater numbers deliver event reports: one to all
-/// watchers, or the first of them to those that are not away, and the second to those that are. The passes come
+/// numbers up to `options.workers` are the workers', and those with greater numbers deliver event reports: half of them,
+/// rounded up, to the watchers that are quick, and the others to all; or one to all. The passes come
 /// back in their order: true, and each has done its job, as many associations or rounds of it as `options` says; or false,
 /// and each is as it was, since a thread could not be started, or memory ran out before. That a thread runs, and when, no
 /// contract says.

@@ -56,6 +56,9 @@ impl<'a, M: SharedService<A>, A: Allocator + Copy, R: Wait> Service<A> for At<'a
         let Some(ask) = ask.take() else {
             unreachable!();
         };
-        self.desk.call(self.rt, self.pass, ae, moment, ask)
+        let before = self.pass.seen();
+        let reply = self.desk.call(self.rt, self.pass, ae, moment, ask);
+        self.desk.announce(before, self.pass.seen());
+        reply
     }
 }

@@ -4,6 +4,7 @@ ghost use Rattle.ups_life.specs.Settings.{IsMoment};
 ghost use Rattle.ups_service.specs.State.{State};
 ghost use Rattle.ups_service.specs.Law.{SmallReply, is_legal};
 ghost use Rattle.ups_turn.specs.Pass.{IsCall, Learns, SamePass, IsShelf, EndsFor, HaveNumbers, are_seats, most_seats, open_fault, passes_from, part_of};
+ghost use Rattle.ups_turn.specs.Plays.{longer};
 ghost use Rattle.ups_turn.specs.Rule.{Behind, EnteredByPasses, opening_view};
 
 use crate::at::At;
@@ -11,13 +12,15 @@ use crate::fault::{CloseFault, OpenFault};
 use crate::held::Held;
 use crate::pass::Pass;
 use crate::rule::{InTurn, Place, Shelf};
-use crate::turn::{absorb, call_in_turn, deal, note, settle};
+use crate::turn::{COUNT, absorb, call_in_turn, deal, low_half, note, settle};
 use crate::view::{Opening, View};
 use atomic_table::{Refused, Table};
 use std::alloc::Allocator;
 use std::marker::Model;
 use std::snapshot::Snapshot;
+use std::sync::atomic::{AtomicU64, Ordering};
 use std::sync::{Mutex, Wait};
+use std::time::Duration;
 use ups_cycle::Status;
 use ups_life::{Ask, Reply};
 use ups_pdu::Ae;
@@ -26,6 +29,11 @@ use ups_service::SharedService;
 /// How many passes a desk may have: with so many, each making all its calls, the tickets stay far below what a
 /// word holds.
 const MOST_SEATS: u32 = 1024;
+
+/// That nobody waits for further entries, and that somebody does.
+const NOBODY: u64 = 0;
+
+const SOMEBODY: u64 = 1;
 
 /// How many calls a pass may make.
 const MOST_CALLS: u64 = 1 << 40;
@@ -39,6 +47,8 @@ pub struct Desk<M: SharedService<A>, A: Allocator + Copy> {
     /// A pass draws its ticket with this lock held. So the turn is most often its own at once, and goes to whichever
     /// pass runs, not to one that sleeps. No contract rests on it.
     ticket_lock: Mutex<()>,
+    /// Whether somebody waits for further entries: 0 where nobody does. No contract rests on it.
+    awaited: AtomicU64,
 }
 
 impl<M: SharedService<A>, A: Allocator + Copy> Model for Desk<M, A> {
@@ -197,6 +207,7 @@ impl<M: SharedService<A>, A: Allocator + Copy> Desk<M, A> {
                         table,
                         seats: u64::from(seats),
                         ticket_lock: Mutex::new(()),
+                        awaited: AtomicU64::new(NOBODY),
                     },
                     passes,
                 ))
@@ -248,6 +259,26 @@ impl<M: SharedService<A>, A: Allocator + Copy> Desk<M, A> {
         reply
     }
 
+    /// How many requests are entered, as soon as these are not so many as are known, and else in so long at most. It takes no
+    /// turn, and no pass waits for it; one thread at a time may wait so. Others may enter requests meanwhile, so nothing is
+    /// promised of it.
+    pub fn await_entries<R: Wait>(&self, rt: &R, known: u64, limit: Duration) -> u64 {
+        let shelf = &self.table.shared;
+        self.awaited.store(SOMEBODY, Ordering::SeqCst);
+        if shelf.peek(COUNT) == known {
+            shelf.park_timeout(rt, COUNT, low_half(known), limit);
+        }
+        self.awaited.store(NOBODY, Ordering::SeqCst);
+        shelf.peek(COUNT)
+    }
+
+    /// Wakes who waits for further entries, where there are not so many as before.
+    pub(crate) fn announce(&self, before: u64, entries: u64) {
+        if entries != before && self.awaited.load(Ordering::SeqCst) != NOBODY {
+            self.table.shared.wake_all(COUNT);
+        }
+    }
+
     // Has a pass learn what another has seen.
     fn tell(&self, pass: &mut Pass<M, A>, from: &mut Pass<M, A>)
         requires pass { pass.old.table ≡ self.now.table }
@@ -270,6 +301,7 @@ impl<M: SharedService<A>, A: Allocator + Copy> Desk<M, A> {
         ensures same { SamePass left.old left.new × SamePass right.old right.new }
         ensures calls { (left.new.calls ≡ left.old.calls) × (right.new.calls ≡ right.old.calls) }
         ensures one { left.new.seen ≡ right.new.seen }
+        ensures front { left.new.seen ≡ longer right.old.seen left.old.seen }
         ensures left { Behind left.new.seen (part_of left.old) }
         ensures right { Behind right.new.seen (part_of right.old) }
         ensures legal { is_legal left.new.settings left.new.seen }

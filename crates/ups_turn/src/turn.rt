@@ -16,7 +16,7 @@ use ups_pdu::Ae;
 use ups_service::SharedService;
 
 /// The word that counts the requests that are entered.
-const COUNT: usize = 0;
+pub(crate) const COUNT: usize = 0;
 
 /// The word with the ticket that is drawn next.
 const TICKET: usize = 1;
@@ -100,7 +100,7 @@ fn wait<M: SharedService<A>, A: Allocator + Copy, R: Wait>(
 }
 
 // The half of a word that a sleeping thread watches.
-fn low_half(word: u64) -> u32 {
+pub(crate) fn low_half(word: u64) -> u32 {
     (word % (1 << 32)) as u32
 }
 

@@ -1,3 +1,2 @@
 mod Digits
 mod Settling
-mod Seating

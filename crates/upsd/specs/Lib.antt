@@ -1,5 +1,4 @@
 pub mod Hexing
 pub mod Limits
 pub mod Piping
-pub mod Serving
 pub mod Statuses

@@ -5,8 +5,10 @@ ghost use Rattle.clap.specs.Values.{kind_of};
 ghost use Rattle.upsd.specs.Statuses.{exit_code, parse_status, script_status, session_status};
 
 use clap::error::ErrorKind;
+use std::alloc::AllocError;
 use std::process::ExitCode;
 use ups_script::ScriptFault;
+use ups_server::RanServer;
 use ups_session::{End, SessionFault};
 
 /// How the program ends.
@@ -78,4 +80,17 @@ pub fn parse_status(kind: ErrorKind) -> Status
         ErrorKind::OutOfMemory => Status::Memory,
         _ => Status::Usage,
     }
+}
+
+/// How the program ends with what a server leaves: as stopped where it could not listen.
+///
+/// Errors: lack of memory, where its threads did not begin.
+pub(crate) fn server_status(left: Option<RanServer>) -> Result<Status, AllocError> {
+    let Some(server) = left else {
+        return Ok(Status::Stopped);
+    };
+    if !server.begun {
+        return Err(AllocError);
+    }
+    Ok(Status::Done)
 }

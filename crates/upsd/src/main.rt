@@ -12,30 +12,27 @@ mod hexing;
 mod limits;
 mod piping;
 mod scripting;
-mod serving;
 
-use crate::limits::TURNS;
+use crate::ending::server_status;
 use crate::scripting::answer_script;
-use crate::serving::server_status;
 use clap::ArgMatches;
 pub use ending::{Status, parse_status, script_status, session_status};
 pub use hexing::DigitFault;
 pub use limits::limits_are_as_defined;
 use log::{LevelFilter, Log, Logged};
-pub use piping::{Piped, pipe, pipe_told};
-pub use scripting::script;
-pub use serving::{RanServer, answer_network};
+pub use piping::{Piped, pipe_told};
 use std::alloc::{AllocError, Global};
 use std::io::{self, BufReader, ErrorKind};
 use std::process::ExitCode;
+use std::str;
 use std::sync::Wait;
 use std::thread::Threads;
 use std::time::Clock;
-use ups_args::{
-    ArgumentFault, PipeArguments, command, pipe_arguments, script_arguments, serve_arguments,
-};
-use ups_net::{LossyLog, Network};
+use ups_args::{ArgumentFault, PipeArguments, command, pipe_arguments, script_arguments};
+use ups_net::{LineStyle, LossyLog, Network};
 pub use ups_net::{ServerOptions, work};
+use ups_server::TURNS;
+pub use ups_server::{RanServer, answer_network, serve_words};
 pub use ups_session::{End, SessionFault, WatchedReader, WatchedWriter};
 
 /// Answers one association from standard input to standard output, tells its fault, and gives how the program ends.
@@ -107,15 +104,15 @@ fn perform<R: Input + Print + Eprint + AllocGlobal>(
     }
 }
 
-/// Does what a command line asks of `serve`, and gives how the program ends.
+/// Does what a command line asks of `serve`, for as long as the program lives, and gives how the program ends.
 ///
 /// Errors: lack of memory.
 fn perform_network<R>(rt: &R, matches: &ArgMatches<'_>) -> Result<Status, AllocError>
 where
     R: Threads + Wait + Clock + Log + Sync + AllocGlobal + Print + Eprint + Network,
 {
-    match serve_arguments(rt.alloc(), matches) {
-        Ok(asked) => server_status(answer_network(rt, asked)?),
+    match serve_words(rt, matches, u64::MAX, u64::MAX) {
+        Ok(left) => server_status(left),
         Err(fault) => refuse(rt, fault),
     }
 }
@@ -183,11 +180,43 @@ fn unread<R: Eprint>(rt: &R, error: ErrorKind) -> Status {
     Status::Usage
 }
 
+/// Whether the words of the command line ask for a server.
+fn asks_to_serve(words: &[String]) -> bool {
+    match words.get(1) {
+        Some(word) => word.as_str() == "serve",
+        None => false,
+    }
+}
+
+/// The log of the program: one with a thread of its own where the words ask for a server, as nothing else logs.
+///
+/// Errors: lack of memory, or of a thread.
+fn log_of<R>(
+    rt: R,
+    alloc: Global,
+    style: LineStyle,
+    words: &[String],
+) -> Result<LossyLog<R>, AllocError>
+where
+    R: Threads + Wait + Clock + Eprint + Copy + Send + 'static,
+{
+    if asks_to_serve(words) {
+        return LossyLog::start(rt, alloc, style);
+    }
+    Ok(LossyLog::silent(rt, alloc))
+}
+
 fn main(rt: HostRuntime) -> ExitCode {
-    let serving = Logged::new(rt, LevelFilter::Info, LossyLog::new(rt));
-    let status = match words(&rt) {
-        Ok(words) => run(&rt, &serving, &words),
-        Err(error) => unread(&rt, error.kind()),
+    let words = match words(&rt) {
+        Ok(words) => words,
+        Err(error) => return ExitCode::from(unread(&rt, error.kind())),
     };
+    let log = match log_of(rt, rt.alloc(), LineStyle::of(&rt), &words) {
+        Ok(log) => log,
+        Err(fault) => return ExitCode::from(end_of(&rt, Err(fault))),
+    };
+    let serving = Logged::new(rt, LevelFilter::Info, log);
+    let status = run(&rt, &serving, &words);
+    serving.flush();
     ExitCode::from(status)
 }

@@ -118,31 +118,3 @@ pub fn pipe_told<A: Allocator + Copy, R: Read, W: Write>(
         digits: None,
     }
 }
-
-/// Answers one association as `pipe_told` does, and leaves out what is wrong with the digits.
-///
-/// # Errors
-///
-/// Those that `pipe_told` tells.
-pub fn pipe<A: Allocator + Copy, R: Read, W: Write>(
-    alloc: A,
-    reader: &mut WatchedReader<R>,
-    writer: &mut WatchedWriter<W>,
-    ae: Ae,
-    peers: &[Peer],
-    hex: bool,
-    turns: u64,
-) -> Result<End, SessionFault>
-    requires few { length peers.now ≤ peer_limit }
-    requires allowed { refusal peers.now local_offset history_limit ≡ None }
-    ensures session { hex ≡ false → (input : List ℕ) × (history : List (Entry A)) × Consumes reader.old.left reader.new.left input
-        × IsSession (acceptor (config ae)) (λ live. live.ending) opened turns reader.new input
-        (world writer.old epoch (settings peers.now) nobody 0 (alone []))
-        (world writer.new epoch (settings peers.now) nobody 0 (alone history)) result }
-    ensures digits { hex ≡ true → (now : Input) × (written : Output) × (input : List ℕ) × (history : List (Entry A)) × Consumes (bytes_left None None reader.old.left) now.left input
-        × IsSession (acceptor (config ae)) (λ live. live.ending) opened turns now input
-        (world unwritten epoch (settings peers.now) nobody 0 (alone []))
-        (world written epoch (settings peers.now) nobody 0 (alone history)) result }
-{
-    pipe_told(alloc, reader, writer, ae, peers, hex, turns).ended
-}

@@ -4,7 +4,7 @@ use Rattle.std.proofs.Crossing.{crosses}
 use Rattle.std.proofs.sync.atomic.AtomicU64.TheSendSync as word
 use Rattle.std_heap.specs.contracts.Global as Heap
 use Rattle.std_heap.specs.contracts.GlobalAllocator.TheImpl.{ghosts}
-use Rattle.net_tests.specs.contracts.sessions.Lines as Lines
+use Rattle.net_tests.specs.contracts.sessions.Talks as Talks
 use Rattle.net_tests.specs.contracts.sessions.Stage as Stage
 use Rattle.ups_service.specs.declared.shared_service.SharedService as SharedService
 use Rattle.ups_manager.specs.contracts.manager.Manager as Manager
@@ -14,8 +14,8 @@ use Rattle.ups_turn.specs.contracts.pass.Pass as Pass
 use Rattle.ups_turn.proofs.Crosses.{desk_sync, pass_send, heap_sync}
 use Rattle.net_tests.proofs.sessions.side_by_side.Goals as goal
 
-lines_sync : IsSync Lines.the_row
-lines_sync = search (sendable, crosses) depth 40
+talks_sync : IsSync Talks.the_row
+talks_sync = search (sendable, crosses) depth 40
 
 stage_sync : IsSync Stage.the_row
 stage_sync = search (sendable, word.the_sync) depth 30
@@ -29,4 +29,4 @@ module _ (s : SharedService.Ghosts (Manager.the_row Heap.the_row ghosts).Denot H
   own_pass = pass_send (Manager.the_row Heap.the_row ghosts) s manager_send
 
 pub join-requires-send-F : goal.join-requires-send-F
-join-requires-send-F g c κs within = search (sendable, shared_desk, own_pass, heap_sync, lines_sync, stage_sync) depth 30
+join-requires-send-F g c κs within = search (sendable, shared_desk, own_pass, heap_sync, talks_sync, stage_sync) depth 30

@@ -4,5 +4,5 @@ use Rattle.ups_turn.proofs.at.AtService.answer.Goals as goal
 
 pub returns-clause-serves : goal.returns-clause-serves
 returns-clause-serves g c =
-    let serves = call_serves _ _ _ _ _ _ c.call.ensures.called in
+    let serves = call_serves _ _ _ _ _ _ c.call-reply.ensures.called in
     rw (sym c.take.ensures.value ∙ c.in-Some.is) serves

@@ -4,9 +4,9 @@ use Rattle.std.specs.Prelude.{All}
 use Rattle.ups_turn.specs.Pass.{Standing, passes_from}
 use Rattle.ups_manager.proofs.Crosses.{manager_send}
 use Rattle.ups_net.specs.Working.{Ran}
-use Rattle.upsd.specs.Serving.{seats_of}
-use Rattle.upsd.proofs.Seating.{all_here, as_many}
-use Rattle.upsd.proofs.serving.serve_on.Goals as goal
+use Rattle.ups_server.specs.Serving.{seats_of}
+use Rattle.ups_server.proofs.Seating.{all_here, as_many}
+use Rattle.ups_server.proofs.serving.serve_on.Goals as goal
 
 pub run-begun-requires-clause-some : goal.run-begun-requires-clause-some
 run-begun-requires-clause-some g c κs within =
@@ -24,10 +24,10 @@ pub returns-clause-ran : goal.returns-clause-ran
 returns-clause-ran g c =
     let e = c.options_of-options.ensures in
     let opened = c.in-Ok-open.ensures in
-    let seats : c.args.asked.workers + c.deliverers_of-deliverers.result + 1 ≡ seats_of c.args.asked.workers = ap (λ n. c.args.asked.workers + n + 1) c.deliverers_of-deliverers.ensures.number in
-    let passes = opened.passes ∙ (ap (λ n. passes_from c.in-Ok-open.desk.table c.in-Ok.manager 1 n) seats ∙ ap (λ m. passes_from c.in-Ok-open.desk.table m 1 (seats_of c.args.asked.workers)) (sym opened.desk.1)) in (
+    let seats : c.args.asked.workers + c.deliverers_of-deliverers.result + 1 ≡ seats_of c.args.asked.workers (length c.args.asked.watchers.items) = ap (λ n. c.args.asked.workers + n + 1) c.deliverers_of-deliverers.ensures.number ∙ ap (λ k. seats_of c.args.asked.workers k) (c.len-watchers.ensures ∙ c.args.asked.watchers.ok.0) in
+    let passes = opened.passes ∙ (ap (λ n. passes_from c.in-Ok-open.desk.table c.in-Ok.manager 1 n) seats ∙ ap (λ m. passes_from c.in-Ok-open.desk.table m 1 (seats_of c.args.asked.workers (length c.args.asked.watchers.items))) (sym opened.desk.1)) in (
       c.options_of-options.result,
-      record { ae = e.ae; offset = e.offset; turns = e.turns; workers = e.workers; watchers = e.watchers; associations = e.associations; rounds = e.rounds },
+      record { ae = e.ae; offset = e.offset; turns = e.turns; idle = e.idle; timeout = e.timeout; delivery_timeout = e.delivery_timeout; workers = e.workers; watchers = e.watchers; verbose = e.verbose; associations = e.associations; rounds = e.rounds },
       subst (λ l. Ran c.options_of-options.result c.run-begun.result.0 l c.run-begun.result.1.items) passes c.run-begun.ensures.ran,
     )
 

@@ -1,22 +1,24 @@
 //! Associations over TCP, and event reports.
 
-ghost use Rattle.std.specs.Prelude.{◌≡◌, ◌≤◌, [], length, None, IfOk, IfSome};
+ghost use Rattle.std.specs.Prelude.{◌≡◌, ◌≤◌, ◌+◌, [], All, length, None, IfOk, IfSome};
+ghost use Rattle.clap.specs.Matches.{found_of};
 ghost use Rattle.ups_args.specs.Limits.{workers_limit};
 ghost use Rattle.ups_settings.specs.Refusal.{refusal};
 ghost use Rattle.ups_life.specs.Limits.{history_limit, peer_limit};
 ghost use Rattle.ups_turn.specs.Pass.{passes_from};
-ghost use Rattle.upsd.specs.Limits.{turns_limit};
-ghost use Rattle.upsd.specs.Serving.{deliverers_of, endless, seats_of, settings_asked, RanAsAsked};
+ghost use Rattle.ups_server.specs.Limits.{turns_limit};
+ghost use Rattle.ups_server.specs.Serving.{deliverers_of, seats_of, settings_asked, RanAsAsked, RanAsWords};
 
-use crate::ending::Status;
 use crate::limits::TURNS;
+use crate::telling::tell_settings;
+use clap::ArgMatches;
 use log::{Log, info};
 use std::alloc::{AllocError, Global};
 use std::sync::Wait;
 use std::thread::Threads;
 use std::time::Clock;
 use std::{io, str};
-use ups_args::{MAX_WORKERS, ServeArguments};
+use ups_args::{ArgumentFault, MAX_WORKERS, ServeArguments, serve_arguments};
 use ups_assoc::Config;
 use ups_life::MAX_HISTORY;
 use ups_manager::Manager;
@@ -49,8 +51,14 @@ fn listen<R: Network + Print + Log>(rt: &R, asked: &ServeArguments<'_>) -> io::R
     Ok(door)
 }
 
-/// How the threads of a server work, as the command line asks.
-fn options_of(alloc: Global, asked: ServeArguments<'_>) -> ServerOptions
+/// How the threads of a server work, as the command line asks: each worker for so many associations, and the sweeper and each
+/// deliverer for so many rounds.
+fn options_of(
+    alloc: Global,
+    asked: ServeArguments<'_>,
+    associations: u64,
+    rounds: u64,
+) -> ServerOptions
     ensures ae { result.config.ae ≡ asked.entry.ae }
     ensures offset { result.config.offset ≡ asked.entry.offset }
     ensures turns { result.turns ≡ turns_limit }
@@ -60,8 +68,8 @@ fn options_of(alloc: Global, asked: ServeArguments<'_>) -> ServerOptions
     ensures workers { result.workers ≡ asked.entry.workers }
     ensures watchers { result.watchers ≡ asked.entry.watchers }
     ensures verbose { result.verbose ≡ asked.entry.verbose }
-    ensures associations { result.associations ≡ endless }
-    ensures rounds { result.rounds ≡ endless }
+    ensures associations { result.associations ≡ associations }
+    ensures rounds { result.rounds ≡ rounds }
 {
     let ServeArguments {
         ae,
@@ -82,29 +90,41 @@ fn options_of(alloc: Global, asked: ServeArguments<'_>) -> ServerOptions
         timeout,
         delivery_timeout,
         workers,
-        associations: u64::MAX,
-        rounds: u64::MAX,
+        associations,
+        rounds,
         verbose,
         watchers,
     }
 }
 
-/// How many deliver event reports beside so many workers: one to the watchers that are not away, and one to those that
-/// are; or one to all, where the desk has no seat for another.
-fn deliverers_of(workers: u32) -> u32
-    ensures number { result ≡ deliverers_of workers }
+/// How many deliver event reports at most.
+const MAX_DELIVERERS: usize = 8;
+
+/// How many deliver event reports beside so many workers: one for each watcher, eight at most; no more than the desk has seats
+/// for, and at least one.
+fn deliverers_of(workers: u32, watchers: usize) -> u32
+    requires most { workers ≤ workers_limit }
+    ensures number { result ≡ deliverers_of workers watchers }
     ensures some { 1 ≤ result }
-    ensures few { result ≤ 2 }
+    ensures few { workers + result ≤ workers_limit + 1 }
 {
-    if workers < MAX_WORKERS { 2 } else { 1 }
+    let wanted = watchers.min(MAX_DELIVERERS) as u32;
+    let seats = MAX_WORKERS + 1 - workers;
+    wanted.min(seats).max(1)
 }
 
-/// Runs a server at a door, as the command line asks, for as long as the program lives, and hands back what it leaves: its
-/// manager has the settings that are asked for, and each of its threads has done its job as it is asked for, or none has
-/// begun.
+/// Runs a server at a door, as the command line asks, until each worker has served so many associations, and the sweeper and
+/// each deliverer has made so many rounds; and hands back what it leaves: its manager has the settings that are asked for, and
+/// each of its threads has done its job as it is asked for, or none has begun.
 ///
 /// Errors: lack of memory before the threads are started.
-fn serve_on<R>(rt: &R, door: Door, asked: ServeArguments<'_>) -> Result<RanServer, AllocError>
+fn serve_on<R>(
+    rt: &R,
+    door: Door,
+    asked: ServeArguments<'_>,
+    associations: u64,
+    rounds: u64,
+) -> Result<RanServer, AllocError>
 where
     R: Threads + Wait + Clock + Log + Sync + AllocGlobal + Network,
     requires some { 1 ≤ asked.workers }
@@ -113,23 +133,24 @@ where
     requires allowed { refusal asked.peers.items asked.offset history_limit ≡ None }
     ensures settings { IfOk result (λ server. server.desk.opening.settings ≡ settings_asked asked.entry) }
     ensures empty { IfOk result (λ server. server.desk.opening.history ≡ []) }
-    ensures ran { IfOk result (λ server. RanAsAsked asked.entry server.begun (passes_from server.desk.table server.desk.opening 1 (seats_of asked.entry.workers)) server.passes.items) }
+    ensures ran { IfOk result (λ server. RanAsAsked asked.entry associations rounds server.begun (passes_from server.desk.table server.desk.opening 1 (seats_of asked.entry.workers (length asked.entry.watchers.items))) server.passes.items) }
+    ensures here { IfOk result (λ server. All (λ p. p.table ≡ server.desk.table) server.passes.items) }
 {
     let alloc = rt.alloc();
     let Ok(manager) = Manager::new(alloc, &asked.peers, asked.keep, asked.offset, MAX_HISTORY)
     else {
         return Err(AllocError);
     };
-    let deliverers = deliverers_of(asked.workers);
     let watchers = asked.watchers.len();
-    let Ok(premises) = Premises::new(alloc, door, watchers, deliverers > 1) else {
+    let deliverers = deliverers_of(asked.workers, watchers);
+    let Ok(premises) = Premises::new(alloc, door, watchers, deliverers) else {
         return Err(AllocError);
     };
     let seats = asked.workers + deliverers + 1;
     let Ok((desk, passes)) = Desk::open(alloc, manager, seats) else {
         return Err(AllocError);
     };
-    let options = options_of(alloc, asked);
+    let options = options_of(alloc, asked, associations, rounds);
     let (begun, passes) = run(rt, &premises, &desk, passes, &options);
     Ok(RanServer {
         begun,
@@ -138,13 +159,19 @@ where
     })
 }
 
-/// Answers associations over TCP and delivers event reports, as the command line asks, for as long as the program lives,
-/// and hands back what the server leaves; None where it can't listen, which is told.
+/// Answers associations over TCP and delivers event reports, as the command line asks, until each worker has served so many
+/// associations, and the sweeper and each deliverer has made so many rounds; and hands back what the server leaves, whose
+/// passes are at its desk; None where it can't listen, which is told.
 ///
 /// # Errors
 ///
 /// Lack of memory before the threads are started.
-pub fn answer_network<R>(rt: &R, asked: ServeArguments<'_>) -> Result<Option<RanServer>, AllocError>
+pub fn answer_network<R>(
+    rt: &R,
+    asked: ServeArguments<'_>,
+    associations: u64,
+    rounds: u64,
+) -> Result<Option<RanServer>, AllocError>
 where
     R: Threads + Wait + Clock + Log + Sync + AllocGlobal + Print + Eprint + Network,
     requires some { 1 ≤ asked.workers }
@@ -153,10 +180,12 @@ where
     requires allowed { refusal asked.peers.items asked.offset history_limit ≡ None }
     ensures settings { IfOk result (λ left. IfSome left (λ server. server.desk.opening.settings ≡ settings_asked asked.entry)) }
     ensures empty { IfOk result (λ left. IfSome left (λ server. server.desk.opening.history ≡ [])) }
-    ensures ran { IfOk result (λ left. IfSome left (λ server. RanAsAsked asked.entry server.begun (passes_from server.desk.table server.desk.opening 1 (seats_of asked.entry.workers)) server.passes.items)) }
+    ensures ran { IfOk result (λ left. IfSome left (λ server. RanAsAsked asked.entry associations rounds server.begun (passes_from server.desk.table server.desk.opening 1 (seats_of asked.entry.workers (length asked.entry.watchers.items))) server.passes.items)) }
+    ensures here { IfOk result (λ left. IfSome left (λ server. All (λ p. p.table ≡ server.desk.table) server.passes.items)) }
 {
+    tell_settings(rt, &asked);
     match listen(rt, &asked) {
-        Ok(door) => Ok(Some(serve_on(rt, door, asked)?)),
+        Ok(door) => Ok(Some(serve_on(rt, door, asked, associations, rounds)?)),
         Err(fault) => {
             let _ = eprintln!(rt;
                 "upsd: it can't listen on {}, port {}: {fault}",
@@ -167,15 +196,22 @@ where
     }
 }
 
-/// How the program ends with what a server leaves: as stopped where it could not listen.
+/// Reads what a command line asks of `serve`, and does that as [`answer_network`] does.
 ///
-/// Errors: lack of memory, where its threads did not begin.
-pub(crate) fn server_status(left: Option<RanServer>) -> Result<Status, AllocError> {
-    let Some(server) = left else {
-        return Ok(Status::Stopped);
-    };
-    if !server.begun {
-        return Err(AllocError);
-    }
-    Ok(Status::Done)
+/// # Errors
+///
+/// Those of its words, as [`ArgumentFault`] has them; Memory also where memory ran out before the threads were started.
+pub fn serve_words<'a, R>(
+    rt: &R,
+    matches: &ArgMatches<'a>,
+    associations: u64,
+    rounds: u64,
+) -> Result<Option<RanServer>, ArgumentFault<'a>>
+where
+    R: Threads + Wait + Clock + Log + Sync + AllocGlobal + Print + Eprint + Network,
+    ensures ran { IfOk result (λ left. IfSome left (λ server. RanAsWords (found_of matches.now) associations rounds server.begun server.desk.table server.desk.opening server.passes.items)) }
+    ensures here { IfOk result (λ left. IfSome left (λ server. All (λ p. p.table ≡ server.desk.table) server.passes.items)) }
+{
+    let asked = serve_arguments(rt.alloc(), matches)?;
+    Ok(answer_network(rt, asked, associations, rounds)?)
 }

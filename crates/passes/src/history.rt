@@ -1,0 +1,56 @@
+//! What the history of a manager has.
+
+use crate::texts::no_words;
+use std::alloc::Global;
+use std::{io, str};
+use ups_life::{Entry, Request};
+
+/// How many entries are of a caller: the number of a pass, or 0 for those that no pass has made.
+pub(crate) fn count_of(history: &[Entry<Global>], caller: u32) -> u64 {
+    let mut count: u64 = 0;
+    for entry in history {
+        if entry.caller == caller {
+            count = count.wrapping_add(1);
+        }
+    }
+    count
+}
+
+/// What a request asks, in a word or two.
+fn verb_of(request: &Request<Global>) -> &'static str {
+    match request {
+        Request::Create { .. } => "create",
+        Request::Change { .. } => "change",
+        Request::AskCancel { .. } => "ask to cancel",
+        Request::Set { .. } => "set",
+        Request::Subscribe { .. } => "subscribe",
+        Request::Unsubscribe { .. } => "unsubscribe",
+        Request::Suspend { .. } => "suspend",
+        Request::Ack { .. } => "ack",
+        Request::Sweep => "sweep",
+    }
+}
+
+/// Tells who has made an entry, by its number and by its title, and what it asks.
+///
+/// Errors: those of the output.
+fn tell_entry<R: Print>(rt: &R, entry: &Entry<Global>) -> io::Result<()> {
+    let Ok(title) = str::from_utf8(entry.ae.as_bytes()) else {
+        return Err(no_words());
+    };
+    let verb = verb_of(&entry.request);
+    match entry.request {
+        Request::Ack { upto } => println!(rt; "{} {title} {verb} {upto}", entry.caller),
+        _ => println!(rt; "{} {title} {verb}", entry.caller),
+    }
+}
+
+/// Tells each entry of a history, in a line.
+///
+/// Errors: those of the output.
+pub(crate) fn tell_history<R: Print>(rt: &R, history: &[Entry<Global>]) -> io::Result<()> {
+    for entry in history {
+        tell_entry(rt, entry)?;
+    }
+    Ok(())
+}

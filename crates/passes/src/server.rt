@@ -1,0 +1,87 @@
+//! A server that comes to its end.
+
+ghost use Rattle.std.specs.Prelude.{◌≡◌, All};
+
+use crate::history::tell_history;
+use crate::texts::{no_words, out_of_memory};
+use clap::ArgMatches;
+use log::Log;
+use std::io;
+use std::sync::Wait;
+use std::thread::Threads;
+use std::time::Clock;
+use ups_args::{ArgumentFault, command};
+use ups_net::Network;
+use ups_server::{RanServer, serve_words};
+
+/// The error of words that are refused, or of lack of memory.
+fn error_of(fault: ArgumentFault<'_>) -> io::Error {
+    match fault {
+        ArgumentFault::Memory => out_of_memory(),
+        _ => no_words(),
+    }
+}
+
+/// Runs a server by the words behind `serve`, for so many associations of each worker, and so many rounds of the sweeper and of
+/// each deliverer; and tells its history, once its desk is closed.
+///
+/// Errors: InvalidInput where it doesn't listen, or the words are refused; those of the output; lack of memory, or of a
+/// thread.
+fn tell_served<R>(
+    rt: &R,
+    matches: &ArgMatches<'_>,
+    associations: u64,
+    rounds: u64,
+) -> io::Result<()>
+where
+    R: Threads + Wait + Clock + Log + Sync + AllocGlobal + Print + Eprint + Network,
+{
+    match serve_words(rt, matches, associations, rounds) {
+        Ok(Some(server)) => tell_left(rt, server),
+        Ok(None) => Err(no_words()),
+        Err(fault) => Err(error_of(fault)),
+    }
+}
+
+/// Closes the desk of a server, and tells the history.
+///
+/// Errors: those of the output; lack of memory, or of a thread.
+fn tell_left<R: Print>(rt: &R, server: RanServer) -> io::Result<()>
+    requires here { All (λ p. p.table ≡ server.desk.table) server.passes.items }
+{
+    let RanServer {
+        begun,
+        desk,
+        passes,
+    } = server;
+    if !begun {
+        return Err(out_of_memory());
+    }
+    match desk.close(passes) {
+        Ok(manager) => tell_history(rt, manager.history()),
+        Err(_) => Err(no_words()),
+    }
+}
+
+/// Runs a server by a command line of `upsd serve`, of which the first word stands for the program, and tells what it leaves.
+///
+/// Errors: InvalidInput where the words are no such command line, or it doesn't listen; those of the output; lack of memory, or
+/// of a thread.
+pub(crate) fn tell_server<R>(
+    rt: &R,
+    words: &[String],
+    associations: u64,
+    rounds: u64,
+) -> io::Result<()>
+where
+    R: Threads + Wait + Clock + Log + Sync + AllocGlobal + Print + Eprint + Network,
+{
+    let command = command(rt.alloc())?;
+    let Ok(matches) = command.try_get_matches_from(words) else {
+        return Err(no_words());
+    };
+    match matches.subcommand() {
+        Some(("serve", matches)) => tell_served(rt, matches, associations, rounds),
+        _ => Err(no_words()),
+    }
+}

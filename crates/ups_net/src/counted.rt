@@ -1,0 +1,57 @@
+//! A service that counts which reports are acknowledged.
+
+ghost use Rattle.std.specs.Prelude.{◌≡◌};
+
+use std::alloc::Global;
+use ups_cycle::Status;
+use ups_life::{Ask, Reply, Request};
+use ups_pdu::Ae;
+use ups_service::Service;
+
+/// A service, and how many acknowledgements of event reports it has accepted. It answers as what is inside.
+#[derive(Drop)]
+pub(crate) struct Counted<S: Service<Global>> {
+    pub(crate) service: S,
+    pub(crate) acknowledged: u64,
+}
+
+impl<S: Service<Global>> Counted<S> {
+    /// A service that has accepted none yet.
+    pub(crate) fn new(service: S) -> Counted<S>
+        ensures { result.service ≡ service }
+    {
+        Counted {
+            service,
+            acknowledged: 0,
+        }
+    }
+}
+
+/// Whether an ask is an acknowledgement.
+fn is_acknowledgement(ask: &Option<Ask<Global>>) -> bool {
+    matches!(ask, Some(Ask::Do(Request::Ack { .. })))
+}
+
+/// Whether a reply says that a request was accepted.
+fn is_success(reply: &Reply<Global>) -> bool {
+    matches!(reply, Reply::Status(Status::Success))
+}
+
+impl<S: Service<Global>> Service<Global> for Counted<S> {
+    ghost settings = { λ c. S.settings c.service };
+
+    ghost others = { λ c. S.others c.service };
+
+    ghost caller = { λ c. S.caller c.service };
+
+    ghost seen = { λ c. S.seen c.service };
+
+    fn answer(&mut self, ae: Ae, moment: u64, ask: &mut Option<Ask<Global>>) -> Reply<Global> {
+        let is_counted = is_acknowledgement(ask);
+        let reply = self.service.answer(ae, moment, ask);
+        if is_counted && is_success(&reply) {
+            self.acknowledged = self.acknowledged.saturating_add(1);
+        }
+        reply
+    }
+}

@@ -1,0 +1,152 @@
+//! How an association makes way for a connection that waits.
+
+ghost use Rattle.std.specs.Prelude.{◌≡◌, ◌<◌};
+
+use crate::clock::milliseconds_of;
+use crate::door::Door;
+use crate::socket::{has_come, which_have_come};
+use std::net::TcpStream;
+use std::time::{Clock, Duration};
+
+/// For how many milliseconds a look at the door waits before the next one: while others wait there, and while a worker is
+/// free.
+const LOOK: i32 = 10;
+
+const LONG_LOOK: i32 = 1_000;
+
+/// At how many looks in a row somebody has to wait at the door.
+const LOOKS: u32 = 3;
+
+/// For how many milliseconds an association request that has begun is left alone while others wait, by how many associations
+/// in a row have kept the same worker waiting before, until they made way or ran into a limit.
+pub fn request_grace(in_row: u32) -> u64
+    ensures first { in_row ≡ 0 → result ≡ 1000 }
+    ensures second { in_row ≡ 1 → result ≡ 500 }
+    ensures others { 1 < in_row → result ≡ 200 }
+{
+    match in_row {
+        0 => 1_000,
+        1 => 500,
+        _ => 200,
+    }
+}
+
+/// For how many milliseconds an association that is idle, and on which nothing was asked yet, is left alone while others wait,
+/// by how many associations in a row have kept the same worker waiting before. One on which something was asked is left
+/// alone as if there were none.
+pub fn idle_grace(in_row: u32) -> u64
+    ensures first { in_row ≡ 0 → result ≡ 10000 }
+    ensures second { in_row ≡ 1 → result ≡ 500 }
+    ensures others { 1 < in_row → result ≡ 200 }
+{
+    match in_row {
+        0 => 10_000,
+        _ => request_grace(in_row),
+    }
+}
+
+/// What an association may have to make way for: the connections that wait at a door, the sooner the more associations in a
+/// row have kept its worker waiting before it.
+#[derive(Clone, Copy)]
+pub struct Pressure<'a> {
+    pub door: &'a Door,
+    pub in_row: u32,
+}
+
+impl<'a> Pressure<'a> {
+    /// That on an association on which something was asked already, or not yet.
+    pub(crate) fn on(self, has_asked: bool) -> Pressure<'a> {
+        let in_row = if has_asked { 0 } else { self.in_row };
+        Pressure {
+            door: self.door,
+            in_row,
+        }
+    }
+
+    /// For how long an association request that has begun is left alone.
+    pub(crate) fn for_request(&self) -> Duration {
+        Duration::from_millis(request_grace(self.in_row))
+    }
+
+    /// For how long an association that is idle is left alone.
+    pub(crate) fn for_idle(&self) -> Duration {
+        Duration::from_millis(idle_grace(self.in_row))
+    }
+}
+
+/// What is seen at a look.
+#[derive(Clone, Copy, PartialEq, Eq)]
+pub(crate) enum Seen {
+    /// The peer has said something, or is gone.
+    Peer,
+    /// Another connection waits, and this association is the one that makes way.
+    Others,
+    /// Neither.
+    Nothing,
+}
+
+/// What is seen where the peer alone was looked at.
+fn seen_of(has_spoken: bool) -> Seen {
+    if has_spoken {
+        Seen::Peer
+    } else {
+        Seen::Nothing
+    }
+}
+
+/// An association behind its grace: it stays for as long as nobody waits for its worker. Of those that are idle for their
+/// first ten seconds and more the one that is idle for the longest makes way first. Nothing is promised of it.
+#[derive(Drop)]
+pub(crate) struct Stay<'a> {
+    pressure: Pressure<'a>,
+    /// Whether the others that are idle for longer make way before it.
+    is_in_order: bool,
+    /// Since when it stays, in milliseconds since 1970-01-01 UTC.
+    since: u64,
+    /// At how many looks in a row others waited.
+    looks: u32,
+}
+
+impl<'a> Stay<'a> {
+    /// That of an association which is idle, or has not been asked for as a whole.
+    pub(crate) fn new<R: Clock>(rt: &R, pressure: Pressure<'a>, is_idle: bool) -> Stay<'a> {
+        Stay {
+            pressure,
+            is_in_order: is_idle && pressure.in_row == 0,
+            since: milliseconds_of(rt),
+            looks: 0,
+        }
+    }
+
+    /// Whether it is its turn to make way.
+    fn is_due(&self) -> bool {
+        self.looks >= LOOKS && (!self.is_in_order || self.pressure.door.is_first(self.since))
+    }
+
+    /// Waits for the peer and for others, for so many milliseconds at most. While others wait it looks again a little later.
+    pub(crate) fn look(&mut self, stream: &TcpStream, milliseconds: i32) -> Seen {
+        let door = self.pressure.door;
+        if door.has_free_worker() {
+            self.looks = 0;
+            return seen_of(has_come(stream, milliseconds.min(LONG_LOOK)));
+        }
+        let (has_spoken, is_waited) = which_have_come(stream, door.listener(), milliseconds);
+        if has_spoken {
+            return Seen::Peer;
+        }
+        if !is_waited {
+            self.looks = 0;
+            return Seen::Nothing;
+        }
+        self.looks = self.looks.saturating_add(1);
+        if self.is_due() {
+            return Seen::Others;
+        }
+        seen_of(has_come(stream, LOOK))
+    }
+
+    /// It stays no longer, since its peer has spoken, its time is over or it makes way.
+    pub(crate) fn end(&self) {
+        self.pressure.door.step_back(self.since);
+    }
+}

@@ -1,0 +1,2 @@
+mod Seating
+mod Words

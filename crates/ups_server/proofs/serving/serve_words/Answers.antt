@@ -1,0 +1,22 @@
+use Rattle.clap.specs.Matches.{found_of}
+use Rattle.ups_server.specs.Serving.{AreWords}
+use Rattle.ups_server.proofs.Words.{by_words}
+use Rattle.ups_server.proofs.serving.serve_words.Goals as goal
+
+pub returns-clause-ran : goal.returns-clause-ran
+returns-clause-ran g c =
+    let e = c.in_ok-asked.ensures in
+    let words : AreWords (found_of c.args.matches.now) c.in_ok-asked.asked = record {
+      title = e.title;
+      peers = e.peers;
+      watchers = e.watchers;
+      keep = e.keep;
+      offset = e.offset;
+      workers = e.workers;
+      idle = e.idle;
+      timeout = e.timeout;
+      delivery_timeout = e.delivery_timeout;
+      verbose = e.verbose;
+    } in
+    let left = c.in_ok-answer_network.ensures in
+    by_words (found_of c.args.matches.now) c.args.associations c.args.rounds c.in_ok-asked.asked words c.in_ok-answer_network.field-0 left.settings left.empty left.ran

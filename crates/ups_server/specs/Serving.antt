@@ -1,0 +1,70 @@
+-- What a server does, as its command line asks.
+use Rattle.std.specs.Prelude.{◌≡◌, ℕ, ◌+◌, ◌-◌, min, max, Bool, List, [], codes, length, unwrap_or}
+use Rattle.atomic_table.specs.Seated.{TableId}
+use Rattle.clap.specs.Matches.{first_value}
+use Rattle.clap.specs.declared.parser.matches.Found.{Found}
+use Rattle.ups_args.specs.Arguments.{IsFlag, NamePeers, NameWatchers, SaysDeliveryTimeout, SaysIdle, SaysKeep, SaysOffset, SaysTimeout, SaysWorkersOrNot, argument_words}
+use Rattle.ups_args.specs.declared.server.ServeArguments.{ServeArguments}
+use Rattle.ups_args.specs.Limits.{workers_limit}
+use Rattle.ups_life.specs.Limits.{history_limit}
+use Rattle.ups_life.specs.Settings.{Settings}
+use Rattle.ups_net.specs.Working.{Ran}
+use Rattle.ups_net.specs.declared.options.ServerOptions.{ServerOptions}
+use Rattle.ups_pdu.specs.Title.{SpellsAe}
+use Rattle.ups_service.specs.State.{State}
+use Rattle.ups_turn.specs.Pass.{Standing, passes_from}
+use Rattle.ups_server.specs.Limits.{turns_limit}
+
+-- how many deliver event reports beside so many workers: one for each watcher, eight at most; no more than the desk has
+-- seats for, and at least one
+abbrev pub deliverers_of : ℕ → ℕ → ℕ
+deliverers_of workers watchers = max 1 (min (min watchers 8) (workers_limit + 1 - workers))
+
+-- the seats of the desk: for the workers, for those that deliver, and for the one that sweeps
+abbrev pub seats_of : ℕ → ℕ → ℕ
+seats_of workers watchers = workers + deliverers_of workers watchers + 1
+
+-- the settings of the manager
+abbrev pub settings_asked : ServeArguments → Settings
+settings_asked asked = record { peers = asked.peers.items; keep = asked.keep; offset = asked.offset; limit = history_limit }
+
+-- how the threads of the server work: with its title, its local time, its limits, its workers and its watchers; each worker
+-- has so many associations to serve, and the sweeper and each deliverer so many rounds to make
+pub record AreAsked (options : ServerOptions) (asked : ServeArguments) (to_serve to_make : ℕ) : Type 0 where
+  pub ae : options.config.ae ≡ asked.ae
+  pub offset : options.config.offset ≡ asked.offset
+  pub turns : options.turns ≡ turns_limit
+  pub idle : options.idle ≡ asked.idle
+  pub timeout : options.timeout ≡ asked.timeout
+  pub delivery_timeout : options.delivery_timeout ≡ asked.delivery_timeout
+  pub workers : options.workers ≡ asked.workers
+  pub watchers : options.watchers ≡ asked.watchers
+  pub verbose : options.verbose ≡ asked.verbose
+  pub associations : options.associations ≡ to_serve
+  pub rounds : options.rounds ≡ to_make
+
+-- what becomes of the passes of the server: its threads have all done what is asked, or none has begun
+abbrev pub RanAsAsked : {A : Type 0} → ServeArguments → ℕ → ℕ → Bool → List (Standing A) → List (Standing A) → Type 0
+RanAsAsked asked associations rounds begun olds news = (options : ServerOptions) × AreAsked options asked associations rounds × Ran options begun olds news
+
+-- what the words of a command line ask of `serve`, by what the parser found in them
+pub record AreWords (found : Found) (asked : ServeArguments) : Type 0 where
+  pub title : SpellsAe (unwrap_or (first_value found (codes "ae")) []) asked.ae
+  pub peers : NamePeers (argument_words found (codes "peer")) asked.peers.items
+  pub watchers : NameWatchers (argument_words found (codes "peer")) asked.watchers.items
+  pub keep : SaysKeep (first_value found (codes "keep")) asked.keep
+  pub offset : SaysOffset (first_value found (codes "offset")) asked.offset
+  pub workers : SaysWorkersOrNot (first_value found (codes "associations")) asked.workers
+  pub idle : SaysIdle (first_value found (codes "idle")) asked.idle
+  pub timeout : SaysTimeout (first_value found (codes "timeout")) asked.timeout
+  pub delivery_timeout : SaysDeliveryTimeout (first_value found (codes "delivery-timeout")) asked.delivery_timeout
+  pub verbose : IsFlag found (codes "verbose") asked.verbose
+
+-- What becomes of a server by the words of a command line: its manager opened without history, with the settings that they
+-- ask for, and its passes have done what they ask for, or none has begun.
+pub record RanAsWords {A : Type 0} (found : Found) (associations rounds : ℕ) (begun : Bool) (table : TableId) (opening : State A) (news : List (Standing A)) : Type 0 where
+  pub asked : ServeArguments
+  pub words : AreWords found asked
+  pub settings : opening.settings ≡ settings_asked asked
+  pub empty : opening.history ≡ []
+  pub ran : RanAsAsked asked associations rounds begun (passes_from table opening 1 (seats_of asked.workers (length asked.watchers.items))) news

@@ -1,0 +1,10 @@
+//! A server as a command line asks for it: its manager, its desk and its threads, from the door on which it listens until
+//! each of its threads has done as much as it is to do. What the words of the command line are is read by `ups_args`.
+#![tactic(auto)]
+
+mod limits;
+mod serving;
+mod telling;
+
+pub use limits::{TURNS, limits_are_as_defined};
+pub use serving::{RanServer, answer_network, serve_words};

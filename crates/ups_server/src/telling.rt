@@ -1,0 +1,28 @@
+//! What the log tells of a server when it begins.
+
+use log::{Log, info};
+use std::str;
+use ups_args::{ServeArguments, VERSION};
+
+/// Tells the version and what is asked of a server, and where each watcher is: of the other peers, how many there are.
+pub(crate) fn tell_settings<R: Log>(rt: &R, asked: &ServeArguments<'_>) {
+    let ServeArguments {
+        bind,
+        port,
+        keep,
+        offset,
+        workers,
+        idle,
+        timeout,
+        delivery_timeout,
+        verbose,
+        ..
+    } = asked;
+    let title = str::from_utf8(asked.ae.as_bytes()).unwrap_or("");
+    let (peers, watchers) = (asked.peers.len(), asked.watchers.len());
+    info!(rt; target: "upsd", "upsd {VERSION}: ae={title} bind={bind} port={port} associations={workers} idle={idle} timeout={timeout} delivery-timeout={delivery_timeout} keep={keep} offset={offset} verbose={verbose} peers={peers} watchers={watchers}");
+    for watcher in asked.watchers.iter() {
+        let title = str::from_utf8(watcher.ae.as_bytes()).unwrap_or("");
+        info!(rt; target: "upsd", "watcher {title} at {}, port {}", watcher.host, watcher.port);
+    }
+}
