@@ -13,7 +13,9 @@ itself. It prints a line for each trial that doesn't agree, and in the end how m
                  Explicit VR Little Endian: each is created, and then claimed, set, completed, canceled by request or by
                  its performer, queried, and watched by a subscription to it or to all
     ups.py       the client of the examples, one association for each command: the life of three steps, of which one is
-                 completed, one is canceled by request and one by its performer, with a watcher that takes its reports
+                 completed, one is canceled by request and one by its performer, with a watcher that takes its reports;
+                 texts with umlauts and in Cyrillic, in UTF-8 and in a character set that is named, which are shown, found
+                 and reported as they were given; keys within sequences, and the worklist of a station
     the watcher  is a peer of the server that listens here. It takes the server's associations, answers each
                  N-EVENT-REPORT with 0000, and compares the reports with PS3.4 section CC.2.4: the step, the type, the
                  data set and the order. A State Report may be left out where a later one of its step came in time
@@ -64,6 +66,9 @@ TRIALS = [
 # what is tried of examples/ups.py, in order: a name, the words, the exit status, and what is read among what is told
 DONE, REFUSED, NO_ANSWER = 0, 1, 2
 F, G, H = "1.2.3.6", "1.2.3.7", "1.2.3.8"
+UMLAUTS, CYRILLIC, LATIN = "1.2.3.10", "1.2.3.11", "1.2.3.12"
+LATIN_1 = ["-k", "SpecificCharacterSet=ISO_IR 100"]
+STATION_CODE = "(0040,4025)[0].(0008,0100)=R1"
 HOLDER = ["--transaction", "2.25.7"]
 REPORTS = ["watch", "--ae", "WATCHER", "--associations", "1"]
 CLIENT = [
@@ -95,6 +100,43 @@ CLIENT = [
     ("cancel", ["finish", H, *HOLDER, "--canceled"], DONE, "0000 success"),
     ("watch the progress", REPORTS, DONE, f"{H} progress: ProcedureStepProgressInformationSequence=.."),
     ("unsubscribe", ["unsubscribe", "--receiver", "WATCHER"], DONE, "0000 success"),
+    # texts that aren't ASCII
+    ("create with umlauts", ["create", UMLAUTS, "--label", "KÖPFE", "--patient-id", "P2", "--patient-name", "MÜLLER^JÜRGEN"], DONE,
+     "0000 success"),
+    ("get umlauts", ["get", UMLAUTS], DONE, "PN: 'MÜLLER^JÜRGEN'"),
+    ("get the character set", ["get", UMLAUTS], DONE, "CS: 'ISO_IR 192'"),
+    ("find umlauts", ["find", "--label", "KÖPF*"], DONE, f"{UMLAUTS}  MÜLLER^JÜRGEN  P2  "),
+    ("find one letter of them", ["find", "-k", "PatientName=M??LLER*"], DONE, "1 found"),  # of two bytes: bytes are compared
+    ("create in Cyrillic, for a station", ["create", CYRILLIC, "--label", "КТ", "--patient-name", "ИВАНОВ^ИВАН", "-k", STATION_CODE,
+     "-k", "ScheduledStationNameCodeSequence[0].CodeMeaning=РЕНТГЕН"], DONE, "0000 success"),
+    ("get Cyrillic in a sequence", ["get", CYRILLIC], DONE, "LO: 'РЕНТГЕН'"),
+    ("find by a name in Cyrillic", ["find", "-k", "PatientName=ИВАН*"], DONE, f"{CYRILLIC}  ИВАНОВ^ИВАН  -  "),
+    ("create in a character set that is named", ["create", LATIN, "--patient-name", "MÜLLER", *LATIN_1], DONE, "0000 success"),
+    ("get it", ["get", LATIN], DONE, "CS: 'ISO_IR 100'"),
+    ("get its name", ["get", LATIN], DONE, "PN: 'MÜLLER'"),
+    ("find it, beside the others", ["find"], DONE, f"{LATIN}  MÜLLER  -  "),
+    ("a name that its character set lacks", ["create", "1.2.3.13", "--patient-name", "ИВАНОВ", *LATIN_1], NO_ANSWER, "can't be written"),
+    ("a state that isn't ASCII", ["find", "--state", "FÄLLIG"], NO_ANSWER, "that is ASCII alone"),
+    ("subscribe to one step", ["subscribe", "--receiver", "WATCHER", "--step", UMLAUTS], DONE, "0000 success"),
+    ("request to cancel with umlauts", ["cancel", UMLAUTS, "--reason", "ÜBEL"], DONE, "0000 success"),
+    ("watch umlauts", REPORTS, DONE, "ReasonForCancellation=ÜBEL"),
+    # keys within sequences
+    ("find the worklist of a station", ["find", "--station", "R1"], DONE, "{R1 РЕНТГЕН}  SCHEDULED"),
+    ("find nothing else there", ["find", "--station", "R1"], DONE, "1 found"),
+    ("find the worklist of another station", ["find", "--station", "R2"], DONE, "0 found"),
+    ("find by a key in a sequence", ["find", "-k", STATION_CODE], DONE, f"{CYRILLIC}  "),
+    ("find by keywords in a sequence", ["find", "-k", "ScheduledStationNameCodeSequence[0].CodeValue=R*"], DONE, "1 found"),
+    ("find by hex digits in a sequence", ["find", "-k", "00404025[0].00080100=R2"], DONE, "0 found"),
+    ("find by two keys of an item", ["find", "--station", "R1", "-k", "(0040,4025)[0].(0008,0104)=РЕНТГЕН"], DONE, "1 found"),
+    ("find by two keys that no item has", ["find", "--station", "R1", "-k", "(0040,4025)[0].(0008,0102)=99A"], DONE, "0 found"),
+    ("find with a sequence as a return key", ["find", "-k", "(0040,4018)"], DONE, "0000 success"),
+    ("a key of two items", ["find", "-k", STATION_CODE, "-k", "(0040,4025)[1].(0008,0100)=R2"], REFUSED, "A900"),
+    ("subscribe by a key in a sequence", ["subscribe", "--receiver", "WATCHER", "-k", STATION_CODE], DONE, "0000 success"),
+    ("watch what it finds", REPORTS, DONE, f"{CYRILLIC} state: "),
+    ("a sequence with a value", ["find", "-k", "ScheduledStationNameCodeSequence=R1"], NO_ANSWER, "is no attribute that can be given"),
+    ("a second item without a first", ["find", "-k", "(0040,4025)[1].(0008,0100)=R1"], NO_ANSWER, "is no attribute that can be given"),
+    ("an item of what is no sequence", ["find", "-k", "(0010,0020)[0].(0008,0100)=R1"], NO_ANSWER, "is no attribute that can be given"),
+    ("a title of 17 characters", ["echo", "--ae", "A2345678901234567"], NO_ANSWER, "is no title"),
 ]
 
 
@@ -198,7 +240,8 @@ def by_client(words: list[str], status: int, told: str) -> Optional[str]:
     """Why a trial of examples/ups.py doesn't agree, or None."""
     client = [sys.executable, os.path.join(HERE, "examples/ups.py"), *words]
     try:
-        ran = subprocess.run(client, capture_output=True, text=True, timeout=LIMIT)
+        utf_8 = {**os.environ, "PYTHONIOENCODING": "utf-8"}
+        ran = subprocess.run(client, capture_output=True, encoding="utf-8", timeout=LIMIT, env=utf_8)
     except subprocess.TimeoutExpired:
         return f"ups.py {' '.join(words)} does not end"
     said = ran.stdout + ran.stderr

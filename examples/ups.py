@@ -4,6 +4,7 @@
     examples/ups.py echo
     examples/ups.py create 1.2.3.1 --label "CT READ" --patient-id P1 --patient-name DOE^JANE
     examples/ups.py find --state SCHEDULED
+    examples/ups.py find --station R1
     examples/ups.py claim 1.2.3.1 --transaction 2.25.7
     examples/ups.py set 1.2.3.1 --transaction 2.25.7 -k "ProcedureStepLabel=CT READ 2"
     examples/ups.py finish 1.2.3.1 --transaction 2.25.7
@@ -11,10 +12,14 @@
     examples/ups.py subscribe --ae WATCH1 --receiver WATCH1
     examples/ups.py watch --ae WATCH1 --listen 11113
 
-Each command has its own --help with an example. The server is on 127.0.0.1, port 11112, and is called UPSD, unless --host,
---port and --called say otherwise; this side is called CLIENT, or what --ae says. It needs Python 3.9 and pydicom, Debian's
-package python3-pydicom. The exit status is 0 where the server answers with success or a warning, 1 where it answers with
-a failure, and 2 where there is no answer.
+Each command has its own --help with an example. A key or an attribute (-k) is a keyword, or the tag, with `=` and a value; one
+within a sequence has the way to it in front, as DCMTK writes it: (0040,4025)[0].(0008,0100)=R1, where [0] is the first item.
+Where a text isn't ASCII, the data set says that it is UTF-8 (ISO_IR 192), unless -k SpecificCharacterSet= says another set.
+
+The server is on 127.0.0.1, port 11112, and is called UPSD, unless --host, --port and --called say otherwise; this side is called
+CLIENT, or what --ae says. It needs Python 3.9 and pydicom (apt-get install -y python3-pydicom: then /usr/bin/python3 has it). The
+exit status is 0 where the server answers with success or a warning, 1 where it answers with a failure, and 2 where there is no
+answer, or where what is asked can't be sent.
 """
 
 from __future__ import annotations
@@ -22,13 +27,16 @@ from __future__ import annotations
 import argparse
 import datetime
 import itertools
+import re
 import socket
 import struct
 import sys
+import warnings
 from typing import Any, Iterator, Optional
 
 try:
     from pydicom.datadict import dictionary_VR, tag_for_keyword
+    from pydicom.dataelem import DataElement
     from pydicom.dataset import Dataset
     from pydicom.filebase import DicomBytesIO
     from pydicom.filereader import read_dataset
@@ -47,6 +55,10 @@ EXPLICIT = "1.2.840.10008.1.2.1"
 APPLICATION_CONTEXT = "1.2.840.10008.3.1.1.1"
 IMPLEMENTATION = "2.25.7002"
 LONGEST = 16_384  # bytes of a P-DATA-TF that this side receives
+UTF_8 = "ISO_IR 192"
+NUMBERS = {"SL", "SS", "UL", "US"}
+CHARACTER_SET = 0x0008_0005  # the tag of Specific Character Set
+TEXTS = {"LO", "LT", "PN", "SH", "ST", "UC", "UT"}  # what may have other characters than ASCII (PS3.5 section 6.1.2.2)
 
 # PDU types (PS3.8 section 9.3.1)
 ASSOCIATE_RQ, ASSOCIATE_AC, ASSOCIATE_RJ, P_DATA_TF, RELEASE_RQ, RELEASE_RP, ABORT = range(1, 8)
@@ -82,16 +94,38 @@ def pdu(kind: int, body: bytes) -> bytes:
     return struct.pack(">BBI", kind, 0, len(body)) + body
 
 
+def is_ascii(element: DataElement) -> bool:
+    values = [element.value] if isinstance(element.value, str) or not hasattr(element.value, "__iter__") else element.value
+    return element.VR == "SQ" or all(str(value).isascii() for value in values)
+
+
+def say_characters(given: Dataset) -> None:
+    """Has a data set say that its texts are UTF-8 where one isn't ASCII and no other character set is given."""
+    for element in [it for it in given.iterall() if not is_ascii(it)]:
+        if element.VR not in TEXTS:
+            raise Refused(f"{element.value!r} can't be {element.keyword or element.tag}: that is ASCII alone")
+        if not given.get("SpecificCharacterSet"):
+            given.SpecificCharacterSet = UTF_8
+
+
 def spelled(given: Dataset, implicit: bool) -> bytes:
     """A data set as bytes: in Implicit or in Explicit VR Little Endian."""
     out = DicomBytesIO()
     out.is_little_endian, out.is_implicit_VR = True, implicit
-    write_dataset(out, given)
+    say_characters(given)
+    with warnings.catch_warnings():
+        warnings.filterwarnings("error", "Failed to encode|Unknown encoding")
+        try:
+            write_dataset(out, given)
+        except Exception as fault:  # pydicom's faults are of many classes
+            why = str(fault).split("\n")[0].split(" - using ")[0]
+            raise Refused(f"the data set can't be written: {why}") from None
     return out.getvalue()
 
 
 def read(found: bytes, implicit: bool) -> Dataset:
-    return read_dataset(DicomBytesIO(found), implicit, True)
+    """A data set by its bytes. Where it says no character set, as no event report does, its texts are read as UTF-8."""
+    return read_dataset(DicomBytesIO(found), implicit, True, parent_encoding="utf8")
 
 
 def made(attributes: dict[str, Any]) -> Dataset:
@@ -240,16 +274,52 @@ def now() -> str:
     return datetime.datetime.now().strftime("%Y%m%d%H%M%S")
 
 
-def attributes_of(words: list[str]) -> Dataset:
-    """A data set by words, each a keyword or the hex digits of a tag, `=` and a value."""
-    found = Dataset()
+def tag_of(name: str) -> int:
+    """The tag that a keyword names, or that is written in hex digits, as (0010,0020) or 00100020."""
+    return name and tag_for_keyword(name) or int(re.sub(r"^\(?([0-9A-Fa-f]{4}),([0-9A-Fa-f]{4})\)?$", r"\1\2", name), 16)
+
+
+def item_of(given: Dataset, part: str) -> Dataset:
+    """The item that a part of a path names, as `(0040,4025)[0]`; it is added where it is the next of its sequence."""
+    name, _, place = part.removesuffix("]").partition("[")
+    tag, number = tag_of(name), int(place)
+    if dictionary_VR(tag) != "SQ" or not part.endswith("]"):
+        raise ValueError("no item of a sequence")
+    if tag not in given:
+        given.add_new(tag, "SQ", [])
+    items_there = given[tag].value
+    if number == len(items_there):
+        items_there.append(Dataset())
+    return items_there[number]
+
+
+def give(given: Dataset, word: str) -> None:
+    """Adds what a word says to a data set: the path of an attribute, `=` and a value. A sequence is given without value."""
+    path, _, value = word.partition("=")
+    *outer, last = path.split(".")
+    for part in outer:
+        given = item_of(given, part)
+    if last.endswith("]"):
+        item_of(given, last)
+        is_sequence = True
+    else:
+        tag = tag_of(last)
+        kind = dictionary_VR(tag)
+        is_sequence = kind == "SQ"
+        given.add_new(tag, kind, [] if is_sequence else int(value) if kind in NUMBERS and value else value)
+    if is_sequence and value:
+        raise ValueError("a value of a sequence")
+
+
+def attributes_of(words: list[str], given: Optional[Dataset] = None) -> Dataset:
+    """A data set, a new one if none is given, with what words say."""
+    found = Dataset() if given is None else given
     for word in words:
-        name, _, value = word.partition("=")
         try:
-            tag = tag_for_keyword(name) or int(name, 16)
-            found.add_new(tag, dictionary_VR(tag), value)
-        except (KeyError, TypeError, ValueError):
-            raise Refused(f"{word!r} is no attribute that can be given: write it as PatientID=P1 or 00100020=P1") from None
+            give(found, word)
+        except (IndexError, KeyError, TypeError, ValueError):
+            raise Refused(f"{word!r} is no attribute that can be given: write it as PatientID=P1, 00100020=P1 or (0010,0020)=P1, and "
+                          "what is within a sequence as (0040,4025)[0].(0008,0100)=R1, its items in the order 0, 1 and so on") from None
     return found
 
 
@@ -277,19 +347,29 @@ def create(association: Association, asked: argparse.Namespace) -> int:
         step.PatientID = asked.patient_id
     if asked.patient_name:
         step.PatientName = asked.patient_name
-    step.update(attributes_of(asked.attributes))
+    attributes_of(asked.attributes, step)
     elements = {"AffectedSOPClassUID": PUSH, "CommandField": 0x0140, "AffectedSOPInstanceUID": asked.step}
     return association.ask(PUSH, elements, step)[0][0].Status
 
 
+def shown(element: DataElement) -> str:
+    """The value of an element; of a sequence the values of its items, in braces."""
+    if element.VR != "SQ":
+        return str(element.value) or "-"
+    return "{" + ", ".join(" ".join(shown(each) for each in one) for one in element.value) + "}" if element.value else "-"
+
+
 def find(association: Association, asked: argparse.Namespace) -> int:
-    keys = made({"SOPInstanceUID": "", "ProcedureStepState": asked.state, "ProcedureStepLabel": asked.label, "PatientID": asked.patient_id,
-                 "PatientName": "", "ScheduledProcedureStepPriority": "", "ScheduledProcedureStepStartDateTime": asked.start})
-    keys.update(attributes_of(asked.attributes))
+    keys = made({"SpecificCharacterSet": "", "SOPInstanceUID": "", "ProcedureStepState": asked.state, "ProcedureStepLabel": asked.label,
+                 "PatientID": asked.patient_id, "PatientName": "", "ScheduledProcedureStepPriority": "",
+                 "ScheduledProcedureStepStartDateTime": asked.start})
+    if asked.station:
+        keys.ScheduledStationNameCodeSequence = [made({"CodeValue": asked.station})]
+    attributes_of(asked.attributes, keys)
     answers = association.ask(PULL, {"AffectedSOPClassUID": PULL, "CommandField": 0x0020, "Priority": 0}, keys)
     for _command, found in answers[:-1]:
         if found is not None:
-            print("  ".join(str(element.value) or "-" for element in found))
+            print("  ".join(shown(element) for element in found if element.tag != CHARACTER_SET))
     print(f"{len(answers) - 1} found")
     return answers[-1][0].Status
 
@@ -398,12 +478,19 @@ def watch(asked: argparse.Namespace) -> int:
     return 0
 
 
+def title(word: str) -> str:
+    """An application entity title."""
+    if not (word.isascii() and word.isprintable() and 1 <= len(word) <= 16):
+        raise argparse.ArgumentTypeError(f"{word!r} is no title: that is 1 to 16 characters of ASCII")
+    return word
+
+
 def parser() -> argparse.ArgumentParser:
     common = argparse.ArgumentParser(add_help=False)
     common.add_argument("--host", default="127.0.0.1", help="where the server is (127.0.0.1)")
     common.add_argument("--port", type=int, default=11112, help="its port (11112)")
-    common.add_argument("--called", default="UPSD", help="its title (UPSD)")
-    common.add_argument("--ae", default="CLIENT", help="the title of this side (CLIENT)")
+    common.add_argument("--called", type=title, default="UPSD", help="its title (UPSD)")
+    common.add_argument("--ae", type=title, default="CLIENT", help="the title of this side (CLIENT)")
     common.add_argument("--timeout", type=float, default=30, help="seconds for an answer (30)")
     about, _, more = (__doc__ or "").partition("\n\n")
     whole = argparse.ArgumentParser(description=about, epilog=more, formatter_class=argparse.RawDescriptionHelpFormatter)
@@ -415,7 +502,8 @@ def parser() -> argparse.ArgumentParser:
         return added
 
     def attributes(of: argparse.ArgumentParser, what: str) -> None:
-        of.add_argument("-k", "--key", dest="attributes", action="append", default=[], metavar="KEYWORD=VALUE", help=what)
+        what += ": PatientID=P1, (0010,0020)=P1, or in a sequence (0040,4025)[0].(0008,0100)=R1"
+        of.add_argument("-k", "--key", dest="attributes", action="append", default=[], metavar="KEY=VALUE", help=what)
 
     def step(of: argparse.ArgumentParser, **more: Any) -> None:
         of.add_argument("step", help="the SOP Instance UID of the step", **more)
@@ -438,6 +526,7 @@ def parser() -> argparse.ArgumentParser:
     it.add_argument("--label", default="", help="Procedure Step Label, with * and ? as wild cards")
     it.add_argument("--patient-id", default="", help="Patient ID")
     it.add_argument("--start", default="", help="Scheduled Procedure Step Start DateTime, or a range of it, as 20240229-")
+    it.add_argument("--station", metavar="CODE", help="the worklist of a station: a Code Value of Scheduled Station Name Code Sequence")
     attributes(it, "a further key")
     step(add("get", get, "shows a step (N-GET)", "get 1.2.3.1"))
     it = add("claim", claim, "changes a step to IN PROGRESS (N-ACTION)", "claim 1.2.3.1 --transaction 2.25.7")
@@ -456,12 +545,12 @@ def parser() -> argparse.ArgumentParser:
     it.add_argument("--reason", help="Reason For Cancellation")
     it = add("subscribe", subscribe, "subscribes a watcher (N-ACTION): to a step, to all, or by a filter", "subscribe --receiver WATCH1 --lock")
     it.add_argument("--step", help="the SOP Instance UID of a step (all steps)")
-    it.add_argument("--receiver", metavar="AE", help="the title of the watcher (that of --ae)")
+    it.add_argument("--receiver", type=title, metavar="AE", help="the title of the watcher (that of --ae)")
     it.add_argument("--lock", action="store_true", help="asks for a deletion lock")
     attributes(it, "a key of a filter")
     it = add("unsubscribe", unsubscribe, "ends a subscription (N-ACTION)", "unsubscribe --receiver WATCH1")
     it.add_argument("--step", help="the SOP Instance UID of a step (all steps)")
-    it.add_argument("--receiver", metavar="AE", help="the title of the watcher (that of --ae)")
+    it.add_argument("--receiver", type=title, metavar="AE", help="the title of the watcher (that of --ae)")
     it = add("watch", watch, "takes the event reports of a watcher and prints them", "watch --ae WATCH1 --listen 11113")
     it.add_argument("--listen", type=int, default=11113, help="the port that the server has for the watcher (11113)")
     it.add_argument("--address", default="127.0.0.1", help="the address to listen on (127.0.0.1)")
@@ -470,6 +559,8 @@ def parser() -> argparse.ArgumentParser:
 
 
 def main() -> int:
+    for stream in (sys.stdout, sys.stderr):
+        stream.reconfigure(errors="backslashreplace")  # a terminal may not have each character
     asked = parser().parse_args()
     try:
         if asked.run is watch:
