@@ -40,7 +40,7 @@ pub enum ArgumentFault<'a> {
     #[error("--timeout takes a number of seconds, from 0 to 4294967295; 0 stands for no limit")]
     Timeout,
     /// The word behind `--delivery-timeout` is no number of seconds.
-    #[error("--delivery-timeout takes a number of seconds, from 0 to 4294967295; 0 stands for no limit")]
+    #[error("--delivery-timeout takes a number of seconds, from 0 to 4294967295; 0 stands for an hour")]
     DeliveryTimeout,
     /// Memory ran out.
     #[error("out of memory")]

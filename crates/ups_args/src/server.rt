@@ -49,7 +49,7 @@ fn with_limits<'a>(alloc: Global, command: Command<'a>) -> Result<Command<'a>, A
     let timeout =
         "how long a peer may take to send a message, or to take an answer, 0 for any time [default: 60]";
     let delivery =
-        "how long a watcher may take to be connected to, and for each answer, 0 for any time [default: 5]";
+        "how long a watcher may take to be connected to, and for each answer, 0 for an hour [default: 5]";
     command
         .arg(worded(alloc, "timeout", "SECONDS", timeout))?
         .arg(worded(alloc, "delivery-timeout", "SECONDS", delivery))
@@ -144,7 +144,7 @@ fn timeout_asked(word: Option<&str>) -> Result<u32, ArgumentFault<'_>>
 }
 
 /// For how many seconds a watcher is waited for at most, by the word behind `--delivery-timeout`, or 5 where there is none;
-/// 0 stands for any time.
+/// 0 stands for an hour for each answer, and for ten seconds of one that is neither away nor slow.
 ///
 /// Errors: DeliveryTimeout where the word says no number of seconds.
 fn delivery_timeout_asked(word: Option<&str>) -> Result<u32, ArgumentFault<'_>>
@@ -223,7 +223,8 @@ pub struct ServeArguments<'a> {
     /// For how many seconds a peer may take for each message that it has begun to send, and to take each answer; 0 stands for
     /// any time.
     pub timeout: u32,
-    /// For how many seconds a watcher is waited for at most, to connect to it and for each answer; 0 stands for any time.
+    /// For how many seconds a watcher is waited for at most, to connect to it and for each answer; 0 stands for an hour, and for
+    /// ten seconds of one that is neither away nor slow.
     pub delivery_timeout: u32,
     /// Whether the log tells of each association how it is answered, and of each request.
     pub verbose: bool,
