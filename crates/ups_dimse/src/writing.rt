@@ -23,6 +23,13 @@ use std::alloc::{AllocError, Allocator};
 use ups_dataset::Tag;
 use ups_pdu::Uid;
 
+/// How many bytes the element Command Group Length takes.
+const GROUP_LENGTH_LEN: usize = 12;
+
+/// How many bytes a command has at most where it has no attribute list, and no more than two UIDs: room for them is taken at
+/// once.
+const USUAL_LEN: usize = 256;
+
 /// Writes the header of an element at the end: its tag, and the length of its value.
 fn put_header<A: Allocator + Copy>(
     out: &mut Vec<u8, A>,
@@ -242,7 +249,7 @@ fn elements_of<A: Allocator + Copy>(
     ensures wrote { IfOk result (λ v. v.items ≡ flat_map written_command_element (command_elements command.now)) }
     ensures held { OnOk result (IsHeld command.now) }
 {
-    let mut out = Vec::new(alloc);
+    let mut out = Vec::with_capacity(alloc, USUAL_LEN)?;
     match command {
         Command::Request(request) => put_request(&mut out, request)?,
         Command::Response(response) => put_response(&mut out, response)?,
@@ -268,7 +275,7 @@ pub fn write_command<A: Allocator + Copy>(
     ensures again { IfOk result (λ v. SpellsCommand v.items command.now) }
 {
     let elements = elements_of(alloc, command)?;
-    let mut out = Vec::new(alloc);
+    let mut out = Vec::with_capacity(alloc, GROUP_LENGTH_LEN + elements.len())?;
     put_header(&mut out, GROUP_LENGTH, 4)?;
     out.extend_from_slice(&(elements.len() as u32).to_le_bytes())?;
     out.extend_from_slice(elements.as_slice())?;

@@ -14,11 +14,11 @@ use Rattle.ups_index.specs.declared.slots.Slot.{Slot}
 use Rattle.ups_index.specs.Indexed.{has_step, altered, dropped}
 use Rattle.ups_index.specs.Kept.{seen_slot, seen_slots, IsSlot, Keeps}
 use Rattle.ups_index.specs.Numbers.{text_number, step_number, moment_number}
-use Rattle.ups_index.specs.Posts.{post, KeepsLive, KeepsOthers}
+use Rattle.ups_index.specs.Posts.{post, KeepsEach, KeepsOthers}
 use Rattle.ups_index.specs.Stored.{RowValues}
 use Rattle.ups_index.proofs.Placed.{text_is_itself}
 
-pub keeps_live : {A : Type 0} (slots : List (Slot A)) (s t p s2 t2 p2 : List Post) → Keeps slots s t p → KeepsLive s s2 → KeepsLive t t2 → KeepsLive p p2 → Keeps slots s2 t2 p2
+pub keeps_live : {A : Type 0} (slots : List (Slot A)) (s t p s2 t2 p2 : List Post) → Keeps slots s t p → KeepsEach s s2 → KeepsEach t t2 → KeepsEach p p2 → Keeps slots s2 t2 p2
 keeps_live slots s t p s2 t2 p2 k a b c = record {
   steps_posted = λ place step values r. a (step_number step) place (k.steps_posted place step values r);
   texts_posted = λ place step values r stored h. b (text_number stored.0 stored.1) place (k.texts_posted place step values r stored h);
@@ -74,7 +74,7 @@ changed slots at slot place step values within (l, is) = elim (cases_lt place at
     other n = (n, ((let k = length-set slots at slot in omega (arith, l, k)), λ d. sym (get_or-set_other slots at place slot d n) ∙ is d))
 
 module _ {A : Type 0} (slots : List (Slot A)) (step : List ℕ) (values : RowValues) (absent : (place : ℕ) (v : RowValues) → IsSlot slots place step v → ⊥) (few : length slots < 2 ^ 32) where
-  pub add_keeps : (s t p s2 t2 p2 : List Post) → Keeps slots s t p → KeepsLive s s2 → KeepsLive t t2 → KeepsLive p p2 → Contains s2 (post (step_number step) (length slots))
+  pub add_keeps : (s t p s2 t2 p2 : List Post) → Keeps slots s t p → KeepsEach s s2 → KeepsEach t t2 → KeepsEach p p2 → Contains s2 (post (step_number step) (length slots))
       → ((stored : Tag × List ℕ) → Contains values.texts stored → Contains t2 (post (text_number stored.0 stored.1) (length slots))) → ((moment : ℤ) → values.start ≡ Some moment → Contains p2 (post (moment_number moment) (length slots)))
       → Keeps (slots ++ held step values ∷ []) s2 t2 p2
   add_keeps s t p s2 t2 p2 k a b c hs ht hp = record {
@@ -104,7 +104,7 @@ module _ {A : Type 0} (slots : List (Slot A)) (step : List ℕ) (values : RowVal
   }
 
 module _ {A : Type 0} (slots : List (Slot A)) (at : ℕ) (step : List ℕ) (old : RowValues) (is : IsSlot slots at step old) where
-  pub alter_keeps : (values : RowValues) (s t p tm pm t2 p2 : List Post) → Keeps slots s t p → KeepsOthers at t tm → KeepsOthers at p pm → KeepsLive tm t2 → KeepsLive pm p2
+  pub alter_keeps : (values : RowValues) (s t p tm pm t2 p2 : List Post) → Keeps slots s t p → KeepsOthers at t tm → KeepsOthers at p pm → KeepsEach tm t2 → KeepsEach pm p2
       → ((stored : Tag × List ℕ) → Contains values.texts stored → Contains t2 (post (text_number stored.0 stored.1) at)) → ((moment : ℤ) → values.start ≡ Some moment → Contains p2 (post (moment_number moment) at))
       → Keeps (set slots at (held step values)) s t2 p2
   alter_keeps values s t p tm pm t2 p2 k a b c d ht hp = record {

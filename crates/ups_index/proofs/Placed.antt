@@ -10,7 +10,7 @@ use Rattle.std.specs.Str.{bytes_eq}
 use Rattle.std.specs.Cmp.Lexicographic.{same_text}
 use Rattle.std.proofs.lemmas.Bool.{cases_lt}
 use Rattle.std.proofs.lemmas.List.{get_or_default, take_more, take_all, map_more}
-use Rattle.std.proofs.lemmas.List.Elements.{Contains-push_cases, filter_map-append}
+use Rattle.std.proofs.lemmas.List.Elements.{Contains-push_cases, Contains-append_left, Contains-append_right, filter_map-append}
 use Rattle.std.proofs.lemmas.List.Folds.{Any-from_list_any}
 use Rattle.ups_dataset.specs.declared.tag.Tag.{Tag}
 use Rattle.ups_dataset.specs.Tag.{is_tag}
@@ -23,7 +23,7 @@ use Rattle.ups_index.specs.declared.values.StoredText.{StoredText}
 use Rattle.ups_index.specs.Indexed.{class_of}
 use Rattle.ups_index.specs.Kept.{text_view, seen_slots, step_of_class, in_class, HasNoneIn, IsSlot, StepsPosted, TextsPosted, StartsPosted}
 use Rattle.ups_index.specs.Numbers.{text_number, step_number, moment_number, low_number, high_number}
-use Rattle.ups_index.specs.Posts.{post, KeepsLive, KeepsOthers}
+use Rattle.ups_index.specs.Posts.{post, KeepsEach, KeepsOthers, HasTexts}
 use Rattle.ups_index.specs.Stored.{RowValues, is_text, has_first}
 
 pub text_is_itself : (t : List ℕ) → bytes_eq t t ≡ true
@@ -66,12 +66,16 @@ nowhere_read slots step posts i l before here = nowhere_more slots step posts i 
 pub nowhere_all : {A : Type 0} (slots : List (Slot A)) (step : List ℕ) (posts : List Post) (i : ℕ) → length posts ≤ i → LeadsNowhere slots step (take i posts) → LeadsNowhere slots step posts
 nowhere_all slots step posts i l h = subst (LeadsNowhere slots step) (take_all i posts l) h
 
--- each of some texts has its post at a place
-abbrev pub HasTexts : List (Tag × List ℕ) → ℕ → List Post → Type 0
-HasTexts texts place posts = (stored : Tag × List ℕ) → Contains texts stored → Contains posts (post (text_number stored.0 stored.1) place)
+-- the same of a run of posts, of which the first is read
+pub nowhere_first : {A : Type 0} (slots : List (Slot A)) (step : List ℕ) (p : Post) (rest : List Post) → ((values : RowValues) → IsSlot slots p.place step values → ⊥) → LeadsNowhere slots step rest → LeadsNowhere slots step (p ∷ rest)
+nowhere_first slots step p rest here later number place values r (zero, l, e) = here values (subst (λ (k : ℕ). IsSlot slots k step values) (sym (ap (λ (q : Post). q.place) e)) r)
+nowhere_first slots step p rest here later number place values r (suc k, l, e) = later number place values r (k, omega (arith, l), e)
+
+pub nowhere_none : {A : Type 0} (slots : List (Slot A)) (step : List ℕ) → LeadsNowhere slots step []
+nowhere_none slots step number place values r (k, l, e) = absurd (omega (arith, l))
 
 pub texts_more : {A : Type 0} (texts : List (StoredText A)) (i place number : ℕ) (t : StoredText A) (old new : List Post) → i < length texts → t ≡ get_or texts i t → number ≡ text_number t.tag t.text.items
-    → HasTexts (map text_view (take i texts)) place old → KeepsLive old new → Contains new (post number place) → HasTexts (map text_view (take (i + 1) texts)) place new
+    → HasTexts (map text_view (take i texts)) place old → KeepsEach old new → Contains new (post number place) → HasTexts (map text_view (take (i + 1) texts)) place new
 texts_more texts i place number t old new l is n has keeps this stored h =
     elim (Contains-push_cases (map text_view (take i texts)) (text_view t) stored (subst (λ (s : List (Tag × List ℕ)). Contains s stored) (map_more text_view texts i t l ∙ ap (λ (s : StoredText _). map text_view (take i texts) ++ text_view s ∷ []) (sym is)) h)) [
       | inl a ↦ keeps (text_number stored.0 stored.1) place (has stored a)
@@ -91,18 +95,45 @@ HasPlaces posts places = (number place : ℕ) → Contains posts (post number pl
 abbrev pub KeepsPlaces : List ℕ → List ℕ → Type 0
 KeepsPlaces old new = (place : ℕ) → Contains old place → Contains new place
 
-pub places_more : (posts : List Post) (i : ℕ) (p : Post) (old new : List ℕ) → i < length posts → p ≡ get_or posts i p → HasPlaces (take i posts) old → KeepsPlaces old new → (p.gone ≡ false → Contains new p.place) → HasPlaces (take (i + 1) posts) new
+pub places_more : (posts : List Post) (i : ℕ) (p : Post) (old new : List ℕ) → i < length posts → p ≡ get_or posts i p → HasPlaces (take i posts) old → KeepsPlaces old new → Contains new p.place → HasPlaces (take (i + 1) posts) new
 places_more posts i p old new l is has keeps this number place h =
     elim (Contains-push_cases (take i posts) p (post number place) (subst (λ (t : List Post). Contains t (post number place)) (take_more posts i p l ∙ ap (λ (q : Post). take i posts ++ q ∷ []) (sym is)) h)) [
       | inl a ↦ keeps place (has number place a)
-      | inr e ↦ subst (λ (k : ℕ). Contains new k) (ap (λ (q : Post). q.place) e) (this (ap (λ (q : Post). q.gone) e))
+      | inr e ↦ subst (λ (k : ℕ). Contains new k) (ap (λ (q : Post). q.place) e) this
     ]
 
-pub places_read : (posts : List Post) (i : ℕ) (old new : List ℕ) → i < length posts → HasPlaces (take i posts) old → KeepsPlaces old new → ((get_or posts i (post 0 0)).gone ≡ false → Contains new (get_or posts i (post 0 0)).place) → HasPlaces (take (i + 1) posts) new
+pub places_read : (posts : List Post) (i : ℕ) (old new : List ℕ) → i < length posts → HasPlaces (take i posts) old → KeepsPlaces old new → Contains new (get_or posts i (post 0 0)).place → HasPlaces (take (i + 1) posts) new
 places_read posts i old new l has keeps this = places_more posts i (get_or posts i (post 0 0)) old new l (get_or_default posts i (post 0 0) (get_or posts i (post 0 0)) l) has keeps this
 
 pub places_all : (posts : List Post) (i : ℕ) (places : List ℕ) → length posts ≤ i → HasPlaces (take i posts) places → HasPlaces posts places
 places_all posts i places l h = subst (λ (t : List Post). HasPlaces t places) (take_all i posts l) h
+
+-- a place more
+pub place_more : (old new : List ℕ) (place : ℕ) → new ≡ old ++ place ∷ [] → KeepsPlaces old new × Contains new place
+place_more old new place is = ((λ other h. subst (λ (l : List ℕ). Contains l other) (sym is) (Contains-append_left old (place ∷ []) other h)), subst (λ (l : List ℕ). Contains l place) (sym is) (Contains-append_right old (place ∷ []) place (0, omega arith, refl)))
+
+-- each post of a run has its place, or is still to be read
+abbrev pub HasPlacesBut : List Post → List Post → List ℕ → Type 0
+HasPlacesBut rest run places = (number place : ℕ) → Contains run (post number place) → Contains places place ⊎ Contains rest (post number place)
+
+pub first_read : (run all rest : List Post) (p : Post) (old new : List ℕ) → all ≡ p ∷ rest → KeepsPlaces old new → Contains new p.place → HasPlacesBut all run old → HasPlacesBut rest run new
+first_read run all rest p old new is keeps this has number place h = elim (has number place h) [
+  | inl a ↦ inl (keeps place a)
+  | inr b ↦ here (subst (λ (l : List Post). Contains l (post number place)) is b)
+]
+  where
+    here : Contains (p ∷ rest) (post number place) → Contains new place ⊎ Contains rest (post number place)
+    here (zero, l, e) = inl (subst (λ (k : ℕ). Contains new k) (ap (λ (q : Post). q.place) e) this)
+    here (suc k, l, e) = inr (k, omega (arith, l), e)
+
+pub all_read : (run rest : List Post) (places : List ℕ) → rest ≡ [] → HasPlacesBut rest run places → HasPlaces run places
+all_read run rest places none has number place h = elim (has number place h) [
+  | inl a ↦ a
+  | inr b ↦ nothing (subst (λ (l : List Post). Contains l (post number place)) none b)
+]
+  where
+    nothing : Contains [] (post number place) → Contains places place
+    nothing (k, l, e) = absurd (omega (arith, l))
 
 -- one slot more
 cons_is : {X : Type 0} (o : Option X) → cons_option o [] ≡ option_to_list o

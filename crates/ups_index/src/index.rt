@@ -1,12 +1,13 @@
 //! The index.
 
-ghost use Rattle.std.specs.Prelude.{◌≡◌, ◌≤◌, ◌<◌, ◌+◌, ◌++◌, [], ◌∷◌, false, IfOk, OnOk, pos};
+ghost use Rattle.std.specs.Prelude.{◌≡◌, ◌≤◌, ◌<◌, ◌+◌, ◌++◌, [], ◌∷◌, false, length, IfOk, IsSome, IfSome, OnOk, pos};
 ghost use Rattle.std.specs.Bool.{MatchBool};
 ghost use Rattle.ups_match.specs.Class.{first_key, all};
 ghost use Rattle.ups_index.specs.Indexed.{values_len, has_step, altered, put_values, dropped, class_of};
 ghost use Rattle.ups_index.specs.Numbers.{low_number, high_number};
-ghost use Rattle.ups_index.specs.Posts.{KeepsOthers};
+ghost use Rattle.ups_index.specs.Posts.{KeepsOthers, HasTexts, HasStart};
 
+use crate::exchanging::{exchange_start, exchange_texts};
 use crate::numbers::{moment_number, step_number, text_number};
 use crate::posts::Posts;
 use crate::slots::{
@@ -51,6 +52,33 @@ impl<A: Allocator + Copy> Model for Index<A> {
     ghost view = { λ x. record { offset = x.offset; steps = seen_slots x.slots.items; spare = least_room x.slots x.steps.room x.texts.room x.starts.room } };
 
     ghost invariant = { λ x. Keeps x.slots.items x.steps.posts x.texts.posts x.starts.posts };
+}
+
+/// Puts the posts of values at a place instead of those of the values of the step there.
+fn exchange_values<A: Allocator + Copy>(
+    texts: &mut Posts<A>,
+    starts: &mut Posts<A>,
+    old: &Option<Values<A>>,
+    new: &Values<A>,
+    place: u32,
+)
+    requires held { IsSome old.now }
+    requires texts { IfSome old.now (λ old. HasTexts old.texts place texts.old.posts) }
+    requires starts { IfSome old.now (λ old. HasStart old.start place starts.old.posts) }
+    requires text_room { length new.now.texts ≤ texts.old.room }
+    requires start_room { 0 < starts.old.room }
+    ensures texts { HasTexts new.now.texts place texts.new.posts }
+    ensures keeps_texts { KeepsOthers place texts.old.posts texts.new.posts }
+    ensures text_room { texts.old.room ≤ texts.new.room + length new.now.texts }
+    ensures starts { HasStart new.now.start place starts.new.posts }
+    ensures keeps_starts { KeepsOthers place starts.old.posts starts.new.posts }
+    ensures start_room { starts.old.room ≤ starts.new.room + 1 }
+{
+    let Some(old) = old else {
+        unreachable!();
+    };
+    exchange_texts(texts, old.texts(), new.texts(), place);
+    exchange_start(starts, old.start(), new.start(), place);
 }
 
 /// Takes out the posts of the values of the step at a place.
@@ -197,10 +225,7 @@ impl<A: Allocator + Copy> Index<A> {
         let Some(at) = place_of(steps, slots, step) else {
             return;
         };
-        let place = at as u32;
-        take_values(texts, starts, &slots[at].values, place);
-        put_texts(texts, values.texts(), place);
-        put_start(starts, values.start(), place);
+        exchange_values(texts, starts, &slots[at].values, &values, at as u32);
         slots[at] = Slot {
             step,
             values: Some(values),

@@ -3,6 +3,7 @@
 //! no others.
 #![tactic(auto)]
 
+mod exchanging;
 mod index;
 mod numbers;
 mod posts;

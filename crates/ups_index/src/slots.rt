@@ -9,13 +9,14 @@ ghost use Rattle.ups_dataset.specs.declared.tag.Tag.{Tag};
 ghost use Rattle.ups_match.specs.Class.{first_view, all};
 ghost use Rattle.ups_index.specs.Kept.{text_view, in_class, HasNoneIn, IsSlot, StepsPosted};
 ghost use Rattle.ups_index.specs.Numbers.{text_number, step_number, moment_number};
-ghost use Rattle.ups_index.specs.Posts.{post, KeepsLive, KeepsOthers};
+ghost use Rattle.ups_index.specs.Posts.{post, KeepsEach, KeepsOthers};
 ghost use Rattle.ups_index.specs.Stored.{RowValues, has_first};
 
 use crate::numbers::{moment_number, step_number, text_number};
 use crate::posts::{Post, Posts};
 use crate::values::{StoredText, Values};
 use std::alloc::{AllocError, Allocator};
+use std::collections::btree_set;
 use ups_life::StepUid;
 use ups_match::First;
 
@@ -62,6 +63,22 @@ fn place_among<A: Allocator + Copy>(
     None
 }
 
+/// The place of a step, where one of a run of posts leads to it.
+fn place_in<A: Allocator + Copy>(
+    run: btree_set::Range<'_, Post>,
+    slots: &[Slot<A>],
+    step: StepUid,
+) -> Option<usize>
+    ensures { MatchOption result ((number place : ℕ) → (values : RowValues) → IsSlot slots.now place step values → Contains run.entry (post number place) → ⊥) (λ place. (values : RowValues) × IsSlot slots.now place step values) }
+{
+    for post in run {
+        if is_slot_of(slots, post.place as usize, step) {
+            return Some(post.place as usize);
+        }
+    }
+    None
+}
+
 /// The place of a step.
 pub(crate) fn place_of<A: Allocator + Copy>(
     steps: &Posts<A>,
@@ -72,10 +89,10 @@ pub(crate) fn place_of<A: Allocator + Copy>(
     ensures { MatchOption result ((place : ℕ) → (values : RowValues) → IsSlot slots.now place step values → ⊥) (λ place. (values : RowValues) × IsSlot slots.now place step values) }
 {
     let number = step_number(step.as_bytes());
-    let (merged, fresh) = steps.runs(number, number);
-    match place_among(merged, slots, step) {
+    let (run, waiting) = steps.runs(number, number);
+    match place_in(run, slots, step) {
         Some(place) => Some(place),
-        None => place_among(fresh, slots, step),
+        None => place_among(waiting, slots, step),
     }
 }
 
@@ -87,7 +104,7 @@ pub(crate) fn put_texts<A: Allocator + Copy>(
 )
     requires { length texts.now ≤ table.old.room }
     ensures has { (stored : Tag × List ℕ) → Contains (map text_view texts.now) stored → Contains table.new.posts (post (text_number stored.0 stored.1) place) }
-    ensures keeps { KeepsLive table.old.posts table.new.posts }
+    ensures keeps { KeepsEach table.old.posts table.new.posts }
     ensures room { table.old.room ≤ table.new.room + length texts.now }
 {
     for stored in texts {
@@ -113,7 +130,7 @@ pub(crate) fn take_texts<A: Allocator + Copy>(
 pub(crate) fn put_start<A: Allocator + Copy>(table: &mut Posts<A>, start: Option<i64>, place: u32)
     requires { 0 < table.old.room }
     ensures has { MatchOption start (Unit {0}) (λ moment. Contains table.new.posts (post (moment_number moment) place)) }
-    ensures keeps { KeepsLive table.old.posts table.new.posts }
+    ensures keeps { KeepsEach table.old.posts table.new.posts }
     ensures room { table.old.room ≤ table.new.room + 1 }
 {
     match start {
@@ -133,21 +150,7 @@ pub(crate) fn take_start<A: Allocator + Copy>(table: &mut Posts<A>, start: Optio
     }
 }
 
-/// Adds the place of a post, where it isn't gone.
-///
-/// Errors: where memory runs out.
-fn add_place<A: Allocator + Copy>(places: &mut Vec<u32, A>, post: Post) -> Result<(), AllocError>
-    ensures has { OnOk result (post.gone ≡ false → Contains places.new.items post.place) }
-    ensures keeps { OnOk result ((place : ℕ) → Contains places.old.items place → Contains places.new.items place) }
-{
-    if post.gone {
-        return Ok(());
-    }
-    places.push(post.place)?;
-    Ok(())
-}
-
-/// Adds the places of posts that aren't gone.
+/// Adds the places of posts.
 ///
 /// Errors: where memory runs out.
 fn add_places<A: Allocator + Copy>(
@@ -158,7 +161,23 @@ fn add_places<A: Allocator + Copy>(
     ensures keeps { OnOk result ((place : ℕ) → Contains places.old.items place → Contains places.new.items place) }
 {
     for post in posts {
-        add_place(places, *post)?;
+        places.push(post.place)?;
+    }
+    Ok(())
+}
+
+/// Adds the places of a run of posts.
+///
+/// Errors: where memory runs out.
+fn add_run<A: Allocator + Copy>(
+    places: &mut Vec<u32, A>,
+    run: btree_set::Range<'_, Post>,
+) -> Result<(), AllocError>
+    ensures has { OnOk result ((number place : ℕ) → Contains run.entry (post number place) → Contains places.new.items place) }
+    ensures keeps { OnOk result ((place : ℕ) → Contains places.old.items place → Contains places.new.items place) }
+{
+    for post in run {
+        places.push(post.place)?;
     }
     Ok(())
 }
@@ -175,10 +194,13 @@ fn places_of<A: Allocator + Copy>(
     ensures sorted { IfOk result (λ places. IsNonDecreasing places.items) }
     ensures has { IfOk result (λ places. (number place : ℕ) → Contains table.now.posts (post number place) → low ≤ number → number ≤ high → Contains places.items place) }
 {
-    let (merged, fresh) = table.runs(low, high);
     let mut places = Vec::new(alloc);
-    add_places(&mut places, merged)?;
-    add_places(&mut places, fresh)?;
+    if high < low {
+        return Ok(places);
+    }
+    let (run, waiting) = table.runs(low, high);
+    add_run(&mut places, run)?;
+    add_places(&mut places, waiting)?;
     places.sort_unstable();
     Ok(places)
 }

@@ -21,6 +21,9 @@ use ups_dataset::dictionary::{
 use ups_dataset::{DataSet, Tag};
 use ups_match::First;
 
+/// For how many texts room is taken at once: most steps have one under each tag.
+const USUAL_TEXTS: usize = 6;
+
 /// A text under the tag by which it is looked up.
 #[derive(Drop)]
 pub(crate) struct StoredText<A: Allocator + Copy> {
@@ -55,7 +58,7 @@ impl<A: Allocator + Copy> Values<A> {
     pub fn of(alloc: A, row: &DataSet<A>, offset: i16) -> Result<Values<A>, AllocError>
         ensures { IfOk result (λ v. v ≡ values_of offset row.now) }
     {
-        let mut texts = Vec::new(alloc);
+        let mut texts = Vec::with_capacity(alloc, USUAL_TEXTS)?;
         put_stored(alloc, &mut texts, row, SOP_INSTANCE_UID, SOP_INSTANCE_UID)?;
         put_stored(alloc, &mut texts, row, PATIENT_ID, PATIENT_ID)?;
         put_stored(alloc, &mut texts, row, WORKLIST_LABEL, WORKLIST_LABEL)?;
@@ -112,7 +115,7 @@ fn is_text<A: Allocator + Copy>(stored: &StoredText<A>, tag: Tag, text: &[u8]) -
 }
 
 /// Whether a text is stored under a tag.
-fn has_text<A: Allocator + Copy>(texts: &[StoredText<A>], tag: Tag, text: &[u8]) -> bool
+pub(crate) fn has_text<A: Allocator + Copy>(texts: &[StoredText<A>], tag: Tag, text: &[u8]) -> bool
     ensures { result ≡ list_any (λ stored. is_text tag text.now (text_view stored)) texts.now }
 {
     texts.iter().any(|stored| is_text(stored, tag, text))

@@ -163,7 +163,7 @@ module _ (A : RattleType) (g : Allocator.Ghosts A.Denot) where
   IndexSlot-send s f = let v = Values-send s f in let o : IsSend (Option.the_row (Values.the_row A g)) = search sendable depth 20 in search (sendable, leaves) depth 40
 
   Posts-send : IsSend A → Frees g g.dealloc_token → IsSend (Posts.the_field A g).row
-  Posts-send s f = search (sendable, over.crosses, leaves) depth 40
+  Posts-send s f = search (sendable, over.crosses, maps.BTreeSet-send, leaves) depth 40
 
   Index-send : IsSend A → Frees g g.dealloc_token → IsSend (Index.the_field A g).row
   Index-send s f = let l = IndexSlot-send s f in let p = Posts-send s f in search (sendable, over.crosses) depth 40

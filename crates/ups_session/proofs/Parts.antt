@@ -1,5 +1,6 @@
 -- The parts of a response.
-use Rattle.std.proofs.Common.{◌≡◌, ℕ, Bool, true, false, List, ap, ◌∙◌, None, Some, Result, Ok, Err, IfOk, OnErr}
+use Rattle.std.proofs.Common.{◌≡◌, ℕ, Bool, true, false, List, ap, refl, ◌∙◌, Option, None, Some, Result, Ok, Err, IfOk, OnErr}
+use Rattle.std.specs.Option.{unwrap_or}
 use Rattle.ups_dataset.specs.Data.{El}
 use Rattle.ups_dataset.specs.Written as sets
 use Rattle.ups_dimse.specs.declared.command.Command.TheVariants.{Response}
@@ -19,6 +20,11 @@ if_ok (Err e) P Q f p = tt
 pub on_err : {T E : Type 0} (r : Result T E) (P Q : Type 0) → (P → Q) → OnErr r P → OnErr r Q
 on_err (Ok x) P Q f p = tt
 on_err (Err e) P Q f p = f p
+
+-- a class that is chosen already is chosen again
+pub own_class : {X : Type 0} (o : Option X) (other : X) → unwrap_or o (unwrap_or o other) ≡ unwrap_or o other
+own_class None other = refl
+own_class (Some x) other = refl
 
 -- the bytes of an answer
 pub written_answer : {A : Type 0} (request : RequestCommand A) (status : ℕ) (there : Bool) (r : ResponseCommand) → r ≡ response_command request status there → commands.written_command {A = A} (Response r) ≡ response_bytes request status there

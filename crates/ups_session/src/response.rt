@@ -2,7 +2,10 @@
 
 ghost use Rattle.std.specs.Prelude.{◌≡◌, ◌≤◌, ◌⊎◌, Some, IfOk, IfErr, option_copied};
 ghost use Rattle.std.specs.List.{AllByRecursion, flat_map};
+ghost use Rattle.std.specs.Option.{unwrap_or};
+ghost use Rattle.ups_pdu.specs.declared.registered.RegisteredUid.TheVariants.{UpsPush};
 ghost use Rattle.ups_pdu.specs.Fits.{Fits};
+ghost use Rattle.ups_pdu.specs.Registered.{text_of};
 ghost use Rattle.ups_assoc.specs.Cutting.{pieces};
 ghost use Rattle.ups_cycle.specs.Statuses.{code};
 ghost use Rattle.ups_session.specs.declared.fault.SessionFault.TheVariants.{Memory};
@@ -23,7 +26,17 @@ use ups_cycle::Status;
 use ups_dataset::{DataSet, write_set};
 use ups_dimse::{Command, RequestCommand, write_command};
 use ups_life::Reply;
-use ups_pdu::{Pdu, RegisteredUid};
+use ups_pdu::{Pdu, RegisteredUid, Uid};
+
+/// The SOP class of a response: that of the request, or the Push class where it names none.
+fn class_of<A: Allocator + Copy>(request: &RequestCommand<A>) -> Uid
+    ensures { result ≡ unwrap_or request.now.sop_class (text_of UpsPush) }
+{
+    match request.sop_class {
+        Some(class) => class,
+        None => RegisteredUid::UpsPush.uid(),
+    }
+}
 
 /// Encodes the command set of a response.
 ///
@@ -36,8 +49,8 @@ fn response_bytes<A: Allocator + Copy>(
 ) -> Result<Vec<u8, A>, AllocError>
     ensures { IfOk result (λ v. v.items ≡ response_bytes request.now (code status) has_data_set) }
 {
-    let push = RegisteredUid::UpsPush.uid();
-    let response = request.answered(push, status.code(), has_data_set);
+    let class = class_of(request);
+    let response = request.answered(class, status.code(), has_data_set);
     write_command(alloc, &Command::Response(response))
 }
 

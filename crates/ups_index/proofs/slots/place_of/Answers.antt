@@ -1,9 +1,9 @@
-use Rattle.std.proofs.Common.{◌∙◌, ap}
+use Rattle.std.proofs.Common.{◌∙◌, ap, arith}
 use Rattle.ups_index.specs.Numbers.{step_number}
 use Rattle.ups_index.proofs.Placed.{place_either}
 use Rattle.ups_index.proofs.slots.place_of.Goals as goal
 
 pub returns-in-None : goal.returns-in-None
 returns-in-None g c =
-    place_either c.args.slots.now c.args.step c.args.steps.now.posts c.runs.result.0.now c.runs.result.1.now c.step_number-number.result c.requires (c.step_number-number.ensures ∙ ap step_number c.as_bytes.ensures.bytes)
-    c.runs.ensures c.in-None.ensures c.place_among-in-None.result c.place_among-in-None.ensures
+    place_either c.args.slots.now c.args.step c.args.steps.now.posts c.runs-run.result.0 c.runs-run.result.1.now c.step_number-number.result c.requires (c.step_number-number.ensures ∙ ap step_number c.as_bytes.ensures.bytes)
+    c.runs-run.ensures c.in-None.ensures c.place_among.result c.place_among.ensures

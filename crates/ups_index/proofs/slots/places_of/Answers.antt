@@ -8,8 +8,8 @@ returns-clause-sorted g c = IsNonDecreasingBy-from_sort (λ (n : ℕ). n) _ c.so
 
 pub returns-clause-has : goal.returns-clause-has
 returns-clause-has g c number place h low high =
-    let found : Contains c.add_places-2.new.places.items place = elim (c.runs.ensures number place h low high) [
-      | inl x ↦ c.in_ok-add_places-2.ensures.keeps place (c.in_ok-add_places.ensures.has number place x)
-      | inr y ↦ c.in_ok-add_places-2.ensures.has number place y
+    let found : Contains c.add_places.new.places.items place = elim (c.runs-run.ensures number place h low high) [
+      | inl x ↦ c.in_ok-add_places.ensures.keeps place (c.in_ok-add_run.ensures.has number place x)
+      | inr y ↦ c.in_ok-add_places.ensures.has number place y
     ] in
     Contains-permutation _ _ place c.sort_unstable.ensures.permutation found

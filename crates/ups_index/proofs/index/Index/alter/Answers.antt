@@ -1,8 +1,12 @@
-use Rattle.std.proofs.Common.{List, sym, subst, ap, ◌∙◌, refl}
+use Rattle.std.proofs.Common.{rules, ◌≡◌, get_or, List, Option, IfSome, sym, subst, ap, ◌∙◌, refl}
 use Rattle.ups_index.specs.declared.slots.Slot.{Slot}
 use Rattle.ups_index.specs.Indexed.{Contents, altered}
 use Rattle.ups_index.specs.Kept.{IsSlot, StepsPosted}
-use Rattle.ups_index.proofs.Changed.{Absent, alter_keeps, altered_slots, unaltered, texts_moved, start_moved}
+use Rattle.ups_index.specs.Posts.{HasTexts, HasStart}
+use Rattle.ups_index.specs.Stored.{RowValues}
+use Rattle.ups_index.proofs.Changed.{Absent, alter_keeps, altered_slots, unaltered}
+use Rattle.ups_index.proofs.Exchanged.{start_has, has_start}
+use Rattle.ups_index.proofs.Runs.{same_live}
 use Rattle.ups_index.proofs.index.Index.alter.Goals as goal
 
 pub place_of-requires : goal.place_of-requires
@@ -17,10 +21,10 @@ pub invariant_of-self-2 : goal.invariant_of-self-2
 invariant_of-self-2 g c =
     let (old, r) = c.in-Some.ensures in
     let is = subst (λ (slots : List (Slot _)). IsSlot slots c.in-Some.at c.args.step old) c.deref.ensures.value r in
-    alter_keeps c.self.inside.slots.items c.in-Some.at c.args.step old is c.args.values c.self.inside.steps.posts c.self.inside.texts.posts c.self.inside.starts.posts c.take_values.new.texts.posts c.take_values.new.starts.posts c.put_texts.new.table.posts c.put_start.new.table.posts c.self.invariant
-    c.take_values.ensures.texts c.take_values.ensures.starts c.put_texts.ensures.keeps c.put_start.ensures.keeps
-    (texts_moved c.put_texts.new.table.posts _ c.args.values.texts c.in-Some.at c.in-Some.at c.texts.ensures refl c.put_texts.ensures.has)
-    (start_moved c.put_start.new.table.posts c.start.result c.args.values.start c.in-Some.at c.in-Some.at c.start.ensures refl c.put_start.ensures.has)
+    let t = c.exchange_values.new.texts.posts in
+    let p = c.exchange_values.new.starts.posts in
+    alter_keeps c.self.inside.slots.items c.in-Some.at c.args.step old is c.args.values c.self.inside.steps.posts c.self.inside.texts.posts c.self.inside.starts.posts t p t p c.self.invariant
+    c.exchange_values.ensures.keeps_texts c.exchange_values.ensures.keeps_starts (same_live t) (same_live p) c.exchange_values.ensures.texts (start_has c.args.values.start c.in-Some.at p c.exchange_values.ensures.starts)
 
 pub returns-clause-steps : goal.returns-clause-steps
 returns-clause-steps g c =
@@ -28,3 +32,20 @@ returns-clause-steps g c =
     let is = subst (λ (slots : List (Slot _)). IsSlot slots c.in-Some.at c.args.step old) c.deref.ensures.value r in
     altered_slots c.self.inside.slots.items c.in-Some.at c.args.step old c.args.values is (λ place u q. c.self.invariant.one_slot place c.in-Some.at c.args.step u old q is)
     ∙ ap (λ (s : Contents). altered c.args.step c.args.values s.steps) c.self.view_is
+
+pub exchange_values-requires-clause-texts : goal.exchange_values-requires-clause-texts
+exchange_values-requires-clause-texts g c =
+    let (old, r) = c.in-Some.ensures in
+    let is = subst (λ (slots : List (Slot _)). IsSlot slots c.in-Some.at c.args.step old) c.deref.ensures.value r in
+    let here : c.index.result.now ≡ get_or c.self.inside.slots.items c.in-Some.at c.index.result.now = search rules in
+    let held = ap (λ (s : Slot _). s.values) (here ∙ is.1 c.index.result.now) in
+    subst (λ (o : Option RowValues). IfSome o (λ v. HasTexts v.texts c.in-Some.at c.self.inside.texts.posts)) (sym held) (c.self.invariant.texts_posted c.in-Some.at c.args.step old is)
+
+pub exchange_values-requires-clause-starts : goal.exchange_values-requires-clause-starts
+exchange_values-requires-clause-starts g c =
+    let (old, r) = c.in-Some.ensures in
+    let is = subst (λ (slots : List (Slot _)). IsSlot slots c.in-Some.at c.args.step old) c.deref.ensures.value r in
+    let here : c.index.result.now ≡ get_or c.self.inside.slots.items c.in-Some.at c.index.result.now = search rules in
+    let held = ap (λ (s : Slot _). s.values) (here ∙ is.1 c.index.result.now) in
+    subst (λ (o : Option RowValues). IfSome o (λ v. HasStart v.start c.in-Some.at c.self.inside.starts.posts)) (sym held)
+    (has_start old.start c.in-Some.at c.self.inside.starts.posts (c.self.invariant.starts_posted c.in-Some.at c.args.step old is))

@@ -1,14 +1,20 @@
-use Rattle.std.proofs.Common.{◌++◌, List, sym, subst}
-use Rattle.std.specs.Prelude.{Contains}
-use Rattle.std.specs.List.Sorted.{IsNonDecreasingBy}
+use Rattle.std.proofs.Common.{◌≡◌, [], ◌++◌, ◌∙◌, List, subst, sym}
 use Rattle.ups_index.specs.declared.posts.Post.{Post}
-use Rattle.ups_index.specs.Posts.{rank, post, Table}
+use Rattle.ups_index.specs.Posts.{Table, KeepsEach}
+use Rattle.ups_index.proofs.Runs.{keeps_both, same_live, joined}
 use Rattle.ups_index.proofs.posts.Posts.reserve.Goals as goal
 
-pub invariant_of-self : goal.invariant_of-self
-invariant_of-self g c = (c.self.invariant.0, subst (IsNonDecreasingBy rank) (sym c.reserve.ensures.items) c.self.invariant.1)
+pub returns-in_err-settle-clause-keeps : goal.returns-in_err-settle-clause-keeps
+returns-in_err-settle-clause-keeps g c =
+    let waiting = c.self.inside.waiting.items in
+    subst (λ (t : Table). KeepsEach t.posts (c.settle.new.tree.keys ++ waiting)) c.self.view_is
+    (keeps_both c.self.inside.tree.keys waiting c.settle.new.tree.keys waiting c.settle.ensures.keeps (same_live waiting))
 
 pub returns-clause-keeps : goal.returns-clause-keeps
-returns-clause-keeps g c number place h =
-    subst (λ (l : List Post). Contains (c.self.inside.merged.items ++ l) (post number place)) (sym c.reserve.ensures.items)
-    (subst (λ (t : Table). Contains t.posts (post number place)) (sym c.self.view_is) (c.in_ok-make_way.ensures.keeps number place h))
+returns-clause-keeps g c =
+    let waiting = c.self.inside.waiting.items in
+    let empty : c.reserve.new.self.items ≡ [] = c.reserve.ensures.items ∙ c.clear.ensures.items in
+    let moved = subst (λ (l : List Post). KeepsEach l c.settle.new.tree.keys) c.deref.ensures.value c.in_ok-settle.ensures.has in
+    subst (λ (t : Table). KeepsEach t.posts (c.settle.new.tree.keys ++ c.reserve.new.self.items)) c.self.view_is
+    (subst (λ (l : List Post). KeepsEach (c.self.inside.tree.keys ++ waiting) (c.settle.new.tree.keys ++ l)) (sym empty)
+    (joined c.self.inside.tree.keys waiting c.settle.new.tree.keys c.settle.ensures.keeps moved))

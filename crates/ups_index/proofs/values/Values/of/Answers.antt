@@ -17,6 +17,6 @@ returns g c =
     ∙ ap (λ (t : List (Tag × List ℕ)). t ++ codes_under SCHEDULED_STATION_NAME_CODE_SEQUENCE set) (c.in_ok-put_stored-3.ensures
     ∙ ap (λ (t : List (Tag × List ℕ)). t ++ values_under WORKLIST_LABEL set) (c.in_ok-put_stored-2.ensures
     ∙ ap (λ (t : List (Tag × List ℕ)). t ++ values_under PATIENT_ID set) (c.in_ok-put_stored.ensures
-    ∙ ap (λ t. map text_view t ++ values_under SOP_INSTANCE_UID set) c.new-texts.ensures.items))))) in
+    ∙ ap (λ t. map text_view t ++ values_under SOP_INSTANCE_UID set) c.in_ok-texts.ensures.items))))) in
     let start = rw (to_z-of_z w16 c.args.offset c.ranges.offset) at c.start_of-start.ensures in
     (λ i. record { texts = texts i; start = start i })

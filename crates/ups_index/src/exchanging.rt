@@ -1,0 +1,141 @@
+//! Putting the posts of values in the place of those of others: what is in both is left alone.
+
+ghost use Rattle.std.specs.Prelude.{◌≡◌, ◌≢◌, ◌≤◌, ◌<◌, ◌+◌, ◌⊎◌, ℕ, List, length, map, false, Contains, IsTrue};
+ghost use Rattle.ups_dataset.specs.declared.tag.Tag.{Tag};
+ghost use Rattle.ups_index.specs.Kept.{text_view};
+ghost use Rattle.ups_index.specs.Numbers.{text_number};
+ghost use Rattle.ups_index.specs.Posts.{post, KeepsEach, KeepsOthers, KeepsTexts, HasTexts, HasStart};
+
+use crate::numbers::text_number;
+use crate::posts::Posts;
+use crate::slots::{put_start, take_start};
+use crate::values::{StoredText, has_text};
+use std::alloc::Allocator;
+
+/// Whether a text is one of some.
+fn is_among<A: Allocator + Copy>(texts: &[StoredText<A>], stored: &StoredText<A>) -> bool
+    ensures { IsTrue result → Contains (map text_view texts.now) (text_view stored.now) }
+{
+    has_text(texts, stored.tag, &stored.text)
+}
+
+/// Whether one of some texts has a number.
+fn has_number<A: Allocator + Copy>(texts: &[StoredText<A>], number: u64) -> bool
+    ensures { result ≡ false → (stored : Tag × List ℕ) → Contains (map text_view texts.now) stored → text_number stored.0 stored.1 ≢ number }
+{
+    for stored in texts {
+        if text_number(stored.tag, &stored.text) == number {
+            return true;
+        }
+    }
+    false
+}
+
+/// Takes out the post of a text at a place, where none of the other texts there has it too.
+fn drop_text<A: Allocator + Copy>(
+    table: &mut Posts<A>,
+    others: &[StoredText<A>],
+    stored: &StoredText<A>,
+    place: u32,
+)
+    ensures keeps { KeepsOthers place table.old.posts table.new.posts }
+    ensures spares { KeepsTexts (map text_view others.now) place table.old.posts table.new.posts }
+    ensures room { table.old.room ≤ table.new.room }
+{
+    if is_among(others, stored) {
+        return;
+    }
+    let number = text_number(stored.tag, &stored.text);
+    if has_number(others, number) {
+        return;
+    }
+    table.take(number, place);
+}
+
+/// Takes out the posts of texts at a place, where none of the other texts there has them too.
+fn drop_texts<A: Allocator + Copy>(
+    table: &mut Posts<A>,
+    others: &[StoredText<A>],
+    texts: &[StoredText<A>],
+    place: u32,
+)
+    ensures keeps { KeepsOthers place table.old.posts table.new.posts }
+    ensures spares { KeepsTexts (map text_view others.now) place table.old.posts table.new.posts }
+    ensures room { table.old.room ≤ table.new.room }
+{
+    for stored in texts {
+        drop_text(table, others, stored, place);
+    }
+}
+
+/// Puts the post of a text at a place, where it is none of those that have theirs there already.
+fn add_text<A: Allocator + Copy>(
+    table: &mut Posts<A>,
+    others: &[StoredText<A>],
+    stored: &StoredText<A>,
+    place: u32,
+)
+    requires { 0 < table.old.room }
+    ensures has { Contains (map text_view others.now) (text_view stored.now) ⊎ Contains table.new.posts (post (text_number stored.now.tag stored.now.text.items) place) }
+    ensures keeps { KeepsEach table.old.posts table.new.posts }
+    ensures room { table.old.room ≤ table.new.room + 1 }
+{
+    if is_among(others, stored) {
+        return;
+    }
+    table.put(text_number(stored.tag, &stored.text), place);
+}
+
+/// Puts the posts of texts at a place, where they are none of those that have theirs there already.
+fn add_texts<A: Allocator + Copy>(
+    table: &mut Posts<A>,
+    others: &[StoredText<A>],
+    texts: &[StoredText<A>],
+    place: u32,
+)
+    requires { length texts.now ≤ table.old.room }
+    ensures has { (stored : Tag × List ℕ) → Contains (map text_view texts.now) stored → Contains (map text_view others.now) stored ⊎ Contains table.new.posts (post (text_number stored.0 stored.1) place) }
+    ensures keeps { KeepsEach table.old.posts table.new.posts }
+    ensures room { table.old.room ≤ table.new.room + length texts.now }
+{
+    for stored in texts {
+        add_text(table, others, stored, place);
+    }
+}
+
+/// Puts the posts of texts at a place instead of those of others.
+pub(crate) fn exchange_texts<A: Allocator + Copy>(
+    table: &mut Posts<A>,
+    old: &[StoredText<A>],
+    new: &[StoredText<A>],
+    place: u32,
+)
+    requires posted { HasTexts (map text_view old.now) place table.old.posts }
+    requires room { length new.now ≤ table.old.room }
+    ensures has { HasTexts (map text_view new.now) place table.new.posts }
+    ensures keeps { KeepsOthers place table.old.posts table.new.posts }
+    ensures room { table.old.room ≤ table.new.room + length new.now }
+{
+    drop_texts(table, new, old, place);
+    add_texts(table, old, new, place);
+}
+
+/// Puts the post of a start at a place instead of that of another.
+pub(crate) fn exchange_start<A: Allocator + Copy>(
+    table: &mut Posts<A>,
+    old: Option<i64>,
+    new: Option<i64>,
+    place: u32,
+)
+    requires posted { HasStart old place table.old.posts }
+    requires room { 0 < table.old.room }
+    ensures has { HasStart new place table.new.posts }
+    ensures keeps { KeepsOthers place table.old.posts table.new.posts }
+    ensures room { table.old.room ≤ table.new.room + 1 }
+{
+    if old == new {
+        return;
+    }
+    take_start(table, old, place);
+    put_start(table, new, place);
+}
