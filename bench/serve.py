@@ -4,8 +4,9 @@
 It starts the server on a free port of this machine, with as many workers as there are associations, and ends by itself.
 Each association is a process of its own that sends one request and waits for its answer. These processes take more
 time than the server does, so the requests a second are those of the clients; the processor time is the server's alone,
-as /proc tells it. Before that, eight associations claim the same hundred steps at the same moment, and each step has to
-go to one of them. Where DCMTK is installed, its storescp is asked for C-ECHO in the same way, for comparison.
+by the clock that the system keeps for it. Before that, eight associations claim the same hundred steps at the same moment, and each step has to
+go to one of them. Where DCMTK is installed, its storescp is asked for C-ECHO in the same way, for comparison; and so is
+bench/echo.c where gcc is: the least that a server does for it. A line tells the processor time of a C-ECHO beside that.
 
 With --calls it counts the server's system calls for each request by strace instead, over 1,000 requests of each kind on
 one association, with the C library's memory as it comes and with one arena (MALLOC_ARENA_MAX=1).
@@ -32,7 +33,6 @@ from pipe import (EXPLICIT, PULL, PUSH, RELEASE, VERIFICATION, act, associate, c
 
 CONTEXTS = [(PUSH, EXPLICIT), (PULL, EXPLICIT), (VERIFICATION, EXPLICIT)]
 PUSH_ON, PULL_ON, ECHO_ON = 1, 3, 5
-TICK = os.sysconf("SC_CLK_TCK")
 CLAIMED = 0x0000
 TAKEN = 0xC302
 FOLLOWS = 0xFF00
@@ -175,15 +175,16 @@ def claimer(port, me, barrier, results):
 
 
 def processor(pid):
-    with open(f"/proc/{pid}/stat") as it:
-        fields = it.read().rsplit(")", 1)[1].split()
-    return (int(fields[11]) + int(fields[12])) / TICK
+    """The processor seconds of a process and all of its threads, by the clock that the system keeps for it."""
+    return time.clock_gettime(~pid << 3 | 2)
 
 
 class Server:
     def __init__(self, program, workers, **variables):
-        self.process = subprocess.Popen([program, "serve", "--ae", "UPSD", "--port", "0", "--associations", str(workers)],
-                                        stdout=subprocess.PIPE, stderr=subprocess.DEVNULL, env={**os.environ, **variables})
+        self.begin([program, "serve", "--ae", "UPSD", "--port", "0", "--associations", str(workers)], **variables)
+
+    def begin(self, words, **variables):
+        self.process = subprocess.Popen(words, stdout=subprocess.PIPE, stderr=subprocess.DEVNULL, env={**os.environ, **variables})
         self.port = int(re.match(rb"\d+", self.process.stdout.readline())[0])
 
     def fill(self, steps):
@@ -198,6 +199,13 @@ class Server:
     def __exit__(self, *_):
         self.process.terminate()
         self.process.wait()
+
+
+class Least(Server):
+    """The least that a server does for a C-ECHO: bench/echo.c."""
+
+    def __init__(self, program, _):
+        self.begin([program])
 
 
 class Storescp:
@@ -241,7 +249,8 @@ def race(program):
 
 
 def measure(start, name, steps, count, one, each=1, again=False, most=12):
-    cells = []
+    """Prints a row, and gives the server's microseconds for each request."""
+    cells, took = [], []
     for associations in (1, 4, 12):
         if associations > most:
             cells.append("")
@@ -260,8 +269,22 @@ def measure(start, name, steps, count, one, each=1, again=False, most=12):
                 it.join()
             assert good == associations * count, (name, good)
             requests = associations * count * each
-            cells.append(f"{requests / seconds:,.0f}, {used / requests * 1e6:.0f} us")
+            took.append(used / requests * 1e6)
+            cells.append(f"{requests / seconds:,.0f}, {took[-1]:.1f} us")
     print(f"| {name} | " + " | ".join(cells) + " |", flush=True)
+    return took
+
+
+def measure_echo(start):
+    """A C-ECHO, and beside it the least that a server does for one, where gcc is."""
+    took = measure(start, "C-ECHO", 0, 10_000, one_echo)
+    if not shutil.which("gcc"):
+        return None
+    with tempfile.TemporaryDirectory() as folder:
+        source, program = os.path.join(os.path.dirname(os.path.abspath(__file__)), "echo.c"), os.path.join(folder, "echo")
+        subprocess.run(["gcc", "-O2", "-pthread", "-o", program, source], check=True)
+        least = measure(functools.partial(Least, program), "C-ECHO, of bench/echo.c", 0, 10_000, one_echo)
+    return "a C-ECHO takes the processor " + ", ".join(f"{a / b:.2f}" for a, b in zip(took, least)) + " times what bench/echo.c takes"
 
 
 def calls_of(program, one, **variables):
@@ -300,7 +323,7 @@ def main():
     race(program)
     print("| requests a second, and processor time of the server for each | 1 association | 4 | 12 |")
     print("|---|---|---|---|")
-    measure(start, "C-ECHO", 0, 10_000, one_echo)
+    beside = measure_echo(start)
     if shutil.which("storescp"):
         measure(lambda _: Storescp(), "C-ECHO, of DCMTK's storescp", 0, 10_000, one_echo, most=1)
     measure(start, "open, C-ECHO, release", 0, 1_000, one_echo, again=True)
@@ -311,6 +334,8 @@ def main():
     measure(start, "C-FIND by nothing, 10 steps", 10, 500, one_find_of_all)
     measure(start, "C-FIND by nothing, 1,000 steps", 1000, 20, one_find_of_all)
     measure(start, "life cycle: create, claim, set, cancel", 0, 100, one_life, each=4)
+    if beside:
+        print(beside)
 
 
 if __name__ == "__main__":
