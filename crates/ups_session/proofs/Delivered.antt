@@ -1,5 +1,5 @@
 -- What a fragment and a message make of a delivery.
-use Rattle.std.proofs.Common.{◌≡◌, true, false, cond, Bool, List, [], ◌∷◌, length, ap, sym, ◌∙◌, subst, refl, inr, Option, Some, None}
+use Rattle.std.proofs.Common.{◌≡◌, true, false, cond, Bool, List, [], ◌∷◌, length, ap, sym, ◌∙◌, subst, refl, inr, Option, Some, None, Result, IfOk}
 use Rattle.std.specs.Prelude.{ℕ, ◌≢◌, ◌==◌}
 use Rattle.ups_ulstate.specs.declared.state.UlState.{UlState}
 use Rattle.ups_ulstate.specs.declared.state.UlEvent.TheVariants as events
@@ -23,14 +23,29 @@ use Rattle.ups_life.specs.declared.request.Reply.{Reply}
 use Rattle.ups_life.specs.declared.request.Reply.TheVariants.{Status as Told, Reports}
 use Rattle.ups_cycle.specs.declared.status.Status.TheVariants.{ResourceLimitation}
 use Rattle.ups_session.specs.declared.delivery.Route.{Route}
+use Rattle.ups_session.specs.declared.effect.Effect.{Effect}
+use Rattle.ups_session.specs.declared.effect.Effect.TheVariants.{Send, Respond, Call}
+use Rattle.ups_session.specs.declared.fault.SessionFault.{SessionFault}
 use Rattle.ups_session.specs.declared.delivery.DeliveryCall.{DeliveryCall}
 use Rattle.ups_session.specs.declared.delivery.DeliveryCall.TheVariants.{Pendings}
 use Rattle.ups_session.specs.Association.{AssociationView, EstablishedView}
 use Rattle.ups_session.specs.Delivery.{DeliveryView}
+use Rattle.ups_session.specs.Deliveries.{IsSendableDelivery}
+use Rattle.ups_session.specs.Party.{CanSend}
 use Rattle.ups_session.specs.Sides.{transition, on_action, unexpected, aborting}
 use Rattle.ups_session.specs.Requestor.{DeliveryReaction, saying, with_association, along, releasing, reporting, reporting_next, most_messages, proceeding, with_ahead, on_pendings, on_acknowledged, Understands, Assembles, OnFragment, on_answer}
 use Rattle.ups_session.specs.Reports.{route_of}
+use Rattle.ups_session.proofs.Parts.{if_ok}
 use Rattle.ups_session.proofs.Receiving.{after, after_is, fed_on, fed_not}
+
+-- what a delivery sends can be written
+can_send : {A : Type 0} (effect : Effect A DeliveryCall) → IsSendableDelivery effect → CanSend (λ call. Unit {0}) effect
+can_send (Send said) s = s
+can_send (Respond response) s = absurd s
+can_send (Call call) s = s
+
+pub sendable : {A : Type 0} (r : Result (Effect A DeliveryCall) SessionFault) → IfOk r IsSendableDelivery → IfOk r (CanSend (λ call. Unit {0}))
+sendable r s = if_ok r _ _ (λ effect w. can_send effect w) s
 
 -- a message whose command can't be read
 pub not_understood : {A : Type 0} (d : DeliveryView A) (released : Bool) (message : RawMessage A) (bytes : List ℕ) (why : DimseFault) (reaction : DeliveryReaction A) → bytes ≡ message.command

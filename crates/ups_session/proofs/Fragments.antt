@@ -1,5 +1,5 @@
 -- A command or a data set, said fragment by fragment.
-use Rattle.std.proofs.Common.{◌≡◌, ℕ, ◌<◌, ◌≤◌, Bool, true, false, List, [], ◌∷◌, ◌++◌, length, take, drop, Result, Some, refl, sym, ap, subst, ◌∙◌, append_assoc, arith}
+use Rattle.std.proofs.Common.{◌≡◌, ℕ, ◌<◌, ◌≤◌, Bool, true, false, List, [], ◌∷◌, ◌++◌, length, take, drop, Result, None, Some, refl, sym, ap, subst, ◌∙◌, append_assoc, append-nil, arith}
 use Rattle.ups_pdu.specs.declared.pdu.Pdu.{Pdu}
 use Rattle.ups_assoc.specs.Cutting.{room, fragment, fragments, run, pieces}
 use Rattle.ups_assoc.proofs.Pieces.{fragments-last, fragments-more}
@@ -72,3 +72,10 @@ pub said_neither : (A Y : Type 0) (size max context : ℕ) (command body : List 
 said_neither A Y size max context command body o p t u e is s =
     subst (λ (n : ℕ). SendsPdus (run {A = A} n context true command ++ run n context false body) o p t u (stopping {Y = Y} e)) is
     (says_cut {Y = Y} {Z = Y} (run {A = A} size context true command) (run size context false body) o p t u e s)
+
+-- a command without a data set
+pub said_alone : (A Y : Type 0) (size max context : ℕ) (command : List ℕ) (o p : Output) (t u : Told) (r : Result Y SessionFault) → size ≡ room max
+    → SendsPdus (run {A = A} size context true command) o p t u r → SendsPdus (pieces {A = A} context command None max) o p t u r
+said_alone A Y size max context command o p t u r is s =
+    subst (λ (n : ℕ). SendsPdus (run {A = A} n context true command ++ []) o p t u r) is
+    (subst (λ (l : List (Pdu A)). SendsPdus l o p t u r) (sym (append-nil (run {A = A} size context true command))) s)

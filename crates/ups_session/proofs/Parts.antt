@@ -1,8 +1,7 @@
 -- The parts of a response.
-use Rattle.std.proofs.Common.{◌≡◌, ℕ, Bool, true, false, List, ap, refl, ◌∙◌, Option, None, Some, Result, Ok, Err, IfOk, OnErr}
+use Rattle.std.proofs.Common.{◌≡◌, ℕ, Bool, true, false, List, ap, refl, Option, None, Some, Result, Ok, Err, IfOk, OnErr}
 use Rattle.std.specs.Option.{unwrap_or}
 use Rattle.ups_dataset.specs.Data.{El}
-use Rattle.ups_dataset.specs.Written as sets
 use Rattle.ups_dimse.specs.declared.command.Command.TheVariants.{Response}
 use Rattle.ups_dimse.specs.declared.command.RequestCommand.{RequestCommand}
 use Rattle.ups_dimse.specs.declared.command.ResponseCommand.{ResponseCommand}

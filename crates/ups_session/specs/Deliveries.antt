@@ -3,6 +3,7 @@ use Rattle.std.specs.Prelude.{drop}
 use Rattle.ups_session.specs.declared.delivery.Delivery.{Delivery}
 use Rattle.ups_session.specs.declared.delivery.DeliveryCall.{DeliveryCall}
 use Rattle.ups_session.specs.declared.effect.Effect.{Effect}
+use Rattle.ups_session.specs.declared.effect.Effect.TheVariants.{Respond}
 use Rattle.ups_session.specs.Delivery.{DeliveryView}
 use Rattle.ups_session.specs.Effects.{association_view}
 use Rattle.ups_session.specs.Party.{reaction_with, CanSend}
@@ -16,6 +17,7 @@ delivery_view delivery = record { association = association_view delivery.associ
 abbrev pub delivery_reaction_of : {A : Type 0} → DeliveryView A → Effect A DeliveryCall → DeliveryReaction A
 delivery_reaction_of d effect = reaction_with (λ call. call) d effect
 
--- each PDU that it sends can be written
+-- each PDU that it sends can be written; and it sends no response as such
 abbrev pub IsSendableDelivery : {A : Type 0} → Effect A DeliveryCall → Type 0
+IsSendableDelivery (Respond response) = ⊥
 IsSendableDelivery effect = CanSend (λ call. Unit {0}) effect

@@ -1,15 +1,16 @@
 -- What the driver of a session knows of a side of an association.
-use Rattle.std.specs.Prelude.{◌≢◌, ℕ, List, [], Option, None, Some}
+use Rattle.std.specs.Prelude.{◌≢◌, ◌≤◌, ℕ, List, [], Option, None, Some}
 use Rattle.std.specs.List.{AllByRecursion}
 use Rattle.ups_ulstate.specs.declared.state.UlEvent.TheVariants.{TransportConfirmed, TransportClosed}
 use Rattle.ups_pdu.specs.declared.pdu.Pdu.{Pdu}
 use Rattle.ups_pdu.specs.declared.pdu.Pdu.TheVariants as pdus
 use Rattle.ups_pdu.specs.Fits.{Fits}
 use Rattle.ups_pdu.specs.Spelling.{SpellsPdu}
+use Rattle.ups_assoc.specs.Cutting.{pieces}
 use Rattle.ups_session.specs.declared.indication.UlIndication.{UlIndication}
 use Rattle.ups_session.specs.declared.indication.UlIndication.TheVariants as ul_indications
 use Rattle.ups_session.specs.declared.effect.Effect.{Effect}
-use Rattle.ups_session.specs.declared.effect.Effect.TheVariants.{Send, Call}
+use Rattle.ups_session.specs.declared.effect.Effect.TheVariants.{Send, Respond, Call}
 use Rattle.ups_session.specs.Fold.{Indication, event, request, confirmation, presentation_data, invalid, Exchange, Reaction, Side, Happens, IsOpen}
 
 -- the indication
@@ -34,10 +35,12 @@ awaiting_reply association waiting = record { association = association; send = 
 -- the PDUs that it sends, and what it calls the service for
 abbrev pub said_by : {A C : Type 0} → Effect A C → List (Pdu A)
 said_by (Send said) = said.items
+said_by (Respond response) = pieces response.context response.command.items None response.max
 said_by (Call call) = []
 
 abbrev pub awaited_by : {A C W : Type 0} → (C → W) → Effect A C → Option W
 awaited_by call_view (Send said) = None
+awaited_by call_view (Respond response) = None
 awaited_by call_view (Call call) = Some (call_view call)
 
 -- the reaction with an effect
@@ -47,6 +50,7 @@ reaction_with call_view association effect = record { association = association;
 -- each PDU that it sends can be written, and so can what comes of its call
 abbrev pub CanSend : {A C : Type 0} → (C → Type 0) → Effect A C → Type 0
 CanSend can (Send said) = AllByRecursion (λ p. Fits p) said.items
+CanSend can (Respond response) = 8 ≤ response.max
 CanSend can (Call call) = can call
 
 -- once the transport connection is closed, a side is no longer open

@@ -35,14 +35,14 @@ pub(crate) struct Acceptor<'a, A: Allocator + Copy> {
     pub association: Association<A>,
 }
 
-/// Calls the service with what a request asks, and sends its reply.
+/// Calls the service with what a request asks, and sends its reply. The buffer is for the bytes of one PDU after the other.
 ///
 /// Errors: a failed write; out of memory. What the service accepted stays accepted.
 fn respond<A: Allocator + Copy, W: Write, S: Service<A>, G: Gate>(
-    alloc: A,
     writer: &mut WatchedWriter<W>,
     service: &mut S,
     gate: &mut G,
+    buffer: &mut Vec<u8, A>,
     waiting: AwaitedRequest<A>,
 ) -> Result<(), SessionFault>
     requires { 8 ≤ waiting.max }
@@ -59,7 +59,7 @@ fn respond<A: Allocator + Copy, W: Write, S: Service<A>, G: Gate>(
     } = waiting;
     let moment = gate.now();
     let reply = service.call(ae, moment, ask);
-    send_reply(alloc, writer, gate, max, &context, &command, &reply)
+    send_reply(writer, gate, buffer, max, &context, &command, &reply)
 }
 
 impl<'a, A: Allocator + Copy> Party<A> for Acceptor<'a, A> {
@@ -135,16 +135,13 @@ impl<'a, A: Allocator + Copy> Party<A> for Acceptor<'a, A> {
 
     fn settle<W: Write, S: Service<A>, G: Gate>(
         &mut self,
-        alloc: A,
         writer: &mut WatchedWriter<W>,
         service: &mut S,
         gate: &mut G,
-        call: &mut Option<AwaitedRequest<A>>,
+        buffer: &mut Vec<u8, A>,
+        call: AwaitedRequest<A>,
     ) -> Result<(), SessionFault> {
-        let Some(waiting) = call.take() else {
-            unreachable!();
-        };
-        respond(alloc, writer, service, gate, waiting)
+        respond(writer, service, gate, buffer, call)
     }
 
     fn end(&self) -> Option<End> {

@@ -410,50 +410,6 @@ impl<A: Allocator + Copy> Association<A> {
         )
     }
 
-    /// Takes up what a PDV came to; None aborts the association.
-    ///
-    /// Errors: out of memory.
-    fn on_message_effect(
-        &mut self,
-        alloc: A,
-        established: Established<A>,
-        found: Option<Effect<A, AwaitedRequest<A>>>,
-    ) -> Result<Effect<A, AwaitedRequest<A>>, SessionFault>
-        requires roomy { 8 ≤ established.parameters.max }
-        requires writable { AreSendable found }
-        ensures reaction { IfOk result (λ effect. reaction_of (association_view self.new) effect ≡ on_message_effect false (record { state = self.old.state; established = Some (established_view established); ending = self.old.ending }) (message_effect found)) }
-        ensures writable { IfOk result IsSendable }
-        ensures roomy { IsRoomy self.new.established }
-        ensures memory { IfErr result (λ e. e ≡ Memory) }
-    {
-        self.established = Some(established);
-        match found {
-            Some(effect) => Ok(effect),
-            None => Ok(Effect::Send(self.abort(alloc, ACCEPTOR)?)),
-        }
-    }
-
-    /// Processes a PDV of an established association.
-    ///
-    /// Errors: out of memory.
-    fn assemble(
-        &mut self,
-        alloc: A,
-        config: &Config,
-        established: Established<A>,
-        pdv: &Pdv<A>,
-    ) -> Result<Effect<A, AwaitedRequest<A>>, SessionFault>
-        requires roomy { 8 ≤ established.parameters.max }
-        ensures reaction { IfOk result (λ effect. Continues false config.now.offset (association_view self.old) (established_view established) (fed established.assembler.ids established.assembler.begun pdv.now) (reaction_of (association_view self.new) effect)) }
-        ensures writable { IfOk result IsSendable }
-        ensures roomy { OnOk result (IsRoomy self.new.established) }
-        ensures memory { IfErr result (λ e. e ≡ Memory) }
-    {
-        let mut established = established;
-        let found = on_pdv(alloc, config, &mut established, pdv)?;
-        self.on_message_effect(alloc, established, found)
-    }
-
     /// Processes a PDV in a state in which messages are received.
     ///
     /// Errors: out of memory.
@@ -469,9 +425,12 @@ impl<A: Allocator + Copy> Association<A> {
         ensures roomy { OnOk result (IsRoomy self.new.established) }
         ensures memory { IfErr result (λ e. e ≡ Memory) }
     {
-        match self.established.take() {
-            Some(established) => self.assemble(alloc, config, established, pdv),
-            None => Ok(Effect::Send(Vec::new(alloc))),
+        let Some(established) = &mut self.established else {
+            return Ok(Effect::Send(Vec::new(alloc)));
+        };
+        match on_pdv(alloc, config, established, pdv)? {
+            Some(effect) => Ok(effect),
+            None => Ok(Effect::Send(self.abort(alloc, ACCEPTOR)?)),
         }
     }
 

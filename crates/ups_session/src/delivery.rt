@@ -298,6 +298,7 @@ impl<A: Allocator + Copy> Delivery<A> {
         self.taken = 0;
         match self.go_on(alloc)? {
             Effect::Send(said) => Ok(said),
+            Effect::Respond(_) => unreachable!(),
             Effect::Call(_) => unreachable!(),
         }
     }

@@ -19,9 +19,9 @@ ghost use Rattle.ups_session.specs.Acceptor.{message_effect_of, OnCommand, OnMes
 ghost use Rattle.ups_session.specs.Sides.{context_at};
 
 use crate::association::Parameters;
-use crate::effect::{AwaitedRequest, Effect};
+use crate::effect::{AwaitedRequest, BareResponse, Effect};
 use crate::fault::SessionFault;
-use crate::response::bare_response;
+use crate::response::response_bytes;
 use std::alloc::{AllocError, Allocator};
 use ups_assoc::{AcceptedContext, Config, RawMessage, SopClass};
 use ups_cycle::Status;
@@ -97,9 +97,10 @@ fn accepts_sop_class<A: Allocator + Copy>(
     let Some(named) = named else {
         return false;
     };
+    let named = named.as_bytes();
     match operation {
-        Operation::Echo => named == class.registered().uid(),
-        _ => named == class.registered().uid() || named == RegisteredUid::UpsPush.uid(),
+        Operation::Echo => named == class.registered().text(),
+        _ => named == class.registered().text() || named == RegisteredUid::UpsPush.text(),
     }
 }
 
@@ -224,13 +225,11 @@ fn effect_of<A: Allocator + Copy>(
     ensures memory { IfErr result (λ e. e ≡ Memory) }
 {
     match dispatch {
-        Dispatch::Answer(status) => Ok(Effect::Send(bare_response(
-            alloc,
-            parameters.max,
-            &context,
-            &command,
-            status,
-        )?)),
+        Dispatch::Answer(status) => Ok(Effect::Respond(BareResponse {
+            max: parameters.max,
+            context: context.id,
+            command: response_bytes(alloc, &command, status, false)?,
+        })),
         Dispatch::Question(ask) => Ok(Effect::Call(AwaitedRequest {
             ae: parameters.ae,
             ask,

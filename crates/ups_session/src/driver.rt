@@ -15,6 +15,7 @@ use crate::gate::Gate;
 use crate::indication::UlIndication;
 use crate::party::Party;
 use crate::pdu_io::{PduRead, read_one, send_pdus};
+use crate::sending::send_command;
 use crate::watched_io::{WatchedReader, WatchedWriter};
 use std::alloc::Allocator;
 use std::io::{Read, Write};
@@ -22,15 +23,16 @@ use ups_pdu::{Pdu, Pdv};
 use ups_service::Service;
 use ups_ulstate::UlEvent;
 
-/// Processes an indication: the party reacts, and what it sends is written, or the call that it makes is settled.
+/// Processes an indication: the party reacts, and what it sends is written, or the call that it makes is settled. The
+/// buffer is for the bytes of one PDU after the other, as in all functions here.
 ///
 /// Errors: a failed write; out of memory.
 fn process<A: Allocator + Copy, W: Write, S: Service<A>, G: Gate, P: Party<A>>(
-    alloc: A,
     party: &mut P,
     writer: &mut WatchedWriter<W>,
     service: &mut S,
     gate: &mut G,
+    buffer: &mut Vec<u8, A>,
     indication: &UlIndication<A>,
 ) -> Result<(), SessionFault>
     requires ready { P.is_ready party.old }
@@ -41,9 +43,18 @@ fn process<A: Allocator + Copy, W: Write, S: Service<A>, G: Gate, P: Party<A>>(
     ensures ready { OnOk result (P.is_ready party.new) }
     ensures setup { P.setup party.new ≡ P.setup party.old }
 {
+    let alloc = *buffer.allocator();
     match party.react(alloc, indication)? {
         Effect::Send(said) => send_pdus(alloc, writer, gate, said.as_slice()),
-        Effect::Call(call) => party.settle(alloc, writer, service, gate, &mut Some(call)),
+        Effect::Respond(response) => send_command(
+            writer,
+            gate,
+            buffer,
+            response.max,
+            response.context,
+            response.command.as_slice(),
+        ),
+        Effect::Call(call) => party.settle(writer, service, gate, buffer, call),
     }
 }
 
@@ -51,11 +62,11 @@ fn process<A: Allocator + Copy, W: Write, S: Service<A>, G: Gate, P: Party<A>>(
 ///
 /// Errors: a failed write; out of memory.
 fn process_fragments<A: Allocator + Copy, W: Write, S: Service<A>, G: Gate, P: Party<A>>(
-    alloc: A,
     party: &mut P,
     writer: &mut WatchedWriter<W>,
     service: &mut S,
     gate: &mut G,
+    buffer: &mut Vec<u8, A>,
     pdvs: &[Pdv<A>],
 ) -> Result<(), SessionFault>
     requires ready { P.is_ready party.old }
@@ -67,7 +78,7 @@ fn process_fragments<A: Allocator + Copy, W: Write, S: Service<A>, G: Gate, P: P
 {
     for pdv in pdvs {
         let indication = UlIndication::Pdv(pdv);
-        process(alloc, party, writer, service, gate, &indication)?;
+        process(party, writer, service, gate, buffer, &indication)?;
     }
     Ok(())
 }
@@ -76,11 +87,11 @@ fn process_fragments<A: Allocator + Copy, W: Write, S: Service<A>, G: Gate, P: P
 ///
 /// Errors: a failed write; out of memory.
 fn process_pdu<A: Allocator + Copy, W: Write, S: Service<A>, G: Gate, P: Party<A>>(
-    alloc: A,
     party: &mut P,
     writer: &mut WatchedWriter<W>,
     service: &mut S,
     gate: &mut G,
+    buffer: &mut Vec<u8, A>,
     pdu: &Pdu<A>,
 ) -> Result<(), SessionFault>
     requires ready { P.is_ready party.old }
@@ -93,15 +104,15 @@ fn process_pdu<A: Allocator + Copy, W: Write, S: Service<A>, G: Gate, P: Party<A
 {
     let event = match pdu {
         Pdu::Data(pdvs) => {
-            return process_fragments(alloc, party, writer, service, gate, pdvs.as_slice());
+            return process_fragments(party, writer, service, gate, buffer, pdvs.as_slice());
         }
         Pdu::AssociateRq(request) => {
             let indication = UlIndication::AssociateRq(request);
-            return process(alloc, party, writer, service, gate, &indication);
+            return process(party, writer, service, gate, buffer, &indication);
         }
         Pdu::AssociateAc(accept) => {
             let indication = UlIndication::AssociateAc(accept);
-            return process(alloc, party, writer, service, gate, &indication);
+            return process(party, writer, service, gate, buffer, &indication);
         }
         Pdu::AssociateRj { .. } => UlEvent::AssociateRj,
         Pdu::ReleaseRq => UlEvent::ReleaseRq,
@@ -109,19 +120,19 @@ fn process_pdu<A: Allocator + Copy, W: Write, S: Service<A>, G: Gate, P: Party<A
         Pdu::Abort { .. } => UlEvent::Abort,
     };
     let indication = UlIndication::Event(event);
-    process(alloc, party, writer, service, gate, &indication)
+    process(party, writer, service, gate, buffer, &indication)
 }
 
 /// Reads the next PDU, or the end of the input, and processes it.
 ///
 /// Errors: Read if a read failed or the input ended inside a PDU; a failed write; out of memory.
 fn process_next<A: Allocator + Copy, R: Read, W: Write, S: Service<A>, G: Gate, P: Party<A>>(
-    alloc: A,
     party: &mut P,
     reader: &mut WatchedReader<R>,
     writer: &mut WatchedWriter<W>,
     service: &mut S,
     gate: &mut G,
+    buffer: &mut Vec<u8, A>,
 ) -> Result<(), SessionFault>
     requires ready { P.is_ready party.old }
     ensures one_turn { (input : List ℕ) × Consumes reader.old.left reader.new.left input
@@ -131,15 +142,15 @@ fn process_next<A: Allocator + Copy, R: Read, W: Write, S: Service<A>, G: Gate, 
     ensures ready { OnOk result (P.is_ready party.new) }
     ensures setup { P.setup party.new ≡ P.setup party.old }
 {
-    match read_one(alloc, reader)? {
-        PduRead::Pdu(pdu) => process_pdu(alloc, party, writer, service, gate, &pdu),
+    match read_one(reader, buffer)? {
+        PduRead::Pdu(pdu) => process_pdu(party, writer, service, gate, buffer, &pdu),
         PduRead::Bad(fault) => {
             let indication = UlIndication::InvalidPdu(fault);
-            process(alloc, party, writer, service, gate, &indication)
+            process(party, writer, service, gate, buffer, &indication)
         }
         PduRead::Closed => {
             let indication = UlIndication::Event(UlEvent::TransportClosed);
-            process(alloc, party, writer, service, gate, &indication)
+            process(party, writer, service, gate, buffer, &indication)
         }
         PduRead::Cut | PduRead::Failed => Err(SessionFault::Read),
     }
@@ -167,9 +178,10 @@ pub(crate) fn drive<A: Allocator + Copy, R: Read, W: Write, S: Service<A>, G: Ga
         (world writer.new (G.told gate.new) (S.settings service.new) (S.others service.new) (S.caller service.new) (S.seen service.new)) result }
 {
     party.begin(alloc, writer, gate)?;
+    let mut buffer = Vec::new(alloc);
     let mut left = turns;
     while left > 0 {
-        process_next(alloc, party, reader, writer, service, gate)?;
+        process_next(party, reader, writer, service, gate, &mut buffer)?;
         if let Some(end) = party.end() {
             return Ok(end);
         }

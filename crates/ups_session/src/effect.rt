@@ -21,11 +21,24 @@ pub(crate) struct AwaitedRequest<A: Allocator + Copy> {
     pub command: RequestCommand<A>,
 }
 
+/// A response without a data set, which awaits nothing.
+#[derive(Drop)]
+pub(crate) struct BareResponse<A: Allocator + Copy> {
+    /// The longest P-DATA-TF that the peer receives, in bytes.
+    pub max: u32,
+    /// The id of the presentation context.
+    pub context: u8,
+    /// The bytes of its command.
+    pub command: Vec<u8, A>,
+}
+
 /// What a party does upon one indication. `C` is what it calls the service for.
 #[derive(Drop)]
 pub(crate) enum Effect<A: Allocator + Copy, C> {
     /// Sends these PDUs.
     Send(Vec<Pdu<A>, A>),
+    /// Sends this response.
+    Respond(BareResponse<A>),
     /// Calls the service.
     Call(C),
 }

@@ -1,6 +1,6 @@
 //! A party of an association: its requestor or its acceptor.
 
-ghost use Rattle.std.specs.Prelude.{◌≡◌, ◌∷◌, [], true, is_some, ℕ, IfOk, IfErr, OnOk, MatchOption};
+ghost use Rattle.std.specs.Prelude.{◌≡◌, ◌∷◌, [], ℕ, IfOk, IfErr, OnOk, MatchOption};
 
 use crate::effect::Effect;
 use crate::fault::{End, SessionFault};
@@ -13,7 +13,6 @@ use ups_service::Service;
 
 /// A party of an association (PS3.8 section 7.1): its requestor or its acceptor.
 pub(crate) trait Party<A: Allocator + Copy> {
-    ghost use Rattle.std.specs.Option.{IfSome};
     ghost use Rattle.ups_life.specs.Settings.{Settings};
     ghost use Rattle.ups_service.specs.Law.{Others, Seen};
     ghost use Rattle.ups_session.specs.declared.fault.End.{End};
@@ -92,24 +91,23 @@ pub(crate) trait Party<A: Allocator + Copy> {
         ensures setup { setup self.new ≡ setup self.old }
         ensures memory { IfErr result (λ e. e ≡ Memory) };
 
-    /// Makes a call of the service, and sends what its reply leads to. The call is taken from its
-    /// place, as `Service::answer` takes an ask.
+    /// Makes a call of the service, and sends what its reply leads to. The buffer is for the bytes of
+    /// one PDU after the other.
     ///
     /// Errors: a failed write; out of memory. What the service accepted stays accepted.
     fn settle<W: Write, S: Service<A>, G: Gate>(
         &mut self,
-        alloc: A,
         writer: &mut WatchedWriter<W>,
         service: &mut S,
         gate: &mut G,
-        call: &mut Option<Self::Call>,
+        buffer: &mut Vec<u8, A>,
+        call: Self::Call,
     ) -> Result<(), SessionFault>
         requires ready { is_ready self.old }
-        requires given { is_some call.old ≡ true }
-        requires roomy { IfSome call.old is_roomy }
-        ensures settled { IfSome call.old (λ c. IsSettled (side (setup self.old)) (awaiting_reply (view self.old) (call_view c)) (view self.new)
+        requires roomy { is_roomy call }
+        ensures settled { IsSettled (side (setup self.old)) (awaiting_reply (view self.old) (call_view call)) (view self.new)
             (world writer.old (G.told gate.old) (S.settings service.old) (S.others service.old) (S.caller service.old) (S.seen service.old))
-            (world writer.new (G.told gate.new) (S.settings service.new) (S.others service.new) (S.caller service.new) (S.seen service.new)) result) }
+            (world writer.new (G.told gate.new) (S.settings service.new) (S.others service.new) (S.caller service.new) (S.seen service.new)) result }
         ensures ready { OnOk result (is_ready self.new) }
         ensures setup { setup self.new ≡ setup self.old };
 

@@ -1,6 +1,6 @@
 //! PDUs read from a reader and written to a writer.
 
-ghost use Rattle.std.specs.Prelude.{◌≡◌, ℕ, List, ◌++◌, ◌<◌, ◌≤◌, false, true, length, take, ◌≢◌, ◌⊎◌, Ok, Err, ◌+◌, ◌^◌, [], IfOk, IfErr, MatchResult, ◌∷◌};
+ghost use Rattle.std.specs.Prelude.{◌≡◌, ℕ, List, ◌++◌, ◌<◌, ◌≤◌, false, true, length, take, ◌≢◌, ◌⊎◌, Ok, Err, ◌+◌, ◌^◌, [], IfOk, IfErr, OnOk, MatchResult, vec_capacity, ◌∷◌};
 ghost use Rattle.std.specs.Io.KnownBytes.{Appends, Consumes};
 ghost use Rattle.ups_session.specs.WatchedIo.{HasEnded};
 ghost use Rattle.ups_session.specs.declared.watched_io.LastRead.TheVariants as last_reads;
@@ -123,32 +123,46 @@ fn no_pdu<A: Allocator + Copy>(fault: PduFault) -> Result<PduRead<A>, SessionFau
     }
 }
 
-/// A buffer with a header, and room for the body that it announces.
-///
-/// Errors: out of memory.
-fn buffer<A: Allocator + Copy>(
-    alloc: A,
-    header: &[u8],
-    len: usize,
-) -> Result<Vec<u8, A>, SessionFault>
-    requires six { length header.now ≡ 6 }
-    requires len { len < 2 ^ 32 }
-    ensures front { IfOk result (λ v. take 6 v.items ≡ header.now) }
-    ensures len { IfOk result (λ v. length v.items ≡ 6 + len) }
-    ensures memory { IfErr result (λ e. e ≡ Memory) }
+/// The most bytes of memory that a buffer keeps between two PDUs.
+const KEPT_CAPACITY: usize = 16_384;
+
+/// Gives back the memory of a buffer that a long PDU made larger than what is kept.
+fn trim<A: Allocator + Copy>(buffer: &mut Vec<u8, A>)
+    ensures { vec_capacity buffer.new ≤ 16384 }
 {
-    let mut bytes = Vec::with_capacity(alloc, HEADER_LENGTH + len)?;
-    bytes.extend_from_slice(header)?;
-    bytes.resize(HEADER_LENGTH + len, 0)?;
-    Ok(bytes)
+    if buffer.capacity() > KEPT_CAPACITY {
+        let alloc = *buffer.allocator();
+        *buffer = Vec::new(alloc);
+    }
 }
 
-/// Reads the body that a header announces, and not a byte more.
+/// Makes the buffer a header, and room for the body that it announces.
+///
+/// Errors: out of memory.
+fn begin_pdu<A: Allocator + Copy>(
+    buffer: &mut Vec<u8, A>,
+    header: &[u8],
+    len: usize,
+) -> Result<(), SessionFault>
+    requires six { length header.now ≡ 6 }
+    requires len { len < 2 ^ 32 }
+    ensures front { OnOk result (take 6 buffer.new.items ≡ header.now) }
+    ensures len { OnOk result (length buffer.new.items ≡ 6 + len) }
+    ensures memory { IfErr result (λ e. e ≡ Memory) }
+{
+    buffer.clear();
+    buffer.reserve(HEADER_LENGTH + len)?;
+    buffer.extend_from_slice(header)?;
+    buffer.resize(HEADER_LENGTH + len, 0)?;
+    Ok(())
+}
+
+/// Reads the body that a header announces, and not a byte more. The buffer is for the bytes of the PDU.
 ///
 /// Errors: out of memory.
 fn read_body<A: Allocator + Copy, R: Read>(
-    alloc: A,
     reader: &mut WatchedReader<R>,
+    buffer: &mut Vec<u8, A>,
     header: &[u8],
     len: usize,
 ) -> Result<PduRead<A>, SessionFault>
@@ -157,12 +171,14 @@ fn read_body<A: Allocator + Copy, R: Read>(
     requires len { len < 2 ^ 32 }
     ensures { (body : List ℕ) × Consumes reader.old.left reader.new.left body × IsRead reader.new (header.now ++ body) result }
 {
-    let mut bytes = buffer(alloc, header, len)?;
-    let whole = fill(reader, bytes.as_mut_slice(), HEADER_LENGTH);
-    if whole.count < bytes.len() {
+    begin_pdu(buffer, header, len)?;
+    let whole = fill(reader, buffer.as_mut_slice(), HEADER_LENGTH);
+    if whole.count < buffer.len() {
         return Ok(cut_off(whole));
     }
-    match read_pdu(alloc, bytes.as_slice()) {
+    let read = read_pdu(*buffer.allocator(), buffer.as_slice());
+    trim(buffer);
+    match read {
         Ok((pdu, _)) => Ok(PduRead::Pdu(pdu)),
         Err(fault) => no_pdu(fault),
     }
@@ -188,21 +204,22 @@ fn read_header<A: Allocator + Copy, R: Read>(
     Ok(header)
 }
 
-/// Reads one PDU, and not a byte more than its header and its length announce.
+/// Reads one PDU, and not a byte more than its header and its length announce. The buffer is for the bytes of the PDU.
 ///
 /// Errors: out of memory.
 pub(crate) fn read_one<A: Allocator + Copy, R: Read>(
-    alloc: A,
     reader: &mut WatchedReader<R>,
+    buffer: &mut Vec<u8, A>,
 ) -> Result<PduRead<A>, SessionFault>
     ensures { (input : List ℕ) × Consumes reader.old.left reader.new.left input × IsRead reader.new input result }
 {
+    trim(buffer);
     let header = match read_header(reader) {
         Ok(header) => header,
         Err(got) => return Ok(got),
     };
     match body_len(&header) {
-        Ok(len) => read_body(alloc, reader, &header, len),
+        Ok(len) => read_body(reader, buffer, &header, len),
         Err(fault) => Ok(PduRead::Bad(fault)),
     }
 }

@@ -97,6 +97,7 @@ fn acknowledge<A: Allocator + Copy, W: Write, S: Service<A>, G: Gate>(
     let reply = service.call(ae, moment, Ask::Do(Request::Ack { upto: number }));
     match delivery.on_acknowledged(alloc, &reply)? {
         Effect::Send(said) => send_pdus(alloc, writer, gate, said.as_slice()),
+        Effect::Respond(_) => unreachable!(),
         Effect::Call(_) => ask_pendings(alloc, ae, delivery, writer, service, gate),
     }
 }
@@ -163,6 +164,7 @@ impl<'a, A: Allocator + Copy> Party<A> for Requestor<'a, A> {
         propose(alloc, self.config, self.ae, writer, gate)
     }
 
+    #[tactic(auto, using(crate::proofs::Delivered::sendable))]
     fn react(
         &mut self,
         alloc: A,
@@ -190,15 +192,13 @@ impl<'a, A: Allocator + Copy> Party<A> for Requestor<'a, A> {
 
     fn settle<W: Write, S: Service<A>, G: Gate>(
         &mut self,
-        alloc: A,
         writer: &mut WatchedWriter<W>,
         service: &mut S,
         gate: &mut G,
-        call: &mut Option<DeliveryCall>,
+        buffer: &mut Vec<u8, A>,
+        call: DeliveryCall,
     ) -> Result<(), SessionFault> {
-        let Some(call) = *call else {
-            unreachable!();
-        };
+        let alloc = *buffer.allocator();
         let (ae, delivery) = (self.ae, &mut self.delivery);
         match call {
             DeliveryCall::Pendings => ask_pendings(alloc, ae, delivery, writer, service, gate),

@@ -1,11 +1,13 @@
 //! Responses: built as PDUs, and sent.
 
-ghost use Rattle.std.specs.Prelude.{◌≡◌, ◌≤◌, ◌⊎◌, Some, IfOk, IfErr, option_copied};
+ghost use Rattle.std.specs.Prelude.{◌≡◌, ◌≤◌, ◌<◌, ◌⊎◌, ◌^◌, length, Some, IfOk, IfErr, option_copied};
 ghost use Rattle.std.specs.List.{AllByRecursion, flat_map};
 ghost use Rattle.std.specs.Option.{unwrap_or};
 ghost use Rattle.ups_pdu.specs.declared.registered.RegisteredUid.TheVariants.{UpsPush};
 ghost use Rattle.ups_pdu.specs.Fits.{Fits};
 ghost use Rattle.ups_pdu.specs.Registered.{text_of};
+ghost use Rattle.ups_pdu.specs.declared.syntax.TransferSyntax.TheVariants.{Explicit};
+ghost use Rattle.ups_dataset.specs.Written.{written};
 ghost use Rattle.ups_assoc.specs.Cutting.{pieces};
 ghost use Rattle.ups_cycle.specs.Statuses.{code};
 ghost use Rattle.ups_session.specs.declared.fault.SessionFault.TheVariants.{Memory};
@@ -16,8 +18,7 @@ ghost use Rattle.ups_session.specs.Visits.{SendsPdus};
 
 use crate::fault::SessionFault;
 use crate::gate::Gate;
-use crate::pdu_io::send_pdus;
-use crate::sending::send_message;
+use crate::sending::{send_command, send_message};
 use crate::watched_io::WatchedWriter;
 use std::alloc::{AllocError, Allocator};
 use std::io::Write;
@@ -41,7 +42,7 @@ fn class_of<A: Allocator + Copy>(request: &RequestCommand<A>) -> Uid
 /// Encodes the command set of a response.
 ///
 /// Errors: out of memory.
-fn response_bytes<A: Allocator + Copy>(
+pub(crate) fn response_bytes<A: Allocator + Copy>(
     alloc: A,
     request: &RequestCommand<A>,
     status: Status,
@@ -94,13 +95,13 @@ pub(crate) fn bare_response<A: Allocator + Copy>(
     pieces(alloc, max, context.id, &command, None)
 }
 
-/// Sends a response without a data set.
+/// Sends a response without a data set. The buffer is for the bytes of one PDU after the other.
 ///
 /// Errors: a failed write, or out of memory; a beginning of the bytes was then written.
 fn send_status<A: Allocator + Copy, W: Write, G: Gate>(
-    alloc: A,
     writer: &mut WatchedWriter<W>,
     gate: &mut G,
+    buffer: &mut Vec<u8, A>,
     max: u32,
     context: &AcceptedContext,
     request: &RequestCommand<A>,
@@ -109,8 +110,29 @@ fn send_status<A: Allocator + Copy, W: Write, G: Gate>(
     requires max { 8 ≤ max }
     ensures { SendsPdus (bare_response max context.now request.now status) writer.old writer.new (G.told gate.old) (G.told gate.new) result }
 {
-    let said = bare_response(alloc, max, context, request, status)?;
-    send_pdus(alloc, writer, gate, said.as_slice())
+    let command = response_bytes(*buffer.allocator(), request, status, false)?;
+    send_command(writer, gate, buffer, max, context.id, &command)
+}
+
+/// Sends a response with its data set, whose command set `command` is, encoded. The buffer is for the bytes of one PDU
+/// after the other.
+///
+/// Errors: a failed write, or out of memory; a beginning of the bytes was then written.
+fn send_small_set<A: Allocator + Copy, W: Write, G: Gate>(
+    writer: &mut WatchedWriter<W>,
+    gate: &mut G,
+    buffer: &mut Vec<u8, A>,
+    max: u32,
+    context: &AcceptedContext,
+    command: &[u8],
+    set: &DataSet<A>,
+) -> Result<(), SessionFault>
+    requires max { 8 ≤ max }
+    requires small { length (written Explicit set.now) < 2 ^ 32 }
+    ensures { SendsPdus (with_set {A = A} max context.now command.now set.now) writer.old writer.new (G.told gate.old) (G.told gate.new) result }
+{
+    let body = write_set(*buffer.allocator(), context.transfer_syntax, set)?;
+    send_message(writer, gate, buffer, max, context.id, command, &body)
 }
 
 /// Sends a response with its data set, whose command set `command` is, encoded. The buffer is for the bytes of one PDU
@@ -132,18 +154,17 @@ fn send_set<A: Allocator + Copy, W: Write, G: Gate>(
     if set.size() > u64::from(u32::MAX) {
         return Err(SessionFault::Memory);
     }
-    let body = write_set(*buffer.allocator(), context.transfer_syntax, set)?;
-    send_message(writer, gate, buffer, max, context.id, command, &body)
+    send_small_set(writer, gate, buffer, max, context, command, set)
 }
 
-/// Sends the matches of a query, one after another; memory is taken for one at a time, and one buffer serves all. All have
+/// Sends the matches of a query, one after another; memory is taken for one at a time, and the buffer serves all. All have
 /// the same command set, of status Pending, which is encoded once.
 ///
 /// Errors: a failed write, or out of memory; a beginning of the bytes was then written.
 fn send_matches<A: Allocator + Copy, W: Write, G: Gate>(
-    alloc: A,
     writer: &mut WatchedWriter<W>,
     gate: &mut G,
+    buffer: &mut Vec<u8, A>,
     max: u32,
     context: &AcceptedContext,
     request: &RequestCommand<A>,
@@ -152,21 +173,21 @@ fn send_matches<A: Allocator + Copy, W: Write, G: Gate>(
     requires max { 8 ≤ max }
     ensures { SendsPdus (flat_map (set_response max context.now request.now Pending) sets.now) writer.old writer.new (G.told gate.old) (G.told gate.new) result }
 {
-    let command = response_bytes(alloc, request, Status::Pending, true)?;
-    let mut buffer = Vec::new(alloc);
+    let command = response_bytes(*buffer.allocator(), request, Status::Pending, true)?;
     for set in sets {
-        send_set(writer, gate, &mut buffer, max, context, &command, set)?;
+        send_set(writer, gate, buffer, max, context, &command, set)?;
     }
     Ok(())
 }
 
-/// Sends the reply of the service to a request, in PDUs of at most `max` bytes.
+/// Sends the reply of the service to a request, in PDUs of at most `max` bytes. The buffer is for the bytes of one PDU after
+/// the other.
 ///
 /// Errors: a failed write, or out of memory; a beginning of the bytes was then written.
 pub(crate) fn send_reply<A: Allocator + Copy, W: Write, G: Gate>(
-    alloc: A,
     writer: &mut WatchedWriter<W>,
     gate: &mut G,
+    buffer: &mut Vec<u8, A>,
     max: u32,
     context: &AcceptedContext,
     request: &RequestCommand<A>,
@@ -178,19 +199,18 @@ pub(crate) fn send_reply<A: Allocator + Copy, W: Write, G: Gate>(
 {
     match reply {
         Reply::Status(status) => {
-            send_status(alloc, writer, gate, max, context, request, *status)
+            send_status(writer, gate, buffer, max, context, request, *status)
         }
         Reply::Swept(_) | Reply::AckAhead | Reply::AckStale | Reply::Reports(_) => {
-            send_status(alloc, writer, gate, max, context, request, Status::Success)
+            send_status(writer, gate, buffer, max, context, request, Status::Success)
         }
         Reply::Set(status, set) => {
-            let command = response_bytes(alloc, request, *status, true)?;
-            let mut buffer = Vec::new(alloc);
-            send_set(writer, gate, &mut buffer, max, context, &command, set)
+            let command = response_bytes(*buffer.allocator(), request, *status, true)?;
+            send_small_set(writer, gate, buffer, max, context, &command, set)
         }
         Reply::Sets(sets) => {
-            send_matches(alloc, writer, gate, max, context, request, sets.as_slice())?;
-            send_status(alloc, writer, gate, max, context, request, Status::Success)
+            send_matches(writer, gate, buffer, max, context, request, sets.as_slice())?;
+            send_status(writer, gate, buffer, max, context, request, Status::Success)
         }
     }
 }

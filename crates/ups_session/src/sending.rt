@@ -1,6 +1,6 @@
 //! Messages sent fragment by fragment (PS3.8 section 9.3.5 and annex E): the bytes of each PDU are made in one buffer.
 
-ghost use Rattle.std.specs.Prelude.{◌≤◌, ◌<◌, ◌-◌, ◌∷◌, [], Some, length};
+ghost use Rattle.std.specs.Prelude.{◌≤◌, ◌<◌, ◌-◌, ◌∷◌, [], None, Some, length};
 ghost use Rattle.ups_pdu.specs.Limits.{max_data_length};
 ghost use Rattle.ups_assoc.specs.Cutting.{fragment, run, pieces};
 ghost use Rattle.ups_session.specs.Visits.{SendsPdus};
@@ -56,6 +56,24 @@ fn send_run<A: Allocator + Copy, W: Write, G: Gate>(
         rest = after;
     }
     send_fragment(writer, gate, buffer, context, command, true, rest)
+}
+
+/// Sends a message without a data set, in PDUs of at most `max` bytes: the fragments of its command. The buffer is for the
+/// bytes of one PDU after the other.
+///
+/// Errors: a failed write, or out of memory; a beginning of the bytes was then written.
+pub(crate) fn send_command<A: Allocator + Copy, W: Write, G: Gate>(
+    writer: &mut WatchedWriter<W>,
+    gate: &mut G,
+    buffer: &mut Vec<u8, A>,
+    max: u32,
+    context: u8,
+    command: &[u8],
+) -> Result<(), SessionFault>
+    requires { 8 ≤ max }
+    ensures { SendsPdus (pieces {A = A} context command.now None max) writer.old writer.new (G.told gate.old) (G.told gate.new) result }
+{
+    send_run(writer, gate, buffer, room(max), context, true, command)
 }
 
 /// Sends a message with a data set, in PDUs of at most `max` bytes: the fragments of its command, then those of its

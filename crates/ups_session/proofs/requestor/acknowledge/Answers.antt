@@ -35,6 +35,9 @@ returns-in-Send-clause-settled g c = λ config.
     c.now-moment.ensures.tells c.call-reply.ensures.same.0 c.call-reply.ensures.same.1 c.call-reply.ensures.same.2 c.call-reply.ensures.serves (sym (ap (delivery_reaction_of v) c.in-Send.is) ∙ c.in_ok-said.ensures.reaction)
     (settled_said (requestor config c.args.ae) next v _ _ _ _ _ _ _ _ c.send_pdus.result refl (on_ok v c.send_pdus.result) said)
 
+pub unreachable-requires : goal.unreachable-requires
+unreachable-requires g c = subst (λ (m : Effect g.row.A.Denot DeliveryCall). IsSendableDelivery m) c.in-Respond.is c.in_ok-said.ensures.writable
+
 pub returns-clause-settled : goal.returns-clause-settled
 returns-clause-settled g c = λ config.
     let v = delivery_view c.on_acknowledged.new.self in

@@ -20,7 +20,7 @@ pub returns-in_ok-command-in-Set : goal.returns-in_ok-command-in-Set
 returns-in_ok-command-in-Set g c =
     let one = set-response c.args.max c.args.context.now c.args.request.now c.in-Set.status c.in-Set.set c.deref.result.now (c.deref.ensures.value ∙ c.in_ok-command-in-Set.ensures) in
     rw (c.in-Set.is)
-    (subst (λ (l : List (Pdu g.row.A.Denot)). SendsPdus l c.args.writer.now c.send_set.new.writer (g.G.Gate.told c.args.gate.now) (g.G.Gate.told c.send_set.new.gate) c.send_set.result) one c.send_set.ensures)
+    (subst (λ (l : List (Pdu g.row.A.Denot)). SendsPdus l c.args.writer.now c.send_small_set.new.writer (g.G.Gate.told c.args.gate.now) (g.G.Gate.told c.send_small_set.new.gate) c.send_small_set.result) one c.send_small_set.ensures)
 
 pub returns-in_err-send_matches-in-Sets : goal.returns-in_err-send_matches-in-Sets
 returns-in_err-send_matches-in-Sets g c =

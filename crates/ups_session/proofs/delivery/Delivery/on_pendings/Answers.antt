@@ -1,8 +1,13 @@
-use Rattle.std.proofs.Common.{◌∙◌, sym, ap}
-use Rattle.ups_session.specs.Deliveries.{delivery_view, delivery_reaction_of}
+use Rattle.std.proofs.Common.{◌∙◌, sym, ap, subst}
+use Rattle.ups_session.specs.declared.delivery.DeliveryCall.{DeliveryCall}
+use Rattle.ups_session.specs.declared.effect.Effect.{Effect}
+use Rattle.ups_session.specs.Deliveries.{delivery_view, delivery_reaction_of, IsSendableDelivery}
 use Rattle.ups_session.specs.Requestor.{saying}
 use Rattle.ups_session.proofs.Delivered.{events_told, pendings_silent}
 use Rattle.ups_session.proofs.delivery.Delivery.on_pendings.Goals as goal
+
+pub unreachable-requires : goal.unreachable-requires
+unreachable-requires g c = subst (λ (m : Effect g.row.A.Denot DeliveryCall). IsSendableDelivery m) c.in-Respond.is c.in_ok-said.ensures.writable
 
 pub returns-clause-reaction : goal.returns-clause-reaction
 returns-clause-reaction g c =
