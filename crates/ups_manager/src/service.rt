@@ -7,7 +7,7 @@ ghost use Rattle.ups_service.specs.Law.{Answers, Others, nobody, alone, entered,
 
 use crate::manager::Manager;
 use std::alloc::Allocator;
-use ups_life::{Ask, Reply};
+use ups_life::{Ask, Entry, Reply};
 use ups_pdu::Ae;
 use ups_service::{Service, SharedService};
 
@@ -42,7 +42,11 @@ impl<A: Allocator + Copy> SharedService<A> for Manager<A> {
     }
 
     fn entries(&self) -> usize {
-        self.history().len()
+        Manager::history(self).len()
+    }
+
+    fn history(&self) -> &[Entry<A>] {
+        Manager::history(self)
     }
 
     fn answer_as(&mut self, caller: u32, ae: Ae, moment: u64, ask: &mut Option<Ask<A>>) -> Reply<A>

@@ -3,8 +3,10 @@
 #![tactic(auto)]
 
 pub mod laws;
+mod observer;
 mod service;
 mod shared_service;
 
+pub use observer::Observer;
 pub use service::Service;
 pub use shared_service::SharedService;

@@ -1,7 +1,7 @@
 //! What callers with numbers share, in turns.
 
 use std::alloc::Allocator;
-use ups_life::{Ask, Reply};
+use ups_life::{Ask, Entry, Reply};
 use ups_pdu::Ae;
 
 /// What callers share, one call at a time: it has what was fixed at the start, and one history, in which each entry has the
@@ -24,6 +24,10 @@ pub trait SharedService<A: Allocator + Copy>: Drop {
     fn entries(&self) -> usize
         ensures count { result ≡ length (state self.now).history }
         ensures legal { is_legal (state self.now).settings (state self.now).history };
+
+    /// The accepted requests, oldest first.
+    fn history(&self) -> &[Entry<A>]
+        ensures { result.now ≡ (state self.now).history };
 
     /// Takes an ask from its place and answers it for an application entity by the history, and enters it where it is a
     /// request that is accepted. `caller` is the number of the caller, and `moment` is in seconds since 1970-01-01 UTC. The

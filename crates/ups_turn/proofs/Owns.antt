@@ -10,7 +10,7 @@ use Rattle.ups_life.specs.declared.request.Reply.{Reply}
 use Rattle.ups_service.specs.Law.{entered}
 use Rattle.ups_service.proofs.Legality.{entered_numbered, lacking_enters_nothing}
 use Rattle.ups_turn.specs.Own.{own, AddsOwn, HasOwn}
-use Rattle.ups_turn.specs.Pass.{Standing, most_calls, part_of, IsServed, IsSpent, IsCall, Learns, EndsFor}
+use Rattle.ups_turn.specs.Pass.{Standing, most_calls, part_of, IsServed, IsSpent, IsCall, HasObserved, Learns, EndsFor}
 use Rattle.ups_turn.specs.Rule.{Behind}
 
 other_number : (x n : ℕ) → x ≢ n → eqb x n ≡ false
@@ -64,6 +64,9 @@ module _ {A : Type 0} where
         at : (b : Bool) → MatchBool b (IsServed old ae moment ask reply new) (IsSpent old ask reply new) → AddsOwn old ae moment ask reply new
         at true s = served_adds s
         at false s = spent_adds s
+
+  pub observing_adds_none : (old new : Standing A) → HasObserved old new → own old.number new.seen ≡ own old.number old.seen
+  observing_adds_none old new o = own_before old.number old.seen o.between new.seen (sym o.seen) o.others
 
   pub learning_adds_none : (old from new : Standing A) → Learns old from new → own old.number new.seen ≡ own old.number old.seen
   learning_adds_none old from new l = own_before old.number old.seen l.behind.0 new.seen l.behind.1 l.behind.2

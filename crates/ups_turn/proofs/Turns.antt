@@ -1,7 +1,8 @@
 -- What the steps of a turn come to, one after the other.
-use Rattle.std.proofs.Common.{◌≡◌, ℕ, ◌+◌, ◌≤◌, true, List, [], ◌∷◌, ◌++◌, length, Some, None, refl, sym, ap, ◌∙◌, subst}
+use Rattle.std.proofs.Common.{◌≡◌, ◌≢◌, ℕ, ◌+◌, ◌≤◌, true, List, [], ◌∷◌, ◌++◌, length, Some, None, refl, sym, ap, ◌∙◌, subst, arith}
 use Rattle.std.specs.Prelude.{Option}
-use Rattle.std.proofs.lemmas.List.Elements.{All-head, All-from_recursion}
+use Rattle.std.proofs.lemmas.List.{append-nil}
+use Rattle.std.proofs.lemmas.List.Elements.{All-nil, All-head, All-from_recursion}
 use Rattle.atomic_table.specs.Table.{rest}
 use Rattle.atomic_table.specs.Seated.{TableId}
 use Rattle.ups_life.specs.declared.entry.Entry.{Entry}
@@ -14,7 +15,7 @@ use Rattle.ups_service.proofs.Legality.{entered_few, entered_numbered}
 use Rattle.ups_turn.specs.Rule.{Behind, manager_state}
 use Rattle.ups_turn.specs.Plays.{Knows, with_ticket, at_turn, served, TakesTurn, Took, MayGive, MayDecide, MayServe, seeing, history_in}
 use Rattle.ups_turn.specs.declared.view.View.{View}
-use Rattle.ups_turn.specs.Pass.{resting, seen_in, standing, IsAtRest, IsServed}
+use Rattle.ups_turn.specs.Pass.{resting, seen_in, standing, IsAtRest, IsServed, HasObserved}
 
 module _ {A : Type 0} where
   -- the value that was taken last
@@ -92,6 +93,44 @@ module _ {A : Type 0} where
     pub legal_again : is_legal n.settings n.history → is_legal settings n.history
     legal_again legal = subst (λ l. is_legal l n.history) (settings_is ∙ ap (λ (x : State A). x.settings) manager_before) legal
 
+  -- the turn of a pass that rested, in which the manager stayed as it was
+  module _ (settings : Settings) (number calls : ℕ) (seen : List (Entry A)) (me after : Knows A) (m : State A) (rested : me ≡ (resting settings number calls seen, [])) (turn : Took me after m) where
+    pub found : Took (resting settings number calls seen, []) after m
+    found = subst (λ (x : Knows A). Took x after m) rested turn
+
+    pub may_give_back : MayGive after m 0
+    may_give_back = subst (λ (a : Knows A). MayGive a m 0) (sym found.after_is) (record {
+      number = number;
+      seen = found.log;
+      added = [];
+      turn = refl;
+      parts = refl;
+      holds = refl;
+      manager_is = found.manager_is ∙ ap (manager_state settings) (sym (append-nil found.log));
+      counted = refl;
+      few = omega arith;
+      own = All-nil (λ (e : Entry A). e.caller ≡ number);
+      legal = subst (is_legal settings) (sym (append-nil found.log)) found.legal;
+    })
+
+    pub rests_behind : (last : Knows A) → last ≡ (served (at_turn after.0 true m.history), []) → last ≡ (resting settings number (calls + 1) m.history, [])
+    rests_behind last is = is ∙ ap (λ (a : Knows A). (served (at_turn a.0 true m.history), [])) found.after_is
+
+    pub legal_found : is_legal settings m.history
+    legal_found = subst (λ (x : State A). is_legal settings x.history) (sym found.manager_is) found.legal
+
+    pub observed : (table same : TableId) → same ≡ table
+        → HasObserved (record { table = table; settings = settings; number = number; calls = calls; seen = seen }) (record { table = same; settings = settings; number = number; calls = calls + 1; seen = m.history })
+    observed table same here =
+        let b = All-head (Behind found.log) record { number = number; seen = seen } [] found.behind in record {
+          same = (here, refl, refl);
+          calls = refl;
+          between = b.0;
+          others = b.2;
+          legal = subst (is_legal settings) (sym b.1) found.legal;
+          seen = ap (λ (x : State A). x.history) found.manager_is ∙ sym b.1;
+        }
+
   -- how often a seat that rests has drawn a ticket is how many calls its pass has made
   pub at_rest_by : (settings : Settings) (number calls : ℕ) (seen : List (Entry A)) (me : Knows A) → me ≡ (resting settings number calls seen, []) → IsAtRest number me × (me.0.draws ≡ calls)
   at_rest_by settings number calls seen me is = subst (λ (m : Knows A). IsAtRest number m × (m.0.draws ≡ calls)) (sym is) (refl, refl)
@@ -104,6 +143,12 @@ module _ {A : Type 0} where
   served_by table same number j k v w ae moment ask reply before after served =
       subst (λ (n : ℕ). IsServed (record { table = table; settings = v.settings; number = number; calls = j; seen = seen_in v.parts }) ae moment ask reply (record { table = same; settings = w.settings; number = number; calls = n; seen = seen_in w.parts })) after
       (subst (λ (n : ℕ). IsServed (record { table = table; settings = v.settings; number = number; calls = n; seen = seen_in v.parts }) ae moment ask reply (standing same number w)) before served)
+
+  pub observed_by : (table same : TableId) (number j k : ℕ) (v w : View A) → v.draws ≡ j → w.draws ≡ k → HasObserved (standing table number v) (standing same number w)
+      → HasObserved (record { table = table; settings = v.settings; number = number; calls = j; seen = seen_in v.parts }) (record { table = same; settings = w.settings; number = number; calls = k; seen = seen_in w.parts })
+  observed_by table same number j k v w before after has =
+      subst (λ (n : ℕ). HasObserved (record { table = table; settings = v.settings; number = number; calls = j; seen = seen_in v.parts }) (record { table = same; settings = w.settings; number = number; calls = n; seen = seen_in w.parts })) after
+      (subst (λ (n : ℕ). HasObserved (record { table = table; settings = v.settings; number = number; calls = n; seen = seen_in v.parts }) (standing same number w)) before has)
 
   -- the manager was given back into the seat's hands
   pub may_decide : (me given : Knows A) (m : State A) (count : ℕ) → MayGive me m count → given ≡ (me.0, (0, Some m) ∷ rest me.1) → MayDecide given count

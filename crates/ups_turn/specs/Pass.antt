@@ -99,6 +99,15 @@ IsSpent old ask reply new = (reply ≡ Answered (lacking ask)) × (new ≡ old)
 abbrev pub IsCall : {A : Type 0} → Standing A → List ℕ → ℕ → Ask A → Reply A → Standing A → Type 0
 IsCall old ae moment ask reply new = MatchBool (nat_lt old.calls most_calls) (IsServed old ae moment ask reply new) (IsSpent old ask reply new)
 
+-- A look at the history in a turn: others made a legal history of what the pass had seen, which it has seen afterwards.
+pub record HasObserved {A : Type 0} (old new : Standing A) : Type 0 where
+  pub same : SamePass old new
+  pub calls : new.calls ≡ old.calls + 1
+  pub between : List (Entry A)
+  pub others : All (λ (e : Entry A). e.caller ≢ old.number) between
+  pub legal : is_legal old.settings (old.seen ++ between)
+  pub seen : new.seen ≡ old.seen ++ between
+
 -- a pass has learned what another has seen: where that is longer, it has seen it too, to which its own goes on by others'
 -- requests alone
 pub record Learns {A : Type 0} (old from new : Standing A) : Type 0 where

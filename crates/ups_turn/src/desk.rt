@@ -1,9 +1,9 @@
 //! The desk: it opens over a manager, lets passes meet, and closes when all passes are back.
-ghost use Rattle.std.specs.Prelude.{◌≡◌, ◌≢◌, ℕ, ◌≤◌, ◌<◌, [], ◌∷◌, All, length, map, true, false, Some, None, vec_capacity, IfOk, IfErr, OnOk};
+ghost use Rattle.std.specs.Prelude.{◌≡◌, ◌≢◌, ℕ, ◌≤◌, ◌<◌, [], ◌∷◌, All, length, map, true, false, nat_lt, MatchBool, Some, None, vec_capacity, IfOk, IfErr, OnOk};
 ghost use Rattle.ups_life.specs.Settings.{IsMoment};
 ghost use Rattle.ups_service.specs.State.{State};
 ghost use Rattle.ups_service.specs.Law.{SmallReply, is_legal};
-ghost use Rattle.ups_turn.specs.Pass.{IsCall, Learns, SamePass, IsShelf, EndsFor, HaveNumbers, are_seats, most_seats, open_fault, passes_from, part_of};
+ghost use Rattle.ups_turn.specs.Pass.{HasObserved, IsCall, Learns, most_calls, SamePass, IsShelf, EndsFor, HaveNumbers, are_seats, most_seats, open_fault, passes_from, part_of};
 ghost use Rattle.ups_turn.specs.Plays.{longer};
 ghost use Rattle.ups_turn.specs.Rule.{Behind, EnteredByPasses, opening_view};
 
@@ -12,7 +12,7 @@ use crate::fault::{CloseFault, OpenFault};
 use crate::held::Held;
 use crate::pass::Pass;
 use crate::rule::{InTurn, Place, Shelf};
-use crate::turn::{COUNT, absorb, call_in_turn, deal, low_half, note, settle};
+use crate::turn::{COUNT, absorb, call_in_turn, deal, low_half, note, observe_in_turn, settle};
 use crate::view::{Opening, View};
 use atomic_table::{Refused, Table};
 use std::alloc::Allocator;
@@ -24,7 +24,7 @@ use std::time::Duration;
 use ups_cycle::Status;
 use ups_life::{Ask, Reply};
 use ups_pdu::Ae;
-use ups_service::SharedService;
+use ups_service::{Observer, SharedService};
 
 /// How many passes a desk may have: with so many, each making all its calls, the tickets stay far below what a
 /// word holds.
@@ -257,6 +257,31 @@ impl<M: SharedService<A>, A: Allocator + Copy> Desk<M, A> {
         pass.front = entries;
         pass.calls += 1;
         reply
+    }
+
+    /// Has an observer look at the history, in a turn of the pass, which has seen it then. It enters nothing, and counts as a
+    /// call: false, and nobody looks, where the pass has made 2^40 calls.
+    pub fn observe<O: Observer<A>, R: Wait>(
+        &self,
+        rt: &R,
+        pass: &mut Pass<M, A>,
+        observer: &mut O,
+    ) -> bool
+        requires here { pass.old.table ≡ self.now.table }
+        ensures left { result ≡ nat_lt pass.old.calls most_calls }
+        ensures pass { MatchBool result (HasObserved pass.old pass.new) (pass.new ≡ pass.old) }
+        ensures observed { MatchBool result (O.observed observer.old pass.new.seen observer.new) (observer.new ≡ observer.old) }
+    {
+        let is_spent = pass.calls >= MOST_CALLS;
+        if is_spent {
+            return false;
+        }
+        let _held = self.ticket_lock.lock(rt);
+        let shelf = &self.table.shared;
+        let seen = observe_in_turn(rt, shelf, &mut pass.place, pass.number, observer);
+        pass.front = seen;
+        pass.calls += 1;
+        true
     }
 
     /// How many requests are entered, as soon as these are not so many as are known, and else in so long at most. It takes no

@@ -6,7 +6,7 @@ ghost use Rattle.ups_service.specs.Law.{Answers, SmallReply, entered, is_legal};
 
 use std::alloc::Allocator;
 use std::marker::{Model, PhantomData};
-use ups_life::{Ask, Reply};
+use ups_life::{Ask, Entry, Reply};
 use ups_pdu::Ae;
 use ups_service::SharedService;
 
@@ -61,6 +61,13 @@ impl<M: SharedService<A>, A: Allocator + Copy> Held<M, A> {
         ensures legal { is_legal self.now.settings self.now.history }
     {
         self.shared.entries() as u64
+    }
+
+    /// The accepted requests, oldest first.
+    pub(crate) fn history(&self) -> &[Entry<A>]
+        ensures { result.now ≡ self.now.history }
+    {
+        self.shared.history()
     }
 
     /// Answers what an application entity asks, and enters it where it is a request that is accepted.

@@ -12,15 +12,16 @@ ghost use Rattle.ups_life.specs.Steps.{past, holder};
 ghost use Rattle.ups_service.specs.Claiming.{claiming};
 ghost use Rattle.ups_service.specs.Law.{is_legal, BeginsHistory};
 ghost use Rattle.ups_turn.specs.Own.{own, AddsOwn, HasOwn};
-ghost use Rattle.ups_turn.specs.Pass.{Standing, IsCall, Learns, EndsFor};
+ghost use Rattle.ups_turn.specs.Pass.{Standing, IsCall, HasObserved, Learns, EndsFor};
 
 use std::alloc::Allocator;
 
 /// The requests with a pass's number in what it has seen are those that its calls entered, each once and in their order:
-/// each call adds just what it enters, and what the pass learns from another adds none. Those in the history of a closed
+/// each call adds just what it enters, and what the pass observes, or learns from another, adds none. Those in the history of a closed
 /// desk, behind the one that it opened with, are exactly these.
 pub fn a_history_has_what_each_pass_entered<A: Allocator + Copy>()
     ensures called { (old new : Standing A) → (ae : List ℕ) → (moment : ℕ) → (ask : Ask A) → (reply : Reply A) → IsCall old ae moment ask reply new → AddsOwn old ae moment ask reply new }
+    ensures observed { (old new : Standing A) → HasObserved old new → own old.number new.seen ≡ own old.number old.seen }
     ensures learned { (old from new : Standing A) → Learns old from new → own old.number new.seen ≡ own old.number old.seen }
     ensures closed { (opening history : List (Entry A)) → (passes : List (Standing A)) → EndsFor history passes → All (HasOwn opening history) passes }
 {}

@@ -1,6 +1,6 @@
 //! A pass that a thread owns, as the service of its sessions.
 
-ghost use Rattle.std.specs.Prelude.{◌≡◌};
+ghost use Rattle.std.specs.Prelude.{◌≡◌, length};
 ghost use Rattle.ups_service.specs.Law.{callers};
 ghost use Rattle.ups_turn.specs.Pass.{seen_by};
 
@@ -66,6 +66,13 @@ impl<'a, F: Fixed, M: SharedService<A>, A: Allocator + Copy, R: Wait> Seated<'a,
             pass,
             fixed: PhantomData,
         }
+    }
+
+    /// How many entries of the history the pass has seen.
+    pub fn seen(&self) -> u64
+        ensures { result ≡ length self.now.pass.seen }
+    {
+        self.pass.seen()
     }
 
     /// The pass.

@@ -3,7 +3,7 @@
 ghost use Rattle.std.specs.Prelude.{◌≡◌, ℕ, ◌+◌, ◌^◌, ◌<◌, ◌≤◌, ◌*◌, ◌==◌, length, [], true, false, All, Some, None, MatchBool};
 ghost use Rattle.ups_life.specs.Settings.{IsMoment};
 ghost use Rattle.ups_service.specs.Law.{SmallReply, is_legal};
-ghost use Rattle.ups_turn.specs.Pass.{IsAtRest, IsServed, IsShelf, most_calls, seen_in, standing};
+ghost use Rattle.ups_turn.specs.Pass.{HasObserved, IsAtRest, IsServed, IsShelf, most_calls, seen_in, standing};
 ghost use Rattle.ups_turn.specs.Plays.{with_ticket, at_turn, served, history_in, TakesTurn, MayDecide, MayServe, Took, MayGive, note_of, joined_views, kept_back, dealt, settled, CaughtUp};
 
 use crate::held::Held;
@@ -13,7 +13,7 @@ use std::hint::spin_loop;
 use std::sync::Wait;
 use ups_life::{Ask, Reply};
 use ups_pdu::Ae;
-use ups_service::SharedService;
+use ups_service::{Observer, SharedService};
 
 /// The word that counts the requests that are entered.
 pub(crate) const COUNT: usize = 0;
@@ -209,6 +209,32 @@ pub(crate) fn call_in_turn<M: SharedService<A>, A: Allocator + Copy, R: Wait>(
     let after = manager.entries();
     give(shelf, place, manager, after - before);
     (reply, after)
+}
+
+/// One look at the history in the turn of a seat that rests: the manager is taken, and given back as it was. Returns how many
+/// requests are entered.
+pub(crate) fn observe_in_turn<M: SharedService<A>, O: Observer<A>, A: Allocator + Copy, R: Wait>(
+    rt: &R,
+    shelf: &Shelf<M, A>,
+    place: &mut Place<M, A>,
+    number: u32,
+    observer: &mut O,
+) -> u64
+    requires table { IsShelf place.old.table_id shelf.now.table_id }
+    requires rests { IsAtRest number place.old.me }
+    requires left { place.old.me.0.draws < most_calls }
+    ensures table { place.new.table_id ≡ place.old.table_id }
+    ensures rests { IsAtRest number place.new.me }
+    ensures entries { result ≡ length (seen_in place.new.me.0.parts) }
+    ensures legal { is_legal place.new.me.0.settings (seen_in place.new.me.0.parts) }
+    ensures standing { HasObserved (standing place.old.table_id number place.old.me.0) (standing place.new.table_id number place.new.me.0) }
+    ensures observed { O.observed observer.old (seen_in place.new.me.0.parts) observer.new }
+{
+    let manager = take(rt, shelf, place);
+    observer.observe(manager.history());
+    let entries = manager.entries();
+    give(shelf, place, manager, 0);
+    entries
 }
 
 /// Makes a note of what the seat's passes have seen.
