@@ -1,0 +1,61 @@
+use fixtures::rows::{check, cut};
+use std::test::Fail;
+use ups_journal::Operation;
+
+/// The number of each operation and its name, as a store has them.
+const OPERATIONS: &str = "\
+1 create
+2 change state
+3 request cancel
+4 set
+5 subscribe
+6 unsubscribe
+7 suspend
+8 acknowledge
+9 sweep";
+
+/// Whether a number and a name stand for one operation, which has both and is shown by its name.
+fn is_so(rt: &impl AllocGlobal, row: &str) -> Result<bool, Fail> {
+    let (digits, name) = cut(row, " ")?;
+    let code = digits.parse::<u8>()?;
+    let operation = Operation::of_number(code).ok_or("an operation")?;
+    let shown = format!(in rt.alloc(); "{operation}")?;
+    Ok(
+        Operation::named(name.as_bytes()) == Some(operation)
+            && operation.number() == code
+            && operation.name() == name.as_bytes()
+            && shown.as_str() == name,
+    )
+}
+
+#[test]
+fn an_operation_has_a_number_and_a_name(rt: HostRuntime) -> Result<(), Fail> {
+    for row in OPERATIONS.lines() {
+        check(row, is_so(&rt, row)?)?;
+    }
+    Ok(())
+}
+
+/// Texts that name no operation: nothing, beginnings, padding, other letters.
+const NAMES: &str = "
+
+creat
+Create
+SET
+sets
+changestate
+change
+cancel
+sweeps";
+
+#[test]
+fn no_other_number_and_no_other_name_is_one(_rt: HostRuntime) -> Result<(), Fail> {
+    for code in 10..=255_u8 {
+        check("a number above 9", Operation::of_number(code).is_none())?;
+    }
+    check("0", Operation::of_number(0).is_none())?;
+    for name in NAMES.lines() {
+        check(name, Operation::named(name.as_bytes()).is_none())?;
+    }
+    Ok(())
+}

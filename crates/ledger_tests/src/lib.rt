@@ -1,0 +1,9 @@
+//! Tests of observers of a desk's history, and of ledgers into which it is committed.
+#![tactic(auto)]
+
+#[cfg(test)]
+mod committing;
+#[cfg(test)]
+mod desk;
+#[cfg(test)]
+mod observing;

@@ -1,0 +1,168 @@
+-- Worked rows: a short day, what is left of it when it is compacted, and what is pending before and after, computed by the check.
+use Rattle.std.proofs.Common.{◌≡◌, ℕ, true, false, List, [], ◌∷◌, refl}
+use Rattle.std.specs.Prelude.{Some, None, codes, pos}
+use Rattle.ups_dataset.specs.declared.tag.Tag.{Tag}
+use Rattle.ups_dataset.specs.declared.vr.Vr.{Vr}
+use Rattle.ups_dataset.specs.declared.vr.Vr.TheVariants.{Cs, Dt, Lo, Sq}
+use Rattle.ups_dataset.specs.declared.dictionary.TheConstants.{SCHEDULED_PROCEDURE_STEP_START_DATE_TIME, INPUT_READINESS_STATE, PROCEDURE_STEP_STATE, SCHEDULED_PROCEDURE_STEP_PRIORITY, PROCEDURE_STEP_LABEL, PROCEDURE_STEP_PROGRESS_INFORMATION_SEQUENCE, WORKLIST_LABEL}
+use Rattle.ups_dataset.specs.Data.{El, bytes, items, no_items}
+use Rattle.ups_match.specs.Moments.{moment, day_number, days_of_month, field, is_date, is_time, date_number, second_of_day, microsecond_of, offset_of, signed_offset, stamp, begun, date_stamp, time_stamp, offset_stamp, year_on, month_on}
+use Rattle.ups_life.specs.declared.entry.Entry.{Entry}
+use Rattle.ups_life.specs.declared.event.Event.{Event}
+use Rattle.ups_life.specs.declared.event.Report.{Report}
+use Rattle.ups_life.specs.declared.event.EventKind.{EventKind}
+use Rattle.ups_life.specs.declared.event.EventKind.TheVariants.{StateReport, ProgressReport}
+use Rattle.ups_life.specs.declared.readiness.InputReadiness.TheVariants.{Ready}
+use Rattle.ups_life.specs.declared.request.Request.{Request}
+use Rattle.ups_life.specs.declared.request.Request.TheVariants.{Create, Change, AskCancel, Set, Subscribe, Ack, Sweep}
+use Rattle.ups_life.specs.declared.request.Reply.TheVariants.{Status as Answered}
+use Rattle.ups_life.specs.declared.request.Transaction.TheVariants.{Proper}
+use Rattle.ups_life.specs.declared.watching.Target.TheVariants.{Global}
+use Rattle.ups_cycle.specs.declared.state.StepState.{StepState}
+use Rattle.ups_cycle.specs.declared.state.StepState.TheVariants.{Scheduled, InProgress, Canceled}
+use Rattle.ups_cycle.specs.declared.status.Status.TheVariants.{Success, DuplicateSopInstance}
+use Rattle.ups_life.specs.Settings.{Settings}
+use Rattle.ups_life.specs.Steps.{cancellation, holder}
+use Rattle.ups_life.specs.Watching.{held}
+use Rattle.ups_life.specs.Events.{pending}
+use Rattle.ups_life.specs.History.{reply, legal}
+use Rattle.ups_compact.specs.Compacting.{compact, to_tell, upto, compacted}
+
+-- two watchers
+abbrev w1 : List ℕ
+w1 = codes "W1"
+
+abbrev w2 : List ℕ
+w2 = codes "W2"
+
+abbrev site : Settings
+site = record { peers = record { ae = w1; lock = true } ∷ record { ae = w2; lock = false } ∷ []; keep = 60; offset = pos 0; limit = 1000 }
+
+-- no allocator is looked at
+abbrev Call : Type 0
+Call = Entry (Unit {0})
+
+abbrev by : List ℕ → ℕ → Request (Unit {0}) → Call
+by ae moment request = record { caller = 3; ae = ae; moment = moment; request = request }
+
+abbrev u1 : List ℕ
+u1 = codes "1.2.3.1"
+
+abbrev u2 : List ℕ
+u2 = codes "1.2.3.2"
+
+abbrev u3 : List ℕ
+u3 = codes "1.2.3.3"
+
+abbrev says : Tag → Vr → List ℕ → El
+says tag vr text = record { tag = tag; vr = vr; value = bytes text }
+
+abbrev step : List El
+step =
+    says SCHEDULED_PROCEDURE_STEP_START_DATE_TIME Dt (codes "20240229120000")
+    ∷ says INPUT_READINESS_STATE Cs (codes "READY ")
+    ∷ says PROCEDURE_STEP_STATE Cs (codes "SCHEDULED ")
+    ∷ says SCHEDULED_PROCEDURE_STEP_PRIORITY Cs (codes "MEDIUM")
+    ∷ says WORKLIST_LABEL Lo (codes "READS ")
+    ∷ says PROCEDURE_STEP_LABEL Lo (codes "CT READ ")
+    ∷ []
+
+abbrev subscribed : Call
+subscribed = by w1 0 (Subscribe Global w1 false)
+
+abbrev created : List ℕ → ℕ → Call
+created u moment = by (codes "RIS") moment (Create u step)
+
+abbrev claimed : Call
+claimed = by (codes "CAD") 30 (Change (Some u1) InProgress (Proper (codes "2.1")))
+
+abbrev gone_on : Call
+gone_on = by (codes "CAD") 40 (Set (Some u1) (Proper (codes "2.1")) (record { tag = PROCEDURE_STEP_PROGRESS_INFORMATION_SEQUENCE; vr = Sq; value = items no_items } ∷ []))
+
+-- A DAY, newest first: u1 is claimed and goes on, u2 is canceled and swept, u3 is new; the first watcher has acknowledged three
+-- of its events, and the second has none
+abbrev day : List Call
+day =
+    by w1 210 (Ack 3)
+    ∷ by (codes "RIS") 200 Sweep
+    ∷ created u3 150
+    ∷ by (codes "DOC") 120 (AskCancel (Some u2) [])
+    ∷ gone_on
+    ∷ claimed
+    ∷ by w1 25 (Ack 2)
+    ∷ created u2 20
+    ∷ created u1 10
+    ∷ subscribed
+    ∷ []
+
+the_day_is_legal : legal site day ≡ true
+unfolding moment day_number days_of_month field is_date is_time date_number second_of_day microsecond_of offset_of signed_offset cancellation stamp begun date_stamp time_stamp offset_stamp year_on month_on
+the_day_is_legal = refl
+
+two_steps_are_held : held site day ≡ u1 ∷ u3 ∷ []
+unfolding cancellation stamp begun date_stamp time_stamp offset_stamp year_on month_on
+two_steps_are_held = refl
+
+-- no word of u2, no sweep and no acknowledgement
+its_compact_history : compact site day ≡ created u3 150 ∷ gone_on ∷ claimed ∷ created u1 10 ∷ subscribed ∷ []
+unfolding cancellation stamp begun date_stamp time_stamp offset_stamp year_on month_on
+its_compact_history = refl
+
+abbrev event : ℕ → ℕ → EventKind → List ℕ → StepState → Event
+event number place kind u state = record { number = number; entry = place; kind = kind; step = u; state = state; readiness = Some Ready }
+
+-- what is pending of the day, and what its compact history has pending by itself: also what was acknowledged
+what_is_pending : pending site day w1 ≡ event 4 5 ProgressReport u1 InProgress ∷ event 6 6 StateReport u2 Canceled ∷ event 7 7 StateReport u3 Scheduled ∷ []
+unfolding cancellation stamp begun date_stamp time_stamp offset_stamp year_on month_on
+what_is_pending = refl
+
+what_is_pending_anew : pending site (compact site day) w1 ≡ event 2 2 StateReport u1 InProgress ∷ event 3 3 ProgressReport u1 InProgress ∷ event 4 4 StateReport u3 Scheduled ∷ []
+unfolding cancellation stamp begun date_stamp time_stamp offset_stamp year_on month_on
+what_is_pending_anew = refl
+
+-- of the three the last two are still to be told: so the number of the first is acknowledged, and nothing for the second watcher
+the_numbers : (upto site day w1 ≡ Some 2) × (upto site day w2 ≡ None)
+unfolding cancellation stamp begun date_stamp time_stamp offset_stamp year_on month_on
+the_numbers = (refl, refl)
+
+-- THE COMPACTED DAY, by caller 9 at moment 300
+abbrev short_day : List Call
+short_day =
+    record { caller = 9; ae = w1; moment = 300; request = Ack 2 }
+    ∷ created u3 150
+    ∷ gone_on
+    ∷ claimed
+    ∷ created u1 10
+    ∷ subscribed
+    ∷ []
+
+the_compacted_day : compacted 9 300 site day ≡ short_day
+unfolding cancellation stamp begun date_stamp time_stamp offset_stamp year_on month_on
+the_compacted_day = refl
+
+abbrev reports : EventKind → List ℕ → StepState → Report
+reports kind u state = record { kind = kind; step = u; state = state; readiness = Some Ready }
+
+-- what is pending is the same, but for what is about u2
+what_is_still_told : to_tell site short_day w1 ≡ reports ProgressReport u1 InProgress ∷ reports StateReport u3 Scheduled ∷ []
+what_is_still_told = refl
+
+what_was_to_be_told : to_tell site day w1 ≡ reports ProgressReport u1 InProgress ∷ reports StateReport u2 Canceled ∷ reports StateReport u3 Scheduled ∷ []
+unfolding cancellation stamp begun date_stamp time_stamp offset_stamp year_on month_on
+what_was_to_be_told = refl
+
+-- u1 has its holder
+who_holds : holder short_day u1 ≡ Some (record { caller = 3; ae = codes "CAD" })
+who_holds = refl
+
+-- the UID of u2 was used, and is free again
+abbrev again : Call
+again = created u2 400
+
+a_used_uid : reply site day again ≡ Answered DuplicateSopInstance
+unfolding moment day_number days_of_month field is_date is_time date_number second_of_day microsecond_of offset_of signed_offset cancellation stamp begun date_stamp time_stamp offset_stamp year_on month_on
+a_used_uid = refl
+
+is_free_again : reply site short_day again ≡ Answered Success
+unfolding moment day_number days_of_month field is_date is_time date_number second_of_day microsecond_of offset_of signed_offset
+is_free_again = refl

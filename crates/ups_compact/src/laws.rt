@@ -1,0 +1,108 @@
+//! What a compact history says as the history did: laws, each the contract of a function that does nothing.
+
+ghost use Rattle.std.specs.Prelude.{◌≡◌, ◌≤◌, ◌<◌, ℕ, List, Option, length, true, false};
+ghost use Rattle.ups_dataset.specs.declared.tag.Tag.{Tag};
+ghost use Rattle.ups_dataset.specs.Data.{El};
+ghost use Rattle.ups_match.specs.Matching.{KeySet};
+ghost use Rattle.ups_life.specs.declared.entry.Entry.{Entry};
+ghost use Rattle.ups_life.specs.Settings.{Settings};
+ghost use Rattle.ups_life.specs.Steps.{used, row_of, holder};
+ghost use Rattle.ups_life.specs.Watching.{is_peer, cover, held, watch, is_due, is_held};
+ghost use Rattle.ups_life.specs.Filters.{filter_now};
+ghost use Rattle.ups_life.specs.History.{reply, legal, got};
+ghost use Rattle.ups_life.specs.Worklist.{worklist};
+ghost use Rattle.ups_compact.specs.Compacting.{compact, told, told_of_steps, to_tell, compacted, is_twice, is_answered_alike};
+
+use std::alloc::Allocator;
+use ups_life::laws::a_removed_step_stays_away;
+
+/// Of each step held a compact history says what the history said: its attributes and its state, who holds it, when it
+/// became final, who watches it and how, and so whether a sweep removes it.
+pub fn what_is_held_of_a_step_stays<A: Allocator + Copy>()
+    ensures row { (s : Settings) → (es : List (Entry A)) → (u : List ℕ) → is_held s es u ≡ true → row_of s (compact s es) u ≡ row_of s es u }
+    ensures holder { (s : Settings) → (es : List (Entry A)) → (u : List ℕ) → is_held s es u ≡ true → holder (compact s es) u ≡ holder es u }
+    ensures watch { (s : Settings) → (es : List (Entry A)) → (w u : List ℕ) → is_held s es u ≡ true → watch s (compact s es) w u ≡ watch s es w u }
+    ensures due { (s : Settings) → (es : List (Entry A)) → (u : List ℕ) → (moment : ℕ) → is_held s es u ≡ true → is_due s (compact s es) moment u ≡ is_due s es moment u }
+{}
+
+/// Each global subscription is what it was, for the steps that are yet to be created.
+pub fn global_subscriptions_stay<A: Allocator + Copy>()
+    ensures cover { (s : Settings) → (es : List (Entry A)) → (w : List ℕ) → (attributes : List El) → cover s.peers (compact s es) w attributes ≡ cover s.peers es w attributes }
+    ensures filter { (s : Settings) → (es : List (Entry A)) → (w : List ℕ) → filter_now (compact s es) w ≡ filter_now es w }
+{}
+
+/// The steps held are the same, in the same order.
+pub fn the_steps_held_stay<A: Allocator + Copy>()
+    ensures { (s : Settings) → (es : List (Entry A)) → legal s es ≡ true → held s (compact s es) ≡ held s es }
+{
+    a_removed_step_stays_away::<A>();
+}
+
+/// A compact history is legal: each of its entries is accepted after those before it.
+pub fn a_compact_history_is_legal<A: Allocator + Copy>()
+    ensures { (s : Settings) → (es : List (Entry A)) → legal s es ≡ true → legal s (compact s es) ≡ true }
+{
+    a_removed_step_stays_away::<A>();
+}
+
+/// A compact history tells each watcher, of the steps held, what the history told, in the same order, and nothing of any
+/// other step.
+pub fn of_the_steps_held_the_same_is_told<A: Allocator + Copy>()
+    ensures { (s : Settings) → (es : List (Entry A)) → (w : List ℕ) → legal s es ≡ true → told s (compact s es) w ≡ told_of_steps (held s es) (told s es w) }
+{
+    a_removed_step_stays_away::<A>();
+}
+
+/// Behind a compact history acknowledgements change nothing of what is held, of subscriptions and of which steps a sweep removes:
+/// with them it says of each step held what the history said, and of each global subscription.
+pub fn what_is_held_stays_behind_acknowledgements<A: Allocator + Copy>()
+    ensures row { (caller moment : ℕ) → (s : Settings) → (es : List (Entry A)) → (u : List ℕ) → is_held s es u ≡ true → row_of s (compacted caller moment s es) u ≡ row_of s es u }
+    ensures holder { (caller moment : ℕ) → (s : Settings) → (es : List (Entry A)) → (u : List ℕ) → is_held s es u ≡ true → holder (compacted caller moment s es) u ≡ holder es u }
+    ensures watch { (caller moment : ℕ) → (s : Settings) → (es : List (Entry A)) → (w u : List ℕ) → is_held s es u ≡ true → watch s (compacted caller moment s es) w u ≡ watch s es w u }
+    ensures due { (caller moment : ℕ) → (s : Settings) → (es : List (Entry A)) → (u : List ℕ) → (now : ℕ) → is_held s es u ≡ true → is_due s (compacted caller moment s es) now u ≡ is_due s es now u }
+    ensures cover { (caller moment : ℕ) → (s : Settings) → (es : List (Entry A)) → (w : List ℕ) → (attributes : List El) → cover s.peers (compacted caller moment s es) w attributes ≡ cover s.peers es w attributes }
+    ensures filter { (caller moment : ℕ) → (s : Settings) → (es : List (Entry A)) → (w : List ℕ) → filter_now (compacted caller moment s es) w ≡ filter_now es w }
+{}
+
+/// The steps held are the same, in the same order, and what was told of them too, with acknowledgements behind a compact history.
+pub fn the_steps_held_stay_behind_acknowledgements<A: Allocator + Copy>()
+    ensures held { (caller moment : ℕ) → (s : Settings) → (es : List (Entry A)) → legal s es ≡ true → held s (compacted caller moment s es) ≡ held s es }
+    ensures told { (caller moment : ℕ) → (s : Settings) → (es : List (Entry A)) → (w : List ℕ) → legal s es ≡ true → told s (compacted caller moment s es) w ≡ told_of_steps (held s es) (told s es w) }
+{
+    a_removed_step_stays_away::<A>();
+}
+
+/// With acknowledgements too it is legal, and it is no longer than the history was: each of these takes the place of one that the
+/// peer had made.
+pub fn a_compacted_history_is_legal<A: Allocator + Copy>()
+    ensures length { (caller moment : ℕ) → (s : Settings) → (es : List (Entry A)) → legal s es ≡ true → is_twice s.peers ≡ false → length (compacted caller moment s es) ≤ length es }
+    ensures legal { (caller moment : ℕ) → (s : Settings) → (es : List (Entry A)) → legal s es ≡ true → is_twice s.peers ≡ false → legal s (compacted caller moment s es) ≡ true }
+{
+    a_removed_step_stays_away::<A>();
+}
+
+/// No watcher is told anew what it has acknowledged, and none loses what it has not, of steps that are held: with acknowledgements
+/// what is pending for a peer behind a compact history is, without numbers, what was pending for it of the steps held, in order.
+pub fn what_is_pending_stays<A: Allocator + Copy>()
+    ensures { (caller moment : ℕ) → (s : Settings) → (es : List (Entry A)) → (w : List ℕ) → legal s es ≡ true → is_twice s.peers ≡ false → is_peer s.peers w ≡ true
+        → to_tell s (compacted caller moment s es) w ≡ told_of_steps (held s es) (to_tell s es w) }
+{
+    a_removed_step_stays_away::<A>();
+}
+
+/// After a compaction each request is answered as before it, where the history was not full: but for acknowledgements, since
+/// events have other numbers, and for the creation of a step under the UID of a removed one. What an N-GET and a query are
+/// answered is the same (PS3.4 CC.2.7, CC.2.8).
+pub fn a_request_is_answered_as_before<A: Allocator + Copy>()
+    ensures reply { (caller moment : ℕ) → (s : Settings) → (es : List (Entry A)) → (e : Entry A) → legal s es ≡ true → is_twice s.peers ≡ false → length es < s.limit
+        → is_answered_alike s es e.request ≡ true → reply s (compacted caller moment s es) e ≡ reply s es e }
+    ensures got { (caller moment : ℕ) → (s : Settings) → (es : List (Entry A)) → (step : Option (List ℕ)) → (tags : List Tag) → legal s es ≡ true → got s (compacted caller moment s es) step tags ≡ got s es step tags }
+    ensures found { (caller moment : ℕ) → (s : Settings) → (es : List (Entry A)) → (keys : KeySet) → legal s es ≡ true → worklist s (compacted caller moment s es) keys ≡ worklist s es keys }
+{
+    a_removed_step_stays_away::<A>();
+}
+
+/// What a compaction forgets: a UID is used if it is that of a step held, and that of each removed step is free again.
+pub fn the_uids_of_removed_steps_are_free_again<A: Allocator + Copy>()
+    ensures { (caller moment : ℕ) → (s : Settings) → (es : List (Entry A)) → (u : List ℕ) → used (compacted caller moment s es) u ≡ is_held s es u }
+{}

@@ -1,0 +1,139 @@
+//! The steps that a compact history keeps.
+
+ghost use Rattle.std.specs.Prelude.{◌≡◌, ◌||◌, ℕ, List, length, filter, IfOk, OnOk};
+ghost use Rattle.std.specs.Str.{bytes_eq};
+ghost use Rattle.ups_match.specs.Uids.{has_uid};
+ghost use Rattle.ups_life.specs.Watching.{is_among};
+ghost use Rattle.ups_compact.specs.Compacting.{is_left, left, of_steps, events_of};
+
+use std::alloc::{AllocError, Allocator};
+use std::collections::BTreeSet;
+use std::marker::Model;
+use ups_life::{Entry, Event, EventReport, Request, StepUid};
+
+/// The steps that a compact history keeps, with their UIDs in order, so that one is looked up without going through all of
+/// them. A contract sees the list of the steps.
+#[derive(Drop)]
+pub struct KeptSteps<A: Allocator + Copy> {
+    steps: Vec<StepUid, A>,
+    uids: BTreeSet<Vec<u8, A>, A>,
+}
+
+impl<A: Allocator + Copy> Model for KeptSteps<A> {
+    ghost use Rattle.std.specs.Prelude.{◌≡◌, ℕ, List};
+    ghost use Rattle.ups_match.specs.Uids.{has_uid};
+    ghost use Rattle.ups_life.specs.Watching.{is_among};
+
+    ghost Value = { List (List ℕ) };
+
+    ghost view = { λ k. k.steps.items };
+
+    ghost invariant = { λ k. (uid : List ℕ) → has_uid k.uids uid ≡ is_among uid k.steps.items };
+}
+
+impl<A: Allocator + Copy> KeptSteps<A> {
+    /// These steps, as `Manager::held` lists those held.
+    ///
+    /// # Errors
+    ///
+    /// Where memory runs out.
+    pub fn of(alloc: A, steps: Vec<StepUid, A>) -> Result<KeptSteps<A>, AllocError>
+        ensures { IfOk result (λ kept. kept ≡ steps.items) }
+    {
+        let uids = uids_of(alloc, steps.as_slice())?;
+        Ok(KeptSteps { steps, uids })
+    }
+
+    /// Whether a step is one of them.
+    pub fn has(&self, step: StepUid) -> bool
+        ensures { result ≡ is_among step self.now }
+    {
+        self.uids.contains(step.as_bytes())
+    }
+
+    /// Whether a request stays in a compact history: it names one of the steps, or none, and is no acknowledgement and no sweep.
+    pub fn is_left(&self, request: &Request<A>) -> bool
+        ensures { result ≡ is_left self.now request.now }
+    {
+        match request {
+            Request::Ack { .. } | Request::Sweep => false,
+            _ => match request.named_step() {
+                Some(step) => self.has(step),
+                None => true,
+            },
+        }
+    }
+
+    /// Takes out of a list of entries what does not stay in a compact history. What stays keeps its order. It takes no memory.
+    pub fn retain_left(&self, entries: &mut Vec<Entry<A>, A>)
+        ensures { entries.new.items ≡ left self.now entries.old.items }
+    {
+        entries.retain(|entry| self.is_left(&entry.request));
+    }
+
+    /// How many of these entries stay in a compact history.
+    pub fn count_left(&self, entries: &[Entry<A>]) -> usize
+        ensures { result ≡ length (left self.now entries.now) }
+    {
+        entries
+            .iter()
+            .filter(|entry| self.is_left(&entry.request))
+            .count()
+    }
+
+    /// How many of these events are of one of the steps: of what is pending for a watcher, how much is still to be told.
+    pub fn count_events(&self, events: &[Event]) -> usize
+        ensures { result ≡ length (of_steps self.now events.now) }
+    {
+        events.iter().filter(|event| self.has(event.step)).count()
+    }
+
+    /// How many of these events are of one of the steps, where each stands with what is told of it, as a manager replies.
+    pub fn count_reports(&self, reports: &[EventReport<A>]) -> usize
+        ensures { result ≡ length (of_steps self.now (events_of reports.now)) }
+    {
+        count_of(self, reports)
+    }
+}
+
+/// How many of these reports are of one of the steps.
+fn count_of<A: Allocator + Copy>(kept: &KeptSteps<A>, reports: &[EventReport<A>]) -> usize
+    ensures { result ≡ length (filter (λ report. is_among report.event.step kept.now) reports.now) }
+{
+    reports
+        .iter()
+        .filter(|report| kept.has(report.event.step))
+        .count()
+}
+
+/// The UIDs of steps, in order.
+///
+/// Errors: where memory runs out.
+fn uids_of<A: Allocator + Copy>(
+    alloc: A,
+    steps: &[StepUid],
+) -> Result<BTreeSet<Vec<u8, A>, A>, AllocError>
+    ensures { IfOk result (λ uids. (uid : List ℕ) → has_uid uids uid ≡ is_among uid steps.now) }
+{
+    let mut uids = BTreeSet::new(alloc);
+    for step in steps {
+        put_uid(alloc, &mut uids, step.as_bytes())?;
+    }
+    Ok(uids)
+}
+
+/// Puts a UID among others, where it is not there yet.
+///
+/// Errors: where memory runs out.
+fn put_uid<A: Allocator + Copy>(
+    alloc: A,
+    uids: &mut BTreeSet<Vec<u8, A>, A>,
+    uid: &[u8],
+) -> Result<(), AllocError>
+    ensures { OnOk result ((other : List ℕ) → has_uid uids.new other ≡ (bytes_eq uid.now other || has_uid uids.old other)) }
+{
+    if !uids.contains(uid) {
+        uids.insert(Vec::from_slice(alloc, uid)?)?;
+    }
+    Ok(())
+}

@@ -1,0 +1,25 @@
+-- What a ledger has of the history behind a desk.
+use Rattle.std.specs.Prelude.{◌≡◌, ◌≢◌, ◌≤◌, ◌++◌, ℕ, List, length, map, take, drop, All, IfOk}
+use Rattle.ups_life.specs.declared.entry.Entry.{Entry}
+use Rattle.ups_journal.specs.declared.record.Record.{Record}
+use Rattle.ups_journal.specs.Columns.{recorded}
+use Rattle.ups_ledger.specs.declared.recorder.Recorder.{Recorder}
+use Rattle.ups_turn.specs.Pass.{Standing, SamePass}
+
+-- the records that are taken down of a history: those of its entries from the place on, at most so many
+pub record TakesDown {A : Type 0} (old : Recorder A) (history : List (Entry A)) (new : Recorder A) : Type 0 where
+  pub from : new.from ≡ old.from
+  pub most : new.most ≡ old.most
+  pub records : IfOk new.records (λ records. records.items ≡ map recorded (take old.most (drop old.from history)))
+
+-- the records are those of the first so many entries of the history
+pub record AreFirst {A : Type 0} (records : List (Record A)) (history : List (Entry A)) (count : ℕ) : Type 0 where
+  pub there : count ≤ length history
+  pub are : records ≡ map recorded (take count history)
+
+-- the pass has seen what others entered meanwhile, and has entered nothing
+pub record HasWatched {A : Type 0} (old new : Standing A) : Type 0 where
+  pub same : SamePass old new
+  pub between : List (Entry A)
+  pub others : All (λ (e : Entry A). e.caller ≢ old.number) between
+  pub seen : new.seen ≡ old.seen ++ between

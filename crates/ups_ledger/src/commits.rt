@@ -1,0 +1,82 @@
+//! How many entries are committed, and who waits for it.
+
+use std::sync::Wait;
+use std::sync::atomic::{AtomicU64, Ordering};
+use std::time::{Clock, Duration, Instant};
+
+/// How many entries of a history are committed, for which threads wait. No contract speaks of it: that who waits is let go
+/// only when so many are committed is read off the code.
+#[derive(Drop)]
+pub struct Commits {
+    count: AtomicU64,
+}
+
+/// The half of a word that a sleeping thread watches.
+fn low_half(word: u64) -> u32 {
+    (word % (1 << 32)) as u32
+}
+
+/// What is left of a time since a moment; nothing where the clock fails.
+fn left_of<R: Clock>(rt: &R, limit: Duration, since: Instant) -> Duration {
+    let elapsed = since.elapsed(rt).unwrap_or(Duration::MAX);
+    limit.saturating_sub(elapsed)
+}
+
+impl Commits {
+    /// So many are committed.
+    pub fn new(count: u64) -> Commits {
+        Commits {
+            count: AtomicU64::new(count),
+        }
+    }
+
+    /// Where nothing is kept, nobody waits.
+    pub fn of_none() -> Commits {
+        Commits::new(u64::MAX)
+    }
+
+    /// How many are committed.
+    pub fn count(&self) -> u64 {
+        self.count.load(Ordering::SeqCst)
+    }
+
+    /// So many are committed now: wakes all that wait.
+    pub fn advance(&self, count: u64) {
+        self.count.store(count, Ordering::SeqCst);
+        self.count.wake_all();
+    }
+
+    /// Waits until so many are committed, since a moment for so long at most. False where they aren't then, or the clock
+    /// fails.
+    fn wait_since<R: Wait + Clock>(
+        &self,
+        rt: &R,
+        count: u64,
+        limit: Duration,
+        since: Instant,
+    ) -> bool {
+        for _ in rt.forever() {
+            let committed = self.count();
+            if committed >= count {
+                return true;
+            }
+            let left = left_of(rt, limit, since);
+            if left.is_zero() {
+                return false;
+            }
+            self.count.park_timeout(rt, low_half(committed), left);
+        }
+        unreachable!()
+    }
+
+    /// Waits until so many are committed, for so long at most. False where they aren't then, or the clock fails.
+    pub fn wait_for<R: Wait + Clock>(&self, rt: &R, count: u64, limit: Duration) -> bool {
+        if self.count() >= count {
+            return true;
+        }
+        match Instant::now(rt) {
+            Ok(since) => self.wait_since(rt, count, limit, since),
+            Err(_) => false,
+        }
+    }
+}

@@ -1,0 +1,55 @@
+//! Committing the entries of a history.
+
+ghost use Rattle.std.specs.Prelude.{◌≡◌, MatchResult};
+ghost use Rattle.ups_ledger.specs.Keeping.{AreFirst, HasWatched};
+
+use crate::fault::{CommitFault, LedgerFault};
+use crate::ledger::Ledger;
+use crate::recorder::Recorder;
+use std::alloc::Global;
+use std::sync::Wait;
+use ups_service::SharedService;
+use ups_turn::{Desk, Pass};
+
+/// Puts the entries of the history behind a desk into a ledger, from the first on that it hasn't, in their order: as many as
+/// there are, and at most `most`, as one group. Returns how many it has then, of which `committed` were there. Where these
+/// were those of a beginning of the history, they still are: what the ledger has is at each moment a beginning of it. Its
+/// turn is as long as recording takes, and over before the ledger is asked.
+///
+/// # Errors
+///
+/// Spent where the pass has made all of its calls; Recording and Ledger as they have them. The ledger has what it had.
+pub fn commit<M: SharedService<Global>, L: Ledger, R: Wait>(
+    rt: &R,
+    alloc: Global,
+    desk: &Desk<M, Global>,
+    pass: &mut Pass<M, Global>,
+    ledger: &mut L,
+    committed: usize,
+    most: usize,
+) -> Result<usize, CommitFault>
+    requires here { pass.old.table ≡ desk.now.table }
+    ensures stays { pass.new.table ≡ pass.old.table }
+    ensures watched { HasWatched pass.old pass.new }
+    ensures sound { L.is_sound ledger.new → L.is_sound ledger.old }
+    ensures beginning { L.is_sound ledger.new → AreFirst (L.kept ledger.old) pass.old.seen committed → MatchResult result (λ count. AreFirst (L.kept ledger.new) pass.new.seen count) (λ _. AreFirst (L.kept ledger.new) pass.new.seen committed) }
+{
+    let mut recorder = Recorder::new(alloc, committed, most);
+    if !desk.observe(rt, pass, &mut recorder) {
+        return Err(CommitFault::Spent);
+    }
+    let records = match recorder.into_records() {
+        Ok(records) => records,
+        Err(fault) => return Err(CommitFault::Recording(fault)),
+    };
+    if records.is_empty() {
+        return Ok(committed);
+    }
+    let Some(count) = committed.checked_add(records.len()) else {
+        return Err(CommitFault::Ledger(LedgerFault::Full));
+    };
+    match ledger.append(&records) {
+        Ok(()) => Ok(count),
+        Err(fault) => Err(CommitFault::Ledger(fault)),
+    }
+}

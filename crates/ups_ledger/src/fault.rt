@@ -1,0 +1,34 @@
+//! Why records are not committed.
+
+ghost use Rattle.std.specs.Prelude.{◌≡◌};
+
+use thiserror::Error;
+use ups_journal::RecordingFault;
+
+/// Why a ledger did not take records.
+#[derive(Clone, Copy, Debug, PartialEq, Eq, Error)]
+pub enum LedgerFault {
+    /// There is no room: on the disk, in the ledger, or in memory.
+    #[error("there is no room")]
+    Full,
+    /// It could not be written.
+    #[error("it can't be written")]
+    Write,
+    /// It takes nothing any more, since a write or a sync failed before: it has to be opened anew.
+    #[error("it is shut since a write failed")]
+    Shut,
+}
+
+/// Why entries were not committed.
+#[derive(Clone, Copy, Debug, PartialEq, Eq, Error)]
+pub enum CommitFault {
+    /// The pass has made all the calls that it may make.
+    #[error("the pass has made all of its calls")]
+    Spent,
+    /// An entry could not be recorded.
+    #[error("{0}")]
+    Recording(RecordingFault),
+    /// The ledger did not take the records.
+    #[error("{0}")]
+    Ledger(LedgerFault),
+}

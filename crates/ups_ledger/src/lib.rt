@@ -1,0 +1,17 @@
+//! Accepted requests, written down for good: as records in a ledger that outlives the service, in the order of the history
+//! behind a desk. What a ledger has is at each moment a beginning of that history.
+#![tactic(auto)]
+
+mod commits;
+mod committing;
+mod fault;
+mod ledger;
+mod recorder;
+mod withheld;
+
+pub use commits::Commits;
+pub use committing::commit;
+pub use fault::{CommitFault, LedgerFault};
+pub use ledger::Ledger;
+pub use recorder::Recorder;
+pub use withheld::Withheld;

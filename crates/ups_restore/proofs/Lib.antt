@@ -1,0 +1,4 @@
+mod Going
+mod Legally
+mod Runs
+mod Taking

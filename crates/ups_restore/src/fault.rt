@@ -1,0 +1,51 @@
+//! Why entries were not all entered again.
+
+use thiserror::Error;
+use ups_journal::{Operation, RecordFault};
+
+/// Why an entry was not entered again. Each text goes on from the number of its request.
+#[derive(Clone, Copy, Debug, PartialEq, Eq, Error)]
+pub enum Refusal {
+    /// Its moment is above `MAX_MOMENT`, so that it has no date up to the year 9999.
+    #[error("its moment has no date up to the year 9999")]
+    BadMoment,
+    /// It is not accepted after the entries before it, with these settings.
+    #[error("it is not accepted after those before it, with these settings")]
+    Refused,
+    /// There is no room for it: in the history, in the row of its step, or in memory.
+    #[error("there is no room for it: in the history, in its step, or in memory")]
+    NoRoom,
+}
+
+/// Where a replay stopped, and why.
+#[derive(Clone, Copy, Debug, PartialEq, Eq, Error)]
+#[error("behind {place} requests: {refusal}")]
+pub struct ReplayFault {
+    /// How many entries were entered before the one that was not.
+    pub place: usize,
+    /// Why that one was not.
+    pub refusal: Refusal,
+}
+
+/// Why a record was not entered again. Each text goes on from the number of its request.
+#[derive(Clone, Copy, Debug, PartialEq, Eq, Error)]
+pub enum RestoreRefusal {
+    /// It stands for no entry, or memory ran out.
+    #[error("{0}")]
+    Record(RecordFault),
+    /// Its entry was not entered.
+    #[error("{0}")]
+    Entry(Refusal),
+}
+
+/// Which record was not entered again, and why.
+#[derive(Clone, Copy, Debug, PartialEq, Eq, Error)]
+#[error("request {number} ({operation}): {refusal}")]
+pub struct RestoreFault {
+    /// The number of the record, counted from 1.
+    pub number: u64,
+    /// The operation of the record.
+    pub operation: Operation,
+    /// Why it was not entered.
+    pub refusal: RestoreRefusal,
+}

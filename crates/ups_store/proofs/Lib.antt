@@ -1,0 +1,5 @@
+pub mod Says
+pub mod Rows
+pub mod Scans
+pub mod Steps
+pub mod Opened

@@ -1,0 +1,177 @@
+-- What a store shows that was just opened or made.
+use Rattle.std.proofs.Common.{◌≡◌, ◌⊎◌, ℕ, ◌+◌, inl, inr, Bool, true, false, ◌&&◌, List, refl, sym, ap, subst, ◌∙◌, Option, Result, Ok, Err, IfOk, IfErr, IsTrue, true≢false, arith, ◌≤◌}
+use Rattle.sqlite_wal.specs.Reads.{are_clean, AreClean, OnlyReads}
+use Rattle.sqlite_wal.specs.Recovery.{Image}
+use Rattle.sqlite_wal.specs.Files.{seen_image}
+use Rattle.sqlite_pool.specs.declared.pool.Pool.{Pool}
+use Rattle.sqlite_pool.specs.Pool as below
+use Rattle.sqlite_pool.specs.Pool.{files}
+use Rattle.sqlite_store.specs.declared.store.open.Unopened.{Unopened}
+use Rattle.sqlite_store.specs.Unopened.{state_of, files_of, wanted_by, image, HasFile, IsFullFile, StopsCreating}
+use Rattle.sqlite_store.specs.Db.{IsFile}
+use Rattle.sqlite_pool.specs.Stored.{Recovers}
+use Rattle.sqlite_disk.specs.declared.Disk.{Ghosts}
+use Rattle.sqlite_trees.specs.declared.store.Shape.TheVariants.{Table}
+use Rattle.sqlite_trees.specs.View.{IsClean}
+use Rattle.sqlite_trees.proofs.Doubt.{clean_of}
+use Rattle.sqlite_store.specs.declared.store.FileStore.{FileStore}
+use Rattle.sqlite_store.specs.declared.catalog.Wanted.{Wanted}
+use Rattle.sqlite_store.specs.declared.saved.Saved.{Saved}
+use Rattle.sqlite_store.specs.Catalog.{shape_at}
+use Rattle.sqlite_store.specs.Saved.{kept_schema}
+use Rattle.sqlite_store.specs.Listing.{all_shapes, file_trees}
+use Rattle.sqlite_store.specs.FileStore.{view, state, schema_of, IsReady}
+use Rattle.sqlite_disk.specs.declared.Files.{Files}
+use Rattle.sqlite_disk.specs.Disk.{MoreFaults}
+use Rattle.sqlite_store.specs.Opening.{FailsToOpen}
+use Rattle.sqlite_store.specs.declared.error.OpenError.{OpenError}
+use Rattle.sqlite_store.specs.declared.error.OpenError.TheVariants as kit
+use Rattle.sqlite_trees.specs.declared.error.StoreError.{StoreError}
+use Rattle.sqlite_trees.specs.declared.error.StoreError.TheVariants as names
+use Rattle.ups_store.specs.declared.fault.OpenFault.{OpenFault}
+use Rattle.ups_store.specs.declared.fault.OpenFault.TheVariants as faults
+use Rattle.ups_store.specs.Held.{IsFresh}
+use Rattle.ups_store.specs.Found.{used_page, the_schema, image_of, HoldsTables}
+use Rattle.ups_store.specs.Refused.{faults_in, AreCleanFiles, MeetsLimit, OpenReasons, HasOpenReason, open_fault, IsKind}
+
+shape_first : (schema : List Wanted) → shape_at schema 0 ≡ Table → all_shapes schema 0 ≡ Table
+unfolding all_shapes
+shape_first schema h = h
+
+shape_second : (schema : List Wanted) → shape_at schema 1 ≡ Table → all_shapes schema 1 ≡ Table
+unfolding all_shapes
+shape_second schema h = h
+
+pub ok_in : {T E : Type 0} (P : T → Type 0) (r : Result T E) (x : T) → r ≡ Ok x → IfOk r P → P x
+ok_in P r x is h = subst (λ (r : Result _ _). IfOk r P) is h
+
+pub err_in : {T E : Type 0} (P : E → Type 0) (r : Result T E) (x : E) → r ≡ Err x → IfErr r P → P x
+err_in P r x is h = subst (λ (r : Result _ _). IfErr r P) is h
+
+pub if_ok : {T E : Type 0} (P Q : T → Type 0) (r : Result T E) → ((x : T) → P x → Q x) → IfOk r P → IfOk r Q
+if_ok P Q (Ok x) f h = f x h
+if_ok P Q (Err e) f h = tt
+
+pub if_both : {T E : Type 0} (P Q R : T → Type 0) (r : Result T E) → ((x : T) → P x → Q x → R x) → IfOk r P → IfOk r Q → IfOk r R
+if_both P Q R (Ok x) f h k = f x h k
+if_both P Q R (Err e) f h k = tt
+
+pub if_err : {T E : Type 0} (P Q : E → Type 0) (r : Result T E) → ((x : E) → P x → Q x) → IfErr r P → IfErr r Q
+if_err P Q (Ok x) f h = tt
+if_err P Q (Err e) f h = f e h
+
+pub if_err_both : {T E : Type 0} (P Q R : E → Type 0) (r : Result T E) → ((x : E) → P x → Q x → R x) → IfErr r P → IfErr r Q → IfErr r R
+if_err_both P Q R (Ok x) f h k = tt
+if_err_both P Q R (Err e) f h k = f e h k
+
+pub more_from : (first then last : ℕ) → first ≤ then → MoreFaults then last → MoreFaults first last
+more_from first then last below more = omega (arith, more, below)
+
+pub halves : (a b : Bool) → IsTrue (a && b) → IsTrue a × IsTrue b
+halves true b h = (refl, h)
+halves false b h = absurd (true≢false (sym h))
+
+module _ {D : Type 0} {g : Ghosts D} where
+  pub fresh_if_ready : (it : FileStore D g) → IsReady it → schema_of it ≡ the_schema → IsClean (view it) → IsFresh (view it)
+  fresh_if_ready it ready is clean = record {
+    tables = record {
+      requests = shape_first (schema_of it) (subst (λ (schema : List Wanted). shape_at schema 0 ≡ Table) (sym is) refl);
+      runs = shape_second (schema_of it) (subst (λ (schema : List Wanted). shape_at schema 1 ≡ Table) (sym is) refl);
+      alike = ap (λ (saved : Option Saved). all_shapes (kept_schema saved (schema_of it))) ready.unaltered;
+    };
+    sound = ready.sound clean;
+    same = ready.clean;
+  }
+
+  pub committed_as : (it : FileStore D g) → IsReady it → IsClean (view it) → (view it).committed ≡ file_trees (state it).page_size (schema_of it) (state it).committed
+  committed_as it ready clean = rw (clean_of _ clean) (ap (λ (saved : Option Saved). file_trees (state it).page_size (kept_schema saved (schema_of it)) (state it).committed) ready.unaltered)
+
+  pool_clean : (it : Pool D g) → (below.state it).is_clean ≡ are_clean g (below.files it).0 (below.files it).1
+  unfolding below.state files
+  pool_clean it = refl
+
+  pub clean_files : (it : Unopened D g) (log db : D) → files_of it ≡ (log, db) → IsTrue (state_of it).is_clean → AreClean g log db
+  clean_files it log db is clean = ap (λ (f : D × D). are_clean g f.0 f.1) (sym is) ∙ sym (pool_clean it.pool) ∙ clean
+
+  pub clean_same : (a b : Unopened D g) → files_of b ≡ files_of a → IsTrue (state_of b).is_clean → IsTrue (state_of a).is_clean
+  clean_same a b is clean = pool_clean a.pool ∙ ap (λ (f : D × D). are_clean g f.0 f.1) (sym is) ∙ sym (pool_clean b.pool) ∙ clean
+
+  pub seen_in : (it : Unopened D g) (log db log2 db2 : D) → files_of it ≡ (log2, db2) → OnlyReads g log log2 → OnlyReads g db db2 → image it ≡ seen_image g log db
+  seen_in it log db log2 db2 is a b = ap (λ (f : D × D). seen_image g f.0 f.1) is ∙ ap (λ (l : List ℕ). let i : Image = record { log = l; db = g.seen db2 } in i) a.seen ∙ ap (λ (d : List ℕ). let i : Image = record { log = g.seen log; db = d } in i) b.seen
+
+  pool_faults : (it : Pool D g) → (below.state it).faults ≡ g.faults (below.files it).0 + g.faults (below.files it).1
+  unfolding below.state files
+  pool_faults it = refl
+
+  -- the files that were given back are clean as they were, and have failed as often
+  pub clean_back : (it : Unopened D g) (left : Files D) → (left.log, left.db) ≡ files_of it → AreCleanFiles g left → IsTrue (state_of it).is_clean
+  clean_back it left is clean = pool_clean it.pool ∙ ap (λ (f : D × D). are_clean g f.0 f.1) (sym is) ∙ clean
+
+  pub faults_back : (it : Unopened D g) (left : Files D) → (left.log, left.db) ≡ files_of it → (state_of it).faults ≡ faults_in g left
+  faults_back it left is = pool_faults it.pool ∙ ap (λ (f : D × D). g.faults f.0 + g.faults f.1) (sym is)
+
+  pub faults_same : (a b : Unopened D g) → files_of b ≡ files_of a → (state_of b).faults ≡ (state_of a).faults
+  faults_same a b is = pool_faults b.pool ∙ ap (λ (f : D × D). g.faults f.0 + g.faults f.1) is ∙ sym (pool_faults a.pool)
+
+  -- reads of the files return what they did
+  pub image_kept : (old new : Files D) → OnlyReads g old.log new.log → OnlyReads g old.db new.db → image_of g new ≡ image_of g old
+  image_kept old new a b = ap (λ (l : List ℕ). let i : Image = record { log = l; db = g.seen new.db } in i) a.seen ∙ ap (λ (d : List ℕ). let i : Image = record { log = g.seen old.log; db = d } in i) b.seen
+
+  -- files whose open was refused hold no such database
+  pub no_tables : (it : Unopened D g) (files : Files D) → files_of it ≡ (files.log, files.db) → (state_of it).page_size ≡ used_page → wanted_by it ≡ the_schema → ¬ HasFile it → ¬ HoldsTables (image_of g files)
+  no_tables it files is size wanted none held =
+      let same : image it ≡ image_of g files = ap (λ (f : D × D). seen_image g f.0 f.1) is in
+      none (
+        held.0,
+        subst (λ (n : ℕ). Recovers n (image it) held.0) (sym size) (subst (λ (i : Image). Recovers used_page i held.0) (sym same) held.1),
+        subst (λ (n : ℕ). IsFile n (wanted_by it) held.0) (sym size) (subst (λ (s : List Wanted). IsFile used_page s held.0) (sym wanted) held.2),
+      )
+
+  pub clean_from : (it : Unopened D g) (files : Files D) → files_of it ≡ (files.log, files.db) → IsTrue (state_of it).is_clean → AreCleanFiles g files
+  clean_from it files is clean = clean_files it files.log files.db is clean
+
+-- why an open fails, in the words of the faults
+pub reason_of : (old new : ℕ) (AtLimit Wanted : Type 0) (e : OpenError) (name : StoreError) → FailsToOpen old new AtLimit Wanted e → HasOpenReason (record { Failed = MoreFaults old new; AtLimit = AtLimit; Refused = ¬ Wanted }) (open_fault e name)
+reason_of old new L W kit.OutOfMemory name h = tt
+reason_of old new L W kit.Io names.OutOfMemory h = h
+reason_of old new L W kit.Io names.Io h = h
+reason_of old new L W kit.Io names.Corrupt h = inl h
+reason_of old new L W kit.Io names.Full h = h
+reason_of old new L W kit.Io names.Broken h = h
+reason_of old new L W kit.Io names.Unstorable h = h
+reason_of old new L W kit.Full name h = h
+reason_of old new L W kit.Refused name h = h
+
+pub reason_as : (r s : OpenReasons) (fault : OpenFault) → (r.Failed → s.Failed) → (r.AtLimit → s.AtLimit) → (r.Refused → s.Refused) → HasOpenReason r fault → HasOpenReason s fault
+reason_as r s faults.Memory f l w h = tt
+reason_as r s faults.Busy f l w h = h
+reason_as r s faults.Unopened f l w h = h
+reason_as r s faults.Disk f l w h = f h
+reason_as r s faults.Full f l w h = f h
+reason_as r s faults.AtLimit f l w h = l h
+reason_as r s faults.Damaged f l w (inl h) = inl (f h)
+reason_as r s faults.Damaged f l w (inr h) = inr (w h)
+reason_as r s faults.NotStore f l w h = w h
+reason_as r s faults.OtherFormat f l w h = w h
+
+module _ {D : Type 0} {g : Ghosts D} where
+  -- the same of the files that were given back
+  pub reason_back : (old : ℕ) (left : Unopened D g) (r : Files D) (Limit Wanted : Type 0) (e : OpenError) (name : StoreError) (fault : OpenFault) → (r.log, r.db) ≡ files_of left → fault ≡ open_fault e name → (Limit → IsFullFile left ⊎ StopsCreating left)
+      → FailsToOpen old (state_of left).faults Limit Wanted e → HasOpenReason (record { Failed = MoreFaults old (faults_in g r); AtLimit = MeetsLimit g r; Refused = ¬ Wanted }) fault
+  reason_back old left r Limit Wanted e name fault files is limit fails =
+      let there = reason_of old (state_of left).faults Limit Wanted e name fails in
+      subst (HasOpenReason (record { Failed = MoreFaults old (faults_in g r); AtLimit = MeetsLimit g r; Refused = ¬ Wanted })) (sym is) (
+      reason_as (record { Failed = MoreFaults old (state_of left).faults; AtLimit = Limit; Refused = ¬ Wanted }) (record { Failed = MoreFaults old (faults_in g r); AtLimit = MeetsLimit g r; Refused = ¬ Wanted }) (open_fault e name)
+      (λ f. subst (MoreFaults old) (faults_back left r files) f) (λ l. (left, sym files, limit l)) (λ w. w) there
+      )
+
+pub kind_reason : (r : OpenReasons) (fault : OpenFault) → IsKind fault → r.Refused → HasOpenReason r fault
+kind_reason r faults.Memory k w = tt
+kind_reason r faults.Busy k w = k
+kind_reason r faults.Unopened k w = k
+kind_reason r faults.Disk k w = absurd k
+kind_reason r faults.Full k w = absurd k
+kind_reason r faults.AtLimit k w = absurd k
+kind_reason r faults.Damaged k w = inr w
+kind_reason r faults.NotStore k w = w
+kind_reason r faults.OtherFormat k w = w

@@ -1,0 +1,224 @@
+-- What the calls of a store do to its records.
+use Rattle.std.proofs.Common.{◌≡◌, ℕ, pos, ◌+◌, Bool, true, false, List, [], ◌∷◌, ◌++◌, map, length, Result, Ok, Err, IsTrue, ◌≤◌, ◌⊎◌, inl, inr, IfErr, OnOk, OnErr, refl, sym, ap, subst, ◌∙◌, arith, true≢false, append_assoc, length-append}
+use Rattle.std.proofs.lemmas.List.{length-map}
+use Rattle.std.proofs.lemmas.List.{append-nil}
+use Rattle.sqlite_value.specs.Order.{Row}
+use Rattle.sqlite_trees.specs.declared.store.Shape.{Shape}
+use Rattle.sqlite_trees.specs.Tree.{Trees, put_row}
+use Rattle.sqlite_disk.specs.Disk.{MoreFaults}
+use Rattle.sqlite_trees.specs.declared.error.StoreError.{StoreError}
+use Rattle.sqlite_trees.specs.declared.error.StoreError.TheVariants.{OutOfMemory, Io, Corrupt, Full, Broken, Unstorable}
+use Rattle.sqlite_trees.specs.View.{View, doubt, IsClean, SetsTree, OnlyWrites, KeepsSchema, KeepsCommitted, IsFailure, HasCause, IsRolledBack, Commits}
+use Rattle.ups_store.specs.Rows.{row_of, rows_from, request_in, requests_in, IsNumbered}
+use Rattle.ups_store.specs.declared.request.StoredRequest.{StoredRequest}
+use Rattle.ups_store.specs.Held.{HasTables, IsAdding, Adds, Holds, IsHeld}
+use Rattle.ups_store.proofs.Rows.{put_last, rows_length, rows_push}
+
+pub on_either : {T E P : Type 0} (r : Result T E) → OnOk r P → IfErr r (λ _. P) → P
+on_either (Ok x) ok err = ok
+on_either (Err e) ok err = err
+
+-- the rows with one more behind them
+grown : (rows : List Row) (k : StoredRequest) (count : ℕ) → rows ≡ rows_from 1 (map request_in rows) → length rows ≡ count → put_row (row_of (pos (count + 1)) k) rows ≡ rows_from 1 (map request_in rows ++ k ∷ [])
+grown rows k count numbered counted =
+    let ks = map request_in rows in
+    let at : count + 1 ≡ 1 + length ks = omega (arith, length-map rows request_in, counted) in
+    ap (λ (n : ℕ). put_row (row_of (pos n) k) rows) at ∙ ap (put_row (row_of (pos (1 + length ks)) k)) numbered ∙ put_last 1 ks k
+
+-- what the rows say with one more behind them
+said_more : (rows : List Row) (k : StoredRequest) (count : ℕ) → IsNumbered rows → length rows ≡ count → request_in (row_of (pos (count + 1)) k) ≡ k → map request_in (rows_from 1 (map request_in rows ++ k ∷ [])) ≡ map request_in rows ++ k ∷ []
+said_more rows k count numbered counted says =
+    let ks = map request_in rows in
+    let number : 1 + length ks ≡ count + 1 = omega (arith, length-map rows request_in, counted) in
+    ap (map request_in) (sym (rows_push 1 ks k) ∙ ap (λ (r : List Row). r ++ row_of (pos (1 + length ks)) k ∷ []) (sym numbered)) ∙ map-push rows (row_of (pos (1 + length ks)) k) ∙ ap (λ (n : ℕ). ks ++ request_in (row_of (pos n) k) ∷ []) number
+    ∙ ap (λ (r : StoredRequest). ks ++ r ∷ []) says
+  where
+    map-push : (xs : List Row) (x : Row) → map request_in (xs ++ x ∷ []) ≡ map request_in xs ++ request_in x ∷ []
+    map-push [] x = refl
+    map-push (y ∷ xs) x = ap (λ (r : List StoredRequest). request_in y ∷ r) (map-push xs x)
+
+pub adds : (old new : View) (k : StoredRequest) (count : ℕ) → IsAdding old count → request_in (row_of (pos (count + 1)) k) ≡ k → SetsTree old new 0 (put_row (row_of (pos (count + 1)) k)) → Adds old new (k ∷ []) count
+adds old new k count was again sets =
+    let ks = requests_in old.trees in
+    let rows : new.trees 0 ≡ rows_from 1 (ks ++ k ∷ []) = ap (λ (v : View). v.trees 0) sets.is ∙ grown (old.trees 0) k count was.numbered was.counted in
+    let says : requests_in new.trees ≡ ks ++ k ∷ [] = ap (map request_in) rows ∙ said_more (old.trees 0) k count was.numbered was.counted again in
+    record {
+      adding = record {
+        sound = ap (λ (v : View). v.is_broken) sets.is ∙ was.sound;
+        numbered = rows ∙ ap (rows_from 1) (sym says);
+        counted = ap length rows ∙ rows_length 1 (ks ++ k ∷ []) ∙ length-last ks k ∙ ap (λ (n : ℕ). n + 1) (length-map (old.trees 0) request_in ∙ was.counted);
+      };
+      more = says;
+    }
+  where
+    length-last : (xs : List StoredRequest) (x : StoredRequest) → length (xs ++ x ∷ []) ≡ length xs + 1
+    length-last [] x = refl
+    length-last (y ∷ xs) x = omega (arith, length-last xs x)
+
+pub adds_none : (v : View) (count : ℕ) → IsAdding v count → Adds v v [] count
+adds_none v count adding = record {
+  adding = subst (IsAdding v) (omega arith) adding;
+  more = sym (append-nil (requests_in v.trees));
+}
+
+pub adds_more : (old mid new : View) (rs : List StoredRequest) (r : StoredRequest) (count all : ℕ) → all ≡ count + length rs → Adds old mid rs count → Adds mid new (r ∷ []) all → Adds old new (rs ++ r ∷ []) count
+adds_more old mid new rs r count all is first then = record {
+  adding = subst (IsAdding new) (omega (arith, is, length-append rs (r ∷ []))) then.adding;
+  more = then.more ∙ ap (λ (xs : List StoredRequest). xs ++ r ∷ []) first.more ∙ append_assoc (requests_in old.trees) rs (r ∷ []);
+}
+
+-- a write leaves what is committed
+pub writes_kept : (old new : View) → KeepsSchema old new → (new.is_clean ≡ false → new.is_open ≡ false) → (IsClean new → OnlyWrites old new) → KeepsCommitted old new
+unfolding doubt
+writes_kept old new schema shut only = go new.is_clean refl
+  where
+    go : (b : Bool) → new.is_clean ≡ b → KeepsCommitted old new
+    go true e =
+        let is = only (rw e refl) in
+        record {
+          shape = schema.shape;
+          reals = schema.reals;
+          committed_shape = schema.committed_shape;
+          committed_reals = schema.committed_reals;
+          numbered = schema.numbered;
+          was_open = λ h. sym (ap (λ (v : View). v.is_open) is) ∙ h;
+          committed = λ h. ap (λ (v : View). v.committed) is;
+          marks = λ h. ap (λ (v : View). v.marks) is;
+        }
+    go false e =
+        record {
+          shape = schema.shape;
+          reals = schema.reals;
+          committed_shape = schema.committed_shape;
+          committed_reals = schema.committed_reals;
+          numbered = schema.numbered;
+          was_open = λ h. absurd (true≢false (sym h ∙ shut e));
+          committed = λ h. absurd (true≢false (sym h ∙ shut e));
+          marks = λ h. absurd (true≢false (sym h ∙ shut e));
+        }
+
+pub failed_kept : {T : Type 0} (r : Result T StoreError) (old new : View) → IfErr r (IsFailure old new) → IfErr r (λ _. KeepsCommitted old new)
+failed_kept (Ok x) old new h = tt
+failed_kept (Err e) old new h = h.kept
+
+pub onto_clean : {T C : Type 0} (P : Type 0) (r : Result T StoreError) → OnOk r (C → P) → C → OnOk r P
+onto_clean P (Ok x) h clean = h clean
+onto_clean P (Err e) h clean = tt
+
+pub mapped : {T E A B : Type 0} (r : Result T E) → (A → B) → OnOk r A → OnOk r B
+mapped (Ok x) f h = f h
+mapped (Err e) f h = tt
+
+pub kept_through : (a b c : View) → KeepsCommitted a b → KeepsCommitted b c → KeepsCommitted a c
+kept_through a b c h k = record {
+  shape = k.shape ∙ h.shape;
+  reals = k.reals ∙ h.reals;
+  committed_shape = k.committed_shape ∙ h.committed_shape;
+  committed_reals = k.committed_reals ∙ h.committed_reals;
+  numbered = k.numbered ∙ h.numbered;
+  was_open = λ e. h.was_open (k.was_open e);
+  committed = λ e. k.committed e ∙ h.committed (k.was_open e);
+  marks = λ e. k.marks e ∙ h.marks (k.was_open e);
+}
+
+pub schema_through : (a b c : View) → KeepsSchema a b → KeepsSchema b c → KeepsSchema a c
+schema_through a b c h k = record { shape = k.shape ∙ h.shape; reals = k.reals ∙ h.reals; committed_shape = k.committed_shape ∙ h.committed_shape; committed_reals = k.committed_reals ∙ h.committed_reals; numbered = k.numbered ∙ h.numbered }
+
+pub clean_before : (a b : View) → doubt a.is_clean ≤ doubt b.is_clean → IsClean b → IsClean a
+clean_before a b h clean = omega (arith, h, clean)
+
+adding_as : (a b : View) (count : ℕ) → IsAdding a count → b.is_broken ≡ false → b.trees ≡ a.trees → IsAdding b count
+adding_as a b count h sound same = record {
+  sound = sound;
+  numbered = subst (λ (db : Trees). IsNumbered (db 0)) (sym same) h.numbered;
+  counted = subst (λ (db : Trees). length (db 0) ≡ count) (sym same) h.counted;
+}
+
+-- a transaction that is rolled back leaves what was committed
+pub undoes : (old mid new : View) → IsClean new → KeepsCommitted old mid → IsRolledBack mid new → IsTrue new.is_open → IsTrue old.is_open × (new.committed ≡ old.committed)
+undoes old mid new clean kept back up =
+    let k = back.kept clean in
+    let was = k.was_open up in
+    (kept.was_open was, k.committed up ∙ kept.committed was)
+
+pub held_undone : (old mid new : View) (count : ℕ) → IsHeld old count → IsClean new → KeepsCommitted old mid → KeepsSchema old mid → IsRolledBack mid new → IsTrue new.is_open → Holds new count
+held_undone old mid new count held clean kept schema back up =
+    let both = undoes old mid new clean kept back up in
+    let h = held both.0 in
+    let k = back.kept clean in
+    let shape : new.shape ≡ mid.shape = back.shape (schema.shape ∙ sym h.tables.alike ∙ sym schema.committed_shape) in
+    let trees : new.trees ≡ old.trees = (back.undone up).0 ∙ kept.committed (k.was_open up) ∙ sym h.same in
+    record {
+      tables = record {
+        requests = ap (λ (f : ℕ → Shape). f 0) (shape ∙ schema.shape) ∙ h.tables.requests;
+        runs = ap (λ (f : ℕ → Shape). f 1) (shape ∙ schema.shape) ∙ h.tables.runs;
+        alike = back.committed_shape ∙ schema.committed_shape ∙ h.tables.alike ∙ sym (shape ∙ schema.shape);
+      };
+      adding = adding_as old new count h.adding (back.undone up).1 trees;
+      same = trees ∙ h.same ∙ sym both.1;
+    }
+
+pub held_committed : (old mid new : View) (was count : ℕ) → IsHeld old was → IsTrue old.is_open → KeepsSchema old mid → IsAdding mid count → Commits mid new → Holds new count
+held_committed old mid new was count held up schema adding done =
+    let h = held up in
+    let is = done.is in
+    record {
+      tables = record {
+        requests = ap (λ (v : View). v.shape 0) is ∙ ap (λ (f : ℕ → Shape). f 0) schema.shape ∙ h.tables.requests;
+        runs = ap (λ (v : View). v.shape 1) is ∙ ap (λ (f : ℕ → Shape). f 1) schema.shape ∙ h.tables.runs;
+        alike = ap (λ (v : View). v.committed_shape) is ∙ sym (ap (λ (v : View). v.shape) is);
+      };
+      adding = adding_as mid new count adding (ap (λ (v : View). v.is_broken) is ∙ done.sound) (ap (λ (v : View). v.trees) is);
+      same = ap (λ (v : View). v.trees) is ∙ sym (ap (λ (v : View). v.committed) is);
+    }
+
+not_both : (b : Bool) → b ≡ false → IsTrue b → ⊥
+not_both b down up = true≢false (sym up ∙ down)
+
+-- a store that is sound is clean and open
+pub sound_open : (v : View) → (v.is_open ≡ false → IsTrue v.is_broken) → v.is_broken ≡ false → IsTrue v.is_open
+sound_open v broken sound = go v.is_open refl
+  where
+    go : (b : Bool) → v.is_open ≡ b → IsTrue v.is_open
+    go true e = e
+    go false e = absurd (not_both v.is_broken sound (broken e))
+
+pub open_clean : (v : View) → (v.is_clean ≡ false → v.is_open ≡ false) → IsTrue v.is_open → IsClean v
+unfolding doubt
+open_clean v shut up = go v.is_clean refl
+  where
+    go : (b : Bool) → v.is_clean ≡ b → IsClean v
+    go true e = rw e refl
+    go false e = absurd (not_both v.is_open (shut e) up)
+
+-- the transaction that is sound was open from the start
+pub was_open : (old mid : View) → (mid.is_open ≡ false → IsTrue mid.is_broken) → KeepsCommitted old mid → mid.is_broken ≡ false → IsTrue old.is_open
+was_open old mid broken kept sound = kept.was_open (sound_open mid broken sound)
+
+-- what a transaction that is sound would commit
+pub would_say : (old mid : View) (count : ℕ) (more : List StoredRequest) → IsHeld old count → (mid.is_clean ≡ false → mid.is_open ≡ false) → (mid.is_open ≡ false → IsTrue mid.is_broken) → KeepsCommitted old mid
+    → (IsClean mid → Adds old mid more count) → mid.is_broken ≡ false → (requests_in mid.trees ≡ requests_in old.committed ++ more) × IsNumbered (mid.trees 0)
+would_say old mid count more held shut broken kept adds sound =
+    let up = sound_open mid broken sound in
+    let added = adds (open_clean mid shut up) in
+    (added.more ∙ ap (λ (db : Trees). requests_in db ++ more) (held (kept.was_open up)).same, added.adding.numbered)
+
+pub outcomes : (Before Between : Trees → Type 0) (sound : Type 0) (mid : Trees) (all : List StoredRequest) → (sound → (requests_in mid ≡ all) × IsNumbered (mid 0)) → ((db : Trees) → Between db → Before db) → (db : Trees) → ((sound × (db ≡ mid)) ⊎ Between db)
+    → Before db ⊎ ((requests_in db ≡ all) × IsNumbered (db 0))
+outcomes Before Between sound mid all says quiet db (inl both) =
+    let said = says both.0 in
+    inr (ap requests_in both.1 ∙ said.0, subst (λ (d : Trees). IsNumbered (d 0)) (sym both.1) said.1)
+outcomes Before Between sound mid all says quiet db (inr between) = inl (quiet db between)
+
+pub on_err : {T E P : Type 0} (r : Result T E) → P → OnErr r P
+on_err (Ok x) p = tt
+on_err (Err e) p = p
+
+-- a cause of a step is one of all, where the step began sound
+pub later_cause : (old mid : View) (first then last : ℕ) (Some_large All_large : Type 0) (e : StoreError) → first ≤ then → mid.is_broken ≡ false → (Some_large → All_large) → HasCause mid (MoreFaults then last) Some_large e → HasCause old (MoreFaults first last) All_large e
+later_cause old mid first then last A B OutOfMemory below sound large cause = tt
+later_cause old mid first then last A B Io below sound large cause = omega (arith, cause, below)
+later_cause old mid first then last A B Corrupt below sound large cause = omega (arith, cause, below)
+later_cause old mid first then last A B Full below sound large cause = omega (arith, cause, below)
+later_cause old mid first then last A B Broken below sound large cause = absurd (not_both mid.is_broken sound cause)
+later_cause old mid first then last A B Unstorable below sound large cause = large cause

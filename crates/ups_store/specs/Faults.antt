@@ -1,0 +1,34 @@
+-- Why a call on a store may fail.
+use Rattle.std.specs.Prelude.{⊤}
+use Rattle.sqlite_trees.specs.declared.error.StoreError.{StoreError}
+use Rattle.sqlite_trees.specs.declared.error.StoreError.TheVariants as kit
+use Rattle.ups_store.specs.declared.fault.StoreFault.{StoreFault}
+use Rattle.ups_store.specs.declared.fault.StoreFault.TheVariants.{Memory, Disk, Damaged, Full, Shut, TooLarge, TooMany, NotRequest}
+
+abbrev pub fault_of : StoreError → StoreFault
+fault_of kit.OutOfMemory = Memory
+fault_of kit.Io = Disk
+fault_of kit.Corrupt = Damaged
+fault_of kit.Full = Full
+fault_of kit.Broken = Shut
+fault_of kit.Unstorable = TooLarge
+
+-- what has to hold for a call to answer each fault
+pub record Reasons : Type 1 where
+  -- the disk failed or refused during the call, or a limit of the file was met
+  pub Failed : Type 0
+  -- an earlier call failed
+  pub WasShut : Type 0
+  pub IsTooLarge : Type 0
+  pub AreTooMany : Type 0
+  pub IsNotRequest : Type 0
+
+abbrev pub HasReason : Reasons → StoreFault → Type 0
+HasReason r Memory = ⊤
+HasReason r Disk = r.Failed
+HasReason r Damaged = r.Failed
+HasReason r Full = r.Failed
+HasReason r Shut = r.WasShut
+HasReason r TooLarge = r.IsTooLarge
+HasReason r TooMany = r.AreTooMany
+HasReason r NotRequest = r.IsNotRequest

@@ -1,0 +1,45 @@
+-- What a store with the two tables shows between two calls.
+use Rattle.std.specs.Prelude.{◌≡◌, ℕ, ◌+◌, ◌≤◌, false, List, ◌++◌, length, take, IsTrue}
+use Rattle.sqlite_trees.specs.declared.store.Shape.TheVariants.{Table}
+use Rattle.sqlite_trees.specs.View.{View}
+use Rattle.ups_store.specs.declared.request.StoredRequest.{StoredRequest}
+use Rattle.ups_store.specs.Rows.{rows_from, requests_in, IsNumbered}
+
+-- trees 0 and 1 are the tables of the requests and of the runs
+pub record HasTables (v : View) : Type 0 where
+  pub requests : v.shape 0 ≡ Table
+  pub runs : v.shape 1 ≡ Table
+  pub alike : v.committed_shape ≡ v.shape
+
+-- the transaction sees so many requests, numbered from 1
+pub record IsAdding (v : View) (count : ℕ) : Type 0 where
+  pub sound : v.is_broken ≡ false
+  pub numbered : IsNumbered (v.trees 0)
+  pub counted : length (v.trees 0) ≡ count
+
+-- and nothing is written that is not committed
+pub record Holds (v : View) (count : ℕ) : Type 0 where
+  pub tables : HasTables v
+  pub adding : IsAdding v count
+  pub same : v.trees ≡ v.committed
+
+-- so many requests are committed, unless a fault has shut the store
+abbrev pub IsHeld : View → ℕ → Type 0
+IsHeld v count = IsTrue v.is_open → Holds v count
+
+-- A store that was just opened has the tables, and nothing is written.
+pub record IsFresh (v : View) : Type 0 where
+  pub tables : HasTables v
+  pub sound : v.is_broken ≡ false
+  pub same : v.trees ≡ v.committed
+
+-- the first so many rows of a store that was just opened are requests, numbered from 1
+pub record HasGiven (v : View) (count : ℕ) : Type 0 where
+  pub fresh : IsFresh v
+  pub within : count ≤ length (v.trees 0)
+  pub rows : take count (v.trees 0) ≡ rows_from 1 (take count (requests_in v.trees))
+
+-- the transaction has these requests behind those before
+pub record Adds (old new : View) (requests : List StoredRequest) (count : ℕ) : Type 0 where
+  pub adding : IsAdding new (count + length requests)
+  pub more : requests_in new.trees ≡ requests_in old.trees ++ requests

@@ -1,0 +1,11 @@
+pub mod Words
+pub mod Cells
+pub mod Rows
+pub mod Faults
+pub mod Held
+pub mod Taken
+pub mod Storing
+pub mod Shown
+pub mod Found
+pub mod Refused
+pub mod Runs

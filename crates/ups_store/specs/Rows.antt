@@ -1,0 +1,77 @@
+-- The row of the table of requests that a request is, and what a row says.
+use Rattle.std.specs.Prelude.{◌≡◌, ℕ, suc, ℤ, pos, List, [], ◌∷◌, ◌++◌, map}
+use Rattle.std.specs.declared.alloc.Global.{Global}
+use Rattle.sqlite_value.specs.declared.value.Value.{Value}
+use Rattle.sqlite_value.specs.declared.value.Value.TheVariants.{Null, Int, Text}
+use Rattle.sqlite_value.specs.Order.{Row, column, bytes}
+use Rattle.sqlite_trees.specs.Tree.{Trees}
+use Rattle.ups_journal.specs.Operations.{name_of}
+use Rattle.ups_journal.specs.declared.record.Columns.{Columns}
+use Rattle.ups_journal.specs.declared.record.Record.{Record}
+use Rattle.ups_store.specs.declared.request.StoredRequest.{StoredRequest}
+use Rattle.ups_store.specs.Cells.{number_cell, number_in, short_in, event_cell, event_in, lock_cell, lock_in, offset_cell, offset_in, text_cell, blob_cell, bytes_in, state_cell, state_in, operation_in}
+
+-- a record that was entered in this run
+abbrev pub entered : ℕ → Record Global → StoredRequest
+entered run r = record { run = run; asked = r }
+
+-- in which run, who asked and when
+abbrev pub caller_cells : StoredRequest → List Value
+caller_cells r = number_cell r.run ∷ number_cell r.asked.caller ∷ number_cell r.asked.moment ∷ Text r.asked.title ∷ []
+
+-- what was done to which step
+abbrev pub step_cells : Columns Global → List Value
+step_cells c = Text (name_of c.operation) ∷ text_cell c.instance ∷ text_cell c.transaction ∷ state_cell c.state ∷ []
+
+-- for which watcher, and with which attributes
+abbrev pub watcher_cells : Columns Global → List Value
+watcher_cells c = text_cell c.receiver ∷ lock_cell c.lock ∷ event_cell c.number ∷ offset_cell c.offset ∷ blob_cell c.attributes ∷ []
+
+-- the row with this number: its rowid, NULL in place of the number, and the other columns
+abbrev pub row_of : ℤ → StoredRequest → Row
+row_of number r = Int number ∷ Null ∷ (caller_cells r ++ (step_cells r.asked.request ++ watcher_cells r.asked.request))
+
+abbrev pub columns_in : Row → Columns Global
+columns_in row = record {
+  operation = operation_in (column row 6);
+  instance = bytes_in (column row 7);
+  transaction = bytes_in (column row 8);
+  state = state_in (column row 9);
+  receiver = bytes_in (column row 10);
+  lock = lock_in (column row 11);
+  number = event_in (column row 12);
+  offset = offset_in (column row 13);
+  attributes = bytes_in (column row 14);
+}
+
+abbrev pub record_in : Row → Record Global
+record_in row = record { caller = short_in (column row 3); title = bytes (column row 5); moment = number_in (column row 4); request = columns_in row }
+
+-- what a row says
+abbrev pub request_in : Row → StoredRequest
+request_in row = record { run = number_in (column row 2); asked = record_in row }
+
+-- the numbers of a caller are read again as they were laid
+pub record IsCallerAgain (r : StoredRequest) : Type 0 where
+  pub run : number_in (number_cell r.run) ≡ r.run
+  pub caller : short_in (number_cell r.asked.caller) ≡ r.asked.caller
+  pub moment : number_in (number_cell r.asked.moment) ≡ r.asked.moment
+
+-- and so are those of a watcher
+pub record IsWatcherAgain (c : Columns Global) : Type 0 where
+  pub lock : lock_in (lock_cell c.lock) ≡ c.lock
+  pub event : event_in (event_cell c.number) ≡ c.number
+  pub offset : offset_in (offset_cell c.offset) ≡ c.offset
+
+-- the rows of these, numbered from this number on
+abbrev pub rows_from : ℕ → List StoredRequest → List Row
+rows_from number [] = []
+rows_from number (r ∷ rs) = row_of (pos number) r ∷ rows_from (suc number) rs
+
+-- what the first table of a database says
+abbrev pub requests_in : Trees → List StoredRequest
+requests_in db = map request_in (db 0)
+
+-- each row is a request whose number is its place, from 1
+abbrev pub IsNumbered : List Row → Type 0
+IsNumbered rows = rows ≡ rows_from 1 (map request_in rows)

@@ -1,0 +1,52 @@
+-- What a store shows, and what was read of it.
+use Rattle.std.specs.Prelude.{◌≡◌, ℕ, Bool, true, false, List, [], ◌∷◌, ◌++◌, take, Option, Some, None}
+use Rattle.sqlite_trees.specs.View.{View}
+use Rattle.sqlite_trees.specs.declared.store.Store.{Ghosts}
+use Rattle.ups_store.specs.declared.reading.Phase.{Phase}
+use Rattle.ups_store.specs.declared.reading.Phase.TheVariants.{Fresh, Reading, Ended, Failed}
+use Rattle.ups_store.specs.declared.reading.Replay.{Replay}
+use Rattle.ups_store.specs.declared.request.StoredRequest.{StoredRequest}
+use Rattle.ups_store.specs.declared.store.RequestStore.{RequestStore}
+use Rattle.ups_store.specs.Rows.{requests_in}
+
+-- with the next request behind them, or they are all
+abbrev pub Gives : List StoredRequest → List StoredRequest → List StoredRequest → Option StoredRequest → Type 0
+Gives all old new None = (new ≡ old) × (new ≡ all)
+Gives all old new (Some request) = new ≡ old ++ request ∷ []
+
+abbrev pub is_ended : Phase → Bool
+is_ended Fresh = false
+is_ended Reading = false
+is_ended Ended = true
+is_ended Failed = false
+
+module _ {S : Type 0} {g : Ghosts S} where
+  abbrev pub shown : RequestStore S g → View
+  shown it = g.view it.store
+
+  -- the requests that are committed
+  abbrev pub requests : RequestStore S g → List StoredRequest
+  requests it = requests_in (shown it).committed
+
+  -- how many there are, also once the store is shut
+  abbrev pub count_of : RequestStore S g → ℕ
+  count_of it = it.count
+
+  -- the same of a store that is being read
+  abbrev pub shown_by : Replay S g → View
+  shown_by it = g.view it.store
+
+  abbrev pub all_of : Replay S g → List StoredRequest
+  all_of it = requests_in (shown_by it).committed
+
+  -- those that were given
+  abbrev pub given : Replay S g → List StoredRequest
+  given it = take it.count (all_of it)
+
+  -- an earlier call failed
+  abbrev pub HasFailed : Replay S g → Type 0
+  HasFailed it = it.phase ≡ Failed
+
+  -- all have been given
+  abbrev pub has_ended : Replay S g → Bool
+  has_ended it = is_ended it.phase

@@ -1,0 +1,184 @@
+//! Single cells of a row: laying a value, and reading what a cell says. A cell that says no such value reads as zero,
+//! as nothing or as none: whether a row is one that was laid is told by laying it again.
+
+ghost use Rattle.std.specs.Prelude.{◌≡◌, ◌++◌, ◌∷◌, [], IfOk, OnOk, Some};
+ghost use Rattle.sqlite_value.specs.Value.{owned};
+ghost use Rattle.sqlite_value.specs.Order.{bytes};
+ghost use Rattle.ups_store.specs.Cells.{number_cell, number_in, short_in, event_cell, event_in, lock_cell, lock_in, offset_cell, offset_in, text_cell, blob_cell, bytes_in, state_cell, state_in, operation_in};
+
+use crate::words::{operation_named, state_named};
+use sqlite_value::row::Row;
+use sqlite_value::value::ValueRef;
+use std::alloc::{AllocError, Global};
+use ups_cycle::StepState;
+use ups_journal::Operation;
+use ups_pdu::Bytes;
+
+/// Lays a number. One of 2^63 or more stands as a negative integer.
+pub(crate) fn lay_number(row: &mut Row, number: u64) -> Result<(), AllocError>
+    ensures laid { OnOk result (row.new ≡ row.old ++ number_cell number ∷ []) }
+    ensures again { number_in (number_cell number) ≡ number }
+{
+    row.push(ValueRef::Int(number.cast_signed()))
+}
+
+/// Lays a number of 32 bits.
+pub(crate) fn lay_short(row: &mut Row, number: u32) -> Result<(), AllocError>
+    ensures laid { OnOk result (row.new ≡ row.old ++ number_cell number ∷ []) }
+    ensures again { short_in (number_cell number) ≡ number }
+{
+    row.push(ValueRef::Int(u64::from(number).cast_signed()))
+}
+
+/// Lays the number of an event.
+pub(crate) fn lay_event(row: &mut Row, event: Option<u64>) -> Result<(), AllocError>
+    ensures laid { OnOk result (row.new ≡ row.old ++ event_cell event ∷ []) }
+    ensures again { event_in (event_cell event) ≡ event }
+{
+    match event {
+        Some(number) => row.push(ValueRef::Int(number.cast_signed())),
+        None => row.push(ValueRef::Null),
+    }
+}
+
+/// Lays a deletion lock.
+pub(crate) fn lay_lock(row: &mut Row, lock: Option<bool>) -> Result<(), AllocError>
+    ensures laid { OnOk result (row.new ≡ row.old ++ lock_cell lock ∷ []) }
+    ensures again { lock_in (lock_cell lock) ≡ lock }
+{
+    match lock {
+        Some(true) => row.push(ValueRef::Int(1)),
+        Some(false) => row.push(ValueRef::Int(0)),
+        None => row.push(ValueRef::Null),
+    }
+}
+
+/// Lays an offset from UTC.
+pub(crate) fn lay_offset(row: &mut Row, offset: Option<i16>) -> Result<(), AllocError>
+    ensures laid { OnOk result (row.new ≡ row.old ++ offset_cell offset ∷ []) }
+    ensures again { offset_in (offset_cell offset) ≡ offset }
+{
+    match offset {
+        Some(minutes) => row.push(ValueRef::Int(i64::from(minutes))),
+        None => row.push(ValueRef::Null),
+    }
+}
+
+/// Lays a text, or NULL.
+pub(crate) fn lay_text(row: &mut Row, text: &Option<Bytes<Global>>) -> Result<(), AllocError>
+    ensures laid { OnOk result (row.new ≡ row.old ++ text_cell text.now ∷ []) }
+{
+    match text {
+        Some(text) => row.push(ValueRef::Text(text.as_slice())),
+        None => row.push(ValueRef::Null),
+    }
+}
+
+/// Lays bytes, or NULL.
+pub(crate) fn lay_blob(row: &mut Row, blob: &Option<Bytes<Global>>) -> Result<(), AllocError>
+    ensures laid { OnOk result (row.new ≡ row.old ++ blob_cell blob.now ∷ []) }
+{
+    match blob {
+        Some(blob) => row.push(ValueRef::Blob(blob.as_slice())),
+        None => row.push(ValueRef::Null),
+    }
+}
+
+/// Lays the text of a state, or NULL.
+pub(crate) fn lay_state(row: &mut Row, state: Option<StepState>) -> Result<(), AllocError>
+    ensures laid { OnOk result (row.new ≡ row.old ++ state_cell state ∷ []) }
+{
+    match state {
+        Some(state) => row.push(ValueRef::Text(state.text())),
+        None => row.push(ValueRef::Null),
+    }
+}
+
+pub(crate) fn number_in(cell: ValueRef<'_>) -> u64
+    ensures { result ≡ number_in (owned cell.entry) }
+{
+    match cell {
+        ValueRef::Int(number) => number.cast_unsigned(),
+        _ => 0,
+    }
+}
+
+pub(crate) fn short_in(cell: ValueRef<'_>) -> u32
+    ensures { result ≡ short_in (owned cell.entry) }
+{
+    let number = number_in(cell);
+    if number < 1 << 32 { number as u32 } else { 0 }
+}
+
+pub(crate) fn event_in(cell: ValueRef<'_>) -> Option<u64>
+    ensures { result ≡ event_in (owned cell.entry) }
+{
+    match cell {
+        ValueRef::Int(number) => Some(number.cast_unsigned()),
+        _ => None,
+    }
+}
+
+pub(crate) fn lock_in(cell: ValueRef<'_>) -> Option<bool>
+    ensures { result ≡ lock_in (owned cell.entry) }
+{
+    match cell {
+        ValueRef::Int(number) => Some(number.cast_unsigned() == 1),
+        _ => None,
+    }
+}
+
+pub(crate) fn offset_in(cell: ValueRef<'_>) -> Option<i16>
+    ensures { result ≡ offset_in (owned cell.entry) }
+{
+    match cell {
+        ValueRef::Int(minutes) => {
+            if minutes >= -32768 && minutes < 32768 {
+                Some(minutes as i16)
+            } else {
+                Some(0)
+            }
+        }
+        _ => None,
+    }
+}
+
+pub(crate) fn bytes_in(
+    alloc: Global,
+    cell: ValueRef<'_>,
+) -> Result<Option<Bytes<Global>>, AllocError>
+    ensures { IfOk result (λ b. b ≡ bytes_in (owned cell.entry)) }
+{
+    match cell {
+        ValueRef::Text(bytes) | ValueRef::Blob(bytes) => Ok(Some(Bytes::copy_of(alloc, bytes)?)),
+        _ => Ok(None),
+    }
+}
+
+/// The bytes of a text or a blob, and none of another cell.
+fn lent(cell: ValueRef<'_>) -> &[u8]
+    ensures { result.now ≡ bytes (owned cell.entry) }
+{
+    match cell {
+        ValueRef::Text(bytes) | ValueRef::Blob(bytes) => bytes,
+        _ => &[],
+    }
+}
+
+pub(crate) fn text_in(alloc: Global, cell: ValueRef<'_>) -> Result<Bytes<Global>, AllocError>
+    ensures { IfOk result (λ b. b ≡ bytes (owned cell.entry)) }
+{
+    Bytes::copy_of(alloc, lent(cell))
+}
+
+pub(crate) fn state_in(cell: ValueRef<'_>) -> Option<StepState>
+    ensures { result ≡ state_in (owned cell.entry) }
+{
+    state_named(lent(cell))
+}
+
+pub(crate) fn operation_in(cell: ValueRef<'_>) -> Operation
+    ensures { result ≡ operation_in (owned cell.entry) }
+{
+    operation_named(lent(cell)).unwrap_or(Operation::Create)
+}

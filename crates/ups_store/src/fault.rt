@@ -1,0 +1,95 @@
+//! Why a call on a store fails.
+
+use sqlite_trees::error::StoreError;
+use std::alloc::AllocError;
+use thiserror::Error;
+
+/// Why requests were not read from an open store, or not added to it.
+#[derive(Clone, Copy, Debug, PartialEq, Eq, Error)]
+pub enum StoreFault {
+    /// Memory ran out.
+    #[error("out of memory")]
+    Memory,
+    /// The disk failed.
+    #[error("the store could not be read or written: the disk failed")]
+    Disk,
+    /// A page of the file is not what was written.
+    #[error("the store is damaged: its file is not what was written")]
+    Damaged,
+    /// The disk or the file has no room.
+    #[error("the store could not be written: no room on the disk")]
+    Full,
+    /// An earlier failure has shut the store, and only another open mends it.
+    #[error("the store was shut by an earlier failure, and has to be opened again")]
+    Shut,
+    /// The row of a request would be too large for the file: a billion bytes or more.
+    #[error("a request is too large for the store")]
+    TooLarge,
+    /// There would be 2^63 requests or more.
+    #[error("the store has too many requests")]
+    TooMany,
+    /// A row is no request with its place as its number.
+    #[error("the store is damaged: a row is no request, or has the number of another one")]
+    NotRequest,
+}
+
+impl From<StoreError> for StoreFault {
+    ghost use Rattle.std.specs.Prelude.{◌≡◌};
+    ghost use Rattle.ups_store.specs.Faults.{fault_of};
+
+    ghost from_gives = { λ error fault. fault ≡ fault_of error };
+
+    fn from(error: StoreError) -> StoreFault {
+        match error {
+            StoreError::OutOfMemory => StoreFault::Memory,
+            StoreError::Io => StoreFault::Disk,
+            StoreError::Corrupt => StoreFault::Damaged,
+            StoreError::Full => StoreFault::Full,
+            StoreError::Broken => StoreFault::Shut,
+            StoreError::Unstorable => StoreFault::TooLarge,
+        }
+    }
+}
+
+impl From<AllocError> for StoreFault {
+    ghost use Rattle.std.specs.Prelude.{◌≡◌};
+    ghost use Rattle.ups_store.specs.declared.fault.StoreFault.TheVariants.{Memory};
+
+    ghost from_gives = { λ _ fault. fault ≡ Memory };
+
+    fn from(_error: AllocError) -> StoreFault {
+        StoreFault::Memory
+    }
+}
+
+/// Why a store was not opened.
+#[derive(Clone, Copy, Debug, PartialEq, Eq, Error)]
+pub enum OpenFault {
+    /// Memory ran out.
+    #[error("out of memory")]
+    Memory,
+    /// Another process has the file open.
+    #[error("the store is held by another process")]
+    Busy,
+    /// The system does not open or make the file.
+    #[error("the store can't be opened or made: no such folder, no leave, or something else has its name")]
+    Unopened,
+    /// The disk failed.
+    #[error("the store could not be read or written: the disk failed")]
+    Disk,
+    /// The disk has no room.
+    #[error("the store could not be written: no room on the disk")]
+    Full,
+    /// A limit of the file's format was met.
+    #[error("the store is at a limit of its file format")]
+    AtLimit,
+    /// The file is not what was written.
+    #[error("the store is damaged: its file is not what was written")]
+    Damaged,
+    /// The file is something else.
+    #[error("the file is no store of requests")]
+    NotStore,
+    /// The file is a store of another format.
+    #[error("the store has another format: another version of the program made it")]
+    OtherFormat,
+}

@@ -1,0 +1,48 @@
+//! What is left of the requests after a crash.
+
+ghost use Rattle.std.specs.Prelude.{◌≡◌, ◌⊎◌, ◌++◌, [], false, map, IsTrue, IfOk};
+ghost use Rattle.sqlite_trees.specs.View.{IsClean};
+ghost use Rattle.ups_store.specs.Rows.{entered, IsNumbered};
+ghost use Rattle.ups_store.specs.Held.{HasTables};
+ghost use Rattle.ups_store.specs.Shown.{shown, requests, shown_by, all_of, given};
+
+use crate::fault::StoreFault;
+use crate::reading::Replay;
+use crate::store::RequestStore;
+use sqlite_trees::store::Reopen;
+use std::alloc::Global;
+use ups_journal::Record;
+
+/// A crash at this moment, and the next open.
+fn crash_and_reopen<S: Reopen + Drop>(
+    alloc: Global,
+    store: RequestStore<S>,
+) -> Result<Replay<S>, StoreFault>
+    requires { IsClean (shown store) → HasTables (shown store) }
+    ensures first { IfOk result (λ r. given r ≡ []) }
+    ensures clean { IfOk result (λ r. IsClean (shown_by r) → IsClean (shown store)) }
+    ensures outcome { IfOk result (λ r. IsClean (shown_by r) → S.Store.recovers store.store (shown_by r).committed) }
+{
+    let mut inner = store.into_store();
+    inner.crash_and_reopen()?;
+    Ok(Replay::over(alloc, inner))
+}
+
+/// An append that a crash follows, or ends. The next open finds all requests that were committed, and behind them the
+/// records or nothing; once the append has answered `Ok`, it finds the records. Its rows are those of requests, so that
+/// their reading never answers that one is none.
+pub fn append_then_crash<S: Reopen + Drop>(
+    alloc: Global,
+    mut store: RequestStore<S>,
+    run: u64,
+    records: &[Record<Global>],
+) -> Result<(bool, Replay<S>), StoreFault>
+    requires { IsTrue (shown store).is_open }
+    ensures first { IfOk result (λ r. given r.1 ≡ []) }
+    ensures outcome { IfOk result (λ r. IsClean (shown_by r.1) → (all_of r.1 ≡ requests store ++ map (entered run) records.now) ⊎ ((r.0 ≡ false) × (all_of r.1 ≡ requests store))) }
+    ensures numbered { IfOk result (λ r. IsClean (shown_by r.1) → IsNumbered ((shown_by r.1).committed 0)) }
+{
+    let done = store.append(run, records).is_ok();
+    let again = crash_and_reopen(alloc, store)?;
+    Ok((done, again))
+}

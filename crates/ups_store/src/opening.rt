@@ -1,0 +1,407 @@
+//! Opening the file at a path.
+
+ghost use Rattle.std.specs.Prelude.{◌≡◌, ◌⊎◌, ◌≤◌, ⊤, [], IsTrue, IfOk, IfErr};
+ghost use Rattle.sqlite_disk.specs.Disk.{MoreFaults};
+ghost use Rattle.sqlite_wal.specs.Files.{image_at};
+ghost use Rattle.sqlite_wal.specs.Reads.{AreClean, OnlyReads};
+ghost use Rattle.sqlite_pool.specs.Opening.{IsBlankFile};
+ghost use Rattle.sqlite_store.specs.FileStore.{view};
+ghost use Rattle.sqlite_store.specs.Unopened.{AreUsable, HasFile, CanCreate, files_of, wanted_by, state_of, image};
+ghost use Rattle.sqlite_store.specs.Catalog.{wanted_of};
+ghost use Rattle.sqlite_trees.specs.View.{IsClean};
+ghost use Rattle.ups_store.specs.Held.{IsFresh};
+ghost use Rattle.ups_store.specs.Found.{used_page, table_of, the_schema, image_of, HasNone, HoldsNone, ReadAs, FindsIn};
+ghost use Rattle.ups_store.specs.Refused.{faults_in, AreCleanFiles, IsUnusable, HasFailed, MeetsLimit, HasOpenReason, open_fault, reasons, IsKind, IsLongLog, pair};
+ghost use Rattle.ups_store.specs.Shown.{shown_by, given};
+ghost use Rattle.ups_store.specs.declared.fault.OpenFault.TheVariants as faults;
+
+use crate::fault::OpenFault;
+use crate::reading::Replay;
+use sqlite_disk::{Disk, Files, Start};
+use sqlite_pager::{Options, Pager};
+use sqlite_pool::probe_blank;
+use sqlite_std_file::{FileFrom, OpenError as PathError};
+use sqlite_store::{FileStore, OpenError as StoreOpenError, Unopened, name_fault};
+use sqlite_trees::error::StoreError;
+use sqlite_trees::schema::Object;
+use sqlite_trees::store::Shape;
+use sqlite_value::row::Row;
+use sqlite_value::value::ValueRef;
+use sqlite_wal::PageSize;
+use std::alloc::Global;
+use std::hash::{BuildHasher, RandomState};
+
+/// The page size of the file.
+const PAGE: usize = 4096;
+
+const REQUEST: &str = "request";
+
+const REQUEST_SQL: &str =
+    "CREATE TABLE request (number INTEGER PRIMARY KEY, run INTEGER NOT NULL, caller INTEGER NOT NULL, moment INTEGER NOT NULL, title TEXT NOT NULL, operation TEXT NOT NULL, instance TEXT, transaction_uid TEXT, state TEXT, receiver TEXT, deletion_lock INTEGER, event INTEGER, utc_offset INTEGER, attributes BLOB) STRICT";
+
+const RUN: &str = "run";
+
+const RUN_SQL: &str =
+    "CREATE TABLE run (number INTEGER PRIMARY KEY, moment INTEGER NOT NULL, version TEXT NOT NULL, settings TEXT NOT NULL, requests INTEGER NOT NULL) STRICT";
+
+/// Files that were not opened, and why.
+#[derive(Drop)]
+pub struct Refusal<D: Disk> {
+    /// Why they were not opened.
+    pub fault: OpenFault,
+    /// The files.
+    pub files: Files<D>,
+}
+
+fn fault_of_path(error: PathError) -> OpenFault {
+    match error {
+        PathError::OutOfMemory => OpenFault::Memory,
+        PathError::Busy => OpenFault::Busy,
+        _ => OpenFault::Unopened,
+    }
+}
+
+/// The fault with the name that the disk's failure has.
+fn fault_of_open(error: StoreOpenError, named: StoreError) -> OpenFault
+    ensures { result ≡ open_fault error named }
+{
+    match (error, named) {
+        (StoreOpenError::OutOfMemory, _) => OpenFault::Memory,
+        (StoreOpenError::Io, StoreError::Corrupt) => OpenFault::Damaged,
+        (StoreOpenError::Io, StoreError::Full) => OpenFault::Full,
+        (StoreOpenError::Io, _) => OpenFault::Disk,
+        (StoreOpenError::Full, _) => OpenFault::AtLimit,
+        (StoreOpenError::Refused, _) => OpenFault::NotStore,
+    }
+}
+
+fn table(name: &'static str, sql: &'static str) -> Object<'static>
+    ensures { wanted_of result ≡ table_of name.now sql.now }
+{
+    Object {
+        shape: Shape::Table,
+        kind: "table",
+        name,
+        table: name,
+        reals: 0,
+        sql: Some(sql),
+    }
+}
+
+/// Two files that should hold the tables, of which nothing is known yet.
+fn unopened<D: Disk + Drop>(
+    alloc: Global,
+    files: Files<D>,
+    seed: u64,
+) -> Result<Unopened<D>, Refusal<D>>
+    ensures files { IfOk result (λ it. files_of it ≡ (files.log, files.db)) }
+    ensures size { IfOk result (λ it. (state_of it).page_size ≡ used_page) }
+    ensures table { IfOk result (λ it. wanted_by it ≡ the_schema) }
+    ensures fault { IfErr result (λ r. r.fault ≡ faults.Memory) }
+    ensures back { IfErr result (λ r. pair r.files ≡ pair files) }
+{
+    let size = PageSize::new(PAGE).unwrap();
+    let pager = match Pager::new(alloc, files, size, Options::new(seed)) {
+        Ok(pager) => pager,
+        Err(failed) => {
+            return Err(Refusal {
+                fault: OpenFault::Memory,
+                files: failed.value,
+            });
+        }
+    };
+    let tables = [table(REQUEST, REQUEST_SQL), table(RUN, RUN_SQL)];
+    match Unopened::with_sums(alloc, pager, &tables, true) {
+        Ok(unopened) => Ok(unopened),
+        Err(failed) => Err(Refusal {
+            fault: OpenFault::Memory,
+            files: failed.value.close(),
+        }),
+    }
+}
+
+/// Whether the files hold no database.
+fn is_blank<D: Disk>(alloc: Global, files: &mut Files<D>) -> Result<bool, OpenFault>
+    requires log { IsTrue (D.Disk.is_usable files.old.log) }
+    requires db { IsTrue (D.Disk.is_usable files.old.db) }
+    ensures ok { IfOk result (λ blank. AreCleanFiles D.Disk files.new → IsTrue blank → IsBlankFile used_page (image_of D.Disk files.old)) }
+    ensures cause { IfErr result (λ fault. AreCleanFiles D.Disk files.new → HasOpenReason (record { Failed = HasFailed D.Disk files.old files.new; AtLimit = IsLongLog D.Disk files.old; Refused = ⊥ }) fault) }
+    ensures counts { faults_in D.Disk files.old ≤ faults_in D.Disk files.new }
+    ensures log { OnlyReads D.Disk files.old.log files.new.log }
+    ensures db { OnlyReads D.Disk files.old.db files.new.db }
+{
+    let size = PageSize::new(PAGE).unwrap();
+    match probe_blank(alloc, files, size, true) {
+        Ok(is_blank) => Ok(is_blank),
+        Err(sqlite_wal::Error::OutOfMemory) => Err(OpenFault::Memory),
+        Err(sqlite_wal::Error::Io(_)) => Err(OpenFault::Disk),
+        Err(_) => Err(OpenFault::AtLimit),
+    }
+}
+
+/// The files with the fault that their failure to open has.
+fn refused<D: Disk>(error: StoreOpenError, named: StoreError, left: Unopened<D>) -> Refusal<D>
+    ensures fault { result.fault ≡ open_fault error named }
+    ensures files { pair result.files ≡ files_of left }
+{
+    Refusal {
+        fault: fault_of_open(error, named),
+        files: left.close(),
+    }
+}
+
+/// Makes the tables in files that hold no database.
+fn made<D: Disk + Drop>(files: Unopened<D>) -> Result<FileStore<D>, Refusal<D>>
+    requires usable { AreUsable files }
+    requires table { wanted_by files ≡ the_schema }
+    ensures fresh { IfOk result (λ store. IsClean (view store) → IsFresh (view store)) }
+    ensures empty { IfOk result (λ store. IsClean (view store) → HasNone (view store).committed) }
+    ensures honest { IfOk result (λ store. IsClean (view store) → IsTrue (state_of files).is_clean) }
+    ensures cause { IfErr result (λ r. AreCleanFiles D.Disk r.files → HasOpenReason (record {
+      Failed = MoreFaults (state_of files).faults (faults_in D.Disk r.files);
+      AtLimit = MeetsLimit D.Disk r.files;
+      Refused = ¬ CanCreate files;
+    }) r.fault) }
+    ensures falls { IfErr result (λ r. AreCleanFiles D.Disk r.files → IsTrue (state_of files).is_clean × ((state_of files).faults ≤ faults_in D.Disk r.files)) }
+{
+    let before = files.tally();
+    match files.create() {
+        Ok(store) => Ok(store),
+        Err((error, left)) => Err(refused(error, name_fault(before, left.tally()), left)),
+    }
+}
+
+/// Opens files that hold the tables. Err inside: they hold no such database.
+fn attached<D: Disk + Drop>(
+    files: Unopened<D>,
+) -> Result<Result<FileStore<D>, Unopened<D>>, Refusal<D>>
+    requires usable { AreUsable files }
+    requires table { wanted_by files ≡ the_schema }
+    ensures fresh { IfOk result (λ found. IfOk found (λ store. IsClean (view store) → IsFresh (view store))) }
+    ensures found { IfOk result (λ found. IfOk found (λ store. IsClean (view store) → ReadAs (state_of files).page_size (image files) the_schema (view store).committed)) }
+    ensures honest { IfOk result (λ found. IfOk found (λ store. IsClean (view store) → IsTrue (state_of files).is_clean)) }
+    ensures refused { IfOk result (λ found. IfErr found (λ left. IsTrue (state_of left).is_clean → IsTrue (state_of files).is_clean × ((state_of files).faults ≤ (state_of left).faults) × (¬ HasFile files))) }
+    ensures cause { IfErr result (λ r. AreCleanFiles D.Disk r.files → HasOpenReason (record {
+      Failed = MoreFaults (state_of files).faults (faults_in D.Disk r.files);
+      AtLimit = MeetsLimit D.Disk r.files;
+      Refused = ¬ HasFile files;
+    }) r.fault) }
+    ensures falls { IfErr result (λ r. AreCleanFiles D.Disk r.files → IsTrue (state_of files).is_clean) }
+{
+    let before = files.tally();
+    match files.open() {
+        Ok(store) => Ok(Ok(store)),
+        Err((StoreOpenError::Refused, left)) => Ok(Err(left)),
+        Err((error, left)) => Err(refused(error, name_fault(before, left.tally()), left)),
+    }
+}
+
+/// Makes the tables in files that should hold no database.
+fn made_in<D: Disk + Drop>(
+    alloc: Global,
+    files: Files<D>,
+    seed: u64,
+) -> Result<FileStore<D>, Refusal<D>>
+    requires log { IsTrue (D.Disk.is_usable files.log) }
+    requires db { IsTrue (D.Disk.is_usable files.db) }
+    ensures fresh { IfOk result (λ store. IsClean (view store) → IsFresh (view store)) }
+    ensures empty { IfOk result (λ store. IsClean (view store) → HasNone (view store).committed) }
+    ensures honest { IfOk result (λ store. IsClean (view store) → AreCleanFiles D.Disk files) }
+    ensures cause { IfErr result (λ r. AreCleanFiles D.Disk r.files → HasOpenReason (record {
+      Failed = MoreFaults (faults_in D.Disk files) (faults_in D.Disk r.files);
+      AtLimit = MeetsLimit D.Disk r.files;
+      Refused = ⊤;
+    }) r.fault) }
+    ensures falls { IfErr result (λ r. AreCleanFiles D.Disk r.files → AreCleanFiles D.Disk files) }
+{
+    match unopened(alloc, files, seed) {
+        Ok(it) => made(it),
+        Err(refusal) => Err(refusal),
+    }
+}
+
+/// Makes the tables after all, where an earlier open got no further than the first page. Other files are refused again.
+fn made_after_all<D: Disk + Drop>(
+    alloc: Global,
+    left: Unopened<D>,
+    seed: u64,
+) -> Result<FileStore<D>, Refusal<D>>
+    ensures fresh { IfOk result (λ store. IsClean (view store) → IsFresh (view store)) }
+    ensures empty { IfOk result (λ store. IsClean (view store) → HasNone (view store).committed) }
+    ensures honest { IfOk result (λ store. IsClean (view store) → IsTrue (state_of left).is_clean) }
+    ensures cause { IfErr result (λ r. AreCleanFiles D.Disk r.files → HasOpenReason (record {
+      Failed = MoreFaults (state_of left).faults (faults_in D.Disk r.files) ⊎ IsUnusable D.Disk r.files;
+      AtLimit = MeetsLimit D.Disk r.files;
+      Refused = ⊤;
+    }) r.fault) }
+    ensures falls { IfErr result (λ r. AreCleanFiles D.Disk r.files → IsTrue (state_of left).is_clean) }
+{
+    let files = left.close();
+    if !files.may_be_used() {
+        return Err(Refusal {
+            fault: OpenFault::Disk,
+            files,
+        });
+    }
+    made_in(alloc, files, seed)
+}
+
+/// Opens files that are not blank.
+fn held_in<D: Disk + Drop>(
+    alloc: Global,
+    files: Files<D>,
+    seed: u64,
+) -> Result<FileStore<D>, Refusal<D>>
+    requires log { IsTrue (D.Disk.is_usable files.log) }
+    requires db { IsTrue (D.Disk.is_usable files.db) }
+    ensures fresh { IfOk result (λ store. IsClean (view store) → IsFresh (view store)) }
+    ensures found { IfOk result (λ store. IsClean (view store) → FindsIn (image_of D.Disk files) (view store).committed) }
+    ensures cause { IfErr result (λ r. AreCleanFiles D.Disk r.files → HasOpenReason (record {
+      Failed = HasFailed D.Disk files r.files;
+      AtLimit = MeetsLimit D.Disk r.files;
+      Refused = HoldsNone (image_of D.Disk files);
+    }) r.fault) }
+{
+    let it = match unopened(alloc, files, seed) {
+        Ok(it) => it,
+        Err(refusal) => return Err(refusal),
+    };
+    match attached(it) {
+        Ok(Ok(store)) => Ok(store),
+        Ok(Err(left)) => made_after_all(alloc, left, seed),
+        Err(refusal) => Err(refusal),
+    }
+}
+
+fn store_over<D: Disk + Drop>(
+    alloc: Global,
+    mut files: Files<D>,
+    seed: u64,
+) -> Result<FileStore<D>, Refusal<D>>
+    requires log { IsTrue (D.Disk.is_usable files.log) }
+    requires db { IsTrue (D.Disk.is_usable files.db) }
+    ensures fresh { IfOk result (λ store. IsClean (view store) → IsFresh (view store)) }
+    ensures found { IfOk result (λ store. IsClean (view store) → FindsIn (image_of D.Disk files) (view store).committed) }
+    ensures cause { IfErr result (λ r. AreCleanFiles D.Disk r.files → HasOpenReason (reasons D.Disk files r.files) r.fault) }
+{
+    match is_blank(alloc, &mut files) {
+        Ok(true) => made_in(alloc, files, seed),
+        Ok(false) => held_in(alloc, files, seed),
+        Err(fault) => Err(Refusal { fault, files }),
+    }
+}
+
+fn is_text(cell: ValueRef<'_>, text: &str) -> bool {
+    match cell {
+        ValueRef::Text(bytes) => bytes == text.as_bytes(),
+        _ => false,
+    }
+}
+
+/// Whether the rows of `sqlite_schema` list a table of this name, and with this text.
+fn lists(rows: &[Row], name: &str, sql: &str) -> Option<bool> {
+    for row in rows {
+        if is_text(row.get(2), name) {
+            return Some(is_text(row.get(5), sql));
+        }
+    }
+    None
+}
+
+/// What a database with these rows of `sqlite_schema` is, which was not opened.
+fn kind_in(rows: &[Row]) -> OpenFault
+    ensures { IsKind result }
+{
+    match (lists(rows, REQUEST, REQUEST_SQL), lists(rows, RUN, RUN_SQL)) {
+        (None, None) => OpenFault::NotStore,
+        (Some(true), Some(true)) => OpenFault::Damaged,
+        _ => OpenFault::OtherFormat,
+    }
+}
+
+/// What files are that hold no sound database of the tables.
+fn kind_of<D: Disk + Drop>(files: &mut Unopened<D>) -> OpenFault
+    requires { AreUsable files.old }
+    ensures kind { IsKind result }
+    ensures falls { IsTrue (state_of files.new).is_clean → IsTrue (state_of files.old).is_clean × ((state_of files.old).faults ≤ (state_of files.new).faults) }
+{
+    match files.read_catalog() {
+        Ok(rows) => kind_in(rows.as_slice()),
+        Err(StoreOpenError::OutOfMemory) => OpenFault::Memory,
+        Err(StoreOpenError::Refused) => OpenFault::Damaged,
+        Err(_) => OpenFault::NotStore,
+    }
+}
+
+/// The refusal, with what the files are where they hold no sound database of the tables.
+fn told_apart<D: Disk + Drop>(alloc: Global, refusal: Refusal<D>, seed: u64) -> Refusal<D>
+    ensures fault { (result ≡ refusal) ⊎ ((refusal.fault ≡ faults.NotStore) × IsKind result.fault) }
+    ensures falls { AreCleanFiles D.Disk result.files → AreCleanFiles D.Disk refusal.files × (faults_in D.Disk refusal.files ≤ faults_in D.Disk result.files) }
+{
+    match refusal.fault {
+        OpenFault::NotStore => {}
+        _ => return refusal,
+    }
+    if !refusal.files.may_be_used() {
+        return refusal;
+    }
+    let Refusal { fault: _, files } = refusal;
+    match unopened(alloc, files, seed) {
+        Ok(mut again) => {
+            let fault = kind_of(&mut again);
+            Refusal {
+                fault,
+                files: again.close(),
+            }
+        }
+        Err(refusal) => refusal,
+    }
+}
+
+/// Opens the files, or makes the tables in them, for their requests to be read. The key of the log is made of `seed`.
+///
+/// Errors: Memory; Disk, Full and Damaged where a call of the disk failed; AtLimit; Damaged, OtherFormat and NotStore
+/// where the files hold no sound database of the two tables.
+pub fn open_files<D: Disk + Drop>(
+    alloc: Global,
+    files: Files<D>,
+    seed: u64,
+) -> Result<Replay<FileStore<D>>, Refusal<D>>
+    requires log { IsTrue (D.Disk.is_usable files.log) }
+    requires db { IsTrue (D.Disk.is_usable files.db) }
+    ensures first { IfOk result (λ r. given r ≡ []) }
+    ensures found { IfOk result (λ r. IsClean (shown_by r) → FindsIn (image_of D.Disk files) (shown_by r).committed) }
+    ensures cause { IfErr result (λ r. AreCleanFiles D.Disk r.files → HasOpenReason (reasons D.Disk files r.files) r.fault) }
+{
+    match store_over(alloc, files, seed) {
+        Ok(store) => Ok(Replay::over(alloc, store)),
+        Err(refusal) => Err(told_apart(alloc, refusal, seed)),
+    }
+}
+
+/// Opens the file at a path and its log, or makes them, for their requests to be read. `S` stands for what the files
+/// held.
+///
+/// Errors: Busy where another process has them open, Unopened where the system does not open them, and those of
+/// `open_files`.
+pub fn open<S: Start>(
+    rt: &HostRuntime,
+    path: &str,
+    start: S,
+) -> Result<Replay<FileStore<FileFrom<S>>>, OpenFault>
+    ensures first { IfOk result (λ r. given r ≡ []) }
+    ensures found { IfOk result (λ r. IsClean (shown_by r) → FindsIn (image_at S.Start) (shown_by r).committed) }
+{
+    let files = match sqlite_std_file::open(rt, path, start) {
+        Ok(files) => files,
+        Err(error) => return Err(fault_of_path(error)),
+    };
+    let seed = match RandomState::new(rt) {
+        Ok(state) => state.hash_one(&0u8),
+        Err(_) => return Err(OpenFault::Unopened),
+    };
+    match open_files(rt.alloc(), files, seed) {
+        Ok(replay) => Ok(replay),
+        Err(refusal) => Err(refusal.fault),
+    }
+}

@@ -1,0 +1,241 @@
+//! Reading the requests of a store that was just opened, one after the other.
+
+ghost use Rattle.std.specs.Prelude.{◌≡◌, ◌≢◌, ◌⊎◌, ◌<◌, Some, drop, ◌+◌, ◌≤◌, ◌^◌, ⊤, [], false, None, pos, length, is_some, IfOk, IfErr, IfSome, MatchOption, OnOk, IsSome, IsTrue};
+ghost use Rattle.sqlite_disk.specs.Disk.{MoreFaults};
+ghost use Rattle.sqlite_trees.specs.View.{IsClean, IsQuiet, HasCause};
+ghost use Rattle.ups_store.specs.Held.{IsFresh, HasGiven};
+ghost use Rattle.ups_store.specs.declared.reading.Phase.TheVariants.{Fresh, Reading, Ended, Failed};
+ghost use Rattle.ups_store.specs.Taken.{Takes, IsLow};
+ghost use Rattle.ups_store.specs.Faults.{HasReason};
+ghost use Rattle.ups_store.specs.Rows.{requests_in, IsNumbered};
+
+use crate::fault::StoreFault;
+use crate::request::{self, StoredRequest};
+use crate::store::RequestStore;
+use sqlite_trees::error::StoreError;
+use sqlite_trees::store::{Direction, Store};
+use sqlite_value::row::Row;
+use std::alloc::Global;
+
+/// The number of the tree of requests.
+pub(crate) const REQUESTS: u32 = 0;
+
+/// How far the reading has come.
+#[derive(Clone, Copy, Debug, PartialEq, Eq)]
+enum Phase {
+    Fresh,
+    Reading,
+    Ended,
+    Failed,
+}
+
+/// What stands at a place of the table.
+#[derive(Drop)]
+enum Taken {
+    End,
+    /// A row that is no request, or has another number.
+    Other,
+    /// A row behind the last number that there is.
+    Beyond,
+    One(StoredRequest),
+}
+
+/// The number behind so many.
+fn next_number(count: u64) -> Option<i64>
+    ensures { MatchOption result (2 ^ 63 ≤ count + 1) (λ number. (number ≡ pos (count + 1)) × (count + 1 < 2 ^ 63)) }
+{
+    let count = count.checked_add(1)?;
+    i64::try_from(count).ok()
+}
+
+/// Takes the next row, which should be the request behind so many.
+fn take_next<S: Store>(
+    alloc: Global,
+    store: &mut S,
+    row: &mut Row,
+    again: &mut Row,
+    count: u64,
+) -> Result<Taken, StoreError>
+    requires live { IsSome ((S.Store.view store.old).cursors 0) }
+    ensures live { IfOk result (λ taken. IsSome ((S.Store.view store.new).cursors 0)) }
+    ensures taken { IfOk result (λ taken. IsClean (S.Store.view store.new) → Takes (S.Store.view store.old) (S.Store.view store.new) count taken) }
+    ensures low { IfOk result (IsLow count) }
+    ensures sound { OnOk result (IsClean (S.Store.view store.new) → (S.Store.view store.old).is_broken ≡ false) }
+    ensures cause { IsClean (S.Store.view store.new) → IfErr result (HasCause (S.Store.view store.old) (MoreFaults (S.Store.faults store.old) (S.Store.faults store.new)) ⊥) }
+    ensures quiet { IsQuiet S.Store.view S.Store.faults S.Store.recovers S.Store.is_shielded store.old store.new }
+{
+    if !store.next(0, row)? {
+        return Ok(Taken::End);
+    }
+    let Some(number) = next_number(count) else {
+        return Ok(Taken::Beyond);
+    };
+    match request::read(alloc, number, row, again)? {
+        Some(request) => Ok(Taken::One(request)),
+        None => Ok(Taken::Other),
+    }
+}
+
+/// Places the cursor at the first row of the requests.
+fn rewind<S: Store>(store: &mut S, row: &mut Row) -> Result<(), StoreError>
+    requires fresh { IsClean (S.Store.view store.old) → IsFresh (S.Store.view store.old) }
+    ensures live { OnOk result (IsSome ((S.Store.view store.new).cursors 0)) }
+    ensures first { OnOk result (IsClean (S.Store.view store.new) → HasGiven (S.Store.view store.new) 0) }
+    ensures left { OnOk result (IsClean (S.Store.view store.new) → (S.Store.view store.new).cursors 0 ≡ Some ((S.Store.view store.new).trees 0)) }
+    ensures same { OnOk result (IsClean (S.Store.view store.new) → (S.Store.view store.new).committed ≡ (S.Store.view store.old).committed) }
+    ensures cause { IsClean (S.Store.view store.new) → IfErr result (HasCause (S.Store.view store.old) (MoreFaults (S.Store.faults store.old) (S.Store.faults store.new)) ⊥) }
+    ensures quiet { IsQuiet S.Store.view S.Store.faults S.Store.recovers S.Store.is_shielded store.old store.new }
+{
+    row.clear();
+    store.seek(0, REQUESTS, row, Direction::Forward)
+}
+
+/// The requests of a store that was just opened, given one after the other.
+#[derive(Drop)]
+pub struct Replay<S: Store> {
+    alloc: Global,
+    store: S,
+    row: Row,
+    again: Row,
+    /// How many requests were given.
+    count: u64,
+    phase: Phase,
+    ghost live: { phase ≡ Reading → IsSome ((S.Store.view store).cursors 0) },
+    ghost read: { phase ≢ Failed → IsClean (S.Store.view store) → HasGiven (S.Store.view store) count },
+    ghost none: { phase ≡ Fresh → count ≡ 0 },
+    ghost left: { phase ≡ Reading → IsClean (S.Store.view store) → (S.Store.view store).cursors 0 ≡ Some (drop count ((S.Store.view store).trees 0)) },
+    ghost ended: { phase ≡ Ended → IsClean (S.Store.view store) → length ((S.Store.view store).trees 0) ≡ count },
+}
+
+impl<S: Store> Replay<S> {
+    ghost use Rattle.ups_store.specs.Shown.{shown_by, all_of, given, Gives, HasFailed, has_ended, shown};
+
+    /// The requests of a store that was just opened, of which none is given yet.
+    pub(crate) fn over(alloc: Global, store: S) -> Replay<S>
+        requires fresh { IsClean (S.Store.view store) → IsFresh (S.Store.view store) }
+        ensures first { given result ≡ [] }
+        ensures store { result.store ≡ store }
+    {
+        Replay {
+            alloc,
+            store,
+            row: Row::new(alloc),
+            again: Row::new(alloc),
+            count: 0,
+            phase: Phase::Fresh,
+        }
+    }
+
+    /// Places the cursor at the first request.
+    fn begin(&mut self) -> Result<(), StoreFault>
+        requires fresh { self.old.phase ≡ Fresh }
+        ensures reading { OnOk result (self.new.phase ≡ Reading) }
+        ensures same { OnOk result (IsClean (shown_by self.new) → (all_of self.new ≡ all_of self.old) × (given self.new ≡ given self.old)) }
+        ensures rows { OnOk result (IsClean (shown_by self.new) → (shown_by self.new).committed ≡ (shown_by self.old).committed) }
+        ensures cause { IsClean (shown_by self.new) → IfErr result (HasReason (record {
+          Failed = MoreFaults (S.Store.faults self.old.store) (S.Store.faults self.new.store);
+          WasShut = ⊥;
+          IsTooLarge = ⊥;
+          AreTooMany = ⊥;
+          IsNotRequest = ⊥;
+        })) }
+        ensures quiet { IsQuiet S.Store.view S.Store.faults S.Store.recovers S.Store.is_shielded self.old.store self.new.store }
+    {
+        self.phase = Phase::Failed;
+        rewind(&mut self.store, &mut self.row)?;
+        self.phase = Phase::Reading;
+        Ok(())
+    }
+
+    /// Takes the row at the cursor.
+    fn take(&mut self) -> Result<Option<StoredRequest>, StoreFault>
+        requires reading { self.old.phase ≡ Reading }
+        ensures given { IfOk result (λ found. IsClean (shown_by self.new) → Gives (all_of self.new) (given self.old) (given self.new) found) }
+        ensures same { OnOk result (IsClean (shown_by self.new) → all_of self.new ≡ all_of self.old) }
+        ensures ended { IfOk result (λ found. found ≡ None → IsTrue (has_ended self.new)) }
+        ensures cause { IsClean (shown_by self.new) → IfErr result (HasReason (record {
+          Failed = MoreFaults (S.Store.faults self.old.store) (S.Store.faults self.new.store);
+          WasShut = ⊥;
+          IsTooLarge = ⊥;
+          AreTooMany = 2 ^ 63 ≤ length (given self.old) + 1;
+          IsNotRequest = ¬ IsNumbered ((shown_by self.old).committed 0);
+        })) }
+        ensures quiet { IsQuiet S.Store.view S.Store.faults S.Store.recovers S.Store.is_shielded self.old.store self.new.store }
+    {
+        self.phase = Phase::Failed;
+        match take_next(
+            self.alloc,
+            &mut self.store,
+            &mut self.row,
+            &mut self.again,
+            self.count,
+        )? {
+            Taken::End => {
+                self.phase = Phase::Ended;
+                Ok(None)
+            }
+            Taken::Other => Err(StoreFault::NotRequest),
+            Taken::Beyond => Err(StoreFault::TooMany),
+            Taken::One(request) => {
+                self.count += 1;
+                self.phase = Phase::Reading;
+                Ok(Some(request))
+            }
+        }
+    }
+
+    /// Gives the next request, or none once all have been given. What it has given is a beginning of what is committed,
+    /// and all of it at the end.
+    ///
+    /// Errors: Memory, Disk, Damaged, Full; NotRequest where the rows are not those of requests, numbered from 1;
+    /// TooMany; Shut after an error.
+    pub fn next_request(&mut self) -> Result<Option<StoredRequest>, StoreFault>
+        ensures given { IfOk result (λ found. IsClean (shown_by self.new) → Gives (all_of self.new) (given self.old) (given self.new) found) }
+        ensures same { OnOk result (IsClean (shown_by self.new) → all_of self.new ≡ all_of self.old) }
+        ensures ended { IfOk result (λ found. found ≡ None → IsTrue (has_ended self.new)) }
+        ensures cause { IsClean (shown_by self.new) → IfErr result (HasReason (record {
+          Failed = MoreFaults (S.Store.faults self.old.store) (S.Store.faults self.new.store);
+          WasShut = HasFailed self.old;
+          IsTooLarge = ⊥;
+          AreTooMany = 2 ^ 63 ≤ length (given self.old) + 1;
+          IsNotRequest = ¬ IsNumbered ((shown_by self.old).committed 0);
+        })) }
+        ensures quiet { IsQuiet S.Store.view S.Store.faults S.Store.recovers S.Store.is_shielded self.old.store self.new.store }
+    {
+        match self.phase {
+            Phase::Fresh => self.begin()?,
+            Phase::Reading => {}
+            Phase::Ended => return Ok(None),
+            Phase::Failed => return Err(StoreFault::Shut),
+        }
+        self.take()
+    }
+
+    /// The store, once all requests have been given; None before.
+    pub fn finish(self) -> Option<RequestStore<S>>
+    where
+        S: Drop,
+        ensures when { is_some result ≡ has_ended self }
+        ensures same { IfSome result (λ it. shown it ≡ shown_by self) }
+    {
+        match self.phase {
+            Phase::Ended => Some(self.into_store()),
+            _ => None,
+        }
+    }
+
+    fn into_store(self) -> RequestStore<S>
+        requires { IsTrue (has_ended self) }
+        ensures { shown result ≡ shown_by self }
+    {
+        let Replay {
+            alloc: _,
+            store,
+            row,
+            again: _,
+            count,
+            phase: _,
+        } = self;
+        RequestStore::of(store, count, row)
+    }
+}

@@ -1,0 +1,205 @@
+//! An open store, to which requests are added.
+
+ghost use Rattle.std.specs.Prelude.{◌≡◌, ◌⊎◌, ◌+◌, ◌++◌, ◌<◌, ◌≤◌, ◌^◌, ◌∷◌, [], ⊤, false, ℕ, pos, map, length, IsTrue, IfOk, IfErr, OnOk, OnErr, MatchOption};
+ghost use Rattle.sqlite_disk.specs.Disk.{MoreFaults};
+ghost use Rattle.sqlite_trees.specs.declared.store.Shape.TheVariants.{Table};
+ghost use Rattle.sqlite_trees.specs.Tree.{Trees};
+ghost use Rattle.sqlite_trees.specs.View.{IsClean, IsQuiet, KeepsSchema, KeepsCommitted, HasCause, IsStorableRow};
+ghost use Rattle.ups_store.specs.Rows.{entered, row_of, requests_in, IsNumbered};
+ghost use Rattle.ups_store.specs.Held.{HasTables, IsHeld, IsAdding, Adds};
+ghost use Rattle.ups_store.specs.Storing.{HasTooLarge};
+ghost use Rattle.ups_store.specs.Faults.{HasReason};
+ghost use Rattle.sqlite_store.specs.FileStore.{faults, HasSpilled, log_frames};
+ghost use Rattle.sqlite_store.specs.Calls.{IsQuietCall};
+
+use crate::fault::StoreFault;
+use crate::reading::REQUESTS;
+use crate::request;
+use sqlite_disk::{Disk, Files};
+use sqlite_store::FileStore;
+use sqlite_trees::error::StoreError;
+use sqlite_trees::store::Store;
+use sqlite_value::row::Row;
+use std::alloc::Global;
+use ups_journal::Record;
+
+/// How many requests there may be.
+const MOST: u64 = (1 << 63) - 1;
+
+/// The accepted requests on a disk, to which more are added.
+#[derive(Drop)]
+pub struct RequestStore<S: Store> {
+    store: S,
+    /// How many requests there are.
+    count: u64,
+    row: Row,
+    ghost held: { IsHeld (S.Store.view store) count },
+}
+
+/// Puts the row of a record behind those of a transaction.
+fn put_one<S: Store>(
+    store: &mut S,
+    row: &mut Row,
+    count: u64,
+    run: u64,
+    asked: &Record<Global>,
+) -> Result<(), StoreError>
+    requires table { IsClean (S.Store.view store.old) → (S.Store.view store.old).shape 0 ≡ Table }
+    requires adding { IsClean (S.Store.view store.old) → IsAdding (S.Store.view store.old) count }
+    requires few { count + 1 < 2 ^ 63 }
+    ensures added { OnOk result (IsClean (S.Store.view store.new) → Adds (S.Store.view store.old) (S.Store.view store.new) (entered run asked.now ∷ []) count) }
+    ensures runs { OnOk result (IsClean (S.Store.view store.new) → (S.Store.view store.new).trees 1 ≡ (S.Store.view store.old).trees 1) }
+    ensures kept { KeepsCommitted (S.Store.view store.old) (S.Store.view store.new) }
+    ensures schema { KeepsSchema (S.Store.view store.old) (S.Store.view store.new) }
+    ensures cause { IsClean (S.Store.view store.new) → IfErr result (HasCause (S.Store.view store.old) (MoreFaults (S.Store.faults store.old) (S.Store.faults store.new))
+        (¬ IsStorableRow ((S.Store.view store.old).reals 0) (row_of (pos (count + 1)) (entered run asked.now)))) }
+    ensures quiet { IsQuiet S.Store.view S.Store.faults S.Store.recovers S.Store.is_shielded store.old store.new }
+{
+    request::lay(row, (count + 1) as i64, run, asked)?;
+    store.put(REQUESTS, row)
+}
+
+/// Puts the rows of some records behind those of a transaction.
+fn put_all<S: Store>(
+    store: &mut S,
+    row: &mut Row,
+    count: u64,
+    run: u64,
+    records: &[Record<Global>],
+) -> Result<(), StoreError>
+    requires table { IsClean (S.Store.view store.old) → (S.Store.view store.old).is_broken ≡ false → (S.Store.view store.old).shape 0 ≡ Table }
+    requires adding { IsClean (S.Store.view store.old) → (S.Store.view store.old).is_broken ≡ false → IsAdding (S.Store.view store.old) count }
+    requires few { count + length records.now < 2 ^ 63 }
+    ensures added { OnOk result (IsClean (S.Store.view store.new) → Adds (S.Store.view store.old) (S.Store.view store.new) (map (entered run) records.now) count) }
+    ensures runs { OnOk result (IsClean (S.Store.view store.new) → (S.Store.view store.new).trees 1 ≡ (S.Store.view store.old).trees 1) }
+    ensures kept { KeepsCommitted (S.Store.view store.old) (S.Store.view store.new) }
+    ensures schema { KeepsSchema (S.Store.view store.old) (S.Store.view store.new) }
+    ensures cause { IsClean (S.Store.view store.new) → IfErr result (HasCause (S.Store.view store.old) (MoreFaults (S.Store.faults store.old) (S.Store.faults store.new)) (HasTooLarge (S.Store.view store.old) run records.now)) }
+    ensures quiet { IsQuiet S.Store.view S.Store.faults S.Store.recovers S.Store.is_shielded store.old store.new }
+{
+    if store.is_broken() {
+        return Err(StoreError::Broken);
+    }
+    for at in 0..records.len() {
+        match put_one(store, row, count + at as u64, run, &records[at]) {
+            Ok(()) => {}
+            Err(error) => return Err(error),
+        }
+    }
+    Ok(())
+}
+
+/// How many requests there are with so many more; None where there would be too many.
+fn count_with(count: u64, more: usize) -> Option<u64>
+    ensures { MatchOption result (2 ^ 63 ≤ count + more) (λ all. (all ≡ count + more) × (count + more < 2 ^ 63)) }
+{
+    let all = count.checked_add(more as u64)?;
+    if all > MOST {
+        return None;
+    }
+    Some(all)
+}
+
+impl<S: Store> RequestStore<S> {
+    ghost use Rattle.ups_store.specs.Shown.{shown, requests, count_of};
+
+    /// A store of so many requests.
+    pub(crate) fn of(store: S, count: u64, row: Row) -> RequestStore<S>
+        requires { IsHeld (S.Store.view store) count }
+        ensures { shown result ≡ S.Store.view store }
+    {
+        RequestStore { store, count, row }
+    }
+
+    /// Gives the store back.
+    pub(crate) fn into_store(self) -> S
+        ensures { result ≡ self.store }
+    {
+        let RequestStore {
+            store,
+            count: _,
+            row: _,
+        } = self;
+        store
+    }
+
+    /// How many requests there are.
+    pub fn len(&self) -> u64
+        ensures { IsTrue (shown self.now).is_open → result ≡ length (requests self.now) }
+    {
+        self.count
+    }
+
+    /// Adds records, which are entered in this run, behind the requests that are there, all or none, and returns once
+    /// the disk has them. After a crash the store has all requests that were committed, and behind them the records or
+    /// none of them.
+    ///
+    /// Errors: Memory, Disk, Damaged, Full; Shut after an error that only another open mends; TooLarge where the row of a
+    /// record has a billion bytes or more; TooMany.
+    pub fn append(&mut self, run: u64, records: &[Record<Global>]) -> Result<(), StoreFault>
+        ensures added { OnOk result (IsClean (shown self.new) → requests self.new ≡ requests self.old ++ map (entered run) records.now) }
+        ensures is_open { OnOk result (IsClean (shown self.new) → IsTrue (shown self.new).is_open) }
+        ensures runs { OnOk result (IsClean (shown self.new) → (shown self.new).committed 1 ≡ (shown self.old).committed 1) }
+        ensures unchanged { OnErr result (IsTrue (shown self.new).is_open → (shown self.new).committed ≡ (shown self.old).committed) }
+        ensures tables { IsTrue (shown self.old).is_open → IsClean (shown self.new) → HasTables (shown self.new) }
+        ensures crash { (db : Trees) → S.Store.recovers self.new.store db
+            → S.Store.recovers self.old.store db ⊎ ((requests_in db ≡ requests self.old ++ map (entered run) records.now) × IsNumbered (db 0)) }
+        ensures cause { IsClean (shown self.new) → IfErr result (HasReason (record {
+          Failed = MoreFaults (S.Store.faults self.old.store) (S.Store.faults self.new.store);
+          WasShut = IsTrue (shown self.old).is_broken;
+          IsTooLarge = HasTooLarge (shown self.old) run records.now;
+          AreTooMany = 2 ^ 63 ≤ count_of self.old + length records.now;
+          IsNotRequest = ⊥;
+        })) }
+    {
+        let Some(count) = count_with(self.count, records.len()) else {
+            return Err(StoreFault::TooMany);
+        };
+        match put_all(&mut self.store, &mut self.row, self.count, run, records) {
+            Ok(()) => {}
+            Err(error) => {
+                self.store.rollback();
+                return Err(StoreFault::from(error));
+            }
+        }
+        self.store.commit()?;
+        self.count = count;
+        Ok(())
+    }
+}
+
+impl<D: Disk> RequestStore<FileStore<D>> {
+    ghost use Rattle.ups_store.specs.Shown.{shown};
+
+    /// Copies the log into the file, so that the file alone has the requests. To be called when nobody asks anything.
+    ///
+    /// Errors: Memory, Disk, Damaged, Full; Shut after an error that only another open mends. An error that leaves the
+    /// store open changes nothing.
+    pub fn checkpoint(&mut self) -> Result<(), StoreFault>
+        ensures same { IsTrue (shown self.new).is_open → shown self.new ≡ shown self.old }
+        ensures copied { OnOk result (¬ HasSpilled self.old.store → log_frames self.new.store ≡ 0) }
+        ensures is_open { OnOk result (IsClean (shown self.new) → IsTrue (shown self.new).is_open) }
+        ensures cause { IsClean (shown self.new) → IfErr result (HasReason (record {
+          Failed = MoreFaults (faults self.old.store) (faults self.new.store);
+          WasShut = IsTrue (shown self.old).is_broken;
+          IsTooLarge = ⊥;
+          AreTooMany = ⊥;
+          IsNotRequest = ⊥;
+        })) }
+        ensures quiet { IsQuietCall self.old.store self.new.store }
+    {
+        self.store.checkpoint()?;
+        Ok(())
+    }
+
+    /// Copies the log into the file, and gives both files back.
+    ///
+    /// Errors: those of `checkpoint`. The requests that were added are in the log then, and the next open finds them.
+    pub fn close(mut self) -> Result<Files<D>, StoreFault>
+    where
+        D: Drop,
+    {
+        self.checkpoint()?;
+        Ok(self.into_store().close())
+    }
+}
