@@ -29,7 +29,7 @@ def attributes(i):
     """Nine attributes of a step, of which a worklist is looked up by five."""
     row = (
         (0x0010, 0x0010, b"PN", b"DOE^JANE"),
-        (0x0010, 0x0020, b"LO", b"P%05d" % i),
+        (0x0010, 0x0020, b"LO", b"P%05d" % (i % 100_000)),
         (0x0040, 0x4005, b"DT", b"20240229120000"),
         (0x0040, 0x4041, b"CS", b"READY "),
         (0x0074, 0x1000, b"CS", b"SCHEDULED "),
