@@ -1,5 +1,5 @@
 -- What a store shows that was just opened or made.
-use Rattle.std.proofs.Common.{◌≡◌, ◌⊎◌, ℕ, ◌+◌, inl, inr, Bool, true, false, ◌&&◌, List, refl, sym, ap, subst, ◌∙◌, Option, Result, Ok, Err, IfOk, IfErr, IsTrue, true≢false, arith, ◌≤◌}
+use Rattle.std.proofs.Common.{◌≡◌, ◌≢◌, ◌⊎◌, ℕ, ◌+◌, inl, inr, Bool, true, false, ◌&&◌, List, [], ◌∷◌, slice_index, refl, sym, ap, subst, ◌∙◌, Option, Result, Ok, Err, IfOk, IfErr, IsTrue, true≢false, arith, ◌≤◌}
 use Rattle.sqlite_wal.specs.Reads.{are_clean, AreClean, OnlyReads}
 use Rattle.sqlite_wal.specs.Recovery.{Image}
 use Rattle.sqlite_wal.specs.Files.{seen_image}
@@ -7,9 +7,18 @@ use Rattle.sqlite_pool.specs.declared.pool.Pool.{Pool}
 use Rattle.sqlite_pool.specs.Pool as below
 use Rattle.sqlite_pool.specs.Pool.{files}
 use Rattle.sqlite_store.specs.declared.store.open.Unopened.{Unopened}
-use Rattle.sqlite_store.specs.Unopened.{state_of, files_of, wanted_by, image, HasFile, IsFullFile, StopsCreating}
-use Rattle.sqlite_store.specs.Db.{IsFile}
-use Rattle.sqlite_pool.specs.Stored.{Recovers}
+use Rattle.sqlite_store.specs.Unopened.{state_of, files_of, wanted_by, image, HasFile, HasSomeFile, IsFullFile, StopsCreating}
+use Rattle.sqlite_store.specs.Db.{rows_at, roots_of, IsKept, IsFile}
+use Rattle.sqlite_store.specs.Catalog.{roots_in}
+use Rattle.sqlite_btree.specs.Chain.{Layout}
+use Rattle.sqlite_btree.specs.Stored.{Owns}
+use Rattle.sqlite_btree.proofs.StoredLemmas.{stored_root_live}
+use Rattle.sqlite_pages.specs.PageMap.{PageMap}
+use Rattle.sqlite_wal.proofs.RecoveryLemmas.{recovers_once}
+use Rattle.sqlite_pool.specs.File.{in_use}
+use Rattle.sqlite_pool.specs.Stored.{Recovers, stored_size, trimmed}
+use Rattle.sqlite_value.specs.Order.{Row}
+use Rattle.sqlite_trees.specs.Tree.{Trees}
 use Rattle.sqlite_disk.specs.declared.Disk.{Ghosts}
 use Rattle.sqlite_trees.specs.declared.store.Shape.TheVariants.{Table}
 use Rattle.sqlite_trees.specs.View.{IsClean}
@@ -31,7 +40,7 @@ use Rattle.sqlite_trees.specs.declared.error.StoreError.TheVariants as names
 use Rattle.ups_store.specs.declared.fault.OpenFault.{OpenFault}
 use Rattle.ups_store.specs.declared.fault.OpenFault.TheVariants as faults
 use Rattle.ups_store.specs.Held.{IsFresh}
-use Rattle.ups_store.specs.Found.{used_page, the_schema, image_of, HoldsTables}
+use Rattle.ups_store.specs.Found.{used_page, the_schema, image_of, HoldsTables, ListsNothing, StandAlike, ReadAs}
 use Rattle.ups_store.specs.Refused.{faults_in, AreCleanFiles, MeetsLimit, OpenReasons, HasOpenReason, open_fault, IsKind}
 
 shape_first : (schema : List Wanted) → shape_at schema 0 ≡ Table → all_shapes schema 0 ≡ Table
@@ -70,6 +79,31 @@ more_from first then last below more = omega (arith, more, below)
 pub halves : (a b : Bool) → IsTrue (a && b) → IsTrue a × IsTrue b
 halves true b h = (refl, h)
 halves false b h = absurd (true≢false (sym h))
+
+-- the files stand for one database
+pages_once : (size : ℕ) (image : Image) (p q : PageMap) → Recovers size image p → Recovers size image q → p ≡ q
+pages_once size image p q a b = sym a.shows ∙ ap (trimmed size) (recovers_once (stored_size size) image a.stored b.stored a.found b.found) ∙ b.shows
+
+pub read_alike : (size : ℕ) (old new : Image) (schema : List Wanted) (db : Trees) → StandAlike size old new → ReadAs size new schema db → ReadAs size old schema db
+read_alike size old new schema db (pages, was, now) (p, found, is) = (p, subst (Recovers size old) (pages_once size new pages p now found) was, is)
+
+roots_none : (pages : PageMap) → rows_at used_page pages Table 1 ≡ [] → roots_of used_page the_schema pages ≡ 0 ∷ 0 ∷ []
+unfolding roots_of
+roots_none pages none = ap (λ (rows : List Row). roots_in rows the_schema) none
+
+owns_root : (layout : Layout) (root : ℕ) → IsKept used_page layout Table root → root ≡ 0 → Owns layout 0
+owns_root layout root (rows, table, each) is = inl (subst (λ (n : ℕ). layout.nodes n ≢ []) is (stored_root_live table.stored))
+
+-- Tables that are not listed would have one root.
+none_kept : (pages : PageMap) → rows_at used_page (in_use used_page pages) Table 1 ≡ [] → ¬ IsFile used_page the_schema pages
+none_kept pages none file =
+    let roots = roots_none (in_use used_page pages) none in
+    let trees = file.db.trees in
+    trees.apart 1 2 0 (λ (e : 1 ≡ 2). omega (arith, e)) (owns_root (file.db.layouts 1) _ (trees.kept 1) (ap (λ (r : List ℕ). slice_index r 0) roots)) (owns_root (file.db.layouts 2) _ (trees.kept 2) (ap (λ (r : List ℕ). slice_index r 1) roots))
+
+-- files that list nothing do not hold the tables
+pub nothing_held : (image : Image) → ListsNothing used_page image → ¬ HoldsTables image
+nothing_held image (p, found, none) (q, again, file) = none_kept q (subst (λ (x : PageMap). rows_at used_page (in_use used_page x) Table 1 ≡ []) (pages_once used_page image p q found again) none) file
 
 module _ {D : Type 0} {g : Ghosts D} where
   pub fresh_if_ready : (it : FileStore D g) → IsReady it → schema_of it ≡ the_schema → IsClean (view it) → IsFresh (view it)
@@ -117,14 +151,23 @@ module _ {D : Type 0} {g : Ghosts D} where
   pub image_kept : (old new : Files D) → OnlyReads g old.log new.log → OnlyReads g old.db new.db → image_of g new ≡ image_of g old
   image_kept old new a b = ap (λ (l : List ℕ). let i : Image = record { log = l; db = g.seen new.db } in i) a.seen ∙ ap (λ (d : List ℕ). let i : Image = record { log = g.seen old.log; db = d } in i) b.seen
 
-  -- files whose open was refused hold no such database
-  pub no_tables : (it : Unopened D g) (files : Files D) → files_of it ≡ (files.log, files.db) → (state_of it).page_size ≡ used_page → wanted_by it ≡ the_schema → ¬ HasFile it → ¬ HoldsTables (image_of g files)
-  no_tables it files is size wanted none held =
-      let same : image it ≡ image_of g files = ap (λ (f : D × D). seen_image g f.0 f.1) is in
+  -- files whose open was refused held no such database before they were read
+  pub no_file : (it : Unopened D g) (old : Image) → StandAlike used_page old (image it) → (state_of it).page_size ≡ used_page → wanted_by it ≡ the_schema → ¬ HasFile it → ¬ HoldsTables old
+  no_file it old (pages, was, now) size wanted none held =
+      let same = pages_once used_page old pages held.0 was held.1 in
       none (
         held.0,
-        subst (λ (n : ℕ). Recovers n (image it) held.0) (sym size) (subst (λ (i : Image). Recovers used_page i held.0) (sym same) held.1),
+        subst (λ (n : ℕ). Recovers n (image it) held.0) (sym size) (subst (Recovers used_page (image it)) same now),
         subst (λ (n : ℕ). IsFile n (wanted_by it) held.0) (sym size) (subst (λ (s : List Wanted). IsFile used_page s held.0) (sym wanted) held.2),
+      )
+
+  -- files that hold no database of any schema hold none of this one
+  pub no_some_file : (it : Unopened D g) → (state_of it).page_size ≡ used_page → ¬ HasSomeFile it → ¬ HoldsTables (image it)
+  no_some_file it size none held =
+      none (
+        held.0,
+        subst (λ (n : ℕ). Recovers n (image it) held.0) (sym size) held.1,
+        (the_schema, subst (λ (n : ℕ). IsFile n the_schema held.0) (sym size) held.2),
       )
 
   pub clean_from : (it : Unopened D g) (files : Files D) → files_of it ≡ (files.log, files.db) → IsTrue (state_of it).is_clean → AreCleanFiles g files

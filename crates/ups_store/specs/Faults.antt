@@ -3,7 +3,7 @@ use Rattle.std.specs.Prelude.{⊤}
 use Rattle.sqlite_trees.specs.declared.error.StoreError.{StoreError}
 use Rattle.sqlite_trees.specs.declared.error.StoreError.TheVariants as kit
 use Rattle.ups_store.specs.declared.fault.StoreFault.{StoreFault}
-use Rattle.ups_store.specs.declared.fault.StoreFault.TheVariants.{Memory, Disk, Damaged, Full, Shut, TooLarge, TooMany, NotRequest}
+use Rattle.ups_store.specs.declared.fault.StoreFault.TheVariants.{Memory, Disk, Damaged, Full, Shut, TooLarge, TooMany, NotRequest, Short}
 
 abbrev pub fault_of : StoreError → StoreFault
 fault_of kit.OutOfMemory = Memory
@@ -32,3 +32,16 @@ HasReason r Shut = r.WasShut
 HasReason r TooLarge = r.IsTooLarge
 HasReason r TooMany = r.AreTooMany
 HasReason r NotRequest = r.IsNotRequest
+HasReason r Short = ⊥
+
+-- the same of a run that is begun or noted, which may find that requests are lost
+abbrev pub HasRunReason : Reasons → Type 0 → StoreFault → Type 0
+HasRunReason r AreLost Memory = HasReason r Memory
+HasRunReason r AreLost Disk = HasReason r Disk
+HasRunReason r AreLost Damaged = HasReason r Damaged
+HasRunReason r AreLost Full = HasReason r Full
+HasRunReason r AreLost Shut = HasReason r Shut
+HasRunReason r AreLost TooLarge = HasReason r TooLarge
+HasRunReason r AreLost TooMany = HasReason r TooMany
+HasRunReason r AreLost NotRequest = HasReason r NotRequest
+HasRunReason r AreLost Short = AreLost

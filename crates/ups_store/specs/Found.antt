@@ -12,7 +12,8 @@ use Rattle.sqlite_trees.specs.Tree.{Trees}
 use Rattle.sqlite_trees.specs.declared.store.Shape.TheVariants.{Table}
 use Rattle.sqlite_store.specs.declared.catalog.Wanted.{Wanted}
 use Rattle.sqlite_store.specs.Listing.{file_trees}
-use Rattle.sqlite_store.specs.Db.{IsFile}
+use Rattle.sqlite_store.specs.Db.{rows_at, IsFile}
+use Rattle.sqlite_pool.specs.File.{in_use}
 
 -- a page of 4096 bytes less its sum
 abbrev pub used_page : ℕ
@@ -51,10 +52,23 @@ HoldsTables image = (pages : PageMap) × Recovers used_page image pages × IsFil
 abbrev pub HasNone : Trees → Type 0
 HasNone db = (db 0 ≡ []) × (db 1 ≡ [])
 
+-- The files recover to a database that lists nothing, not even a table.
+abbrev pub ListsNothing : ℕ → Image → Type 0
+ListsNothing size image = (pages : PageMap) × Recovers size image pages × (rows_at size (in_use size pages) Table 1 ≡ [])
+
+-- There is no database in the files yet, or one that lists nothing.
+abbrev pub IsUnused : Image → Type 0
+IsUnused image = IsBlankFile used_page image ⊎ ListsNothing used_page image
+
 -- the files are blank, or hold no sound database of the two tables
 abbrev pub HoldsNone : Image → Type 0
 HoldsNone image = IsBlankFile used_page image ⊎ (¬ HoldsTables image)
 
--- The database is what the files hold. It has no rows where they hold none: they are blank, or no sound database.
+-- both recover to the same pages
+abbrev pub StandAlike : ℕ → Image → Image → Type 0
+StandAlike size old new = (pages : PageMap) × Recovers size old pages × Recovers size new pages
+
+-- The database is what the files hold, row by row; or it has no rows and the files are unused. So files with any table are
+-- read as they are, or refused.
 abbrev pub FindsIn : Image → Trees → Type 0
-FindsIn image db = ReadAs used_page image the_schema db ⊎ (HoldsNone image × HasNone db)
+FindsIn image db = ReadAs used_page image the_schema db ⊎ (IsUnused image × HasNone db)

@@ -9,3 +9,4 @@ pub mod Shown
 pub mod Found
 pub mod Refused
 pub mod Runs
+pub mod Rewriting

@@ -1,5 +1,6 @@
 -- What a store shows, and what was read of it.
 use Rattle.std.specs.Prelude.{◌≡◌, ℕ, Bool, true, false, List, [], ◌∷◌, ◌++◌, take, Option, Some, None}
+use Rattle.sqlite_value.specs.Order.{Row}
 use Rattle.sqlite_trees.specs.View.{View}
 use Rattle.sqlite_trees.specs.declared.store.Store.{Ghosts}
 use Rattle.ups_store.specs.declared.reading.Phase.{Phase}
@@ -27,6 +28,10 @@ module _ {S : Type 0} {g : Ghosts S} where
   -- the requests that are committed
   abbrev pub requests : RequestStore S g → List StoredRequest
   requests it = requests_in (shown it).committed
+
+  -- the rows of the runs that are committed
+  abbrev pub runs : RequestStore S g → List Row
+  runs it = (shown it).committed 1
 
   -- how many there are, also once the store is shut
   abbrev pub count_of : RequestStore S g → ℕ

@@ -31,6 +31,9 @@ pub enum StoreFault {
     /// A row is no request with its place as its number.
     #[error("the store is damaged: a row is no request, or has the number of another one")]
     NotRequest,
+    /// The row of the last run counts more requests than there are.
+    #[error("the store has fewer requests than its last run counted: some are lost")]
+    Short,
 }
 
 impl From<StoreError> for StoreFault {

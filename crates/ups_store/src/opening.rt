@@ -1,16 +1,16 @@
 //! Opening the file at a path.
 
-ghost use Rattle.std.specs.Prelude.{◌≡◌, ◌⊎◌, ◌≤◌, ⊤, [], IsTrue, IfOk, IfErr};
+ghost use Rattle.std.specs.Prelude.{◌≡◌, ◌⊎◌, ◌≤◌, ⊤, [], IsTrue, IfOk, IfErr, OnOk};
 ghost use Rattle.sqlite_disk.specs.Disk.{MoreFaults};
 ghost use Rattle.sqlite_wal.specs.Files.{image_at};
 ghost use Rattle.sqlite_wal.specs.Reads.{AreClean, OnlyReads};
 ghost use Rattle.sqlite_pool.specs.Opening.{IsBlankFile};
 ghost use Rattle.sqlite_store.specs.FileStore.{view};
-ghost use Rattle.sqlite_store.specs.Unopened.{AreUsable, HasFile, CanCreate, files_of, wanted_by, state_of, image};
+ghost use Rattle.sqlite_store.specs.Unopened.{AreUsable, HasFile, HasSomeFile, IsFullFile, CanCreate, files_of, wanted_by, state_of, image};
 ghost use Rattle.sqlite_store.specs.Catalog.{wanted_of};
 ghost use Rattle.sqlite_trees.specs.View.{IsClean};
 ghost use Rattle.ups_store.specs.Held.{IsFresh};
-ghost use Rattle.ups_store.specs.Found.{used_page, table_of, the_schema, image_of, HasNone, HoldsNone, ReadAs, FindsIn};
+ghost use Rattle.ups_store.specs.Found.{used_page, table_of, the_schema, image_of, HasNone, HoldsTables, HoldsNone, ListsNothing, StandAlike, ReadAs, FindsIn};
 ghost use Rattle.ups_store.specs.Refused.{faults_in, AreCleanFiles, IsUnusable, HasFailed, MeetsLimit, HasOpenReason, open_fault, reasons, IsKind, IsLongLog, pair};
 ghost use Rattle.ups_store.specs.Shown.{shown_by, given};
 ghost use Rattle.ups_store.specs.declared.fault.OpenFault.TheVariants as faults;
@@ -171,28 +171,70 @@ fn made<D: Disk + Drop>(files: Unopened<D>) -> Result<FileStore<D>, Refusal<D>>
     }
 }
 
-/// Opens files that hold the tables. Err inside: they hold no such database.
-fn attached<D: Disk + Drop>(
-    files: Unopened<D>,
-) -> Result<Result<FileStore<D>, Unopened<D>>, Refusal<D>>
+/// Opens files that hold the tables.
+fn attached<D: Disk + Drop>(files: Unopened<D>) -> Result<FileStore<D>, Refusal<D>>
     requires usable { AreUsable files }
     requires table { wanted_by files ≡ the_schema }
-    ensures fresh { IfOk result (λ found. IfOk found (λ store. IsClean (view store) → IsFresh (view store))) }
-    ensures found { IfOk result (λ found. IfOk found (λ store. IsClean (view store) → ReadAs (state_of files).page_size (image files) the_schema (view store).committed)) }
-    ensures honest { IfOk result (λ found. IfOk found (λ store. IsClean (view store) → IsTrue (state_of files).is_clean)) }
-    ensures refused { IfOk result (λ found. IfErr found (λ left. IsTrue (state_of left).is_clean → IsTrue (state_of files).is_clean × ((state_of files).faults ≤ (state_of left).faults) × (¬ HasFile files))) }
+    ensures fresh { IfOk result (λ store. IsClean (view store) → IsFresh (view store)) }
+    ensures found { IfOk result (λ store. IsClean (view store) → ReadAs (state_of files).page_size (image files) the_schema (view store).committed) }
+    ensures honest { IfOk result (λ store. IsClean (view store) → IsTrue (state_of files).is_clean) }
     ensures cause { IfErr result (λ r. AreCleanFiles D.Disk r.files → HasOpenReason (record {
       Failed = MoreFaults (state_of files).faults (faults_in D.Disk r.files);
       AtLimit = MeetsLimit D.Disk r.files;
       Refused = ¬ HasFile files;
     }) r.fault) }
-    ensures falls { IfErr result (λ r. AreCleanFiles D.Disk r.files → IsTrue (state_of files).is_clean) }
+    ensures falls { IfErr result (λ r. AreCleanFiles D.Disk r.files → IsTrue (state_of files).is_clean × ((state_of files).faults ≤ faults_in D.Disk r.files)) }
 {
     let before = files.tally();
     match files.open() {
-        Ok(store) => Ok(Ok(store)),
-        Err((StoreOpenError::Refused, left)) => Ok(Err(left)),
+        Ok(store) => Ok(store),
         Err((error, left)) => Err(refused(error, name_fault(before, left.tally()), left)),
+    }
+}
+
+/// Whether the files recover to a database that lists nothing, as an open leaves it that got no further than the first
+/// page.
+fn lists_nothing<D: Disk + Drop>(files: &mut Unopened<D>) -> Result<bool, OpenFault>
+    requires { AreUsable files.old }
+    ensures nothing { IfOk result (λ none. IsTrue (state_of files.new).is_clean → IsTrue none → ListsNothing (state_of files.old).page_size (image files.old)) }
+    ensures alike { OnOk result (IsTrue (state_of files.new).is_clean → StandAlike (state_of files.old).page_size (image files.old) (image files.new)) }
+    ensures usable { OnOk result (AreUsable files.new) }
+    ensures table { wanted_by files.new ≡ wanted_by files.old }
+    ensures size { IsTrue (state_of files.new).is_clean → (state_of files.new).page_size ≡ (state_of files.old).page_size }
+    ensures cause { IfErr result (λ fault. IsTrue (state_of files.new).is_clean → HasOpenReason (record {
+      Failed = MoreFaults (state_of files.old).faults (state_of files.new).faults;
+      AtLimit = IsFullFile files.new;
+      Refused = ¬ HasSomeFile files.old;
+    }) fault) }
+    ensures falls { IsTrue (state_of files.new).is_clean → IsTrue (state_of files.old).is_clean × ((state_of files.old).faults ≤ (state_of files.new).faults) }
+{
+    let before = files.tally();
+    match files.read_catalog() {
+        Ok(rows) => Ok(rows.is_empty()),
+        Err(error) => Err(fault_of_open(error, name_fault(before, files.tally()))),
+    }
+}
+
+/// Makes the tables in files that list nothing, and opens others.
+fn opened<D: Disk + Drop>(mut files: Unopened<D>) -> Result<FileStore<D>, Refusal<D>>
+    requires usable { AreUsable files }
+    requires table { wanted_by files ≡ the_schema }
+    requires size { (state_of files).page_size ≡ used_page }
+    ensures fresh { IfOk result (λ store. IsClean (view store) → IsFresh (view store)) }
+    ensures found { IfOk result (λ store. IsClean (view store) → FindsIn (image files) (view store).committed) }
+    ensures cause { IfErr result (λ r. AreCleanFiles D.Disk r.files → HasOpenReason (record {
+      Failed = MoreFaults (state_of files).faults (faults_in D.Disk r.files);
+      AtLimit = MeetsLimit D.Disk r.files;
+      Refused = ¬ HoldsTables (image files);
+    }) r.fault) }
+{
+    match lists_nothing(&mut files) {
+        Ok(true) => made(files),
+        Ok(false) => attached(files),
+        Err(fault) => Err(Refusal {
+            fault,
+            files: files.close(),
+        }),
     }
 }
 
@@ -220,32 +262,6 @@ fn made_in<D: Disk + Drop>(
     }
 }
 
-/// Makes the tables after all, where an earlier open got no further than the first page. Other files are refused again.
-fn made_after_all<D: Disk + Drop>(
-    alloc: Global,
-    left: Unopened<D>,
-    seed: u64,
-) -> Result<FileStore<D>, Refusal<D>>
-    ensures fresh { IfOk result (λ store. IsClean (view store) → IsFresh (view store)) }
-    ensures empty { IfOk result (λ store. IsClean (view store) → HasNone (view store).committed) }
-    ensures honest { IfOk result (λ store. IsClean (view store) → IsTrue (state_of left).is_clean) }
-    ensures cause { IfErr result (λ r. AreCleanFiles D.Disk r.files → HasOpenReason (record {
-      Failed = MoreFaults (state_of left).faults (faults_in D.Disk r.files) ⊎ IsUnusable D.Disk r.files;
-      AtLimit = MeetsLimit D.Disk r.files;
-      Refused = ⊤;
-    }) r.fault) }
-    ensures falls { IfErr result (λ r. AreCleanFiles D.Disk r.files → IsTrue (state_of left).is_clean) }
-{
-    let files = left.close();
-    if !files.may_be_used() {
-        return Err(Refusal {
-            fault: OpenFault::Disk,
-            files,
-        });
-    }
-    made_in(alloc, files, seed)
-}
-
 /// Opens files that are not blank.
 fn held_in<D: Disk + Drop>(
     alloc: Global,
@@ -262,13 +278,8 @@ fn held_in<D: Disk + Drop>(
       Refused = HoldsNone (image_of D.Disk files);
     }) r.fault) }
 {
-    let it = match unopened(alloc, files, seed) {
-        Ok(it) => it,
-        Err(refusal) => return Err(refusal),
-    };
-    match attached(it) {
-        Ok(Ok(store)) => Ok(store),
-        Ok(Err(left)) => made_after_all(alloc, left, seed),
+    match unopened(alloc, files, seed) {
+        Ok(it) => opened(it),
         Err(refusal) => Err(refusal),
     }
 }
@@ -358,7 +369,8 @@ fn told_apart<D: Disk + Drop>(alloc: Global, refusal: Refusal<D>, seed: u64) -> 
     }
 }
 
-/// Opens the files, or makes the tables in them, for their requests to be read. The key of the log is made of `seed`.
+/// Opens the files, or makes the tables in them where they hold no database or one that lists nothing, for their requests
+/// to be read. The key of the log is made of `seed`.
 ///
 /// Errors: Memory; Disk, Full and Damaged where a call of the disk failed; AtLimit; Damaged, OtherFormat and NotStore
 /// where the files hold no sound database of the two tables.

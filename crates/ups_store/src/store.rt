@@ -15,6 +15,7 @@ ghost use Rattle.sqlite_store.specs.Calls.{IsQuietCall};
 use crate::fault::StoreFault;
 use crate::reading::REQUESTS;
 use crate::request;
+use crate::runs::{Run, enter_run, put_run};
 use sqlite_disk::{Disk, Files};
 use sqlite_store::FileStore;
 use sqlite_trees::error::StoreError;
@@ -29,10 +30,10 @@ const MOST: u64 = (1 << 63) - 1;
 /// The accepted requests on a disk, to which more are added.
 #[derive(Drop)]
 pub struct RequestStore<S: Store> {
-    store: S,
+    pub(crate) store: S,
     /// How many requests there are.
-    count: u64,
-    row: Row,
+    pub(crate) count: u64,
+    pub(crate) row: Row,
     ghost held: { IsHeld (S.Store.view store) count },
 }
 
@@ -60,7 +61,7 @@ fn put_one<S: Store>(
 }
 
 /// Puts the rows of some records behind those of a transaction.
-fn put_all<S: Store>(
+pub(crate) fn put_all<S: Store>(
     store: &mut S,
     row: &mut Row,
     count: u64,
@@ -90,7 +91,7 @@ fn put_all<S: Store>(
 }
 
 /// How many requests there are with so many more; None where there would be too many.
-fn count_with(count: u64, more: usize) -> Option<u64>
+pub(crate) fn count_with(count: u64, more: usize) -> Option<u64>
     ensures { MatchOption result (2 ^ 63 ≤ count + more) (λ all. (all ≡ count + more) × (count + more < 2 ^ 63)) }
 {
     let all = count.checked_add(more as u64)?;
@@ -140,6 +141,7 @@ impl<S: Store> RequestStore<S> {
         ensures added { OnOk result (IsClean (shown self.new) → requests self.new ≡ requests self.old ++ map (entered run) records.now) }
         ensures is_open { OnOk result (IsClean (shown self.new) → IsTrue (shown self.new).is_open) }
         ensures runs { OnOk result (IsClean (shown self.new) → (shown self.new).committed 1 ≡ (shown self.old).committed 1) }
+        ensures was_open { IsTrue (shown self.new).is_open → IsTrue (shown self.old).is_open }
         ensures unchanged { OnErr result (IsTrue (shown self.new).is_open → (shown self.new).committed ≡ (shown self.old).committed) }
         ensures tables { IsTrue (shown self.old).is_open → IsClean (shown self.new) → HasTables (shown self.new) }
         ensures crash { (db : Trees) → S.Store.recovers self.new.store db
@@ -165,6 +167,82 @@ impl<S: Store> RequestStore<S> {
         self.store.commit()?;
         self.count = count;
         Ok(())
+    }
+}
+
+impl<S: Store> RequestStore<S> {
+    ghost use Rattle.std.specs.Prelude.{IfSome};
+    ghost use Rattle.sqlite_trees.specs.Tree.{put_row};
+    ghost use Rattle.ups_store.specs.Faults.{HasRunReason};
+    ghost use Rattle.ups_store.specs.Runs.{row_of_run, last_number, last_requests};
+    ghost use Rattle.ups_store.specs.Shown.{shown, requests, runs, count_of};
+
+    /// Enters a run of the program behind the earlier ones, with the number of requests that there are, and gives its
+    /// number: the first is 1. The requests stay as they are, also after a crash.
+    ///
+    /// Errors: Short where the row of the last run counts more requests than there are; those of `append`, TooLarge and
+    /// TooMany of the row of the run. An error that leaves the store open changes nothing.
+    pub fn begin_run(&mut self, run: &Run<'_>) -> Result<u64, StoreFault>
+        ensures number { IfOk result (λ number. IsClean (shown self.new) → (number ≡ last_number (runs self.old) + 1) × (number < 2 ^ 63)) }
+        ensures enough { OnOk result (IsClean (shown self.new) → last_requests (runs self.old) ≤ length (requests self.old)) }
+        ensures begun { IfOk result (λ number. IsClean (shown self.new) → runs self.new ≡ runs self.old ++ row_of_run number run.now (length (requests self.old)) ∷ []) }
+        ensures requests { OnOk result (IsClean (shown self.new) → requests self.new ≡ requests self.old) }
+        ensures is_open { OnOk result (IsClean (shown self.new) → IsTrue (shown self.new).is_open) }
+        ensures was_open { IsTrue (shown self.new).is_open → IsTrue (shown self.old).is_open }
+        ensures unchanged { OnErr result (IsTrue (shown self.new).is_open → (shown self.new).committed ≡ (shown self.old).committed) }
+        ensures tables { IsTrue (shown self.old).is_open → IsClean (shown self.new) → HasTables (shown self.new) }
+        ensures crash { (db : Trees) → S.Store.recovers self.new.store db
+            → S.Store.recovers self.old.store db ⊎ ((requests_in db ≡ requests self.old) × IsNumbered (db 0)) }
+        ensures cause { IsClean (shown self.new) → IfErr result (HasRunReason (record {
+          Failed = MoreFaults (S.Store.faults self.old.store) (S.Store.faults self.new.store);
+          WasShut = IsTrue (shown self.old).is_broken;
+          IsTooLarge = ¬ IsStorableRow ((shown self.old).reals 1) (row_of_run (last_number (runs self.old) + 1) run.now (count_of self.old));
+          AreTooMany = 2 ^ 63 ≤ last_number (runs self.old) + 1;
+          IsNotRequest = ⊥;
+        }) (count_of self.old < last_requests (runs self.old))) }
+    {
+        match enter_run(&mut self.store, &mut self.row, run, self.count) {
+            Ok(number) => {
+                self.store.commit()?;
+                Ok(number)
+            }
+            Err(fault) => {
+                self.store.rollback();
+                Err(fault)
+            }
+        }
+    }
+
+    /// Writes the row of a run anew, with the number of requests that there are now. To be called before `checkpoint`.
+    ///
+    /// Errors: as for `begin_run`, but Short. An error that leaves the store open changes nothing.
+    pub fn note_requests(&mut self, number: u64, run: &Run<'_>) -> Result<(), StoreFault>
+        ensures noted { OnOk result (IsClean (shown self.new) → runs self.new ≡ put_row (row_of_run number run.now (length (requests self.old))) (runs self.old)) }
+        ensures requests { OnOk result (IsClean (shown self.new) → requests self.new ≡ requests self.old) }
+        ensures is_open { OnOk result (IsClean (shown self.new) → IsTrue (shown self.new).is_open) }
+        ensures was_open { IsTrue (shown self.new).is_open → IsTrue (shown self.old).is_open }
+        ensures unchanged { OnErr result (IsTrue (shown self.new).is_open → (shown self.new).committed ≡ (shown self.old).committed) }
+        ensures tables { IsTrue (shown self.old).is_open → IsClean (shown self.new) → HasTables (shown self.new) }
+        ensures crash { (db : Trees) → S.Store.recovers self.new.store db
+            → S.Store.recovers self.old.store db ⊎ ((requests_in db ≡ requests self.old) × IsNumbered (db 0)) }
+        ensures cause { IsClean (shown self.new) → IfErr result (HasReason (record {
+          Failed = MoreFaults (S.Store.faults self.old.store) (S.Store.faults self.new.store);
+          WasShut = IsTrue (shown self.old).is_broken;
+          IsTooLarge = ¬ IsStorableRow ((shown self.old).reals 1) (row_of_run number run.now (count_of self.old));
+          AreTooMany = ⊥;
+          IsNotRequest = ⊥;
+        })) }
+    {
+        match put_run(&mut self.store, &mut self.row, number, run, self.count) {
+            Ok(()) => {
+                self.store.commit()?;
+                Ok(())
+            }
+            Err(error) => {
+                self.store.rollback();
+                Err(StoreFault::from(error))
+            }
+        }
     }
 }
 

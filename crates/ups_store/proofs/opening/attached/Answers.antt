@@ -1,12 +1,10 @@
-use Rattle.std.proofs.Common.{◌≡◌, ℕ, List, inl, ap, sym, subst, ◌∙◌}
+use Rattle.std.proofs.Common.{◌≡◌, ◌≤◌, ℕ, List, inl, ap, sym, subst, ◌∙◌}
 use Rattle.sqlite_trees.proofs.Doubt.{clean_of}
 use Rattle.sqlite_store.specs.declared.catalog.Wanted.{Wanted}
 use Rattle.sqlite_store.specs.FileStore.{state, schema_of}
 use Rattle.sqlite_store.specs.Unopened.{state_of, IsFullFile, HasFile}
-use Rattle.sqlite_store.specs.Opening.{FailsToOpen}
-use Rattle.sqlite_store.specs.declared.error.OpenError.{OpenError}
 use Rattle.sqlite_store.specs.Listing.{file_trees}
-use Rattle.ups_store.proofs.Opened.{fresh_if_ready, committed_as, clean_back, reason_back}
+use Rattle.ups_store.proofs.Opened.{fresh_if_ready, committed_as, clean_back, faults_back, reason_back}
 use Rattle.ups_store.proofs.opening.attached.Goals as goal
 
 pub returns-in-Ok-clause-fresh : goal.returns-in-Ok-clause-fresh
@@ -22,14 +20,6 @@ returns-in-Ok-clause-found g c clean =
 pub returns-in-Ok-clause-honest : goal.returns-in-Ok-clause-honest
 returns-in-Ok-clause-honest g c clean = c.in-Ok.ensures.honest (clean_of _ clean)
 
-pub returns-in-Err-Refused-default-clause-refused : goal.returns-in-Err-Refused-default-clause-refused
-returns-in-Err-Refused-default-clause-refused g c clean =
-    let e = c.in-Err-Refused-default.ensures in (
-      e.falls clean,
-      (e.unharmed clean).counts,
-      subst (λ (error : OpenError). FailsToOpen (state_of c.args.files).faults (state_of c.in-Err-Refused-default.left).faults (IsFullFile c.in-Err-Refused-default.left) (HasFile c.args.files) error) c.in-Err-Refused-default.field-0-0-is (e.cause clean),
-    )
-
 pub returns-in-Err-clause-cause : goal.returns-in-Err-clause-cause
 returns-in-Err-clause-cause g c clean =
     let left = c.in-Err.left in
@@ -37,4 +27,8 @@ returns-in-Err-clause-cause g c clean =
     reason_back (state_of c.args.files).faults left r.files (IsFullFile left) (HasFile c.args.files) c.in-Err.error _ r.fault c.refused.ensures.files c.refused.ensures.fault (λ l. inl l) (c.in-Err.ensures.cause (clean_back left r.files c.refused.ensures.files clean))
 
 pub returns-in-Err-clause-falls : goal.returns-in-Err-clause-falls
-returns-in-Err-clause-falls g c clean = c.in-Err.ensures.falls (clean_back c.in-Err.left c.refused.result.files c.refused.ensures.files clean)
+returns-in-Err-clause-falls g c clean =
+    let left = c.in-Err.left in
+    let r = c.refused.result in
+    let was = clean_back left r.files c.refused.ensures.files clean in
+    (c.in-Err.ensures.falls was, subst (λ (n : ℕ). (state_of c.args.files).faults ≤ n) (faults_back left r.files c.refused.ensures.files) (c.in-Err.ensures.unharmed was).counts)

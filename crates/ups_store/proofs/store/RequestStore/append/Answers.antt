@@ -71,3 +71,25 @@ returns-clause-crash g c db after =
     let says = would_say old mid c.args.self.now.count (map (entered c.args.run) c.args.records.now) c.args.self.now.held (g.met.S.Store.shut_if_dirty c.put_all.new.store) (g.met.S.Store.broken_if_shut c.put_all.new.store)
     c.put_all.ensures.kept (search rules) in
     outcomes (g.S.Store.recovers c.args.self.now.store) (g.S.Store.recovers c.put_all.new.store) (mid.is_broken ≡ false) mid.trees _ says c.put_all.ensures.quiet.outcomes db (c.commit.ensures.crash db after)
+
+pub returns-in-Err-clause-was_open : goal.returns-in-Err-clause-was_open
+returns-in-Err-clause-was_open g c is_open =
+    let old = g.S.Store.view c.args.self.now.store in
+    let mid = g.S.Store.view c.put_all.new.store in
+    let new = g.S.Store.view c.rollback.new.self in
+    (undoes old mid new (open_clean new (g.met.S.Store.shut_if_dirty c.rollback.new.self) is_open) c.put_all.ensures.kept c.rollback.ensures.undone is_open).0
+
+pub returns-in_err-commit-clause-was_open : goal.returns-in_err-commit-clause-was_open
+returns-in_err-commit-clause-was_open g c is_open =
+    let old = g.S.Store.view c.args.self.now.store in
+    let mid = g.S.Store.view c.put_all.new.store in
+    let new = g.S.Store.view c.commit.new.self in
+    (undoes old mid new (open_clean new (g.met.S.Store.shut_if_dirty c.commit.new.self) is_open) c.put_all.ensures.kept (search rules) is_open).0
+
+pub returns-clause-was_open : goal.returns-clause-was_open
+returns-clause-was_open g c is_open =
+    let old = g.S.Store.view c.args.self.now.store in
+    let mid = g.S.Store.view c.put_all.new.store in
+    let new = g.S.Store.view c.commit.new.self in
+    let done : Commits mid new = c.in_ok-commit.ensures.ok (open_clean new (g.met.S.Store.shut_if_dirty c.commit.new.self) is_open) in
+    was_open old mid (g.met.S.Store.broken_if_shut c.put_all.new.store) c.put_all.ensures.kept done.sound

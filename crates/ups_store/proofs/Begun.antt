@@ -1,0 +1,97 @@
+-- What a store has once the row of a run is committed.
+use Rattle.std.proofs.Common.{◌≡◌, ◌⊎◌, ℕ, ◌+◌, ◌<◌, ◌≤◌, ◌^◌, false, List, length, IsTrue, Result, Ok, Err, OnOk, OnErr, refl, sym, ap, subst, ◌∙◌}
+use Rattle.std.proofs.lemmas.List.{length-map}
+use Rattle.sqlite_value.specs.Order.{Row}
+use Rattle.sqlite_trees.specs.Tree.{Trees, put_row}
+use Rattle.sqlite_trees.specs.declared.store.Shape.{Shape}
+use Rattle.sqlite_trees.specs.declared.store.Shape.TheVariants.{Table}
+use Rattle.sqlite_trees.specs.View.{View, IsClean, SetsTree, KeepsSchema, KeepsCommitted, IsRolledBack, Commits, IsOrdered, IsShaped}
+use Rattle.ups_store.specs.declared.runs.Run.{Run}
+use Rattle.ups_store.specs.Rows.{request_in, requests_in, IsNumbered}
+use Rattle.ups_store.specs.Held.{IsAdding, Holds, IsHeld}
+use Rattle.ups_store.specs.declared.fault.StoreFault.{StoreFault}
+use Rattle.ups_store.specs.declared.fault.StoreFault.TheVariants.{Memory, Disk, Damaged, Full, Shut, TooLarge, TooMany, NotRequest, Short}
+use Rattle.ups_store.specs.Faults.{Reasons, HasRunReason}
+use Rattle.ups_store.specs.Runs.{row_of_run, last_number, last_requests, Enters}
+use Rattle.ups_store.proofs.Steps.{sound_open, open_clean, clean_before, was_open, held_undone, held_committed}
+
+-- the row of a run leaves the requests
+pub adding_beside : (old new : View) (count : ℕ) (edit : List Row → List Row) → IsAdding old count → SetsTree old new 1 edit → IsAdding new count
+adding_beside old new count edit was sets =
+    let rows : new.trees 0 ≡ old.trees 0 = ap (λ (v : View). v.trees 0) sets.is in
+    record {
+      sound = ap (λ (v : View). v.is_broken) sets.is ∙ was.sound;
+      numbered = subst IsNumbered (sym rows) was.numbered;
+      counted = ap length rows ∙ was.counted;
+    }
+
+-- how many requests are committed
+pub counted_in : (v : View) (count : ℕ) → Holds v count → count ≡ length (requests_in v.committed)
+counted_in v count holds = sym (length-map (v.committed 0) request_in ∙ ap (λ (db : Trees). length (db 0)) (sym holds.same) ∙ holds.adding.counted)
+
+-- what is committed once the row of a run is
+pub record HasRun (old new : View) (number : ℕ) (run : Run) : Type 0 where
+  pub noted : new.committed 1 ≡ put_row (row_of_run number run (length (requests_in old.committed))) (old.committed 1)
+  pub requests : requests_in new.committed ≡ requests_in old.committed
+
+pub has_run : (old mid new : View) (number count : ℕ) (run : Run) → Holds old count → SetsTree old mid 1 (put_row (row_of_run number run count)) → Commits mid new → HasRun old new number run
+has_run old mid new number count run holds sets done =
+    let new_is : new.committed ≡ mid.trees = ap (λ (v : View). v.committed) done.is in
+    let rows : new.committed 0 ≡ old.committed 0 = ap (λ (db : Trees). db 0) new_is ∙ ap (λ (v : View). v.trees 0) sets.is ∙ ap (λ (db : Trees). db 0) holds.same in
+    record {
+      noted = ap (λ (db : Trees). db 1) new_is ∙ ap (λ (v : View). v.trees 1) sets.is ∙ ap (λ (db : Trees). put_row (row_of_run number run count) (db 1)) holds.same
+          ∙ ap (λ (n : ℕ). put_row (row_of_run number run n) (old.committed 1)) (counted_in old count holds);
+      requests = rw rows refl;
+    }
+
+-- the number of a run that is begun, and that no request is lost
+pub record IsBehind (old : View) (number : ℕ) : Type 0 where
+  pub behind : number ≡ last_number (old.committed 1) + 1
+  pub low : number < 2 ^ 63
+  pub enough : last_requests (old.committed 1) ≤ length (requests_in old.committed)
+
+pub is_behind : (old mid : View) (number count : ℕ) (run : Run) → Holds old count → Enters old mid number run count → IsBehind old number
+is_behind old mid number count run holds enters = record {
+  behind = enters.behind ∙ ap (λ (db : Trees). last_number (db 1) + 1) holds.same;
+  low = enters.low;
+  enough = subst (λ (n : ℕ). last_requests (old.committed 1) ≤ n) (counted_in old count holds) (subst (λ (db : Trees). last_requests (db 1) ≤ count) holds.same enters.enough);
+}
+
+-- what a transaction that is sound would commit
+pub would_keep : (old mid : View) (count : ℕ) → IsHeld old count → (mid.is_clean ≡ false → mid.is_open ≡ false) → (mid.is_open ≡ false → IsTrue mid.is_broken) → KeepsCommitted old mid → (IsClean mid → mid.trees 0 ≡ old.trees 0) → mid.is_broken ≡ false
+    → (requests_in mid.trees ≡ requests_in old.committed) × IsNumbered (mid.trees 0)
+would_keep old mid count held shut broken kept same sound =
+    let up = sound_open mid broken sound in
+    let holds = held (kept.was_open up) in
+    let rows : mid.trees 0 ≡ old.trees 0 = same (open_clean mid shut up) in
+    let all : mid.trees 0 ≡ old.committed 0 = rows ∙ ap (λ (db : Trees). db 0) holds.same in
+    (rw all refl, subst IsNumbered (sym rows) holds.adding.numbered)
+
+-- the runs are rows of a table
+pub runs_table : (v : View) (count : ℕ) → Holds v count → IsOrdered v.shape v.trees → IsShaped Table (v.committed 1)
+runs_table v count holds ordered = subst (λ (db : Trees). IsShaped Table (db 1)) holds.same (subst (λ (s : Shape). IsShaped s (v.trees 1)) holds.tables.runs (ordered 1))
+
+either : {T E A B P : Type 0} (r : Result T E) → (A → P) → OnOk r A → (B → P) → OnErr r B → P
+either (Ok x) f a g b = f a
+either (Err e) f a g b = g b
+
+-- a store whose run was committed, or not, has the requests
+pub held_run : {T E : Type 0} (r : Result T E) (old mid new : View) (count : ℕ) → IsHeld old count → IsClean new → (mid.is_open ≡ false → IsTrue mid.is_broken) → KeepsCommitted old mid → KeepsSchema old mid → (IsTrue old.is_open → IsAdding mid count)
+    → OnOk r (IsClean new → Commits mid new) → OnErr r (IsRolledBack mid new) → IsTrue new.is_open → Holds new count
+held_run r old mid new count held clean broken kept schema adding ok err up =
+    either r
+    (λ done. let d = done clean in let was = was_open old mid broken kept d.sound in held_committed old mid new count count held was schema (adding was) d) ok
+    (λ back. held_undone old mid new count held clean kept schema back up) err
+
+-- why a run is not begun, in other words
+pub run_reason_as : (r s : Reasons) (A B : Type 0) (fault : StoreFault) → (r.Failed → s.Failed) → (r.WasShut → s.WasShut) → (r.IsTooLarge → s.IsTooLarge) → (r.AreTooMany → s.AreTooMany) → (r.IsNotRequest → s.IsNotRequest) → (A → B)
+    → HasRunReason r A fault → HasRunReason s B fault
+run_reason_as r s A B Memory f w l m n a h = tt
+run_reason_as r s A B Disk f w l m n a h = f h
+run_reason_as r s A B Damaged f w l m n a h = f h
+run_reason_as r s A B Full f w l m n a h = f h
+run_reason_as r s A B Shut f w l m n a h = w h
+run_reason_as r s A B TooLarge f w l m n a h = l h
+run_reason_as r s A B TooMany f w l m n a h = m h
+run_reason_as r s A B NotRequest f w l m n a h = n h
+run_reason_as r s A B Short f w l m n a h = a h

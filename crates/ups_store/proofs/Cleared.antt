@@ -1,0 +1,151 @@
+-- What is left of the requests while they are being replaced.
+use Rattle.std.proofs.Common.{Vec, get_or, ◌++◌, append_assoc, ◌≡◌, ℕ, zero, suc, pos, ◌+◌, ◌-◌, ◌<◌, ◌⊎◌, inl, inr, Bool, false, Result, Ok, Err, is_ok, OnOk, IsTrue, List, [], ◌∷◌, map, length, take, refl, sym, ap, subst, ◌∙◌, arith, Less, Equal}
+use Rattle.std.proofs.lemmas.Bool.Decides.{nat_tests}
+use Rattle.std.proofs.lemmas.List.{take-map, length-map, length-take-le}
+use Rattle.sqlite_value.specs.declared.value.Value.TheVariants.{Int}
+use Rattle.sqlite_value.specs.Order.{Row, value_cmp}
+use Rattle.sqlite_value.proofs.OrderLemmas.{value_cmp-Int}
+use Rattle.sqlite_trees.specs.declared.store.Shape.{Shape}
+use Rattle.sqlite_trees.specs.Tree.{without_rowid, put_row}
+use Rattle.sqlite_trees.specs.View.{View, IsClean, SetsTree, KeepsSchema, IsRolledBack, Commits}
+use Rattle.std.proofs.lemmas.List.{append-nil}
+use Rattle.std.specs.declared.alloc.Global.{Global}
+use Rattle.ups_journal.specs.declared.record.Record.{Record}
+use Rattle.ups_store.specs.Rewriting.{records_of}
+use Rattle.ups_store.specs.declared.request.StoredRequest.{StoredRequest}
+use Rattle.ups_store.specs.Rows.{entered, row_of, rows_from, request_in, IsNumbered}
+use Rattle.ups_store.specs.Held.{HasTables, IsAdding, Holds}
+use Rattle.ups_store.proofs.Steps.{sound_open, open_clean}
+
+rows_take : (n number : ℕ) (rs : List StoredRequest) → take n (rows_from number rs) ≡ rows_from number (take n rs)
+rows_take zero number rs = refl
+rows_take (suc n) number [] = refl
+rows_take (suc n) number (r ∷ rs) = ap (λ (rows : List Row). row_of (pos number) r ∷ rows) (rows_take n (suc number) rs)
+
+-- without the row with the last number all others are left
+without_last : (n number : ℕ) (rs : List StoredRequest) → length rs ≡ n + 1 → without_rowid (pos (number + n)) (rows_from number rs) ≡ rows_from number (take n rs)
+without_last n number [] h = absurd (omega (arith, h))
+without_last zero number (r ∷ []) h =
+    let same : value_cmp (Int (pos number)) (Int (pos (number + zero))) ≡ Equal = value_cmp-Int _ _ ∙ grind (arith, nat_tests) in
+    rw same refl
+without_last zero number (r ∷ s ∷ rs) h = absurd (omega (arith, h))
+without_last (suc n) number (r ∷ rs) h =
+    let below : value_cmp (Int (pos number)) (Int (pos (number + suc n))) ≡ Less = value_cmp-Int _ _ ∙ grind (arith, nat_tests) in
+    let at : number + suc n ≡ suc number + n = omega arith in
+    rw below (ap (λ (k : ℕ). row_of (pos number) r ∷ without_rowid (pos k) (rows_from (suc number) rs)) at ∙ ap (λ (rows : List Row). row_of (pos number) r ∷ rows) (without_last n (suc number) rs (omega (arith, h))))
+
+-- and these are the first rows
+first_rows : (n : ℕ) (rows : List Row) → IsNumbered rows → length rows ≡ n + 1 → without_rowid (pos (n + 1)) rows ≡ take n rows
+first_rows n rows numbered counted =
+    let rs = map request_in rows in
+    let at : n + 1 ≡ 1 + n = omega arith in
+    ap (λ (k : ℕ). without_rowid (pos k) rows) at ∙ ap (without_rowid (pos (1 + n))) numbered ∙ without_last n 1 rs (length-map rows request_in ∙ counted) ∙ sym (rows_take n 1 rs) ∙ ap (take n) (sym numbered)
+
+numbered_first : (n : ℕ) (rows : List Row) → IsNumbered rows → IsNumbered (take n rows)
+numbered_first n rows numbered = ap (take n) numbered ∙ rows_take n 1 (map request_in rows) ∙ ap (rows_from 1) (take-map request_in n rows)
+
+-- a delete of the last row
+pub shortens : (old new : View) (count : ℕ) → 0 < count → IsAdding old count → SetsTree old new 0 (without_rowid (pos count)) → IsAdding new (count - 1)
+shortens old new count some was sets =
+    let n = count - 1 in
+    let at : count ≡ n + 1 = omega (arith, some) in
+    let rows : new.trees 0 ≡ take n (old.trees 0) = ap (λ (v : View). v.trees 0) sets.is ∙ ap (λ (k : ℕ). without_rowid (pos k) (old.trees 0)) at ∙ first_rows n (old.trees 0) was.numbered (was.counted ∙ at) in
+    record {
+      sound = ap (λ (v : View). v.is_broken) sets.is ∙ was.sound;
+      numbered = subst IsNumbered (sym rows) (numbered_first n (old.trees 0) was.numbered);
+      counted = ap length rows ∙ length-take-le n (old.trees 0) (omega (arith, was.counted, at));
+    }
+
+pub none_said : (rows : List Row) → length rows ≡ 0 → map request_in rows ≡ []
+none_said [] h = refl
+none_said (r ∷ rows) h = absurd (omega (arith, h))
+
+pub tables_as : (old new : View) → KeepsSchema old new → HasTables old → HasTables new
+tables_as old new schema tables = record {
+  requests = ap (λ (f : ℕ → Shape). f 0) schema.shape ∙ tables.requests;
+  runs = ap (λ (f : ℕ → Shape). f 1) schema.shape ∙ tables.runs;
+  alike = schema.committed_shape ∙ tables.alike ∙ sym schema.shape;
+}
+
+pub rolled_tables : (old new : View) → IsRolledBack old new → HasTables old → HasTables new
+rolled_tables old new back tables =
+    let shape = back.shape (sym tables.alike) in
+    record {
+      requests = ap (λ (f : ℕ → Shape). f 0) shape ∙ tables.requests;
+      runs = ap (λ (f : ℕ → Shape). f 1) shape ∙ tables.runs;
+      alike = back.committed_shape ∙ tables.alike ∙ sym shape;
+    }
+
+pub committed_tables : (old new : View) → Commits old new → HasTables old → HasTables new
+committed_tables old new done tables =
+    let is = done.is in
+    record {
+      requests = ap (λ (v : View). v.shape 0) is ∙ tables.requests;
+      runs = ap (λ (v : View). v.shape 1) is ∙ tables.runs;
+      alike = ap (λ (v : View). v.committed_shape) is ∙ sym (ap (λ (v : View). v.shape) is);
+    }
+
+-- a row of the runs that was put, where the store is sound behind it
+pub sets_run : (old mid : View) (row : Row) → (mid.is_clean ≡ false → mid.is_open ≡ false) → (mid.is_open ≡ false → IsTrue mid.is_broken) → (IsClean mid → SetsTree old mid 1 (put_row row)) → mid.is_broken ≡ false → SetsTree old mid 1 (put_row row)
+sets_run old mid row shut broken sets sound = sets (open_clean mid shut (sound_open mid broken sound))
+
+pub run_leaves : (old mid : View) (row : Row) → SetsTree old mid 1 (put_row row) → mid.trees 0 ≡ old.trees 0
+run_leaves old mid row sets = ap (λ (v : View). v.trees 0) sets.is
+
+pub run_is_put : (old mid : View) (row : Row) → SetsTree old mid 1 (put_row row) → mid.trees 1 ≡ put_row row (old.trees 1)
+run_is_put old mid row sets = ap (λ (v : View). v.trees 1) sets.is
+
+pub committed_is : (old new : View) (t : ℕ) → Commits old new → new.committed t ≡ old.trees t
+committed_is old new t done = ap (λ (v : View). v.committed t) done.is
+
+pub committed_open : (old new : View) → Commits old new → new.is_open ≡ old.is_open
+committed_open old new done = ap (λ (v : View). v.is_open) done.is
+
+-- the requests of a transaction are those of the store once it is committed, and a row of the runs leaves them
+pub held_replaced : (old mid new : View) (row : Row) (count : ℕ) → HasTables old → IsAdding old count → KeepsSchema old mid → SetsTree old mid 1 (put_row row) → Commits mid new → Holds new count
+held_replaced old mid new row count tables was schema sets done =
+    let is = done.is in
+    let rows : new.trees 0 ≡ old.trees 0 = ap (λ (v : View). v.trees 0) is ∙ run_leaves old mid row sets in
+    record {
+      tables = committed_tables mid new done (tables_as old mid schema tables);
+      adding = record {
+        sound = ap (λ (v : View). v.is_broken) is ∙ done.sound;
+        numbered = subst IsNumbered (sym rows) was.numbered;
+        counted = ap length rows ∙ was.counted;
+      };
+      same = ap (λ (v : View). v.trees) is ∙ sym (ap (λ (v : View). v.committed) is);
+    }
+
+pub both_ways : {A B C D : Type 0} → (A → C) → (B → D) → A ⊎ B → C ⊎ D
+both_ways f h (inl a) = inl (f a)
+both_ways f h (inr b) = inr (h b)
+
+pub swap : {A B : Type 0} → A ⊎ B → B ⊎ A
+swap (inl a) = inr a
+swap (inr b) = inl b
+
+pub both_ok : {T E A B C : Type 0} (r : Result T E) → (A → B → C) → OnOk r A → OnOk r B → OnOk r C
+both_ok (Ok x) f a b = f a b
+both_ok (Err e) f a b = tt
+
+-- what is found after a call that says whether it was done
+pub told : {T E A B : Type 0} (r : Result T E) (done : Bool) → done ≡ is_ok r → OnOk r A → B ⊎ A → A ⊎ ((done ≡ false) × B)
+told r done is ok (inr a) = inl a
+told (Ok x) done is ok (inl b) = inl ok
+told (Err e) done is ok (inl b) = inr (is, b)
+
+-- the records of groups with one more group
+records_more : (n : ℕ) (groups : List (Vec (Record Global) Global)) (x : Vec (Record Global) Global) → n < length groups → x ≡ get_or groups n x → records_of (take (n + 1) groups) ≡ records_of (take n groups) ++ x.items
+records_more n [] x within is = absurd (omega (arith, within))
+records_more zero (y ∷ groups) x within is = append-nil y.items ∙ ap (λ (v : Vec (Record Global) Global). v.items) (sym is)
+records_more (suc n) (y ∷ groups) x within is =
+    let at : suc n + 1 ≡ suc (n + 1) = omega arith in
+    ap (λ (k : ℕ). records_of (take k (y ∷ groups))) at ∙ ap (λ (rs : List (Record Global)). y.items ++ rs) (records_more n groups x (omega (arith, within)) is) ∙ sym (append_assoc y.items (records_of (take n groups)) x.items)
+
+map-append : {X Y : Type 0} (f : X → Y) (xs ys : List X) → map f (xs ++ ys) ≡ map f xs ++ map f ys
+map-append f [] ys = refl
+map-append f (x ∷ xs) ys = ap (λ zs. f x ∷ zs) (map-append f xs ys)
+
+pub entered_more : (run n : ℕ) (groups : List (Vec (Record Global) Global)) (x : Vec (Record Global) Global) → n < length groups → x ≡ get_or groups n x
+    → map (entered run) (records_of (take (n + 1) groups)) ≡ map (entered run) (records_of (take n groups)) ++ map (entered run) x.items
+entered_more run n groups x within is = ap (map (entered run)) (records_more n groups x within is) ∙ map-append (entered run) (records_of (take n groups)) x.items

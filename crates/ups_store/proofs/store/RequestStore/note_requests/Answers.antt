@@ -1,0 +1,78 @@
+use Rattle.std.proofs.Common.{◌≡◌, false, ap}
+use Rattle.sqlite_trees.specs.View.{View, Commits}
+use Rattle.ups_store.proofs.Steps.{clean_before, open_clean, was_open, undoes, held_undone, outcomes, on_err}
+use Rattle.ups_store.proofs.Begun.{adding_beside, held_run, would_keep}
+use Rattle.ups_store.proofs.store.RequestStore.note_requests.Goals as goal
+
+pub invariant_of-self : goal.invariant_of-self
+invariant_of-self g c =
+    let old = g.S.Store.view c.args.self.now.store in
+    let mid = g.S.Store.view c.put_run.new.store in
+    let new = g.S.Store.view c.commit.new.self in
+    let count = c.args.self.now.count in
+    let kept = c.put_run.ensures.kept in
+    record {
+      held = λ up.
+          let clean = open_clean new (g.met.S.Store.shut_if_dirty c.commit.new.self) up in
+          held_run c.commit.result old mid new count c.args.self.now.held clean (g.met.S.Store.broken_if_shut c.put_run.new.store) kept c.put_run.ensures.schema
+          (λ was. adding_beside old mid count _ (c.args.self.now.held was).adding (c.in-Ok.ensures.put (clean_before mid new c.commit.ensures.clean clean))) c.commit.ensures.ok c.commit.ensures.err up;
+    }
+
+pub invariant_of-self-in-Err : goal.invariant_of-self-in-Err
+invariant_of-self-in-Err g c =
+    let old = g.S.Store.view c.args.self.now.store in
+    let mid = g.S.Store.view c.put_run.new.store in
+    let new = g.S.Store.view c.rollback.new.self in
+    record { held = λ up. held_undone old mid new c.args.self.now.count c.args.self.now.held (open_clean new (g.met.S.Store.shut_if_dirty c.rollback.new.self) up) c.put_run.ensures.kept c.put_run.ensures.schema c.rollback.ensures.undone up }
+
+pub returns-in_err-commit-in-Ok-clause-unchanged : goal.returns-in_err-commit-in-Ok-clause-unchanged
+returns-in_err-commit-in-Ok-clause-unchanged g c =
+    let old = g.S.Store.view c.args.self.now.store in
+    let mid = g.S.Store.view c.put_run.new.store in
+    let new = g.S.Store.view c.commit.new.self in
+    on_err c.from_residual.result (λ is_open. (undoes old mid new (open_clean new (g.met.S.Store.shut_if_dirty c.commit.new.self) is_open) c.put_run.ensures.kept c.in_err-commit-in-Ok.ensures.err is_open).1)
+
+pub returns-in-Err-clause-unchanged : goal.returns-in-Err-clause-unchanged
+returns-in-Err-clause-unchanged g c is_open =
+    let old = g.S.Store.view c.args.self.now.store in
+    let mid = g.S.Store.view c.put_run.new.store in
+    let new = g.S.Store.view c.rollback.new.self in
+    (undoes old mid new (open_clean new (g.met.S.Store.shut_if_dirty c.rollback.new.self) is_open) c.put_run.ensures.kept c.rollback.ensures.undone is_open).1
+
+pub returns-in_err-commit-in-Ok-clause-crash : goal.returns-in_err-commit-in-Ok-clause-crash
+returns-in_err-commit-in-Ok-clause-crash g c db after =
+    let old = g.S.Store.view c.args.self.now.store in
+    let mid = g.S.Store.view c.put_run.new.store in
+    let says = would_keep old mid c.args.self.now.count c.args.self.now.held (g.met.S.Store.shut_if_dirty c.put_run.new.store) (g.met.S.Store.broken_if_shut c.put_run.new.store) c.put_run.ensures.kept
+    (λ clean. ap (λ (v : View). v.trees 0) (c.in-Ok.ensures.put clean).is) in
+    outcomes (g.S.Store.recovers c.args.self.now.store) (g.S.Store.recovers c.put_run.new.store) (mid.is_broken ≡ false) mid.trees _ says c.put_run.ensures.quiet.outcomes db (c.commit.ensures.crash db after)
+
+pub returns-in_ok-commit-in-Ok-clause-crash : goal.returns-in_ok-commit-in-Ok-clause-crash
+returns-in_ok-commit-in-Ok-clause-crash g c db after =
+    let old = g.S.Store.view c.args.self.now.store in
+    let mid = g.S.Store.view c.put_run.new.store in
+    let says = would_keep old mid c.args.self.now.count c.args.self.now.held (g.met.S.Store.shut_if_dirty c.put_run.new.store) (g.met.S.Store.broken_if_shut c.put_run.new.store) c.put_run.ensures.kept
+    (λ clean. ap (λ (v : View). v.trees 0) (c.in-Ok.ensures.put clean).is) in
+    outcomes (g.S.Store.recovers c.args.self.now.store) (g.S.Store.recovers c.put_run.new.store) (mid.is_broken ≡ false) mid.trees _ says c.put_run.ensures.quiet.outcomes db (c.commit.ensures.crash db after)
+
+pub returns-in-Err-clause-was_open : goal.returns-in-Err-clause-was_open
+returns-in-Err-clause-was_open g c is_open =
+    let old = g.S.Store.view c.args.self.now.store in
+    let mid = g.S.Store.view c.put_run.new.store in
+    let new = g.S.Store.view c.rollback.new.self in
+    (undoes old mid new (open_clean new (g.met.S.Store.shut_if_dirty c.rollback.new.self) is_open) c.put_run.ensures.kept c.rollback.ensures.undone is_open).0
+
+pub returns-in_err-commit-in-Ok-clause-was_open : goal.returns-in_err-commit-in-Ok-clause-was_open
+returns-in_err-commit-in-Ok-clause-was_open g c is_open =
+    let old = g.S.Store.view c.args.self.now.store in
+    let mid = g.S.Store.view c.put_run.new.store in
+    let new = g.S.Store.view c.commit.new.self in
+    (undoes old mid new (open_clean new (g.met.S.Store.shut_if_dirty c.commit.new.self) is_open) c.put_run.ensures.kept c.in_err-commit-in-Ok.ensures.err is_open).0
+
+pub returns-in_ok-commit-in-Ok-clause-was_open : goal.returns-in_ok-commit-in-Ok-clause-was_open
+returns-in_ok-commit-in-Ok-clause-was_open g c is_open =
+    let old = g.S.Store.view c.args.self.now.store in
+    let mid = g.S.Store.view c.put_run.new.store in
+    let new = g.S.Store.view c.commit.new.self in
+    let done : Commits mid new = c.in_ok-commit-in-Ok.ensures.ok (open_clean new (g.met.S.Store.shut_if_dirty c.commit.new.self) is_open) in
+    was_open old mid (g.met.S.Store.broken_if_shut c.put_run.new.store) c.put_run.ensures.kept done.sound

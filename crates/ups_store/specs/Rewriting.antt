@@ -1,0 +1,37 @@
+-- What a store shows while its requests are being replaced.
+use Rattle.std.specs.Prelude.{◌≡◌, ℕ, false, List, [], ◌∷◌, ◌++◌, Vec, IsTrue}
+use Rattle.std.specs.declared.alloc.Global.{Global}
+use Rattle.sqlite_trees.specs.Tree.{Trees}
+use Rattle.sqlite_trees.specs.View.{View}
+use Rattle.sqlite_trees.specs.declared.store.Store.{Ghosts}
+use Rattle.ups_journal.specs.declared.record.Record.{Record}
+use Rattle.ups_store.specs.declared.request.StoredRequest.{StoredRequest}
+use Rattle.ups_store.specs.declared.rewriting.Rewrite.{Rewrite}
+use Rattle.ups_store.specs.Rows.{requests_in, IsNumbered}
+
+-- the records of all groups, in their order
+abbrev pub records_of : List (Vec (Record Global) Global) → List (Record Global)
+records_of [] = []
+records_of (group ∷ groups) = group.items ++ records_of groups
+
+module _ {S : Type 0} {g : Ghosts S} where
+  abbrev pub seen : Rewrite S g → View
+  seen it = g.view it.store
+
+  -- the requests that were put, which are not committed
+  abbrev pub written : Rewrite S g → List StoredRequest
+  written it = requests_in (seen it).trees
+
+  -- how many there are, also once a call has failed
+  abbrev pub written_count : Rewrite S g → ℕ
+  written_count it = it.count
+
+  -- no call has failed
+  abbrev pub GoesOn : Rewrite S g → Type 0
+  GoesOn it = IsTrue it.is_whole × ((seen it).is_broken ≡ false)
+
+  -- the requests of the database are those that were put, and no call had failed
+  pub record IsReplaced (it : Rewrite S g) (db : Trees) : Type 0 where
+    pub sound : GoesOn it
+    pub requests : requests_in db ≡ written it
+    pub numbered : IsNumbered (db 0)

@@ -1,0 +1,54 @@
+//! What is left of the requests after a crash while they were being replaced.
+
+ghost use Rattle.std.specs.Prelude.{◌≡◌, ◌⊎◌, [], false, map, IsTrue, IfOk};
+ghost use Rattle.sqlite_trees.specs.View.{IsClean};
+ghost use Rattle.ups_store.specs.Rows.{entered, IsNumbered};
+ghost use Rattle.ups_store.specs.Held.{HasTables};
+ghost use Rattle.ups_store.specs.Shown.{shown, requests, shown_by, all_of, given};
+ghost use Rattle.ups_store.specs.Rewriting.{seen, records_of};
+
+use crate::fault::StoreFault;
+use crate::reading::Replay;
+use crate::rewriting::Rewrite;
+use crate::runs::Run;
+use crate::store::RequestStore;
+use sqlite_trees::store::Reopen;
+use std::alloc::Global;
+use ups_journal::Record;
+
+/// A crash at this moment, and the next open.
+fn crash_and_reopen<S: Reopen + Drop>(
+    alloc: Global,
+    rewrite: Rewrite<S>,
+) -> Result<Replay<S>, StoreFault>
+    requires { IsClean (seen rewrite) → HasTables (seen rewrite) }
+    ensures first { IfOk result (λ r. given r ≡ []) }
+    ensures clean { IfOk result (λ r. IsClean (shown_by r) → IsClean (seen rewrite)) }
+    ensures outcome { IfOk result (λ r. IsClean (shown_by r) → S.Store.recovers rewrite.store (shown_by r).committed) }
+{
+    let mut inner = rewrite.into_store();
+    inner.crash_and_reopen()?;
+    Ok(Replay::over(alloc, inner))
+}
+
+/// A replacement of all requests, group by group, that a crash follows, or ends. The next open finds all requests that were
+/// committed, or the records of all groups and nothing else; once the commit has answered `Ok`, it finds the records. Its
+/// rows are those of requests, so that their reading never answers that one is none.
+pub fn rewrite_then_crash<S: Reopen + Drop>(
+    alloc: Global,
+    store: RequestStore<S>,
+    entered_in: u64,
+    groups: &[Vec<Record<Global>>],
+    number: u64,
+    run: &Run<'_>,
+) -> Result<(bool, Replay<S>), StoreFault>
+    requires { IsTrue (shown store).is_open }
+    ensures first { IfOk result (λ r. given r.1 ≡ []) }
+    ensures outcome { IfOk result (λ r. IsClean (shown_by r.1) → (all_of r.1 ≡ map (entered entered_in) (records_of groups.now)) ⊎ ((r.0 ≡ false) × (all_of r.1 ≡ requests store))) }
+    ensures numbered { IfOk result (λ r. IsClean (shown_by r.1) → IsNumbered ((shown_by r.1).committed 0)) }
+{
+    let mut rewrite = Rewrite::over(store);
+    let done = rewrite.replace(entered_in, groups, number, run).is_ok();
+    let again = crash_and_reopen(alloc, rewrite)?;
+    Ok((done, again))
+}

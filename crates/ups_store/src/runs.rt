@@ -1,0 +1,168 @@
+//! The table of the runs of the program.
+
+ghost use Rattle.std.specs.Prelude.{◌≡◌, ◌+◌, ◌<◌, ◌≤◌, ◌^◌, Some, false, reverse, IfOk, IfErr, IsSome, IsTrue, OnOk};
+ghost use Rattle.sqlite_disk.specs.Disk.{MoreFaults};
+ghost use Rattle.sqlite_trees.specs.declared.store.Shape.TheVariants.{Table};
+ghost use Rattle.sqlite_trees.specs.Tree.{put_row, rowid};
+ghost use Rattle.sqlite_trees.specs.View.{IsClean, IsQuiet, KeepsSchema, KeepsCommitted, SetsTree, HasCause, IsStorableRow};
+ghost use Rattle.sqlite_value.specs.Order.{column};
+ghost use Rattle.ups_store.specs.Cells.{number_in};
+ghost use Rattle.ups_store.specs.Faults.{HasReason, HasRunReason};
+ghost use Rattle.ups_store.specs.Runs.{row_of_run, last_row, last_number, last_requests, IsFirst, Enters};
+
+use crate::cells;
+use crate::fault::StoreFault;
+use sqlite_trees::error::StoreError;
+use sqlite_trees::store::{Direction, Store};
+use sqlite_value::row::Row;
+use sqlite_value::value::ValueRef;
+use std::alloc::AllocError;
+
+/// The number of the tree of runs.
+pub(crate) const RUNS: u32 = 1;
+
+/// The last number that a run may have.
+const LAST: u64 = (1 << 63) - 1;
+
+/// A run of the program. Runs are numbered from 1.
+#[derive(Clone, Copy)]
+pub struct Run<'a> {
+    /// When it began, in seconds since 1970-01-01 00:00 UTC.
+    pub moment: u64,
+    /// The version of the program.
+    pub version: &'a str,
+    /// The settings with which it was begun.
+    pub settings: &'a str,
+}
+
+/// Makes `row` the row of the run with this number, at whose writing there were so many requests.
+fn lay(row: &mut Row, number: u64, run: &Run<'_>, requests: u64) -> Result<(), AllocError>
+    ensures { OnOk result (row.new ≡ row_of_run number run.now requests) }
+{
+    row.clear();
+    cells::lay_number(row, number)?;
+    row.push(ValueRef::Null)?;
+    cells::lay_number(row, run.moment)?;
+    row.push(ValueRef::Text(run.version.as_bytes()))?;
+    row.push(ValueRef::Text(run.settings.as_bytes()))?;
+    cells::lay_number(row, requests)
+}
+
+/// Puts the row of the run with this number into a transaction, in place of one that has the number.
+pub(crate) fn put_run<S: Store>(
+    store: &mut S,
+    row: &mut Row,
+    number: u64,
+    run: &Run<'_>,
+    requests: u64,
+) -> Result<(), StoreError>
+    requires table { IsClean (S.Store.view store.old) → (S.Store.view store.old).is_broken ≡ false → (S.Store.view store.old).shape 1 ≡ Table }
+    ensures put { OnOk result (IsClean (S.Store.view store.new) → SetsTree (S.Store.view store.old) (S.Store.view store.new) 1 (put_row (row_of_run number run.now requests))) }
+    ensures requests { OnOk result (IsClean (S.Store.view store.new) → (S.Store.view store.new).trees 0 ≡ (S.Store.view store.old).trees 0) }
+    ensures kept { KeepsCommitted (S.Store.view store.old) (S.Store.view store.new) }
+    ensures schema { KeepsSchema (S.Store.view store.old) (S.Store.view store.new) }
+    ensures cause { IsClean (S.Store.view store.new) → IfErr result (HasCause (S.Store.view store.old) (MoreFaults (S.Store.faults store.old) (S.Store.faults store.new))
+        (¬ IsStorableRow ((S.Store.view store.old).reals 1) (row_of_run number run.now requests))) }
+    ensures quiet { IsQuiet S.Store.view S.Store.faults S.Store.recovers S.Store.is_shielded store.old store.new }
+{
+    if store.is_broken() {
+        return Err(StoreError::Broken);
+    }
+    lay(row, number, run, requests)?;
+    store.put(RUNS, row)
+}
+
+/// Places the cursor at the last row of the runs.
+fn seek_last<S: Store>(store: &mut S, row: &mut Row) -> Result<(), StoreError>
+    ensures live { OnOk result (IsSome ((S.Store.view store.new).cursors 0)) }
+    ensures left { OnOk result (IsClean (S.Store.view store.new) → (S.Store.view store.new).cursors 0 ≡ Some (reverse ((S.Store.view store.old).trees 1))) }
+    ensures same { OnOk result (IsClean (S.Store.view store.new) → S.Store.view store.new ≡ record (S.Store.view store.old) { cursors = (S.Store.view store.new).cursors }) }
+    ensures sound { OnOk result (IsClean (S.Store.view store.new) → (S.Store.view store.old).is_broken ≡ false) }
+    ensures kept { KeepsCommitted (S.Store.view store.old) (S.Store.view store.new) }
+    ensures schema { KeepsSchema (S.Store.view store.old) (S.Store.view store.new) }
+    ensures cause { IsClean (S.Store.view store.new) → IfErr result (HasCause (S.Store.view store.old) (MoreFaults (S.Store.faults store.old) (S.Store.faults store.new)) ⊥) }
+    ensures quiet { IsQuiet S.Store.view S.Store.faults S.Store.recovers S.Store.is_shielded store.old store.new }
+{
+    row.clear();
+    store.seek(0, RUNS, row, Direction::Backward)
+}
+
+/// Takes the row at the cursor; an empty one at its end.
+fn take_row<S: Store>(store: &mut S, row: &mut Row) -> Result<(), StoreError>
+    requires live { IsSome ((S.Store.view store.old).cursors 0) }
+    ensures row { OnOk result (IsClean (S.Store.view store.new) → IsFirst ((S.Store.view store.old).cursors 0) row.new) }
+    ensures same { OnOk result (IsClean (S.Store.view store.new) → S.Store.view store.new ≡ record (S.Store.view store.old) { cursors = (S.Store.view store.new).cursors }) }
+    ensures sound { OnOk result (IsClean (S.Store.view store.new) → (S.Store.view store.old).is_broken ≡ false) }
+    ensures kept { KeepsCommitted (S.Store.view store.old) (S.Store.view store.new) }
+    ensures schema { KeepsSchema (S.Store.view store.old) (S.Store.view store.new) }
+    ensures cause { IsClean (S.Store.view store.new) → IfErr result (HasCause (S.Store.view store.old) (MoreFaults (S.Store.faults store.old) (S.Store.faults store.new)) ⊥) }
+    ensures quiet { IsQuiet S.Store.view S.Store.faults S.Store.recovers S.Store.is_shielded store.old store.new }
+{
+    if store.next(0, row)? {
+        return Ok(());
+    }
+    row.clear();
+    Ok(())
+}
+
+/// Makes `row` the row of the last run, or empty where there is none.
+fn read_last<S: Store>(store: &mut S, row: &mut Row) -> Result<(), StoreError>
+    ensures last { OnOk result (IsClean (S.Store.view store.new) → row.new ≡ last_row ((S.Store.view store.old).trees 1)) }
+    ensures same { OnOk result (IsClean (S.Store.view store.new) → S.Store.view store.new ≡ record (S.Store.view store.old) { cursors = (S.Store.view store.new).cursors }) }
+    ensures sound { OnOk result (IsClean (S.Store.view store.new) → (S.Store.view store.old).is_broken ≡ false) }
+    ensures kept { KeepsCommitted (S.Store.view store.old) (S.Store.view store.new) }
+    ensures schema { KeepsSchema (S.Store.view store.old) (S.Store.view store.new) }
+    ensures cause { IsClean (S.Store.view store.new) → IfErr result (HasCause (S.Store.view store.old) (MoreFaults (S.Store.faults store.old) (S.Store.faults store.new)) ⊥) }
+    ensures quiet { IsQuiet S.Store.view S.Store.faults S.Store.recovers S.Store.is_shielded store.old store.new }
+{
+    seek_last(store, row)?;
+    take_row(store, row)
+}
+
+/// The number of a run behind the last one, whose row this is.
+fn number_behind(last: &Row, requests: u64) -> Result<u64, StoreFault>
+    ensures number { IfOk result (λ number. (number ≡ number_in (rowid last.now) + 1) × (number < 2 ^ 63)) }
+    ensures enough { OnOk result (number_in (column last.now 5) ≤ requests) }
+    ensures cause { IfErr result (HasRunReason (record {
+      Failed = ⊥;
+      WasShut = ⊥;
+      IsTooLarge = ⊥;
+      AreTooMany = 2 ^ 63 ≤ number_in (rowid last.now) + 1;
+      IsNotRequest = ⊥;
+    }) (requests < number_in (column last.now 5))) }
+{
+    if cells::number_in(last.get(5)) > requests {
+        return Err(StoreFault::Short);
+    }
+    let number = cells::number_in(last.get(0));
+    if number >= LAST {
+        return Err(StoreFault::TooMany);
+    }
+    Ok(number + 1)
+}
+
+/// Puts the row of a run behind the last one into a transaction, and gives its number.
+pub(crate) fn enter_run<S: Store>(
+    store: &mut S,
+    row: &mut Row,
+    run: &Run<'_>,
+    requests: u64,
+) -> Result<u64, StoreFault>
+    requires table { IsClean (S.Store.view store.old) → (S.Store.view store.old).is_broken ≡ false → (S.Store.view store.old).shape 1 ≡ Table }
+    ensures enters { IfOk result (λ number. IsClean (S.Store.view store.new) → Enters (S.Store.view store.old) (S.Store.view store.new) number run.now requests) }
+    ensures kept { KeepsCommitted (S.Store.view store.old) (S.Store.view store.new) }
+    ensures schema { KeepsSchema (S.Store.view store.old) (S.Store.view store.new) }
+    ensures cause { IsClean (S.Store.view store.new) → IfErr result (HasRunReason (record {
+      Failed = MoreFaults (S.Store.faults store.old) (S.Store.faults store.new);
+      WasShut = IsTrue (S.Store.view store.old).is_broken;
+      IsTooLarge = ((S.Store.view store.old).is_broken ≡ false) × (¬ IsStorableRow ((S.Store.view store.old).reals 1) (row_of_run (last_number ((S.Store.view store.old).trees 1) + 1) run.now requests));
+      AreTooMany = ((S.Store.view store.old).is_broken ≡ false) × (2 ^ 63 ≤ last_number ((S.Store.view store.old).trees 1) + 1);
+      IsNotRequest = ⊥;
+    }) (((S.Store.view store.old).is_broken ≡ false) × (requests < last_requests ((S.Store.view store.old).trees 1)))) }
+    ensures quiet { IsQuiet S.Store.view S.Store.faults S.Store.recovers S.Store.is_shielded store.old store.new }
+{
+    read_last(store, row)?;
+    let number = number_behind(row, requests)?;
+    put_run(store, row, number, run, requests)?;
+    Ok(number)
+}
