@@ -38,6 +38,8 @@ impl Ledger for Slate {
         }
         Ok(())
     }
+
+    fn tidy(&mut self) {}
 }
 
 /// Commits what there is, at most so many at a time: how many are committed then.

@@ -1,8 +1,11 @@
 -- What a ledger has of the history behind a desk.
-use Rattle.std.specs.Prelude.{◌≡◌, ◌≢◌, ◌≤◌, ◌++◌, ℕ, List, length, map, take, drop, All, IfOk}
+use Rattle.std.specs.Prelude.{◌≡◌, ◌≢◌, ◌≤◌, ◌++◌, ⊤, ℕ, List, length, map, take, drop, All, IfOk, Option, None, Some}
+use Rattle.std.specs.Global.{Global}
 use Rattle.ups_life.specs.declared.entry.Entry.{Entry}
 use Rattle.ups_journal.specs.declared.record.Record.{Record}
 use Rattle.ups_journal.specs.Columns.{recorded}
+use Rattle.ups_ledger.specs.declared.keeper.Keeper.{Keeper}
+use Rattle.ups_ledger.specs.declared.ledger.Ledger.{Ghosts}
 use Rattle.ups_ledger.specs.declared.recorder.Recorder.{Recorder}
 use Rattle.ups_turn.specs.Pass.{Standing, SamePass}
 
@@ -23,3 +26,13 @@ pub record HasWatched {A : Type 0} (old new : Standing A) : Type 0 where
   pub between : List (Entry A)
   pub others : All (λ (e : Entry A). e.caller ≢ old.number) between
   pub seen : new.seen ≡ old.seen ++ between
+
+module _ {L : Type 0} (g : Ghosts L) where
+  -- the ledger has the records of the first entries of the history, as many as are committed, if it is sound
+  abbrev pub IsKept : Keeper L → List (Entry Global) → Type 0
+  IsKept keeper history = g.is_sound keeper.ledger → AreFirst (g.kept keeper.ledger) history keeper.committed
+
+  -- the same where one is kept
+  abbrev pub AreKept : Option (Keeper L) → List (Entry Global) → Type 0
+  AreKept None history = ⊤
+  AreKept (Some keeper) history = IsKept keeper history

@@ -11,6 +11,9 @@ pub struct Commits {
     count: AtomicU64,
 }
 
+/// The count that stands for a server where nothing is kept, since no history has so many entries.
+const ALL: u64 = u64::MAX;
+
 /// The half of a word that a sleeping thread watches.
 fn low_half(word: u64) -> u32 {
     (word % (1 << 32)) as u32
@@ -32,12 +35,20 @@ impl Commits {
 
     /// Where nothing is kept, nobody waits.
     pub fn of_none() -> Commits {
-        Commits::new(u64::MAX)
+        Commits::new(ALL)
     }
 
     /// How many are committed.
     pub fn count(&self) -> u64 {
         self.count.load(Ordering::SeqCst)
+    }
+
+    /// How many are committed, where they are kept.
+    pub fn kept(&self) -> Option<u64> {
+        match self.count() {
+            ALL => None,
+            count => Some(count),
+        }
     }
 
     /// So many are committed now: wakes all that wait.

@@ -26,4 +26,9 @@ pub trait Ledger: Drop {
         ensures put { OnOk result (is_sound self.new → kept self.new ≡ kept self.old ++ records.now) }
         ensures same { OnErr result (is_sound self.new → kept self.new ≡ kept self.old) }
         ensures sound { is_sound self.new → is_sound self.old };
+
+    /// Tidies up, when nobody asks anything: has what lies beside a file copied into it, say. What is committed stays.
+    fn tidy(&mut self)
+        ensures same { is_sound self.new → kept self.new ≡ kept self.old }
+        ensures sound { is_sound self.new → is_sound self.old };
 }

@@ -5,13 +5,17 @@
 mod commits;
 mod committing;
 mod fault;
+mod keeper;
 mod ledger;
+mod no_ledger;
 mod recorder;
 mod withheld;
 
 pub use commits::Commits;
 pub use committing::commit;
 pub use fault::{CommitFault, LedgerFault};
+pub use keeper::Keeper;
 pub use ledger::Ledger;
+pub use no_ledger::NoLedger;
 pub use recorder::Recorder;
 pub use withheld::Withheld;

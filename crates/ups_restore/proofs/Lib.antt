@@ -1,4 +1,9 @@
+mod Acks
 mod Going
+mod Groups
+mod Leftover
 mod Legally
+mod Once
+mod Pending
 mod Runs
 mod Taking

@@ -1,2 +1,3 @@
+pub mod Compacting
 pub mod Leaving
 pub mod Replaying

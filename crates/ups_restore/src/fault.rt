@@ -1,7 +1,11 @@
 //! Why entries were not all entered again.
 
+ghost use Rattle.std.specs.Prelude.{◌≡◌};
+
+use std::alloc::{AllocError, AllocFailed};
 use thiserror::Error;
-use ups_journal::{Operation, RecordFault};
+use ups_journal::{Operation, RecordFault, RecordingFault};
+use ups_ledger::LedgerFault;
 
 /// Why an entry was not entered again. Each text goes on from the number of its request.
 #[derive(Clone, Copy, Debug, PartialEq, Eq, Error)]
@@ -48,4 +52,61 @@ pub struct RestoreFault {
     pub operation: Operation,
     /// Why it was not entered.
     pub refusal: RestoreRefusal,
+}
+
+/// Why a manager was not given the compacted history of another.
+#[derive(Clone, Copy, Debug, PartialEq, Eq, Error)]
+pub enum CompactFault {
+    /// Memory ran out.
+    #[error("out of memory")]
+    Memory,
+    /// An entry could not be recorded.
+    #[error("{0}")]
+    Recording(RecordingFault),
+    /// An entry was not entered.
+    #[error("{0}")]
+    Entering(RestoreRefusal),
+    /// The ledger did not take records.
+    #[error("{0}")]
+    Ledger(LedgerFault),
+}
+
+impl From<AllocError> for CompactFault {
+    ghost use Rattle.ups_restore.specs.declared.fault.CompactFault.TheVariants.{Memory};
+
+    ghost from_gives = { λ _ e. e ≡ Memory };
+
+    fn from(_e: AllocError) -> CompactFault {
+        CompactFault::Memory
+    }
+}
+
+impl<T: Drop> From<AllocFailed<T>> for CompactFault {
+    ghost use Rattle.ups_restore.specs.declared.fault.CompactFault.TheVariants.{Memory};
+
+    ghost from_gives = { λ _ e. e ≡ Memory };
+
+    fn from(_e: AllocFailed<T>) -> CompactFault {
+        CompactFault::Memory
+    }
+}
+
+impl From<RecordingFault> for CompactFault {
+    ghost use Rattle.ups_restore.specs.declared.fault.CompactFault.TheVariants.{Recording};
+
+    ghost from_gives = { λ fault e. e ≡ Recording fault };
+
+    fn from(fault: RecordingFault) -> CompactFault {
+        CompactFault::Recording(fault)
+    }
+}
+
+impl From<LedgerFault> for CompactFault {
+    ghost use Rattle.ups_restore.specs.declared.fault.CompactFault.TheVariants.{Ledger};
+
+    ghost from_gives = { λ fault e. e ≡ Ledger fault };
+
+    fn from(fault: LedgerFault) -> CompactFault {
+        CompactFault::Ledger(fault)
+    }
 }

@@ -1,12 +1,19 @@
-//! A manager as it was: the entries of its history, submitted again, and so the records of these.
+//! A manager as it was: the entries of its history, submitted again, and so the records of these. And one that is shorter:
+//! with the compacted history of another.
 #![tactic(auto)]
 
+mod acknowledging;
+mod compacting;
 mod fault;
 mod leaving;
+mod putting;
 mod replaying;
 mod restoring;
 
-pub use fault::{Refusal, ReplayFault, RestoreFault, RestoreRefusal};
+pub use acknowledging::COMPACTOR;
+pub use compacting::{compact_into, compaction_pays};
+pub use fault::{CompactFault, Refusal, ReplayFault, RestoreFault, RestoreRefusal};
 pub use leaving::{Restoration, Restored, restore_each};
+pub use putting::put_history;
 pub use replaying::{replay, replay_one};
 pub use restoring::{restore, restore_one};

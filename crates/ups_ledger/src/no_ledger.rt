@@ -1,0 +1,26 @@
+//! Where nothing is kept.
+
+ghost use Rattle.std.specs.Prelude.{◌≡◌};
+
+use crate::fault::LedgerFault;
+use crate::ledger::Ledger;
+use std::alloc::Global;
+use ups_journal::Record;
+
+/// A ledger without room: it stands for one where nothing is kept.
+#[derive(Drop)]
+pub struct NoLedger;
+
+impl Ledger for NoLedger {
+    ghost use Rattle.std.specs.Prelude.{[]};
+
+    ghost kept = { λ _. [] };
+
+    ghost is_sound = { λ _. Unit {0} };
+
+    fn append(&mut self, _records: &[Record<Global>]) -> Result<(), LedgerFault> {
+        Err(LedgerFault::Full)
+    }
+
+    fn tidy(&mut self) {}
+}

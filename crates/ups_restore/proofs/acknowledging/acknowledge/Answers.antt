@@ -1,0 +1,17 @@
+use Rattle.std.proofs.Common.{◌++◌, List, sym, subst}
+use Rattle.std.specs.List.{All}
+use Rattle.ups_life.specs.declared.entry.Entry.{Entry}
+use Rattle.ups_life.specs.Settings.{IsMoment}
+use Rattle.ups_service.specs.Law.{is_legal}
+use Rattle.ups_restore.specs.declared.acknowledging.TheConstants.{COMPACTOR}
+use Rattle.ups_restore.specs.Compacting.{known_behind}
+use Rattle.ups_restore.proofs.Acks.{moments_of}
+use Rattle.ups_restore.proofs.acknowledging.acknowledge.Goals as goal
+
+pub returns-in-Err-clause-only : goal.returns-in-Err-clause-only
+returns-in-Err-clause-only c = λ ok.
+    let is = sym c.in_ok-entries.ensures.entries in
+    c.in-Err.ensures.legally
+    (subst (λ (es : List (Entry _)). is_legal c.args.fresh.now.settings (c.args.fresh.now.history ++ es)) is ok)
+    (subst (λ (es : List (Entry _)). All (λ (e : Entry _). IsMoment e.moment) es) is
+    (moments_of COMPACTOR c.args.moment (known_behind c.args.manager.now.settings c.args.steps.now c.args.manager.now.history c.args.fresh.now.history) c.requires.moment c.args.manager.now.settings.peers))

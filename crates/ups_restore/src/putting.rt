@@ -1,0 +1,73 @@
+//! The records of a history, put into a ledger.
+
+ghost use Rattle.std.specs.Prelude.{◌≡◌, ◌+◌, ◌<◌, ◌++◌, length, map, take, drop, OnOk, OnErr, IfOk, IfErr};
+ghost use Rattle.ups_journal.specs.Columns.{recorded};
+ghost use Rattle.ups_restore.specs.Compacting.{HasPut, IsNoRefusal};
+
+use crate::fault::CompactFault;
+use std::alloc::Global;
+use ups_journal::{Record, RecordingFault};
+use ups_ledger::{Ledger, Recorder};
+use ups_life::Entry;
+use ups_service::Observer;
+
+/// How many records are put into a ledger as one group, at most.
+const MAX_GROUP: usize = 256;
+
+/// The records of the entries of a history from a place on, as many as one group has.
+///
+/// Errors: those of an entry that can't be recorded; Memory.
+fn group_of(
+    alloc: Global,
+    history: &[Entry<Global>],
+    from: usize,
+) -> Result<Vec<Record<Global>, Global>, RecordingFault>
+    ensures { IfOk result (λ group. group.items ≡ map recorded (take MAX_GROUP (drop from history.now))) }
+{
+    let mut recorder = Recorder::new(alloc, from, MAX_GROUP);
+    recorder.observe(history);
+    recorder.into_records()
+}
+
+/// Puts the records of the entries of a history from a place on into a ledger, as one group. Returns the place behind them.
+///
+/// Errors: those of an entry that can't be recorded; those of the ledger. Nothing is put.
+fn put_group<L: Ledger>(
+    alloc: Global,
+    history: &[Entry<Global>],
+    from: usize,
+    ledger: &mut L,
+) -> Result<usize, CompactFault>
+    requires { from < length history.now }
+    ensures place { IfOk result (λ next. next ≡ from + length (take MAX_GROUP (drop from history.now))) }
+    ensures put { OnOk result (L.is_sound ledger.new → L.kept ledger.new ≡ L.kept ledger.old ++ map recorded (take MAX_GROUP (drop from history.now))) }
+    ensures same { OnErr result (L.is_sound ledger.new → L.kept ledger.new ≡ L.kept ledger.old) }
+    ensures sound { L.is_sound ledger.new → L.is_sound ledger.old }
+    ensures only { IfErr result IsNoRefusal }
+{
+    let group = group_of(alloc, history, from)?;
+    ledger.append(&group)?;
+    Ok(from + group.len())
+}
+
+/// Puts the records of a history into a ledger, behind those that are there, in groups.
+///
+/// # Errors
+///
+/// Those of the first entry that can't be recorded; those of the ledger. What was put stays there.
+pub fn put_history<L: Ledger>(
+    alloc: Global,
+    history: &[Entry<Global>],
+    ledger: &mut L,
+) -> Result<(), CompactFault>
+    ensures put { OnOk result (L.is_sound ledger.new → L.kept ledger.new ≡ L.kept ledger.old ++ map recorded history.now) }
+    ensures begun { L.is_sound ledger.new → HasPut (L.kept ledger.old) history.now (L.kept ledger.new) }
+    ensures sound { L.is_sound ledger.new → L.is_sound ledger.old }
+    ensures only { IfErr result IsNoRefusal }
+{
+    let mut place = 0;
+    while place < history.len() {
+        place = put_group(alloc, history, place, ledger)?;
+    }
+    Ok(())
+}
