@@ -1,0 +1,3 @@
+mod First
+mod Said
+mod Taken

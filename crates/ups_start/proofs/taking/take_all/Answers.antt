@@ -1,0 +1,30 @@
+use Rattle.std.proofs.Common.{◌≡◌, List, [], ◌∷◌, ◌++◌, sym, subst, ap, ◌∙◌}
+use Rattle.std.proofs.lemmas.List.{map-append}
+use Rattle.std.specs.declared.alloc.Global.{Global}
+use Rattle.ups_journal.specs.declared.record.Record.{Record}
+use Rattle.ups_restore.specs.Leaving.{AreTaken}
+use Rattle.sqlite_trees.specs.View.{IsClean}
+use Rattle.ups_store.specs.Shown.{shown_by, given}
+use Rattle.ups_start.specs.Started.{said, Takes}
+use Rattle.ups_start.proofs.Taken.{taken_more}
+use Rattle.ups_start.proofs.taking.take_all.Goals as goal
+
+pub loop-before-preserved : goal.loop-before-preserved
+loop-before-preserved g c =
+    let inv = c.loop-before.invariant in
+    let first = c.args.manager.now in
+    let old = c.loop-before.replay in
+    let new = c.take_next.new.replay in
+    let before = c.take_next.ensures.clean in
+    let step = λ (clean : IsClean (shown_by new)). subst (λ f. Takes old new c.loop-before.manager c.take_next.new.manager c.loop-before.counts c.take_next.new.counts c.args.may_leave_out f) c.in-Some.is (c.in_ok-found.ensures.taken clean) in
+    record {
+      taken = λ clean.
+          let s = step clean in
+          let more : said (given new) ≡ said (given old) ++ s.1.0.asked ∷ [] = ap said s.1.1 ∙ map-append (λ r. r.asked) (given old) (s.1.0 ∷ []) in
+          subst (λ (rs : List (Record Global)). AreTaken first.settings first.history rs c.args.may_leave_out c.take_next.new.counts c.take_next.new.manager.history) (sym more)
+          (taken_more first.settings c.loop-before.manager.settings first.history (said (given old)) c.args.may_leave_out s.1.0.asked c.loop-before.manager.history c.take_next.new.manager.history c.loop-before.counts c.take_next.new.counts c.in-Some.field-0
+          inv.settings (inv.taken (before clean)) s.1.2 s.2);
+      same = λ clean. (step clean).0 ∙ inv.same (before clean);
+      clean = λ clean. inv.clean (before clean);
+      settings = c.take_next.ensures.settings ∙ inv.settings;
+    }

@@ -1,0 +1,19 @@
+-- What two records have in common.
+use Rattle.std.specs.Prelude.{◌≡◌}
+use Rattle.std.specs.declared.alloc.Global.{Global}
+use Rattle.ups_journal.specs.declared.record.Columns.{Columns}
+
+-- the same is done to the same step
+pub record HaveOneTarget (a b : Columns Global) : Type 0 where
+  pub operation : a.operation ≡ b.operation
+  pub instance : a.instance ≡ b.instance
+  pub transaction : a.transaction ≡ b.transaction
+  pub state : a.state ≡ b.state
+
+-- for the same watcher, and with the same attributes
+pub record HaveOneWatcher (a b : Columns Global) : Type 0 where
+  pub receiver : a.receiver ≡ b.receiver
+  pub lock : a.lock ≡ b.lock
+  pub number : a.number ≡ b.number
+  pub offset : a.offset ≡ b.offset
+  pub attributes : a.attributes ≡ b.attributes

@@ -1,0 +1,20 @@
+-- What a store has that is opened anew.
+use Rattle.std.specs.Prelude.{◌≡◌, ℕ, List, [], ◌∷◌, ◌++◌, length, take, Bool, true, false}
+use Rattle.std.specs.declared.alloc.Global.{Global}
+use Rattle.sqlite_trees.specs.declared.store.Store.{Ghosts}
+use Rattle.ups_journal.specs.declared.record.Record.{Record}
+use Rattle.ups_store.specs.declared.reading.Replay.{Replay}
+use Rattle.ups_store.specs.Shown.{all_of, given}
+use Rattle.ups_start.specs.Started.{said}
+
+-- as many requests as were committed, and behind them the first so many of these records
+pub record HasBehind (all : List (Record Global)) (committed : ℕ) (records : List (Record Global)) (there : ℕ) : Type 0 where
+  pub front : List (Record Global)
+  pub many : length front ≡ committed
+  pub are : all ≡ front ++ take there records
+
+module _ {S : Type 0} {g : Ghosts S} where
+  -- the next request is this record, or there is none
+  abbrev pub ComesNext : Replay S g → Replay S g → Record Global → Bool → Type 0
+  ComesNext old new expected true = said (given new) ≡ said (given old) ++ expected ∷ []
+  ComesNext old new expected false = (given new ≡ given old) × (given new ≡ all_of new)

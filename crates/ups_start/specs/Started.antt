@@ -1,0 +1,30 @@
+-- The requests of a store, entered again.
+use Rattle.std.specs.Prelude.{◌≡◌, ℕ, min, List, map, ◌++◌, ◌∷◌, [], Option, None, Some, Bool}
+use Rattle.std.specs.declared.alloc.Global.{Global}
+use Rattle.sqlite_trees.specs.declared.store.Store.{Ghosts}
+use Rattle.ups_journal.specs.declared.record.Record.{Record}
+use Rattle.ups_service.specs.State.{State}
+use Rattle.ups_restore.specs.declared.leaving.Restored.{Restored}
+use Rattle.ups_restore.specs.declared.leaving.Restoration.{Restoration}
+use Rattle.ups_restore.specs.Leaving.{Becomes, counted}
+use Rattle.ups_store.specs.declared.request.StoredRequest.{StoredRequest}
+use Rattle.ups_life.specs.Limits.{last_moment}
+use Rattle.ups_store.specs.declared.reading.Replay.{Replay}
+use Rattle.ups_store.specs.declared.runs.Run.{Run}
+use Rattle.ups_store.specs.Shown.{all_of, given}
+
+-- the moment at which a run began, or the last one that has a date
+abbrev pub moment_in : Run → ℕ
+moment_in about = min about.moment last_moment
+
+-- what was asked, without the runs in which it was
+abbrev pub said : List StoredRequest → List (Record Global)
+said requests = map (λ r. r.asked) requests
+
+module _ {S : Type 0} {g : Ghosts S} where
+  -- the next request was taken, or all have been
+  abbrev pub Takes : Replay S g → Replay S g → State Global → State Global → Restoration → Restoration → Bool → Option Restored → Type 0
+  Takes old new before after was is may None = (all_of new ≡ all_of old) × (given new ≡ given old) × (given new ≡ all_of new) × (after ≡ before) × (is ≡ was)
+  Takes old new before after was is may (Some became) = (all_of new ≡ all_of old)
+      × ((request : StoredRequest) × (given new ≡ given old ++ request ∷ []) × Becomes before.settings before.history request.asked may became after.history)
+      × (is ≡ counted was became)

@@ -1,0 +1,144 @@
+//! The start of a server on a store.
+
+ghost use Rattle.std.specs.Prelude.{◌≡◌, [], map, length, IfOk};
+ghost use Rattle.sqlite_trees.specs.View.{IsClean};
+ghost use Rattle.ups_journal.specs.Columns.{recorded};
+ghost use Rattle.ups_ledger.specs.Keeping.{IsKept};
+ghost use Rattle.ups_store.specs.Shown.{shown, requests, shown_by, all_of, given};
+ghost use Rattle.ups_start.specs.Started.{said};
+
+use crate::compacting::compacted;
+use crate::fault::StartFault;
+use crate::ledger::StoreLedger;
+use crate::rewriting::rewritten;
+use crate::taking::take_all;
+use log::{Log, info};
+use sqlite_std_file::{File, Unknown};
+use sqlite_store::FileStore;
+use sqlite_trees::store::Store;
+use std::alloc::Global;
+use std::time::Clock;
+use ups_ledger::{Keeper, Ledger};
+use ups_manager::Manager;
+use ups_restore::compaction_pays;
+use ups_store::{Replay, RequestStore, Run, StoreFault, open};
+
+/// A store in which a run has begun.
+#[derive(Drop)]
+pub(crate) struct Begun<S: Store> {
+    /// The store.
+    pub(crate) store: RequestStore<S>,
+    /// The number of the run.
+    pub(crate) run: u64,
+}
+
+/// The store, of which all requests were taken, with a run that begins in it.
+///
+/// Errors: Write; with Short where requests are lost that an earlier run had committed.
+pub(crate) fn begin_run<S: Store + Drop>(
+    replay: Replay<S>,
+    about: &Run<'_>,
+) -> Result<Begun<S>, StartFault>
+    ensures clean { IfOk result (λ b. IsClean (shown b.store) → IsClean (shown_by replay)) }
+    ensures same { IfOk result (λ b. IsClean (shown b.store) → requests b.store ≡ all_of replay) }
+{
+    let Some(mut store) = replay.finish() else {
+        return Err(StartFault::Read(StoreFault::Shut));
+    };
+    match store.begin_run(about) {
+        Ok(run) => Ok(Begun { store, run }),
+        Err(fault) => Err(StartFault::Write(fault)),
+    }
+}
+
+/// Tells how many requests were left out for good.
+fn tell_left_out<R: Log>(telling: &R, left_out: u64) {
+    info!(telling; target: "upsd", "store: {left_out} requests are left out from now on");
+}
+
+/// Has the store the history of a manager, where requests were left out; or a compacted one, and the manager with it, where
+/// that pays.
+///
+/// Errors: Write, Compact, Memory. The requests of the store are those that were there.
+fn settled<S: Store + Drop, R: Log>(
+    alloc: Global,
+    telling: &R,
+    begun: Begun<S>,
+    about: &Run<'_>,
+    manager: &mut Manager<Global>,
+    left_out: u64,
+) -> Result<Begun<S>, StartFault>
+    requires whole { left_out ≡ 0 → IsClean (shown begun.store) → said (requests begun.store) ≡ map recorded manager.old.history }
+    ensures kept { IfOk result (λ b. IsClean (shown b.store) → said (requests b.store) ≡ map recorded manager.new.history) }
+    ensures settings { manager.new.settings ≡ manager.old.settings }
+{
+    let Ok(pays) = compaction_pays(alloc, manager) else {
+        return Err(StartFault::Memory);
+    };
+    if pays {
+        return compacted(alloc, telling, begun, about, manager);
+    }
+    if left_out > 0 {
+        tell_left_out(telling, left_out);
+        return rewritten(alloc, begun, about, manager);
+    }
+    Ok(begun)
+}
+
+/// Enters the requests of a store that was just opened, and begins a run in it; where requests were left out, or a compaction
+/// pays, it replaces them.
+///
+/// Errors: Read, Restore, Write, Compact, Memory. The requests of the store are those that were there.
+fn begin_over<S: Store + Drop, R: Clock + Log>(
+    alloc: Global,
+    telling: &R,
+    mut replay: Replay<S>,
+    may_leave_out: bool,
+    about: &Run<'_>,
+    manager: &mut Manager<Global>,
+) -> Result<Begun<S>, StartFault>
+    requires new { manager.old.history ≡ [] }
+    requires first { given replay ≡ [] }
+    ensures kept { IfOk result (λ b. IsClean (shown b.store) → said (requests b.store) ≡ map recorded manager.new.history) }
+    ensures settings { manager.new.settings ≡ manager.old.settings }
+{
+    let counts = take_all(telling, alloc, &mut replay, manager, may_leave_out)?;
+    let begun = match begin_run(replay, about) {
+        Ok(begun) => begun,
+        Err(fault) => return Err(fault),
+    };
+    settled(alloc, telling, begun, about, manager, counts.left_out)
+}
+
+/// Opens the file.
+pub(crate) fn opened(rt: &HostRuntime, path: &str) -> Result<Replay<FileStore<File>>, StartFault>
+    ensures { IfOk result (λ r. given r ≡ []) }
+{
+    match open(rt, path, Unknown) {
+        Ok(replay) => Ok(replay),
+        Err(fault) => Err(StartFault::Open(fault)),
+    }
+}
+
+/// Opens the file at a path, or makes it; enters its requests into a manager, in their order, and begins a run in it.
+pub fn begin<'a, R: Clock + Log>(
+    rt: &'a HostRuntime,
+    telling: &R,
+    path: &'a str,
+    may_leave_out: bool,
+    about: Run<'a>,
+    manager: &mut Manager<Global>,
+) -> Result<Keeper<StoreLedger<'a>>, StartFault>
+    requires new { manager.old.history ≡ [] }
+    ensures settings { manager.new.settings ≡ manager.old.settings }
+    ensures kept { IfOk result (λ k. IsKept ⟦<StoreLedger<'a> as Ledger>⟧ k manager.new.history) }
+    ensures all { IfOk result (λ k. k.committed ≡ length manager.new.history) }
+{
+    let replay = opened(rt, path)?;
+    let begun = begin_over(rt.alloc(), telling, replay, may_leave_out, &about, manager)?;
+    let committed = manager.history().len();
+    Ok(Keeper {
+        ledger: StoreLedger::of(rt, path, about, begun),
+        committed,
+    })
+}

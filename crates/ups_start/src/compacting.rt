@@ -1,0 +1,111 @@
+//! A store that is compacted at a start.
+
+ghost use Rattle.std.specs.Prelude.{◌≡◌, ◌≤◌, [], map, length, IfOk, OnOk};
+ghost use Rattle.sqlite_trees.specs.View.{IsClean};
+ghost use Rattle.ups_life.specs.Settings.{IsMoment};
+ghost use Rattle.ups_life.specs.Steps.{past};
+ghost use Rattle.ups_compact.specs.Compacting.{compacted};
+ghost use Rattle.ups_journal.specs.Columns.{recorded};
+ghost use Rattle.ups_restore.specs.declared.acknowledging.TheConstants.{COMPACTOR};
+ghost use Rattle.ups_store.specs.Shown.{shown, requests};
+ghost use Rattle.ups_start.specs.Started.{said, moment_in};
+
+use crate::beginning::Begun;
+use crate::fault::StartFault;
+use crate::rewriting::Anew;
+use log::{Log, info};
+use sqlite_trees::store::Store;
+use std::alloc::Global;
+use ups_life::{MAX_MOMENT, MAX_PEERS};
+use ups_manager::Manager;
+use ups_restore::compact_into;
+use ups_store::Run;
+
+/// A manager without history that has the settings of another.
+///
+/// Errors: Memory.
+fn emptied(alloc: Global, manager: &Manager<Global>) -> Result<Manager<Global>, StartFault>
+    ensures settings { IfOk result (λ fresh. fresh.settings ≡ manager.now.settings) }
+    ensures history { IfOk result (λ fresh. fresh.history ≡ []) }
+{
+    let peers = manager.peers();
+    if peers.len() > MAX_PEERS {
+        return Err(StartFault::Memory);
+    }
+    match Manager::new(
+        alloc,
+        peers,
+        manager.keep(),
+        manager.offset(),
+        manager.limit(),
+    ) {
+        Ok(fresh) => Ok(fresh),
+        Err(_) => Err(StartFault::Memory),
+    }
+}
+
+/// The moment at which a run began, or the last one that has a date.
+fn moment_of(about: &Run<'_>) -> u64
+    ensures is { result ≡ moment_in about.now }
+    ensures dated { IsMoment result }
+{
+    about.moment.min(MAX_MOMENT)
+}
+
+/// Has the store the requests of the compacted history of a manager, and no others; and a new manager that history.
+///
+/// Errors: Write, Compact. The requests of the store are those that were there.
+pub(crate) fn compacted_to<S: Store + Drop>(
+    alloc: Global,
+    begun: Begun<S>,
+    about: &Run<'_>,
+    manager: &Manager<Global>,
+    fresh: &mut Manager<Global>,
+) -> Result<Begun<S>, StartFault>
+    requires settings { fresh.old.settings ≡ manager.now.settings }
+    requires new { fresh.old.history ≡ [] }
+    ensures compacted { OnOk result (past fresh.new.history ≡ compacted COMPACTOR (moment_in about.now) manager.now.settings (past manager.now.history)) }
+    ensures kept { IfOk result (λ b. IsClean (shown b.store) → said (requests b.store) ≡ map recorded fresh.new.history) }
+    ensures settings { fresh.new.settings ≡ fresh.old.settings }
+{
+    let mut anew = match Anew::begin(begun) {
+        Ok(anew) => anew,
+        Err(fault) => return Err(fault),
+    };
+    match compact_into(alloc, manager, fresh, moment_of(about), &mut anew) {
+        Ok(()) => anew.commit(about),
+        Err(fault) => Err(StartFault::Compact(fault)),
+    }
+}
+
+/// Tells that a store was compacted.
+fn tell_compacted<R: Log>(telling: &R, before: usize, after: usize) {
+    info!(telling; target: "upsd", "store: compacted from {before} requests to {after}");
+}
+
+/// Has a store the requests of the compacted history of a manager, and the manager that history.
+///
+/// Errors: Write, Compact, Memory. The requests of the store are those that were there, and the manager is as it was.
+pub(crate) fn compacted<S: Store + Drop, R: Log>(
+    alloc: Global,
+    telling: &R,
+    begun: Begun<S>,
+    about: &Run<'_>,
+    manager: &mut Manager<Global>,
+) -> Result<Begun<S>, StartFault>
+    ensures compacted { OnOk result (past manager.new.history ≡ compacted COMPACTOR (moment_in about.now) manager.old.settings (past manager.old.history)) }
+    ensures kept { IfOk result (λ b. IsClean (shown b.store) → said (requests b.store) ≡ map recorded manager.new.history) }
+    ensures settings { manager.new.settings ≡ manager.old.settings }
+{
+    let mut fresh = match emptied(alloc, manager) {
+        Ok(fresh) => fresh,
+        Err(fault) => return Err(fault),
+    };
+    let begun = match compacted_to(alloc, begun, about, manager, &mut fresh) {
+        Ok(begun) => begun,
+        Err(fault) => return Err(fault),
+    };
+    tell_compacted(telling, manager.history().len(), fresh.history().len());
+    *manager = fresh;
+    Ok(begun)
+}

@@ -1,0 +1,47 @@
+//! Why a server is not started on a store.
+
+ghost use Rattle.std.specs.Prelude.{◌≡◌};
+ghost use Rattle.ups_start.specs.Faults.{fault_of};
+
+use thiserror::Error;
+use ups_ledger::LedgerFault;
+use ups_restore::{CompactFault, RestoreFault};
+use ups_store::{OpenFault, StoreFault};
+
+/// Why a start on a store ended. Nothing that was asked is lost: the requests in the file are those that were there.
+#[derive(Clone, Copy, Debug, PartialEq, Eq, Error)]
+pub enum StartFault {
+    /// The file was not opened.
+    #[error("{0}")]
+    Open(OpenFault),
+    /// Its requests could not be read.
+    #[error("{0}")]
+    Read(StoreFault),
+    /// It could not be written.
+    #[error("{0}")]
+    Write(StoreFault),
+    /// A request was not entered again.
+    #[error("{0}")]
+    Restore(RestoreFault),
+    /// Its requests could not be replaced by those of a shorter history.
+    #[error("its requests could not be replaced: {0}")]
+    Compact(CompactFault),
+    /// Memory ran out.
+    #[error("out of memory")]
+    Memory,
+}
+
+/// What a ledger tells of a fault of its store.
+pub(crate) fn fault_of(fault: StoreFault) -> LedgerFault
+    ensures { result ≡ fault_of fault }
+{
+    match fault {
+        StoreFault::Memory | StoreFault::Full | StoreFault::TooLarge | StoreFault::TooMany => {
+            LedgerFault::Full
+        }
+        StoreFault::Disk | StoreFault::Damaged | StoreFault::NotRequest | StoreFault::Short => {
+            LedgerFault::Write
+        }
+        StoreFault::Shut => LedgerFault::Shut,
+    }
+}

@@ -1,0 +1,107 @@
+//! A ledger in a file.
+
+ghost use Rattle.std.specs.Prelude.{◌≡◌, ◌≤◌, false, length, IfOk};
+ghost use Rattle.sqlite_trees.specs.View.{IsClean};
+ghost use Rattle.ups_store.specs.Shown.{shown, requests};
+ghost use Rattle.ups_start.specs.Started.{said};
+ghost use Rattle.ups_start.specs.Shelved.{kept_in, IsSound};
+
+use crate::beginning::Begun;
+use crate::reopening::{fault_of_open, go_through};
+use crate::shelf::Shelf;
+use sqlite_std_file::{File, Unknown};
+use sqlite_store::FileStore;
+use std::alloc::Global;
+use ups_journal::Record;
+use ups_ledger::{Ledger, LedgerFault};
+use ups_store::{Run, open};
+
+/// A ledger in a store that lies in a file. Where a failed sync has shut the store, the next append opens it anew: it has to
+/// have as many requests as were committed, and behind them none but those that the failed append wanted to put.
+#[derive(Drop)]
+pub struct StoreLedger<'a> {
+    rt: &'a HostRuntime,
+    path: &'a str,
+    about: Run<'a>,
+    /// The number of the run.
+    run: u64,
+    shelf: Shelf<FileStore<File>>,
+}
+
+impl<'a> StoreLedger<'a> {
+    /// The ledger that goes on from a start.
+    pub(crate) fn of(
+        rt: &'a HostRuntime,
+        path: &'a str,
+        about: Run<'a>,
+        begun: Begun<FileStore<File>>,
+    ) -> StoreLedger<'a>
+        ensures clean { IsSound result.shelf → IsClean (shown begun.store) }
+        ensures kept { kept_in result.shelf ≡ said (requests begun.store) }
+    {
+        let Begun { store, run } = begun;
+        StoreLedger {
+            rt,
+            path,
+            about,
+            run,
+            shelf: Shelf::first(store),
+        }
+    }
+
+    /// Opens the file anew, and gives how many of these records it has already.
+    ///
+    /// Errors: Shut where it can't be opened now; Lost where it has other requests than were committed.
+    fn reopen(&mut self, records: &[Record<Global>]) -> Result<usize, LedgerFault>
+        ensures within { IfOk result (λ there. there ≤ length records.now) }
+        ensures doubtful { self.new.shelf.is_first ≡ false }
+    {
+        let committed = self.shelf.let_go()?;
+        let replay = match open(self.rt, self.path, Unknown) {
+            Ok(replay) => replay,
+            Err(fault) => return Err(self.missed(fault_of_open(fault))),
+        };
+        match go_through(replay, committed, records) {
+            Ok(reopened) => {
+                self.shelf.take_up(reopened.store);
+                Ok(reopened.there)
+            }
+            Err(fault) => Err(self.missed(fault)),
+        }
+    }
+
+    /// Notes why it was not opened anew.
+    fn missed(&mut self, fault: LedgerFault) -> LedgerFault
+        ensures doubtful { self.old.shelf.is_first ≡ false → self.new.shelf.is_first ≡ false }
+    {
+        if fault == LedgerFault::Lost {
+            self.shelf.give_up();
+        }
+        fault
+    }
+
+    /// Opens the file anew, and puts those of these records that it has not.
+    fn append_anew(&mut self, records: &[Record<Global>]) -> Result<(), LedgerFault>
+        ensures doubtful { ¬ IsSound self.new.shelf }
+    {
+        let there = self.reopen(records)?;
+        self.shelf.append(self.run, &records[there..])
+    }
+}
+
+impl Ledger for StoreLedger<'_> {
+    ghost kept = { λ l. kept_in l.shelf };
+
+    ghost is_sound = { λ l. IsSound l.shelf };
+
+    fn append(&mut self, records: &[Record<Global>]) -> Result<(), LedgerFault> {
+        match self.shelf.append(self.run, records) {
+            Err(LedgerFault::Shut) => self.append_anew(records),
+            answer => answer,
+        }
+    }
+
+    fn tidy(&mut self) {
+        self.shelf.tidy(self.run, &self.about);
+    }
+}

@@ -1,0 +1,150 @@
+//! A store that is opened anew, where a sync failed and shut it.
+
+ghost use Rattle.std.specs.Prelude.{◌≡◌, ◌+◌, ◌≤◌, ◌++◌, ◌∷◌, [], false, true, None, length, take, IfOk, IfSome, OnOk, IsTrue};
+ghost use Rattle.sqlite_trees.specs.View.{IsClean};
+ghost use Rattle.ups_store.specs.Shown.{shown, requests, shown_by, all_of, given, has_ended, Gives};
+ghost use Rattle.ups_start.specs.Started.{said};
+ghost use Rattle.ups_start.specs.Reopened.{ComesNext, HasBehind};
+
+use crate::comparing::is_same;
+use sqlite_trees::store::Store;
+use std::alloc::Global;
+use ups_journal::Record;
+use ups_ledger::LedgerFault;
+use ups_store::{OpenFault, Replay, RequestStore, StoreFault, StoredRequest};
+
+/// A store that was opened anew.
+#[derive(Drop)]
+pub(crate) struct Reopened<S: Store> {
+    /// The store.
+    pub(crate) store: RequestStore<S>,
+    /// How many of the records that are to be put it has already.
+    pub(crate) there: usize,
+}
+
+/// What is told where a store was not opened anew: Shut where it may be at the next try.
+pub(crate) fn fault_of_open(fault: OpenFault) -> LedgerFault {
+    match fault {
+        OpenFault::Memory
+        | OpenFault::Busy
+        | OpenFault::Unopened
+        | OpenFault::Disk
+        | OpenFault::Full => LedgerFault::Shut,
+        OpenFault::AtLimit | OpenFault::Damaged | OpenFault::NotStore | OpenFault::OtherFormat =>
+            LedgerFault::Lost,
+    }
+}
+
+/// What is told where it was not read.
+fn fault_of_reading(fault: StoreFault) -> LedgerFault {
+    match fault {
+        StoreFault::Memory | StoreFault::Disk | StoreFault::Full | StoreFault::Shut => {
+            LedgerFault::Shut
+        }
+        _ => LedgerFault::Lost,
+    }
+}
+
+/// The next request, or None at the end.
+///
+/// Errors: Shut; Lost where the store is not what was written.
+fn next_of<S: Store>(replay: &mut Replay<S>) -> Result<Option<StoredRequest>, LedgerFault>
+    ensures given { IfOk result (λ found. IsClean (shown_by replay.new) → Gives (all_of replay.new) (given replay.old) (given replay.new) found) }
+    ensures ended { IfOk result (λ found. found ≡ None → IsTrue (has_ended replay.new)) }
+    ensures clean { IsClean (shown_by replay.new) → IsClean (shown_by replay.old) }
+{
+    match replay.next_request() {
+        Ok(found) => Ok(found),
+        Err(fault) => Err(fault_of_reading(fault)),
+    }
+}
+
+/// Passes over as many requests as were committed.
+///
+/// Errors: Lost where there are fewer; those of the reading.
+fn pass_over<S: Store>(replay: &mut Replay<S>, committed: u64) -> Result<(), LedgerFault>
+    ensures passed { OnOk result (IsClean (shown_by replay.new) → length (said (given replay.new)) ≡ length (said (given replay.old)) + committed) }
+    ensures clean { IsClean (shown_by replay.new) → IsClean (shown_by replay.old) }
+{
+    for _passed in 0..committed {
+        match next_of(replay)? {
+            Some(_) => {}
+            None => return Err(LedgerFault::Lost),
+        }
+    }
+    Ok(())
+}
+
+/// Whether the next request is this record; false at the end.
+///
+/// Errors: Lost where it is another one; those of the reading.
+fn is_next<S: Store>(replay: &mut Replay<S>, expected: &Record<Global>) -> Result<bool, LedgerFault>
+    ensures next { IfOk result (λ next. IsClean (shown_by replay.new) → ComesNext replay.old replay.new expected.now next) }
+    ensures ended { IfOk result (λ next. next ≡ false → IsTrue (has_ended replay.new)) }
+    ensures clean { IsClean (shown_by replay.new) → IsClean (shown_by replay.old) }
+{
+    let request = match next_of(replay)? {
+        Some(request) => request,
+        None => return Ok(false),
+    };
+    if !is_same(&request.asked, expected) {
+        return Err(LedgerFault::Lost);
+    }
+    Ok(true)
+}
+
+/// Whether all requests were given.
+///
+/// Errors: Lost where there is one more; those of the reading.
+fn is_end<S: Store>(replay: &mut Replay<S>) -> Result<(), LedgerFault>
+    ensures end { OnOk result (IsClean (shown_by replay.new) → (given replay.new ≡ given replay.old) × (given replay.new ≡ all_of replay.new)) }
+    ensures ended { OnOk result (IsTrue (has_ended replay.new)) }
+    ensures clean { IsClean (shown_by replay.new) → IsClean (shown_by replay.old) }
+{
+    match next_of(replay)? {
+        Some(_) => Err(LedgerFault::Lost),
+        None => Ok(()),
+    }
+}
+
+/// How many of these records come next, as the last requests.
+///
+/// Errors: Lost where another request comes; those of the reading.
+fn count_there<S: Store>(
+    replay: &mut Replay<S>,
+    records: &[Record<Global>],
+) -> Result<usize, LedgerFault>
+    ensures within { IfOk result (λ there. there ≤ length records.now) }
+    ensures there { IfOk result (λ there. IsClean (shown_by replay.new) → said (all_of replay.new) ≡ said (given replay.old) ++ take there records.now) }
+    ensures ended { OnOk result (IsTrue (has_ended replay.new)) }
+    ensures clean { IsClean (shown_by replay.new) → IsClean (shown_by replay.old) }
+{
+    for (place, expected) in records.iter().enumerate() {
+        if !is_next(replay, expected)? {
+            return Ok(place);
+        }
+    }
+    is_end(replay)?;
+    Ok(records.len())
+}
+
+/// Goes through the requests of a store that was opened anew: as many as were committed, and behind them those of these
+/// records, from the first on, that an append put which was not told so.
+///
+/// Errors: Lost where it has others; Shut where it could not be read.
+pub(crate) fn go_through<S: Store + Drop>(
+    mut replay: Replay<S>,
+    committed: u64,
+    records: &[Record<Global>],
+) -> Result<Reopened<S>, LedgerFault>
+    requires first { given replay ≡ [] }
+    ensures within { IfOk result (λ r. r.there ≤ length records.now) }
+    ensures behind { IfOk result (λ r. IsClean (shown r.store) → HasBehind (said (requests r.store)) committed records.now r.there) }
+{
+    pass_over(&mut replay, committed)?;
+    let there = count_there(&mut replay, records)?;
+    match replay.finish() {
+        Some(store) => Ok(Reopened { store, there }),
+        None => Err(LedgerFault::Shut),
+    }
+}

@@ -1,0 +1,112 @@
+//! A store that is compacted while no server runs on it.
+
+ghost use Rattle.std.specs.Prelude.{◌≡◌, [], map, length, IfOk, OnOk};
+ghost use Rattle.sqlite_trees.specs.View.{IsClean};
+ghost use Rattle.ups_life.specs.Steps.{past};
+ghost use Rattle.ups_compact.specs.Compacting.{compacted};
+ghost use Rattle.ups_journal.specs.Columns.{recorded};
+ghost use Rattle.ups_restore.specs.declared.acknowledging.TheConstants.{COMPACTOR};
+ghost use Rattle.ups_store.specs.Shown.{shown, requests, given};
+ghost use Rattle.ups_start.specs.Started.{said, moment_in};
+
+use crate::beginning::{begin_run, opened};
+use crate::compacting::compacted_to;
+use crate::fault::StartFault;
+use crate::taking::take_all;
+use log::Log;
+use sqlite_trees::store::Store;
+use std::alloc::Global;
+use std::time::Clock;
+use ups_manager::Manager;
+use ups_store::{Replay, RequestStore, Run};
+
+/// How many requests a store had before a compaction, and how many it has.
+#[derive(Clone, Copy, Debug, PartialEq, Eq)]
+pub struct Compacted {
+    /// Before.
+    pub before: u64,
+    /// After.
+    pub after: u64,
+}
+
+/// A store that was compacted.
+#[derive(Drop)]
+struct Shrunk<S: Store> {
+    store: RequestStore<S>,
+    before: u64,
+}
+
+/// Enters the requests of a store that was just opened into a manager, and has the store the requests of the compacted history,
+/// and a new manager that history.
+///
+/// Errors: Read, Restore, Write, Compact. The requests of the store are those that were there.
+fn compact_over<S: Store + Drop, R: Clock + Log>(
+    alloc: Global,
+    telling: &R,
+    mut replay: Replay<S>,
+    may_leave_out: bool,
+    about: &Run<'_>,
+    manager: &mut Manager<Global>,
+    fresh: &mut Manager<Global>,
+) -> Result<Shrunk<S>, StartFault>
+    requires first { given replay ≡ [] }
+    requires settings { fresh.old.settings ≡ manager.old.settings }
+    requires new { fresh.old.history ≡ [] }
+    ensures compacted { OnOk result (past fresh.new.history ≡ compacted COMPACTOR (moment_in about.now) manager.new.settings (past manager.new.history)) }
+    ensures kept { IfOk result (λ s. IsClean (shown s.store) → said (requests s.store) ≡ map recorded fresh.new.history) }
+    ensures settings { manager.new.settings ≡ manager.old.settings }
+{
+    match take_all(telling, alloc, &mut replay, manager, may_leave_out) {
+        Ok(_) => {}
+        Err(fault) => return Err(fault),
+    }
+    let begun = match begin_run(replay, about) {
+        Ok(begun) => begun,
+        Err(fault) => return Err(fault),
+    };
+    let before = begun.store.len();
+    match compacted_to(alloc, begun, about, manager, fresh) {
+        Ok(begun) => Ok(Shrunk {
+            store: begun.store,
+            before,
+        }),
+        Err(fault) => Err(fault),
+    }
+}
+
+/// Compacts the store in the file at a path: enters its requests into a manager, in their order, as [`begin`](crate::begin)
+/// does, and has it the requests of the compacted history in their place, in one transaction; then it closes the file. The
+/// two managers are new, and have the same settings.
+///
+/// # Errors
+///
+/// Those of [`begin`](crate::begin). The requests in the file are those that were there.
+pub fn compact<R: Clock + Log>(
+    rt: &HostRuntime,
+    telling: &R,
+    path: &str,
+    may_leave_out: bool,
+    about: Run<'_>,
+    mut manager: Manager<Global>,
+    mut fresh: Manager<Global>,
+) -> Result<Compacted, StartFault>
+    requires settings { fresh.settings ≡ manager.settings }
+    requires new { fresh.history ≡ [] }
+{
+    let replay = opened(rt, path)?;
+    let shrunk = compact_over(
+        rt.alloc(),
+        telling,
+        replay,
+        may_leave_out,
+        &about,
+        &mut manager,
+        &mut fresh,
+    )?;
+    let Shrunk { store, before } = shrunk;
+    let after = store.len();
+    match store.close() {
+        Ok(_) => Ok(Compacted { before, after }),
+        Err(fault) => Err(StartFault::Write(fault)),
+    }
+}

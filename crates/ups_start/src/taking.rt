@@ -1,0 +1,93 @@
+//! The requests of a store, entered again one after the other.
+
+ghost use Rattle.std.specs.Prelude.{◌≡◌, [], map, false, None, OnOk, IfOk, IsTrue};
+ghost use Rattle.sqlite_trees.specs.View.{IsClean};
+ghost use Rattle.ups_restore.specs.Leaving.{AreTaken};
+ghost use Rattle.ups_store.specs.Shown.{shown_by, all_of, given, has_ended};
+ghost use Rattle.ups_start.specs.Started.{said, Takes};
+
+use crate::fault::StartFault;
+use crate::progress::Progress;
+use log::{Log, warn};
+use sqlite_trees::store::Store;
+use std::alloc::Global;
+use std::time::Clock;
+use ups_manager::Manager;
+use ups_restore::{Restoration, RestoreFault, Restored};
+use ups_store::{Replay, StoreFault};
+
+/// Enters the next request of a store, which has this number, or leaves it out, where it may be, and tells of it; None at
+/// the end.
+///
+/// Errors: Read; Restore where the request is neither entered nor left out.
+fn take_next<S: Store, R: Log>(
+    telling: &R,
+    alloc: Global,
+    replay: &mut Replay<S>,
+    number: u64,
+    manager: &mut Manager<Global>,
+    counts: &mut Restoration,
+    may_leave_out: bool,
+) -> Result<Option<Restored>, StartFault>
+    ensures taken { IfOk result (λ found. IsClean (shown_by replay.new) → Takes replay.old replay.new manager.old manager.new counts.old counts.new may_leave_out found) }
+    ensures ended { IfOk result (λ found. found ≡ None → IsTrue (has_ended replay.new)) }
+    ensures clean { IsClean (shown_by replay.new) → IsClean (shown_by replay.old) }
+    ensures settings { manager.new.settings ≡ manager.old.settings }
+{
+    let request = match replay.next_request() {
+        Ok(Some(request)) => request,
+        Ok(None) => return Ok(None),
+        Err(fault) => return Err(StartFault::Read(fault)),
+    };
+    let operation = request.asked.request.operation;
+    match counts.take(alloc, manager, &request.asked, may_leave_out) {
+        Ok(Restored::Entered) => Ok(Some(Restored::Entered)),
+        Ok(Restored::LeftOut) => {
+            warn!(telling; target: "upsd", "store: request {number} ({operation}) is left out: it is not accepted after those before it, with these settings");
+            Ok(Some(Restored::LeftOut))
+        }
+        Err(refusal) => Err(StartFault::Restore(RestoreFault {
+            number,
+            operation,
+            refusal,
+        })),
+    }
+}
+
+/// Enters all requests of a store again, one behind the other, or leaves requests out, where they may be; counts them, and
+/// tells the log each second how many there were.
+///
+/// Errors: Read; Restore at the first request that is neither entered nor left out.
+pub(crate) fn take_all<S: Store, R: Clock + Log>(
+    telling: &R,
+    alloc: Global,
+    replay: &mut Replay<S>,
+    manager: &mut Manager<Global>,
+    may_leave_out: bool,
+) -> Result<Restoration, StartFault>
+    requires first { given replay.old ≡ [] }
+    ensures taken { IfOk result (λ counts. IsClean (shown_by replay.new) → AreTaken manager.old.settings manager.old.history (said (all_of replay.new)) may_leave_out counts manager.new.history) }
+    ensures same { OnOk result (IsClean (shown_by replay.new) → all_of replay.new ≡ all_of replay.old) }
+    ensures ended { OnOk result (IsTrue (has_ended replay.new)) }
+    ensures clean { IsClean (shown_by replay.new) → IsClean (shown_by replay.old) }
+    ensures settings { manager.new.settings ≡ manager.old.settings }
+{
+    let mut counts = Restoration::new();
+    let mut progress = Progress::begin(telling);
+    for before in 0..u64::MAX {
+        let found = take_next(
+            telling,
+            alloc,
+            replay,
+            before + 1,
+            manager,
+            &mut counts,
+            may_leave_out,
+        )?;
+        match found {
+            Some(_) => progress.tell(telling, before + 1),
+            None => return Ok(counts),
+        }
+    }
+    Err(StartFault::Read(StoreFault::TooMany))
+}
