@@ -11,6 +11,7 @@ use std::sync::Wait;
 use std::test::Fail;
 use std::time::Clock;
 use ups_assoc::Config;
+use ups_ledger::Commits;
 use ups_manager::Manager;
 use ups_net::{Account, ServerOptions, Tally, end_told, serve_one};
 use ups_service::SharedService;
@@ -65,7 +66,8 @@ fn told_by<M: SharedService<Global>, R: Wait + Clock + Log>(
 ) -> Result<End, SessionFault>
     requires here { pass.table ≡ desk.now.table }
 {
-    let (_, ended, is_sent) = serve_one(rt, server, account, None, desk, pass, options);
+    let none = Commits::of_none();
+    let (_, ended, is_sent) = serve_one(rt, server, account, None, desk, pass, options, &none);
     end_told(ended, is_sent)
 }
 

@@ -6,13 +6,31 @@ use crate::history::tell_history;
 use crate::texts::{no_words, out_of_memory};
 use clap::ArgMatches;
 use log::Log;
+use std::alloc::Global;
 use std::io;
 use std::sync::Wait;
 use std::thread::Threads;
 use std::time::Clock;
 use ups_args::{ArgumentFault, command};
+use ups_ledger::{Keeper, NoLedger};
+use ups_manager::Manager;
 use ups_net::Network;
-use ups_server::{RanServer, serve_words};
+use ups_server::{RanServer, StoreOpener, Unopened, serve_words};
+
+/// What opens no store: a server that comes to its end keeps nothing.
+#[derive(Clone, Copy)]
+struct NoStores;
+
+impl<'a> StoreOpener<'a, NoLedger> for NoStores {
+    fn open(
+        &self,
+        _file: &'a str,
+        _may_leave_out: bool,
+        manager: &mut Manager<Global>,
+    ) -> Result<Keeper<NoLedger>, Unopened> {
+        Err(Unopened::Told)
+    }
+}
 
 /// The error of words that are refused, or of lack of memory.
 fn error_of(fault: ArgumentFault<'_>) -> io::Error {
@@ -36,7 +54,7 @@ fn tell_served<R>(
 where
     R: Threads + Wait + Clock + Log + Sync + AllocGlobal + Print + Eprint + Network,
 {
-    match serve_words(rt, matches, associations, rounds) {
+    match serve_words(rt, &NoStores, matches, associations, rounds) {
         Ok(Some(server)) => tell_left(rt, server),
         Ok(None) => Err(no_words()),
         Err(fault) => Err(error_of(fault)),
@@ -46,13 +64,14 @@ where
 /// Closes the desk of a server, and tells the history.
 ///
 /// Errors: those of the output; lack of memory, or of a thread.
-fn tell_left<R: Print>(rt: &R, server: RanServer) -> io::Result<()>
+fn tell_left<R: Print>(rt: &R, server: RanServer<NoLedger>) -> io::Result<()>
     requires here { All (λ p. p.table ≡ server.desk.table) server.passes.items }
 {
     let RanServer {
         begun,
         desk,
         passes,
+        keeper: _,
     } = server;
     if !begun {
         return Err(out_of_memory());

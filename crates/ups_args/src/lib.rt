@@ -3,6 +3,7 @@
 #![tactic(auto)]
 
 mod addresses;
+mod compact;
 mod fault;
 mod limits;
 mod options;
@@ -11,9 +12,11 @@ mod pipe;
 mod program;
 mod script;
 mod server;
+mod store;
 mod times;
 mod title;
 
+pub use compact::{CompactArguments, compact_arguments};
 pub use fault::ArgumentFault;
 pub use limits::{KEEP, MAX_WORKERS, OFFSET, limits_are_as_defined};
 pub use pipe::{PipeArguments, pipe_arguments};

@@ -1,5 +1,6 @@
 //! The command line as a whole.
 
+use crate::compact::compact_command;
 use crate::pipe::pipe_command;
 use crate::script::script_command;
 use crate::server::serve_command;
@@ -17,7 +18,7 @@ fn with_command<'a>(
     command.subcommand(other?)
 }
 
-/// The command line of `upsd`: what is asked of it by `pipe`, `script` or `serve`.
+/// The command line of `upsd`: what is asked of it by `pipe`, `script`, `serve` or `compact`.
 ///
 /// # Errors
 ///
@@ -29,5 +30,6 @@ pub fn command<'a>(alloc: Global) -> Result<Command<'a>, AllocError> {
         .subcommand_required(true);
     let command = with_command(command, pipe_command(alloc))?;
     let command = with_command(command, script_command(alloc))?;
-    with_command(command, serve_command(alloc))
+    let command = with_command(command, serve_command(alloc))?;
+    with_command(command, compact_command(alloc))
 }

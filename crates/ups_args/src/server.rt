@@ -13,6 +13,7 @@ use crate::limits::{DELIVERY_TIMEOUT, IDLE, LOOPBACK, MAX_WORKERS, TIMEOUT, WORK
 use crate::options::{flag, worded};
 use crate::peers::{peer_words, watchers_of};
 use crate::script::script_arguments;
+use crate::store::with_store;
 use crate::times::{keep_of, with_times};
 use crate::title::{ae_of, ae_word};
 use clap::{ArgMatches, Command};
@@ -67,7 +68,8 @@ pub(crate) fn serve_command<'a>(alloc: Global) -> Result<Command<'a>, AllocError
     let command = Command::new(alloc, "serve")
         .about("answers associations over TCP, and delivers event reports")
         .arg(ae_word(alloc))?;
-    with_times(alloc, with_network(alloc, command)?)?.arg(peer_words(alloc))
+    let command = with_times(alloc, with_network(alloc, command)?)?;
+    with_store(alloc, command)?.arg(peer_words(alloc))
 }
 
 /// The number of the port that a word says; 0 stands for any that is free.
@@ -226,6 +228,10 @@ pub struct ServeArguments<'a> {
     /// For how many seconds a watcher is waited for at most, to connect to it and for each answer; 0 stands for an hour, and for
     /// ten seconds of one that is neither away nor slow.
     pub delivery_timeout: u32,
+    /// The file in which accepted requests are kept, where there is one.
+    pub store: Option<&'a str>,
+    /// Whether requests of the store that are not accepted with these settings are left out.
+    pub leave_out: bool,
     /// Whether the log tells of each association how it is answered, and of each request.
     pub verbose: bool,
 }
@@ -250,6 +256,8 @@ pub fn serve_arguments<'a>(
     ensures idle { IfOk result (λ asked. SaysIdle (first_value (found_of matches.now) (codes "idle")) asked.idle) }
     ensures timeout { IfOk result (λ asked. SaysTimeout (first_value (found_of matches.now) (codes "timeout")) asked.timeout) }
     ensures delivery_timeout { IfOk result (λ asked. SaysDeliveryTimeout (first_value (found_of matches.now) (codes "delivery-timeout")) asked.delivery_timeout) }
+    ensures store { IfOk result (λ asked. option_map (λ w. w.now) asked.store ≡ first_value (found_of matches.now) (codes "store")) }
+    ensures leave_out { IfOk result (λ asked. IsFlag (found_of matches.now) (codes "store-leave-out") asked.leave_out) }
     ensures verbose { IfOk result (λ asked. IsFlag (found_of matches.now) (codes "verbose") asked.verbose) }
     ensures some { IfOk result (λ asked. 1 ≤ asked.workers) }
     ensures most { IfOk result (λ asked. asked.workers ≤ workers_limit) }
@@ -274,6 +282,8 @@ pub fn serve_arguments<'a>(
         idle: limits.idle,
         timeout: limits.timeout,
         delivery_timeout: limits.delivery_timeout,
+        store: matches.get_str("store"),
+        leave_out: matches.get_flag("store-leave-out"),
         verbose: matches.get_flag("verbose"),
     })
 }

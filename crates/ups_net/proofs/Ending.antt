@@ -1,12 +1,12 @@
 -- What becomes of several threads' passes.
-use Rattle.std.proofs.Common.{rules, ◌≡◌, ◌+◌, ℕ, suc, length, map, Some, None, Bool, true, false, List, [], ◌∷◌, ◌++◌, refl, sym, ap, ◌∙◌, subst}
+use Rattle.std.proofs.Common.{rules, ◌≡◌, ◌+◌, suc, length, map, Some, None, Bool, true, false, List, [], ◌∷◌, ◌++◌, refl, sym, ap, ◌∙◌}
 use Rattle.std.specs.Prelude.{MatchBool, MatchOption, Option, is_some}
 use Rattle.std.specs.Vec.Iter.{into_iter_items, into_iter_len}
 use Rattle.std.specs.declared.vec.IntoIter.{IntoIter}
 use Rattle.std.proofs.lemmas.List.{append_assoc, append-nil, length-append, map-append, nil_from_length}
 use Rattle.ups_turn.specs.Pass.{Standing}
 use Rattle.ups_net.specs.declared.options.ServerOptions.{ServerOptions}
-use Rattle.ups_net.specs.Working.{EndsThread, EndThreads, Ran}
+use Rattle.ups_net.specs.Working.{EndThreads, Ran}
 use Rattle.ups_net.specs.Sweeping.{Sweeps}
 
 module _ {A : Type 0} (options : ServerOptions) where
@@ -25,9 +25,9 @@ module _ {A : Type 0} (options : ServerOptions) where
   unbegun_alike (old ∷ olds) (new ∷ news) h = λ i. h.0 i ∷ unbegun_alike olds news h.1 i
 
   -- threads that were started and have ended, passes whose threads were not started, and that of the sweeper
-  pub ran : (begun : Bool) (hs unbegun rest passes back : List (Standing A)) (sweeper swept : Standing A) → hs ++ unbegun ≡ passes → EndThreads options begun hs rest → back ≡ (rest ++ unbegun) ++ swept ∷ []
-      → (begun ≡ true → unbegun ≡ []) → MatchBool begun (Sweeps options.config.ae options.rounds sweeper swept) (swept ≡ sweeper) → Ran options begun (passes ++ sweeper ∷ []) back
-  ran true hs unbegun rest passes back sweeper swept all ends is none sweeps =
+  pub ran : (keeps begun : Bool) (hs unbegun rest passes back : List (Standing A)) (sweeper swept : Standing A) → hs ++ unbegun ≡ passes → EndThreads options begun hs rest → back ≡ (rest ++ unbegun) ++ swept ∷ []
+      → (begun ≡ true → unbegun ≡ []) → MatchBool begun (Sweeps options.config.ae keeps options.rounds sweeper swept) (swept ≡ sweeper) → Ran options keeps begun (passes ++ sweeper ∷ []) back
+  ran keeps true hs unbegun rest passes back sweeper swept all ends is none sweeps =
       let gone = none refl in
       record {
         front = hs;
@@ -39,7 +39,7 @@ module _ {A : Type 0} (options : ServerOptions) where
         each = ends;
         sweeps = sweeps;
       }
-  ran false hs unbegun rest passes back sweeper swept all ends is none sweeps =
+  ran keeps false hs unbegun rest passes back sweeper swept all ends is none sweeps =
       is ∙ ((λ i. (unbegun_alike hs rest ends i ++ unbegun) ++ sweeps i ∷ []) ∙ ap (λ (l : List (Standing A)). l ++ sweeper ∷ []) all)
 
 -- nothing is left to come
@@ -67,11 +67,11 @@ ends_length options begun (old ∷ olds) [] h = absurd h
 ends_length options begun (old ∷ olds) (new ∷ news) h = ap suc (ends_length options begun olds news h.1)
 
 -- as many passes come back
-pub ran_as_many : {A : Type 0} (options : ServerOptions) (begun : Bool) (olds news : List (Standing A)) → Ran options begun olds news → length news ≡ length olds
-ran_as_many options true olds news w =
+pub ran_as_many : {A : Type 0} (options : ServerOptions) (keeps begun : Bool) (olds news : List (Standing A)) → Ran options keeps begun olds news → length news ≡ length olds
+ran_as_many options keeps true olds news w =
     ap length w.after ∙ (length-append w.worked (w.swept ∷ []) ∙ (ap (λ n. n + 1) (ends_length options true w.front w.worked w.each)
     ∙ (sym (length-append w.front (w.sweeper ∷ [])) ∙ sym (ap length w.before))))
-ran_as_many options false olds news is = ap length is
+ran_as_many options keeps false olds news is = ap length is
 
 module _ {T : Type 0} where
   -- where some is there, what is said of none is of no use

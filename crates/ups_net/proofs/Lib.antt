@@ -2,3 +2,4 @@ pub mod Crosses
 pub mod Ending
 pub mod Served
 pub mod Staying
+pub mod Watching

@@ -1,15 +1,15 @@
 -- Each pass of a server stays at its desk, whatever its job.
-use Rattle.std.proofs.Common.{◌≡◌, ℕ, zero, suc, Bool, true, false, nat_lt, List, [], ◌∷◌, ◌++◌, refl, sym, ap, ◌∙◌, subst, inl, inr}
+use Rattle.std.proofs.Common.{◌≡◌, ℕ, zero, suc, Bool, true, false, nat_lt, List, [], ◌∷◌, ◌++◌, sym, ap, ◌∙◌, subst, inl, inr}
 use Rattle.std.specs.Prelude.{All, MatchBool}
-use Rattle.std.proofs.lemmas.List.Elements.{All-nil, All-cons, All-head, All-tail, All-append, All-take}
+use Rattle.std.proofs.lemmas.List.Elements.{All-nil, All-cons, All-head, All-tail, All-append}
 use Rattle.atomic_table.specs.Seated.{TableId}
 use Rattle.ups_assoc.specs.declared.negotiating.Config.{Config}
 use Rattle.ups_life.specs.declared.request.Ask.{Ask}
 use Rattle.ups_life.specs.declared.request.Reply.{Reply}
 use Rattle.ups_turn.specs.Pass.{Standing, most_calls, IsServed, IsSpent, IsCall}
 use Rattle.ups_net.specs.Delivering.{DeliversTo, DeliversToAll, DeliversRounds}
-use Rattle.ups_net.specs.Sweeping.{Sweeps}
-use Rattle.ups_net.specs.Working.{Works, EndsThread, EndThreads, Ran}
+use Rattle.ups_net.specs.Sweeping.{Looks, Sweeps}
+use Rattle.ups_net.specs.Working.{Works, EndThreads, Ran}
 use Rattle.ups_net.specs.declared.options.ServerOptions.{ServerOptions}
 use Rattle.ups_net.proofs.Served.{stays}
 
@@ -21,9 +21,13 @@ module _ {A : Type 0} where
       at true s = s.same.0
       at false s = ap (λ (p : Standing A). p.table) s.1
 
-  swept : (ae : List ℕ) (n : ℕ) (old new : Standing A) → Sweeps ae n old new → new.table ≡ old.table
-  swept ae zero old new is = ap (λ (p : Standing A). p.table) is
-  swept ae (suc n) old new (between, moment, reply, before, ok, call) = called between new ae moment _ reply call ∙ swept ae n old between before
+  looked : (keeps : Bool) (old new : Standing A) → Looks keeps old new → new.table ≡ old.table
+  looked true old new watched = watched.same.0
+  looked false old new is = ap (λ (p : Standing A). p.table) is
+
+  swept : (ae : List ℕ) (keeps : Bool) (n : ℕ) (old new : Standing A) → Sweeps ae keeps n old new → new.table ≡ old.table
+  swept ae keeps zero old new is = ap (λ (p : Standing A). p.table) is
+  swept ae keeps (suc n) old new (between, mid, before, looks, once) = called mid new ae once.moment _ once.reply once.call ∙ (looked keeps between mid looks ∙ swept ae keeps n old between before)
 
   told : (config : Config) (turns : ℕ) (ae : List ℕ) (old new : Standing A) → DeliversTo config turns ae old new → new.table ≡ old.table
   told config turns ae old new (between, found, asks, inl is) = ap (λ (p : Standing A). p.table) is ∙ called old between ae asks.moment _ asks.reply asks.call
@@ -53,10 +57,10 @@ module _ {A : Type 0} where
   first_ones P [] ys h = (All-nil P, h)
   first_ones P (x ∷ xs) ys h = let r = first_ones P xs ys (All-tail P x (xs ++ ys) h) in (All-cons P x xs (All-head P x (xs ++ ys) h) r.0, r.1)
 
-  pub ran_here : (options : ServerOptions) (table : TableId) (begun : Bool) (olds news : List (Standing A)) → Ran options begun olds news → All (λ (p : Standing A). p.table ≡ table) olds → All (λ (p : Standing A). p.table ≡ table) news
-  ran_here options table true olds news w h =
+  pub ran_here : (options : ServerOptions) (table : TableId) (keeps begun : Bool) (olds news : List (Standing A)) → Ran options keeps begun olds news → All (λ (p : Standing A). p.table ≡ table) olds → All (λ (p : Standing A). p.table ≡ table) news
+  ran_here options table keeps true olds news w h =
       let P : Standing A → Type 0 = λ (p : Standing A). p.table ≡ table in
       let (front, back) = first_ones P w.front (w.sweeper ∷ []) (subst (All P) w.before h) in
-      let last = swept options.config.ae options.rounds w.sweeper w.swept w.sweeps ∙ All-head P w.sweeper [] back in
+      let last = swept options.config.ae keeps options.rounds w.sweeper w.swept w.sweeps ∙ All-head P w.sweeper [] back in
       subst (All P) (sym w.after) (All-append P w.worked (w.swept ∷ []) (each_here options table w.front w.worked w.each front) (All-cons P w.swept [] last (All-nil P)))
-  ran_here options table false olds news is h = subst (All (λ (p : Standing A). p.table ≡ table)) (sym is) h
+  ran_here options table keeps false olds news is h = subst (All (λ (p : Standing A). p.table ≡ table)) (sym is) h

@@ -1,5 +1,6 @@
 -- What becomes of the passes of a server's threads.
 use Rattle.std.specs.Prelude.{◌≡◌, Bool, true, false, map, nat_le, List, [], ◌∷◌, ◌++◌, MatchBool}
+use Rattle.ups_life.specs.declared.entry.Entry.{Entry}
 use Rattle.ups_net.specs.Delivering.{DeliversRounds}
 use Rattle.ups_net.specs.Serving.{ServesAssociations}
 use Rattle.ups_net.specs.Sweeping.{Sweeps}
@@ -28,7 +29,7 @@ EndThreads options begun (old ∷ olds) [] = ⊥
 EndThreads options begun (old ∷ olds) (new ∷ news) = EndsThread options begun old new × EndThreads options begun olds news
 
 -- each pass but the last has done its job, and the last has swept
-pub record AllWork {A : Type 0} (options : ServerOptions) (olds news : List (Standing A)) : Type 0 where
+pub record AllWork {A : Type 0} (options : ServerOptions) (keeps : Bool) (olds news : List (Standing A)) : Type 0 where
   pub front : List (Standing A)
   pub sweeper : Standing A
   pub worked : List (Standing A)
@@ -36,8 +37,15 @@ pub record AllWork {A : Type 0} (options : ServerOptions) (olds news : List (Sta
   pub before : olds ≡ front ++ sweeper ∷ []
   pub after : news ≡ worked ++ swept ∷ []
   pub each : EndThreads options true front worked
-  pub sweeps : Sweeps options.config.ae options.rounds sweeper swept
+  pub sweeps : Sweeps options.config.ae keeps options.rounds sweeper swept
 
--- the threads of a server have all done their jobs; or none has begun, and each pass is as it was
-abbrev pub Ran : {A : Type 0} → ServerOptions → Bool → List (Standing A) → List (Standing A) → Type 0
-Ran options begun olds news = MatchBool begun (AllWork options olds news) (news ≡ olds)
+-- the threads of a server have all done their jobs, with a ledger that is kept or without; or none has begun, and each pass is
+-- as it was
+abbrev pub Ran : {A : Type 0} → ServerOptions → Bool → Bool → List (Standing A) → List (Standing A) → Type 0
+Ran options keeps begun olds news = MatchBool begun (AllWork options keeps olds news) (news ≡ olds)
+
+-- the history that the last of these passes has seen
+abbrev pub seen_last : {A : Type 0} → List (Standing A) → List (Entry A)
+seen_last [] = []
+seen_last (p ∷ []) = p.seen
+seen_last (p ∷ q ∷ ps) = seen_last (q ∷ ps)

@@ -9,6 +9,7 @@ mod arrival;
 mod backlog;
 mod bell;
 mod clock;
+mod committer;
 mod counted;
 mod delivering;
 mod digest;

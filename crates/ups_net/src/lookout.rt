@@ -20,7 +20,7 @@ const HALF: u64 = MAX_HISTORY / 2;
 const NINE_TENTHS: u64 = MAX_HISTORY / 10 * 9;
 
 /// How many seconds a minute has, and the time between two lines of numbers.
-const MINUTE: u64 = 60;
+pub(crate) const MINUTE: u64 = 60;
 
 const TEN_MINUTES: u64 = 600;
 
@@ -34,7 +34,7 @@ fn marks_reached(entries: u64) -> u32 {
 
 /// Something that is done once in so many seconds.
 #[derive(Clone, Copy)]
-struct Reminder {
+pub(crate) struct Reminder {
     /// When it was done last, in seconds since 1970-01-01 UTC.
     done: u64,
     /// How many seconds lie between two times.
@@ -42,8 +42,13 @@ struct Reminder {
 }
 
 impl Reminder {
+    /// Something that was never done, with so many seconds between two times.
+    pub(crate) fn of(pause: u64) -> Reminder {
+        Reminder { done: 0, pause }
+    }
+
     /// Whether it is due now; it is done then.
-    fn is_due(&mut self, now: u64) -> bool {
+    pub(crate) fn is_due(&mut self, now: u64) -> bool {
         if is_passed_over(self.done, self.pause, now) {
             return false;
         }
@@ -78,10 +83,7 @@ impl Lookout {
         let done = moment_of(rt);
         Lookout {
             marks: 0,
-            full: Reminder {
-                done: 0,
-                pause: MINUTE,
-            },
+            full: Reminder::of(MINUTE),
             minute: Reminder {
                 done,
                 pause: MINUTE,
@@ -128,6 +130,7 @@ impl Lookout {
         if self.numbers.is_due(now) {
             let numbers = Numbers {
                 entries,
+                committed: premises.commits.kept(),
                 taken: premises.door.taken(),
                 workers: options.workers,
                 tally: &premises.tally,

@@ -1,12 +1,13 @@
 //! The workers of a server, and the threads in which they run.
 
-ghost use Rattle.std.specs.Prelude.{◌≡◌, true, ◌≤◌, ◌+◌, ◌++◌, [], ◌∷◌, All, List, length, map, vec_capacity, IfSome, MatchOption, MatchBool};
+ghost use Rattle.std.specs.Prelude.{◌≡◌, true, ◌≤◌, ◌+◌, ◌++◌, [], ◌∷◌, All, List, length, map, vec_capacity, is_some, IfSome, MatchOption, MatchBool};
 ghost use Rattle.std.specs.Global.{Global};
 ghost use denote.Param.Send.{IsSend, IsSync};
 ghost use Rattle.ups_turn.specs.Pass.{Standing};
 ghost use Rattle.ups_net.specs.Serving.{ServesAssociations};
 ghost use Rattle.ups_net.specs.Sweeping.{Sweeps};
-ghost use Rattle.ups_net.specs.Working.{EndsThread, EndThreads, Ran};
+ghost use Rattle.ups_ledger.specs.Keeping.{AreKept};
+ghost use Rattle.ups_net.specs.Working.{EndsThread, EndThreads, Ran, seen_last};
 ghost use Rattle.ups_net.specs.declared.options.ServerOptions.{ServerOptions};
 
 use crate::account::Account;
@@ -25,6 +26,7 @@ use std::snapshot::Snapshot;
 use std::sync::{OnceLock, OnceToken, Wait};
 use std::thread::{self, Promise, PromisedHandle, Threads};
 use std::time::Clock;
+use ups_ledger::{Keeper, Ledger};
 use ups_service::SharedService;
 use ups_turn::{Desk, Pass};
 
@@ -51,7 +53,14 @@ pub fn work<M: SharedService<Global>, R: Wait + Clock + Log>(
         door.take_worker();
         let pressure = Some(Pressure { door, in_row });
         let (after, ended, is_sent) = serve_one(
-            rt, &stream, &account, pressure, desk, pass, options,
+            rt,
+            &stream,
+            &account,
+            pressure,
+            desk,
+            pass,
+            options,
+            &premises.commits,
         );
         pass = after;
         in_row = account.in_row(in_row);
@@ -103,22 +112,28 @@ fn settle<'a, R: Wait>(
     }
 }
 
-/// The pass of the sweeper: it sweeps where the threads begin, and else is as it was.
-fn sweep_begun<M: SharedService<Global>, R: Wait + Clock + Log + Network>(
+/// The pass of the sweeper, and the ledger: it sweeps where the threads begin, and else both are as they were.
+fn sweep_begun<M: SharedService<Global>, L: Ledger, R>(
     rt: &R,
     premises: &Premises,
     desk: &Desk<M, Global>,
     mut pass: Pass<M, Global>,
     begun: bool,
     options: &ServerOptions,
-) -> Pass<M, Global>
+    keeper: Option<Keeper<L>>,
+) -> (Pass<M, Global>, Option<Keeper<L>>)
+where
+    R: Wait + Clock + Log + Network,
     requires here { pass.table ≡ desk.now.table }
-    ensures sweeps { MatchBool begun (Sweeps options.now.config.ae options.now.rounds pass result) (result ≡ pass) }
+    ensures sweeps { MatchBool begun (Sweeps options.now.config.ae (is_some keeper) options.now.rounds pass result.0) (result.0 ≡ pass) }
+    ensures keeps { is_some result.1 ≡ is_some keeper }
+    ensures kept { AreKept L.Ledger keeper pass.seen → AreKept L.Ledger result.1 result.0.seen }
 {
-    if begun {
-        sweep(rt, premises, desk, &mut pass, options);
+    if !begun {
+        return (pass, keeper);
     }
-    pass
+    let keeper = sweep(rt, premises, desk, &mut pass, options, keeper);
+    (pass, keeper)
 }
 
 /// What a thread does once the threads begin: a worker serves associations, and a deliverer delivers event reports. The
@@ -140,7 +155,7 @@ where
     }
     let roster = &premises.roster;
     let share = roster.share_of(pass.number() - options.workers);
-    deliver_rounds(rt, desk, pass, roster, share, options)
+    deliver_rounds(rt, desk, pass, roster, share, options, &premises.commits)
 }
 
 /// The thread of a pass: it does its job where the threads begin, and hands the pass back, with what it was told.
@@ -217,8 +232,8 @@ fn put_back<M: SharedService<Global>>(
 
 /// The threads of a server: one for each of these passes, while the sweeper's pass sweeps in this one. The passes come back
 /// in their order, with that of the sweeper behind them. Where a thread can't be started, the passes from its own on wait
-/// in `unbegun` until those before them are back.
-fn run_threads<M: SharedService<Global> + Send, R>(
+/// in `unbegun` until those before them are back. The sweeper has the ledger, where one is kept.
+fn run_threads<M: SharedService<Global> + Send, L: Ledger, R>(
     rt: &R,
     premises: &Premises,
     desk: &Desk<M, Global>,
@@ -227,7 +242,8 @@ fn run_threads<M: SharedService<Global> + Send, R>(
     mut unbegun: Vec<Pass<M, Global>>,
     mut back: Vec<Pass<M, Global>>,
     options: &ServerOptions,
-) -> (bool, Vec<Pass<M, Global>>)
+    keeper: Option<Keeper<L>>,
+) -> (bool, Vec<Pass<M, Global>>, Option<Keeper<L>>)
 where
     R: Threads + Wait + Clock + Log + Sync + Network,
     requires here { All (λ p. p.table ≡ desk.now.table) passes.items }
@@ -235,14 +251,16 @@ where
     requires room { length passes.items + 1 ≤ vec_capacity back }
     requires spare { length passes.items ≤ vec_capacity unbegun }
     requires empty { (back.items ≡ []) × (unbegun.items ≡ []) }
-    ensures ran { Ran options.now result.0 (passes.items ++ sweeper ∷ []) result.1.items }
+    ensures ran { Ran options.now (is_some keeper) result.0 (passes.items ++ sweeper ∷ []) result.1.items }
+    ensures keeps { is_some result.2 ≡ is_some keeper }
+    ensures kept { AreKept L.Ledger keeper sweeper.seen → AreKept L.Ledger result.2 (seen_last result.1.items) }
 {
     let start = OnceLock::new();
     let start = &start;
     thread::scope(
         thread::scope_env(),
         rt,
-        |scope| -> (bool, Vec<Pass<M, Global>>)
+        |scope| -> (bool, Vec<Pass<M, Global>>, Option<Keeper<L>>)
             requires send { IsSend M.row }
             requires sync { IsSync R.row }
             requires here { All (λ p. p.table ≡ desk.now.table) passes.items }
@@ -250,12 +268,14 @@ where
             requires room { length passes.items + 1 ≤ vec_capacity back }
             requires spare { length passes.items ≤ vec_capacity unbegun }
             requires empty { (back.items ≡ []) × (unbegun.items ≡ []) }
-            ensures ran { Ran options.entry.now result.0 (passes.items ++ sweeper ∷ []) result.1.items }
+            ensures ran { Ran options.entry.now (is_some keeper) result.0 (passes.items ++ sweeper ∷ []) result.1.items }
+            ensures keeps { is_some result.2 ≡ is_some keeper }
+            ensures kept { AreKept L.Ledger keeper sweeper.seen → AreKept L.Ledger result.2 (seen_last result.1.items) }
         {
             let Ok(mut handles) = Vec::with_capacity(options.alloc, passes.len()) else {
                 put_back(passes, &mut back);
                 back.push_reserved(sweeper);
-                return (false, back);
+                return (false, back, keeper);
             };
             let mut off = None;
             for pass in passes {
@@ -288,11 +308,11 @@ where
             }
             let token = settle(rt, start, off);
             let begun = *start.value(&token);
-            let swept = sweep_begun(rt, premises, desk, sweeper, begun, options);
+            let (swept, keeper) = sweep_begun(rt, premises, desk, sweeper, begun, options, keeper);
             join_all(rt, &token, handles, &mut back);
             put_back(unbegun, &mut back);
             back.push_reserved(swept);
-            (begun, back)
+            (begun, back, keeper)
         },
     )
 }
@@ -303,30 +323,38 @@ where
 /// back in their order: true, and each has done its job, as many associations or rounds of it as `options` says; or false,
 /// and each is as it was, since a thread could not be started, or memory ran out before. That a thread runs, and when, no
 /// contract says.
-pub fn run<M: SharedService<Global> + Send, R>(
+///
+/// Where a ledger is kept, the sweeper commits what is entered. What the ledger has is the beginning of the history that the
+/// sweeper's pass has seen, as far as it is committed, if it was before; it is given back.
+pub fn run<M: SharedService<Global> + Send, L: Ledger, R>(
     rt: &R,
     premises: &Premises,
     desk: &Desk<M, Global>,
     passes: Vec<Pass<M, Global>>,
     options: &ServerOptions,
-) -> (bool, Vec<Pass<M, Global>>)
+    keeper: Option<Keeper<L>>,
+) -> (bool, Vec<Pass<M, Global>>, Option<Keeper<L>>)
 where
     R: Threads + Wait + Clock + Log + Sync + Network,
     requires some { 2 ≤ length passes.items }
     requires here { All (λ p. p.table ≡ desk.now.table) passes.items }
-    ensures ran { Ran options.now result.0 passes.items result.1.items }
+    ensures ran { Ran options.now (is_some keeper) result.0 passes.items result.1.items }
     ensures all { length result.1.items ≡ length passes.items }
     ensures stay { All (λ p. p.table ≡ desk.now.table) result.1.items }
+    ensures keeps { is_some result.2 ≡ is_some keeper }
+    ensures kept { AreKept L.Ledger keeper (seen_last passes.items) → AreKept L.Ledger result.2 (seen_last result.1.items) }
 {
     let Ok(back) = Vec::with_capacity(options.alloc, passes.len()) else {
-        return (false, passes);
+        return (false, passes, keeper);
     };
     let Ok(unbegun) = Vec::with_capacity(options.alloc, passes.len()) else {
-        return (false, passes);
+        return (false, passes, keeper);
     };
     let mut passes = passes;
     let Some(sweeper) = passes.pop() else {
         unreachable!()
     };
-    run_threads(rt, premises, desk, passes, sweeper, unbegun, back, options)
+    run_threads(
+        rt, premises, desk, passes, sweeper, unbegun, back, options, keeper,
+    )
 }

@@ -1,11 +1,16 @@
 -- What a server does, as its command line asks.
-use Rattle.std.specs.Prelude.{◌≡◌, ℕ, ◌+◌, ◌-◌, min, max, Bool, List, [], codes, length, unwrap_or}
+use Rattle.std.specs.Prelude.{◌≡◌, ℕ, ◌+◌, ◌-◌, min, max, Bool, false, List, [], codes, length, is_some, option_map, unwrap_or, Option, None, Some}
+use Rattle.std.specs.Global.{Global}
 use Rattle.atomic_table.specs.Seated.{TableId}
 use Rattle.clap.specs.Matches.{first_value}
 use Rattle.clap.specs.declared.parser.matches.Found.{Found}
 use Rattle.ups_args.specs.Arguments.{IsFlag, NamePeers, NameWatchers, SaysDeliveryTimeout, SaysIdle, SaysKeep, SaysOffset, SaysTimeout, SaysWorkersOrNot, argument_words}
 use Rattle.ups_args.specs.declared.server.ServeArguments.{ServeArguments}
 use Rattle.ups_args.specs.Limits.{workers_limit}
+use Rattle.ups_ledger.specs.declared.keeper.Keeper.{Keeper}
+use Rattle.ups_ledger.specs.declared.ledger.Ledger.{Ghosts}
+use Rattle.ups_ledger.specs.Keeping.{IsKept}
+use Rattle.ups_life.specs.declared.entry.Entry.{Entry}
 use Rattle.ups_life.specs.Limits.{history_limit}
 use Rattle.ups_life.specs.Settings.{Settings}
 use Rattle.ups_net.specs.Working.{Ran}
@@ -43,9 +48,14 @@ pub record AreAsked (options : ServerOptions) (asked : ServeArguments) (to_serve
   pub associations : options.associations ≡ to_serve
   pub rounds : options.rounds ≡ to_make
 
+-- A manager has no history where nothing is kept, and else the history whose records its ledger has.
+abbrev pub HasBegun : {L : Type 0} → Ghosts L → Option (Keeper L) → List (Entry Global) → Type 0
+HasBegun g None history = history ≡ []
+HasBegun g (Some keeper) history = IsKept g keeper history × (keeper.committed ≡ length history)
+
 -- what becomes of the passes of the server: its threads have all done what is asked, or none has begun
 abbrev pub RanAsAsked : {A : Type 0} → ServeArguments → ℕ → ℕ → Bool → List (Standing A) → List (Standing A) → Type 0
-RanAsAsked asked associations rounds begun olds news = (options : ServerOptions) × AreAsked options asked associations rounds × Ran options begun olds news
+RanAsAsked asked associations rounds begun olds news = (options : ServerOptions) × AreAsked options asked associations rounds × Ran options (is_some asked.store) begun olds news
 
 -- what the words of a command line ask of `serve`, by what the parser found in them
 pub record AreWords (found : Found) (asked : ServeArguments) : Type 0 where
@@ -59,12 +69,14 @@ pub record AreWords (found : Found) (asked : ServeArguments) : Type 0 where
   pub timeout : SaysTimeout (first_value found (codes "timeout")) asked.timeout
   pub delivery_timeout : SaysDeliveryTimeout (first_value found (codes "delivery-timeout")) asked.delivery_timeout
   pub verbose : IsFlag found (codes "verbose") asked.verbose
+  pub store : option_map (λ w. w.now) asked.store ≡ first_value found (codes "store")
+  pub leave_out : IsFlag found (codes "store-leave-out") asked.leave_out
 
--- What becomes of a server by the words of a command line: its manager opened without history, with the settings that they
--- ask for, and its passes have done what they ask for, or none has begun.
+-- What becomes of a server by the words of a command line: its manager opened with the settings that they ask for, and without
+-- history where they name no store; and its passes have done what they ask for, or none has begun.
 pub record RanAsWords {A : Type 0} (found : Found) (associations rounds : ℕ) (begun : Bool) (table : TableId) (opening : State A) (news : List (Standing A)) : Type 0 where
   pub asked : ServeArguments
   pub words : AreWords found asked
   pub settings : opening.settings ≡ settings_asked asked
-  pub empty : opening.history ≡ []
+  pub empty : is_some asked.store ≡ false → opening.history ≡ []
   pub ran : RanAsAsked asked associations rounds begun (passes_from table opening 1 (seats_of asked.workers (length asked.watchers.items))) news

@@ -3,8 +3,10 @@
 #![tactic(auto)]
 
 mod limits;
+mod opener;
 mod serving;
 mod telling;
 
 pub use limits::{TURNS, limits_are_as_defined};
+pub use opener::{StoreOpener, Unopened};
 pub use serving::{RanServer, answer_network, serve_words};

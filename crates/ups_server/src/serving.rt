@@ -1,15 +1,18 @@
 //! Associations over TCP, and event reports.
 
-ghost use Rattle.std.specs.Prelude.{◌≡◌, ◌≤◌, ◌+◌, [], All, length, None, IfOk, IfSome};
+ghost use Rattle.std.specs.Prelude.{◌≡◌, ◌≤◌, ◌+◌, [], All, false, length, is_some, None, IfOk, IfSome};
 ghost use Rattle.clap.specs.Matches.{found_of};
 ghost use Rattle.ups_args.specs.Limits.{workers_limit};
 ghost use Rattle.ups_settings.specs.Refusal.{refusal};
 ghost use Rattle.ups_life.specs.Limits.{history_limit, peer_limit};
+ghost use Rattle.ups_ledger.specs.Keeping.{AreKept};
+ghost use Rattle.ups_net.specs.Working.{seen_last};
 ghost use Rattle.ups_turn.specs.Pass.{passes_from};
 ghost use Rattle.ups_server.specs.Limits.{turns_limit};
-ghost use Rattle.ups_server.specs.Serving.{deliverers_of, seats_of, settings_asked, RanAsAsked, RanAsWords};
+ghost use Rattle.ups_server.specs.Serving.{deliverers_of, seats_of, settings_asked, HasBegun, RanAsAsked, RanAsWords};
 
 use crate::limits::TURNS;
+use crate::opener::{StoreOpener, Unopened};
 use crate::telling::tell_settings;
 use clap::ArgMatches;
 use log::{Log, info};
@@ -20,20 +23,30 @@ use std::time::Clock;
 use std::{io, str};
 use ups_args::{ArgumentFault, MAX_WORKERS, ServeArguments, serve_arguments};
 use ups_assoc::Config;
+use ups_ledger::{Commits, Keeper, Ledger};
 use ups_life::MAX_HISTORY;
 use ups_manager::Manager;
 use ups_net::{Door, Network, Premises, ServerOptions, run};
 use ups_turn::{Desk, Pass};
 
-/// What a server leaves: whether its threads began, its desk, and the passes there.
+/// What a server leaves: whether its threads began, its desk, the passes there, and its ledger.
 #[derive(Drop)]
-pub struct RanServer {
+pub struct RanServer<L: Ledger> {
     /// Whether its threads began. Where one could not be started, or memory ran out before, none did.
     pub begun: bool,
     /// The desk.
     pub desk: Desk<Manager<Global>, Global>,
     /// The passes of the workers, of those that deliver and of the sweeper, in this order.
     pub passes: Vec<Pass<Manager<Global>, Global>>,
+    /// What has its requests, where they are kept.
+    pub keeper: Option<Keeper<L>>,
+}
+
+/// A manager with what its store has, and the ledger that goes on from there, where there is a store.
+#[derive(Drop)]
+struct Begun<L: Ledger> {
+    manager: Manager<Global>,
+    keeper: Option<Keeper<L>>,
 }
 
 /// Listens where the command line says. With port 0 the port that was taken is printed, so that a client can be told.
@@ -113,37 +126,89 @@ fn deliverers_of(workers: u32, watchers: usize) -> u32
     wanted.min(seats).max(1)
 }
 
+/// A manager without requests, as the command line asks.
+///
+/// Errors: lack of memory.
+fn new_manager(alloc: Global, asked: &ServeArguments<'_>) -> Result<Manager<Global>, AllocError>
+    requires few { length asked.now.peers.items ≤ peer_limit }
+    requires allowed { refusal asked.now.peers.items asked.now.offset history_limit ≡ None }
+    ensures settings { IfOk result (λ manager. manager.settings ≡ settings_asked asked.now) }
+    ensures empty { IfOk result (λ manager. manager.history ≡ []) }
+{
+    match Manager::new(alloc, &asked.peers, asked.keep, asked.offset, MAX_HISTORY) {
+        Ok(manager) => Ok(manager),
+        Err(_) => Err(AllocError),
+    }
+}
+
+/// The manager as the command line asks, with what its store has; None where that is not opened, which is told.
+///
+/// Errors: lack of memory.
+fn begin<'a, L: Ledger, O: StoreOpener<'a, L>>(
+    alloc: Global,
+    opener: &O,
+    asked: &ServeArguments<'a>,
+) -> Result<Option<Begun<L>>, AllocError>
+    requires few { length asked.now.peers.items ≤ peer_limit }
+    requires allowed { refusal asked.now.peers.items asked.now.offset history_limit ≡ None }
+    ensures settings { IfOk result (λ begun. IfSome begun (λ b. b.manager.settings ≡ settings_asked asked.now)) }
+    ensures keeps { IfOk result (λ begun. IfSome begun (λ b. is_some b.keeper ≡ is_some asked.now.store)) }
+    ensures kept { IfOk result (λ begun. IfSome begun (λ b. HasBegun L.Ledger b.keeper b.manager.history)) }
+{
+    let mut manager = new_manager(alloc, asked)?;
+    let Some(file) = asked.store else {
+        return Ok(Some(Begun {
+            manager,
+            keeper: None,
+        }));
+    };
+    match opener.open(file, asked.leave_out, &mut manager) {
+        Ok(keeper) => Ok(Some(Begun {
+            manager,
+            keeper: Some(keeper),
+        })),
+        Err(Unopened::Memory) => Err(AllocError),
+        Err(Unopened::Told) => Ok(None),
+    }
+}
+
+/// What the answers of a server wait for: where nothing is kept, for nothing.
+fn commits_of<L: Ledger>(keeper: &Option<Keeper<L>>) -> Commits {
+    match keeper {
+        Some(keeper) => Commits::new(keeper.count()),
+        None => Commits::of_none(),
+    }
+}
+
 /// Runs a server at a door, as the command line asks, until each worker has served so many associations, and the sweeper and
-/// each deliverer has made so many rounds; and hands back what it leaves: its manager has the settings that are asked for, and
+/// each deliverer has made so many rounds; and hands back what it leaves: its manager is the one that it was given, and
 /// each of its threads has done its job as it is asked for, or none has begun.
 ///
 /// Errors: lack of memory before the threads are started.
-fn serve_on<R>(
+fn serve_on<L: Ledger, R>(
     rt: &R,
     door: Door,
     asked: ServeArguments<'_>,
+    begun: Begun<L>,
     associations: u64,
     rounds: u64,
-) -> Result<RanServer, AllocError>
+) -> Result<RanServer<L>, AllocError>
 where
     R: Threads + Wait + Clock + Log + Sync + AllocGlobal + Network,
     requires some { 1 ≤ asked.workers }
     requires most { asked.workers ≤ workers_limit }
-    requires few { length asked.peers.items ≤ peer_limit }
-    requires allowed { refusal asked.peers.items asked.offset history_limit ≡ None }
-    ensures settings { IfOk result (λ server. server.desk.opening.settings ≡ settings_asked asked.entry) }
-    ensures empty { IfOk result (λ server. server.desk.opening.history ≡ []) }
+    requires keeps { is_some begun.keeper ≡ is_some asked.store }
+    ensures opening { IfOk result (λ server. server.desk.opening ≡ begun.manager) }
     ensures ran { IfOk result (λ server. RanAsAsked asked.entry associations rounds server.begun (passes_from server.desk.table server.desk.opening 1 (seats_of asked.entry.workers (length asked.entry.watchers.items))) server.passes.items) }
     ensures here { IfOk result (λ server. All (λ p. p.table ≡ server.desk.table) server.passes.items) }
+    ensures kept { AreKept L.Ledger begun.keeper begun.manager.history → IfOk result (λ server. AreKept L.Ledger server.keeper (seen_last server.passes.items)) }
 {
     let alloc = rt.alloc();
-    let Ok(manager) = Manager::new(alloc, &asked.peers, asked.keep, asked.offset, MAX_HISTORY)
-    else {
-        return Err(AllocError);
-    };
+    let Begun { manager, keeper } = begun;
     let watchers = asked.watchers.len();
     let deliverers = deliverers_of(asked.workers, watchers);
-    let Ok(premises) = Premises::new(alloc, door, watchers, deliverers) else {
+    let commits = commits_of(&keeper);
+    let Ok(premises) = Premises::new(alloc, door, watchers, deliverers, commits) else {
         return Err(AllocError);
     };
     let seats = asked.workers + deliverers + 1;
@@ -151,27 +216,31 @@ where
         return Err(AllocError);
     };
     let options = options_of(alloc, asked, associations, rounds);
-    let (begun, passes) = run(rt, &premises, &desk, passes, &options);
+    let (begun, passes, keeper) = run(rt, &premises, &desk, passes, &options, keeper);
     Ok(RanServer {
         begun,
         desk,
         passes,
+        keeper,
     })
 }
 
 /// Answers associations over TCP and delivers event reports, as the command line asks, until each worker has served so many
 /// associations, and the sweeper and each deliverer has made so many rounds; and hands back what the server leaves, whose
-/// passes are at its desk; None where it can't listen, which is told.
+/// passes are at its desk. Where a store is asked for, its manager begins with the requests of the store, and its ledger has
+/// the first entries of the history that the sweeper's pass has seen, as many as are committed. None where the store is not
+/// opened, or it can't listen, which is told.
 ///
 /// # Errors
 ///
 /// Lack of memory before the threads are started.
-pub fn answer_network<R>(
+pub fn answer_network<'a, L: Ledger, O: StoreOpener<'a, L>, R>(
     rt: &R,
-    asked: ServeArguments<'_>,
+    opener: &O,
+    asked: ServeArguments<'a>,
     associations: u64,
     rounds: u64,
-) -> Result<Option<RanServer>, AllocError>
+) -> Result<Option<RanServer<L>>, AllocError>
 where
     R: Threads + Wait + Clock + Log + Sync + AllocGlobal + Print + Eprint + Network,
     requires some { 1 ≤ asked.workers }
@@ -179,13 +248,17 @@ where
     requires few { length asked.peers.items ≤ peer_limit }
     requires allowed { refusal asked.peers.items asked.offset history_limit ≡ None }
     ensures settings { IfOk result (λ left. IfSome left (λ server. server.desk.opening.settings ≡ settings_asked asked.entry)) }
-    ensures empty { IfOk result (λ left. IfSome left (λ server. server.desk.opening.history ≡ [])) }
+    ensures empty { IfOk result (λ left. IfSome left (λ server. is_some asked.entry.store ≡ false → server.desk.opening.history ≡ [])) }
     ensures ran { IfOk result (λ left. IfSome left (λ server. RanAsAsked asked.entry associations rounds server.begun (passes_from server.desk.table server.desk.opening 1 (seats_of asked.entry.workers (length asked.entry.watchers.items))) server.passes.items)) }
     ensures here { IfOk result (λ left. IfSome left (λ server. All (λ p. p.table ≡ server.desk.table) server.passes.items)) }
+    ensures kept { IfOk result (λ left. IfSome left (λ server. AreKept L.Ledger server.keeper (seen_last server.passes.items))) }
 {
     tell_settings(rt, &asked);
+    let Some(begun) = begin(rt.alloc(), opener, &asked)? else {
+        return Ok(None);
+    };
     match listen(rt, &asked) {
-        Ok(door) => Ok(Some(serve_on(rt, door, asked, associations, rounds)?)),
+        Ok(door) => Ok(Some(serve_on(rt, door, asked, begun, associations, rounds)?)),
         Err(fault) => {
             let _ = eprintln!(rt;
                 "upsd: it can't listen on {}, port {}: {fault}",
@@ -201,17 +274,19 @@ where
 /// # Errors
 ///
 /// Those of its words, as [`ArgumentFault`] has them; Memory also where memory ran out before the threads were started.
-pub fn serve_words<'a, R>(
+pub fn serve_words<'a, L: Ledger, O: StoreOpener<'a, L>, R>(
     rt: &R,
+    opener: &O,
     matches: &ArgMatches<'a>,
     associations: u64,
     rounds: u64,
-) -> Result<Option<RanServer>, ArgumentFault<'a>>
+) -> Result<Option<RanServer<L>>, ArgumentFault<'a>>
 where
     R: Threads + Wait + Clock + Log + Sync + AllocGlobal + Print + Eprint + Network,
     ensures ran { IfOk result (λ left. IfSome left (λ server. RanAsWords (found_of matches.now) associations rounds server.begun server.desk.table server.desk.opening server.passes.items)) }
     ensures here { IfOk result (λ left. IfSome left (λ server. All (λ p. p.table ≡ server.desk.table) server.passes.items)) }
+    ensures kept { IfOk result (λ left. IfSome left (λ server. AreKept L.Ledger server.keeper (seen_last server.passes.items))) }
 {
     let asked = serve_arguments(rt.alloc(), matches)?;
-    Ok(answer_network(rt, asked, associations, rounds)?)
+    Ok(answer_network(rt, opener, asked, associations, rounds)?)
 }

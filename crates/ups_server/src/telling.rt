@@ -15,12 +15,13 @@ pub(crate) fn tell_settings<R: Log>(rt: &R, asked: &ServeArguments<'_>) {
         idle,
         timeout,
         delivery_timeout,
+        store,
         verbose,
         ..
     } = asked;
     let title = str::from_utf8(asked.ae.as_bytes()).unwrap_or("");
     let (peers, watchers) = (asked.peers.len(), asked.watchers.len());
-    info!(rt; target: "upsd", "upsd {VERSION}: ae={title} bind={bind} port={port} associations={workers} idle={idle} timeout={timeout} delivery-timeout={delivery_timeout} keep={keep} offset={offset} verbose={verbose} peers={peers} watchers={watchers}");
+    info!(rt; target: "upsd", "upsd {VERSION}: ae={title} bind={bind} port={port} associations={workers} idle={idle} timeout={timeout} delivery-timeout={delivery_timeout} keep={keep} offset={offset} verbose={verbose} peers={peers} watchers={watchers} store={}", store.unwrap_or("none"));
     for watcher in asked.watchers.iter() {
         let title = str::from_utf8(watcher.ae.as_bytes()).unwrap_or("");
         info!(rt; target: "upsd", "watcher {title} at {}, port {}", watcher.host, watcher.port);

@@ -2,3 +2,4 @@ pub mod Hexing
 pub mod Limits
 pub mod Piping
 pub mod Statuses
+pub mod Storing

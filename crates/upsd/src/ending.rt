@@ -7,6 +7,8 @@ ghost use Rattle.upsd.specs.Statuses.{exit_code, parse_status, script_status, se
 use clap::error::ErrorKind;
 use std::alloc::AllocError;
 use std::process::ExitCode;
+use ups_args::ArgumentFault;
+use ups_ledger::Ledger;
 use ups_script::ScriptFault;
 use ups_server::RanServer;
 use ups_session::{End, SessionFault};
@@ -85,7 +87,7 @@ pub fn parse_status(kind: ErrorKind) -> Status
 /// How the program ends with what a server leaves: as stopped where it could not listen.
 ///
 /// Errors: lack of memory, where its threads did not begin.
-pub(crate) fn server_status(left: Option<RanServer>) -> Result<Status, AllocError> {
+pub(crate) fn server_status<L: Ledger>(left: Option<RanServer<L>>) -> Result<Status, AllocError> {
     let Some(server) = left else {
         return Ok(Status::Stopped);
     };
@@ -93,4 +95,15 @@ pub(crate) fn server_status(left: Option<RanServer>) -> Result<Status, AllocErro
         return Err(AllocError);
     }
     Ok(Status::Done)
+}
+
+/// Tells why the words of a command line are refused, and gives how the program ends.
+///
+/// Errors: lack of memory, where that is why.
+pub(crate) fn refuse<R: Eprint>(rt: &R, fault: ArgumentFault<'_>) -> Result<Status, AllocError> {
+    if fault == ArgumentFault::Memory {
+        return Err(AllocError);
+    }
+    let _ = eprintln!(rt; "upsd: {fault}");
+    Ok(Status::Usage)
 }

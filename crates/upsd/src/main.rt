@@ -12,9 +12,11 @@ mod hexing;
 mod limits;
 mod piping;
 mod scripting;
+mod storing;
 
-use crate::ending::server_status;
+use crate::ending::{refuse, server_status};
 use crate::scripting::answer_script;
+use crate::storing::{Stores, perform_compact};
 use clap::ArgMatches;
 pub use ending::{Status, parse_status, script_status, session_status};
 pub use hexing::DigitFault;
@@ -28,7 +30,7 @@ use std::str;
 use std::sync::Wait;
 use std::thread::Threads;
 use std::time::Clock;
-use ups_args::{ArgumentFault, PipeArguments, command, pipe_arguments, script_arguments};
+use ups_args::{PipeArguments, command, pipe_arguments, script_arguments};
 use ups_net::{LineStyle, LossyLog, Network};
 pub use ups_net::{ServerOptions, work};
 use ups_server::TURNS;
@@ -73,17 +75,6 @@ fn tell<R: Eprint>(rt: &R, piped: &Piped) {
     };
 }
 
-/// Tells why the words of a command line are refused, and gives how the program ends.
-///
-/// Errors: lack of memory, where that is why.
-fn refuse<R: Eprint>(rt: &R, fault: ArgumentFault<'_>) -> Result<Status, AllocError> {
-    if fault == ArgumentFault::Memory {
-        return Err(AllocError);
-    }
-    let _ = eprintln!(rt; "upsd: {fault}");
-    Ok(Status::Usage)
-}
-
 /// Does what a command line asks of `pipe` or `script`, and gives how the program ends.
 ///
 /// Errors: lack of memory before anything is done.
@@ -107,11 +98,15 @@ fn perform<R: Input + Print + Eprint + AllocGlobal>(
 /// Does what a command line asks of `serve`, for as long as the program lives, and gives how the program ends.
 ///
 /// Errors: lack of memory.
-fn perform_network<R>(rt: &R, matches: &ArgMatches<'_>) -> Result<Status, AllocError>
+fn perform_network<'a, R>(
+    rt: &R,
+    stores: &Stores<'a, R>,
+    matches: &ArgMatches<'a>,
+) -> Result<Status, AllocError>
 where
     R: Threads + Wait + Clock + Log + Sync + AllocGlobal + Print + Eprint + Network,
 {
-    match serve_words(rt, matches, u64::MAX, u64::MAX) {
+    match serve_words(rt, stores, matches, u64::MAX, u64::MAX) {
         Ok(left) => server_status(left),
         Err(fault) => refuse(rt, fault),
     }
@@ -147,14 +142,15 @@ fn end_of<R: Eprint>(rt: &R, performed: Result<Status, AllocError>) -> Status {
 
 /// Does what the words of a command line ask, and gives how the program ends. A server has a runtime of its own, whose log
 /// keeps none of its threads waiting.
-fn run<R, S>(rt: &R, serving: &S, words: &[String]) -> Status
+fn run<'a, R, S>(rt: &R, serving: &S, stores: &Stores<'a, S>, words: &'a [String]) -> Status
 where
     R: AllocGlobal + Input + Print + Eprint,
     S: Threads + Wait + Clock + Log + Sync + AllocGlobal + Print + Eprint + Network,
 {
     let performed = match matches_of(rt, words) {
         Ok(Ok(matches)) => match matches.subcommand() {
-            Some(("serve", matches)) => perform_network(serving, matches),
+            Some(("serve", matches)) => perform_network(serving, stores, matches),
+            Some(("compact", matches)) => perform_compact(stores, matches),
             _ => perform(rt, &matches),
         },
         Ok(Err(status)) => Ok(status),
@@ -180,15 +176,29 @@ fn unread<R: Eprint>(rt: &R, error: ErrorKind) -> Status {
     Status::Usage
 }
 
-/// Whether the words of the command line ask for a server.
-fn asks_to_serve(words: &[String]) -> bool {
+/// The words behind the name of the program as one text, for those who read in a store by which words it was opened.
+///
+/// Errors: lack of memory.
+fn text_of(alloc: Global, words: &[String]) -> Result<String, AllocError> {
+    let mut text = String::new(alloc);
+    for word in words.iter().skip(1) {
+        if !text.is_empty() {
+            text.push(' ')?;
+        }
+        text.push_str(word.as_str())?;
+    }
+    Ok(text)
+}
+
+/// Whether the words of the command line ask for what logs: a server, or a compaction.
+fn asks_for_log(words: &[String]) -> bool {
     match words.get(1) {
-        Some(word) => word.as_str() == "serve",
+        Some(word) => matches!(word.as_str(), "serve" | "compact"),
         None => false,
     }
 }
 
-/// The log of the program: one with a thread of its own where the words ask for a server, as nothing else logs.
+/// The log of the program: one with a thread of its own where the words ask for what logs.
 ///
 /// Errors: lack of memory, or of a thread.
 fn log_of<R>(
@@ -200,7 +210,7 @@ fn log_of<R>(
 where
     R: Threads + Wait + Clock + Eprint + Copy + Send + 'static,
 {
-    if asks_to_serve(words) {
+    if asks_for_log(words) {
         return LossyLog::start(rt, alloc, style);
     }
     Ok(LossyLog::silent(rt, alloc))
@@ -215,8 +225,13 @@ fn main(rt: HostRuntime) -> ExitCode {
         Ok(log) => log,
         Err(fault) => return ExitCode::from(end_of(&rt, Err(fault))),
     };
+    let text = match text_of(rt.alloc(), &words) {
+        Ok(text) => text,
+        Err(fault) => return ExitCode::from(end_of(&rt, Err(fault))),
+    };
     let serving = Logged::new(rt, LevelFilter::Info, log);
-    let status = run(&rt, &serving, &words);
+    let stores = Stores::new(&rt, &serving, text.as_str());
+    let status = run(&rt, &serving, &stores, &words);
     serving.flush();
     ExitCode::from(status)
 }

@@ -1,4 +1,4 @@
-use Rattle.std.proofs.Common.{true, ◌≡◌, ◌++◌}
+use Rattle.std.proofs.Common.{true}
 use Rattle.std.specs.Str.Pattern.{FindsTextSuffix, StripsSuffix}
 use Rattle.ups_args.specs.Arguments.{ending_of}
 use Rattle.ups_args.proofs.Parts.{ends_so, locked, unlocked, unmarked}

@@ -1,4 +1,4 @@
-use Rattle.std.proofs.Common.{◌≡◌, ℕ, List, codes, map, rules}
+use Rattle.std.proofs.Common.{◌≡◌, codes, map, rules}
 use Rattle.std.proofs.lemmas.Result.{err_from_is_err_and}
 use Rattle.clap.specs.Matches.{found_of}
 use Rattle.ups_args.specs.Arguments.{argument_words}

@@ -13,5 +13,5 @@ returns g c =
       after = c.serve-ended.new.writer;
       told = untold;
       later = untold;
-      session = rw c.into_pass.ensures.pass (rw c.new-seated.ensures at is);
+      session = rw c.into_pass.ensures.pass (rw c.into_seated.ensures (rw c.new-seated.ensures at (rw c.new-withheld.ensures at is)));
     }

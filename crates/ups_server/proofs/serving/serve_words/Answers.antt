@@ -1,3 +1,4 @@
+use Rattle.std.proofs.Common.{refl}
 use Rattle.clap.specs.Matches.{found_of}
 use Rattle.ups_server.specs.Serving.{AreWords}
 use Rattle.ups_server.proofs.Words.{by_words}
@@ -17,6 +18,13 @@ returns-clause-ran g c =
       timeout = e.timeout;
       delivery_timeout = e.delivery_timeout;
       verbose = e.verbose;
+      store = e.store;
+      leave_out = e.leave_out;
     } in
     let left = c.in_ok-answer_network.ensures in
     by_words (found_of c.args.matches.now) c.args.associations c.args.rounds c.in_ok-asked.asked words c.in_ok-answer_network.field-0 left.settings left.empty left.ran
+
+pub answer_network-requires-sync-R : goal.answer_network-requires-sync-R
+answer_network-requires-sync-R g c κs within =
+    let e = c.in_ok-asked.ensures in
+    (record { shared = c.type_bounds.sync-R.shared }, ((refl, tt), (e.some, (e.most, (e.few, e.allowed)))))

@@ -1,8 +1,10 @@
-use Rattle.std.proofs.Common.{rules, ◌≡◌, ◌++◌, ◌∷◌, [], All, length, map, sym, ap, ◌∙◌, subst}
+use Rattle.std.proofs.Common.{rules, ◌≡◌, ◌++◌, ◌∷◌, [], All, length, map, is_some, refl, sym, ap, ◌∙◌, subst}
+use Rattle.ups_ledger.specs.Keeping.{AreKept}
+use Rattle.ups_net.proofs.Watching.{seen_behind}
 use Rattle.std.proofs.lemmas.List.{length-append, length-map, append-nil}
 use Rattle.std.proofs.lemmas.List.Elements.{All-tail, All-push, All-same}
 use Rattle.std.specs.Vec.Iter.{into_iter_items}
-use Rattle.ups_net.specs.Working.{EndsThread, EndThreads}
+use Rattle.ups_net.specs.Working.{EndsThread, EndThreads, seen_last}
 use Rattle.ups_net.proofs.Ending.{first_more, last_more, none_left, ran, ends_length, told_on, none_told, unless_off}
 use denote.Param.Send.{sendable}
 use Rattle.ups_turn.proofs.Crosses.{desk_crosses}
@@ -97,11 +99,20 @@ returns g c =
     let (rest, is, ends) = c.join_all.ensures.ends c.captures.options.now was.options in
     let begun = c.value-begun.ensures in
     let ended = subst (λ b. EndThreads c.captures.options.now b (map (λ h. h.promise.pass.value) c.loop-pass.handles.items) rest) (sym begun) ends in
-    let back = c.push_reserved-2.ensures.items ∙ ap (λ l. l ++ c.sweep_begun-swept.result ∷ []) (c.put_back-2.ensures.all ∙ ap (λ l. l ++ c.loop-pass.unbegun.items) (is ∙ ap (λ l. l ++ rest) c.requires.empty.0)) in
+    let back = c.push_reserved-2.ensures.items ∙ ap (λ l. l ++ c.sweep_begun-swept.result.0 ∷ []) (c.put_back-2.ensures.all ∙ ap (λ l. l ++ c.loop-pass.unbegun.items) (is ∙ ap (λ l. l ++ rest) c.requires.empty.0)) in
     record {
-      ran = ran c.captures.options.now c.value-begun.result.now (map (λ h. h.promise.pass.value) c.loop-pass.handles.items) c.loop-pass.unbegun.items rest c.captures.passes.items c.push_reserved-2.new.self.items c.captures.sweeper c.sweep_begun-swept.result
+      ran = ran c.captures.options.now (is_some c.captures.keeper) c.value-begun.result.now (map (λ h. h.promise.pass.value) c.loop-pass.handles.items) c.loop-pass.unbegun.items rest c.captures.passes.items c.push_reserved-2.new.self.items c.captures.sweeper c.sweep_begun-swept.result.0
           all ended back (λ b. unless_off c.loop-pass.off (λ t. t.value) c.settle-token.result.value _ _ c.settle-token.ensures.told was.told (sym begun ∙ b)) c.sweep_begun-swept.ensures.sweeps;
+      keeps = c.sweep_begun-swept.ensures.keeps;
+      kept = λ first. subst (AreKept g.L.Ledger c.sweep_begun-swept.result.1) (sym (ap seen_last c.push_reserved-2.ensures.items ∙ seen_behind c.put_back-2.new.passes.items c.sweep_begun-swept.result.0)) (c.sweep_begun-swept.ensures.kept first);
     }
+
+pub returns-in_default : goal.returns-in_default
+returns-in_default g c = record {
+  ran = c.push_reserved.ensures.items ∙ ap (λ l. l ++ c.captures.sweeper ∷ []) (c.put_back.ensures.all ∙ ap (λ l. l ++ c.captures.passes.items) c.requires.empty.0);
+  keeps = refl;
+  kept = λ first. subst (AreKept g.L.Ledger c.captures.keeper) (sym (ap seen_last c.push_reserved.ensures.items ∙ seen_behind c.put_back.new.passes.items c.captures.sweeper)) first;
+}
 
 pub spawn_with-requires-send-F : goal.spawn_with-requires-send-F
 spawn_with-requires-send-F g l κs within = search (options_lent, start_lent, premises_lent, desk_crosses, sendable) depth 40 fits 5000

@@ -1,0 +1,39 @@
+//! The store of accepted requests: its file, and what may be left out of it.
+
+use crate::options::{flag, worded};
+use clap::builder::ValueParser;
+use clap::{Arg, Command};
+use std::alloc::{AllocError, Global};
+
+/// The options of a server that say where accepted requests are kept.
+pub(crate) fn with_store<'a>(
+    alloc: Global,
+    command: Command<'a>,
+) -> Result<Command<'a>, AllocError> {
+    let store =
+        "the file that keeps accepted requests over a restart [default: none, memory alone]";
+    command
+        .arg(naming_file(worded(alloc, "store", "FILE", store)))?
+        .arg(leave_out_flag(alloc).requires_arg("store")?)
+}
+
+/// The word that names the file of a store.
+pub(crate) fn store_word<'a>(alloc: Global) -> Arg<'a> {
+    let word = Arg::new(alloc, "store")
+        .value_name("FILE")
+        .help("the file of the store, which no server may have open")
+        .required(true);
+    naming_file(word)
+}
+
+/// An argument whose word names a file, and so is not empty.
+fn naming_file<'a>(arg: Arg<'a>) -> Arg<'a> {
+    arg.value_parser(ValueParser::NonEmptyString)
+}
+
+/// The option that lets requests be left out.
+pub(crate) fn leave_out_flag<'a>(alloc: Global) -> Arg<'a> {
+    let leave_out =
+        "leave out requests of the store that these settings do not accept, in place of ending at the first";
+    flag(alloc, "store-leave-out", leave_out)
+}

@@ -1,0 +1,156 @@
+//! Stores: opened for a server, and compacted.
+
+ghost use Rattle.std.specs.Prelude.{◌≡◌, ◌≤◌, [], length, None, IfOk};
+ghost use Rattle.ups_settings.specs.Refusal.{refusal};
+ghost use Rattle.ups_life.specs.Limits.{history_limit, peer_limit};
+ghost use Rattle.upsd.specs.Storing.{settings_of};
+
+use crate::ending::{Status, refuse};
+use clap::ArgMatches;
+use log::{Log, info};
+use std::alloc::{AllocError, Global};
+use std::fs::{self, Files};
+use std::time::Clock;
+use ups_args::{CompactArguments, VERSION, compact_arguments};
+use ups_ledger::Keeper;
+use ups_life::MAX_HISTORY;
+use ups_manager::Manager;
+use ups_net::moment_of;
+use ups_server::{StoreOpener, Unopened};
+use ups_start::{Run, StartFault, StoreLedger, begin, compact};
+
+/// What opens the stores that this program's command line names. No other part of the program names how these are kept.
+#[derive(Drop)]
+pub(crate) struct Stores<'a, R: Clock + Log> {
+    rt: &'a HostRuntime,
+    telling: &'a R,
+    run: Run<'a>,
+}
+
+impl<'a, R: Clock + Log> Stores<'a, R> {
+    /// Those of a run of the program that begins now, with these words on its command line; a log is told how they are read.
+    pub(crate) fn new(rt: &'a HostRuntime, telling: &'a R, words: &'a str) -> Stores<'a, R> {
+        Stores {
+            rt,
+            telling,
+            run: Run {
+                moment: moment_of(telling),
+                version: VERSION,
+                settings: words,
+            },
+        }
+    }
+}
+
+/// Tells with how many requests a server begins.
+fn tell_opened<R: Log>(telling: &R, requests: u64) {
+    info!(telling; target: "upsd", "store: a server begins with {requests} requests");
+}
+
+/// Tells why a store is not used.
+fn tell_unopened<R: Eprint>(rt: &R, file: &str, fault: &StartFault) -> Unopened {
+    if let StartFault::Memory = fault {
+        return Unopened::Memory;
+    }
+    let _ = eprintln!(rt; "upsd: the store {file}: {fault}");
+    Unopened::Told
+}
+
+impl<'a, R: Clock + Log> StoreOpener<'a, StoreLedger<'a>> for Stores<'a, R> {
+    fn open(
+        &self,
+        file: &'a str,
+        may_leave_out: bool,
+        manager: &mut Manager<Global>,
+    ) -> Result<Keeper<StoreLedger<'a>>, Unopened> {
+        match begin(
+            self.rt,
+            self.telling,
+            file,
+            may_leave_out,
+            self.run,
+            manager,
+        ) {
+            Ok(keeper) => {
+                tell_opened(self.telling, keeper.count());
+                Ok(keeper)
+            }
+            Err(fault) => Err(tell_unopened(self.rt, file, &fault)),
+        }
+    }
+}
+
+/// A manager without requests, as is asked of `compact`.
+///
+/// Errors: lack of memory.
+fn new_manager(alloc: Global, asked: &CompactArguments<'_>) -> Result<Manager<Global>, AllocError>
+    requires few { length asked.now.peers.items ≤ peer_limit }
+    requires allowed { refusal asked.now.peers.items asked.now.offset history_limit ≡ None }
+    ensures settings { IfOk result (λ manager. manager.settings ≡ settings_of asked.now) }
+    ensures empty { IfOk result (λ manager. manager.history ≡ []) }
+{
+    match Manager::new(alloc, &asked.peers, asked.keep, asked.offset, MAX_HISTORY) {
+        Ok(manager) => Ok(manager),
+        Err(_) => Err(AllocError),
+    }
+}
+
+/// Whether there is a file, which is told where there is none: a compaction makes none.
+fn is_there<R: Eprint + Files>(rt: &R, file: &str) -> bool {
+    if let Ok(true) = fs::exists(rt, file) {
+        return true;
+    }
+    let _ = eprintln!(rt; "upsd: the store {file}: there is no such file");
+    false
+}
+
+/// Compacts the store that a command line names, prints what it came to, and gives how the program ends.
+///
+/// Errors: lack of memory before the store is opened, or while its requests are read.
+fn compacted<R: Clock + Log>(
+    stores: &Stores<'_, R>,
+    asked: &CompactArguments<'_>,
+) -> Result<Status, AllocError>
+    requires few { length asked.now.peers.items ≤ peer_limit }
+    requires allowed { refusal asked.now.peers.items asked.now.offset history_limit ≡ None }
+{
+    let alloc = stores.rt.alloc();
+    let (file, run) = (asked.store, stores.run);
+    if !is_there(stores.rt, file) {
+        return Ok(Status::Stopped);
+    }
+    let manager = new_manager(alloc, asked)?;
+    let fresh = new_manager(alloc, asked)?;
+    match compact(
+        stores.rt,
+        stores.telling,
+        file,
+        asked.leave_out,
+        run,
+        manager,
+        fresh,
+    ) {
+        Ok(compacted) => {
+            let (after, before) = (compacted.after, compacted.before);
+            let _ = println!(stores.rt; "{file}: {after} requests, {before} before");
+            Ok(Status::Done)
+        }
+        Err(fault) => match tell_unopened(stores.rt, file, &fault) {
+            Unopened::Memory => Err(AllocError),
+            Unopened::Told => Ok(Status::Stopped),
+        },
+    }
+}
+
+/// Does what a command line asks of `compact`, and gives how the program ends.
+///
+/// Errors: lack of memory.
+pub(crate) fn perform_compact<R: Clock + Log>(
+    stores: &Stores<'_, R>,
+    matches: &ArgMatches<'_>,
+) -> Result<Status, AllocError> {
+    match compact_arguments(stores.rt.alloc(), matches) {
+        Ok(asked) => compacted(stores, &asked),
+        Err(fault) => refuse(stores.rt, fault),
+    }
+}
