@@ -63,10 +63,10 @@ class Watcher:
 
 
 class Incoming(Peer):
-    """An association that the server asks for."""
+    """An association that the server asks for, and the Event Type ID and the Event Information of its last report."""
 
     def __init__(self, connected):
-        self.socket, self.left = connected, b""
+        self.socket, self.left, self.event, self.information = connected, b"", b"", b""
 
     def reports(self):
         """The steps of the reports, each of which is answered."""
@@ -88,6 +88,7 @@ class Incoming(Peer):
                     number, length = struct.unpack("<xxHI", elements[:8])
                     found[number], elements = elements[8:8 + length], elements[8 + length:]
             if body[5] & 2 and not body[5] & 1:
+                self.event, self.information = found[0x1002], body[6:]
                 answer = [(0x0002, found[0x0002]), (0x0100, us(0x8100)), (0x0120, found[0x0110]), (0x0800, us(0x0101)),
                           (0x0900, us(0)), (0x1000, found[0x1000]), (0x1002, found[0x1002])]
                 self.socket.sendall(message(1, command(answer)))
