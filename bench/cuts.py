@@ -514,9 +514,9 @@ class Cuts:
 
     def fault_by_program(self, kept: dict[str, Optional[bytes]], point: int) -> Optional[str]:
         """Why the program doesn't start on it, or what has to be there isn't then."""
-        file = self.laid(kept)
+        file, keep = self.laid(kept), "1000000" if self.recording.rows_before is None else "0"
         try:
-            with Stored(self.program, file, "--keep", "1000000", *PEERS):
+            with Stored(self.program, file, "--keep", keep, *PEERS):
                 pass
             return self.judge_started(rows_at(file), point)
         except (*FAULTS, sqlite3.Error) as fault:

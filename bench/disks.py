@@ -284,7 +284,7 @@ def tried_failure(program: list[str], folder: str, failure: Failure, number: int
     return came, fault
 
 
-GOOD, NONE = ("goes on", "goes on when it is over", "ends", "is refused", "withholds"), ", and no such call came"
+GOOD, NONE = ("goes on", "goes on when it is over", "ends", "is refused", "is not even loaded", "withholds"), ", and no such call came"
 
 
 def has_failed(log: str) -> bool:
@@ -321,6 +321,8 @@ def starts_failing(program: list[str], file: str, failure: Failure, filling: Fil
                 return "ends" if server.process.returncode == LOST else f"ends with {server.process.returncode}"
             return "goes on" if went_on else "withholds" if "+" in failure.when else f"answers nothing any more: {server.log[-3:]}"
     except Fault as refusal:
+        if "error while loading shared libraries" in str(refusal):
+            return "is not even loaded"
         return "is refused" if f"ended with {LOST}" in str(refusal) and "upsd: the store" in str(refusal) else str(refusal)
 
 
