@@ -347,6 +347,7 @@ class Recording:
     reports: int
     before: dict[str, bytes] = dataclasses.field(default_factory=dict)  # what the files had, and the rows of these
     rows_before: Optional[list[Row]] = None
+    keep: str = "1000000"  # for how many seconds its server keeps finished steps
 
     def needed_at(self, point: int) -> int:
         """How many rows have to be there: what was sent before the point rests on them."""
@@ -514,9 +515,9 @@ class Cuts:
 
     def fault_by_program(self, kept: dict[str, Optional[bytes]], point: int) -> Optional[str]:
         """Why the program doesn't start on it, or what has to be there isn't then."""
-        file, keep = self.laid(kept), "1000000" if self.recording.rows_before is None else "0"
+        file = self.laid(kept)
         try:
-            with Stored(self.program, file, "--keep", keep, *PEERS):
+            with Stored(self.program, file, "--keep", self.recording.keep, *PEERS):
                 pass
             return self.judge_started(rows_at(file), point)
         except (*FAULTS, sqlite3.Error) as fault:
@@ -561,7 +562,7 @@ def record_compaction(program: list[str], folder: str) -> Recording:
         raise Fault(f"a compaction ends with {come.status}: {come.said[-300:]}")
     with open(log, encoding="ascii", errors="replace") as opened:
         trace = Trace(file, opened.read().splitlines())
-    return Recording(trace, rows_of(file), [], [], 0, 0, before, rows)
+    return Recording(trace, rows_of(file), [], [], 0, 0, before, rows, "0")
 
 
 def try_compaction(program: list[str], folder: str, given: argparse.Namespace, results: Results) -> None:

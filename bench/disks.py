@@ -29,6 +29,8 @@ LARGE = 20_000  # bytes of a step that fills a disk
 TAKES_NONE, TAKES_AGAIN = r"(ERROR|<3>).*serve: the store takes no requests: ", r"serve: the store takes requests again"
 SHARES = 4  # failures that are tried at the same time
 COMMENT = (0x0040, 0x1400)
+SERVES, RESTS, STARTS = "in a server that serves", "in one that nobody asks anything", "in one that starts"  # where calls fail
+REST = 2.5  # seconds in which a server that nobody asks anything copies its log into the file
 LOST = 2  # the status of a server whose store is lost, and of a start that is refused
 
 
@@ -221,34 +223,35 @@ def full_start(program: list[str], folder: str, file: str, filling: Filling, opt
 
 @dataclasses.dataclass(frozen=True)
 class Failure:
-    """A call of the system that fails, at its so-manyth time, or from then on; in a server that serves, or that starts."""
+    """A call of the system that fails, at its so-manyth time, or from then on, and where."""
 
     call: str
     error: str
     when: str
-    at_start: bool
+    where: str
 
     def __str__(self) -> str:
-        return f"{self.call} fails with {self.error}, {self.when} {'behind a start' if self.at_start else 'in a server that serves'}"
+        return f"{self.call} fails with {self.error}, {self.when} {self.where}"
 
-    def words(self, log: str) -> list[str]:
-        """Those of strace, which tells in a file what fails."""
+    def words(self, file: str) -> list[str]:
+        """Those of strace, which has calls on the files of a store fail, and on their folder, and tells of them in a file beside them."""
         inject = f"inject={self.call}:error={self.error}:when={self.when}"
-        return ["strace", "-f", "-o", log, "-e", f"trace={self.call}", "-e", inject]
+        paths = [word for it in (file, file + "-wal", os.path.dirname(file)) for word in ("-P", it)]
+        return ["strace", "-f", *paths, "-o", file + ".strace", "-e", f"trace={self.call}", "-e", inject]
 
 
 def failures(count: int) -> list[Failure]:
     kinds = [("pwrite64", "ENOSPC"), ("pwrite64", "EIO"), ("fdatasync", "EIO"), ("fdatasync", "ENOSPC")]
-    once = [Failure(*kind, str(at), start) for start in (False, True) for kind in kinds for at in range(1, count + 1)]
-    lasting = [Failure(*kind, f"{at}+", start) for start in (False, True) for kind in kinds for at in (1, count // 2 + 1)]
-    others = [Failure(call, "EIO", str(at), start) for start in (False, True) for call in ("ftruncate", "fsync", "pread64") for at in (1, 2, 3)]
-    return once + lasting + others
+    once = [Failure(*kind, str(at), where) for where in (SERVES, RESTS, STARTS) for kind in kinds for at in range(1, count + 1)]
+    lasting = [Failure(*kind, f"{at}+", where) for where in (SERVES, RESTS, STARTS) for kind in kinds for at in (1, count // 2 + 1)]
+    return once + lasting + [Failure(call, "EIO", str(at), STARTS) for call in ("fsync", "pread64") for at in (1, 2, 3)]
 
 
-def attached(failure: Failure, log: str, pid: int) -> subprocess.Popen:
+def attached(failure: Failure, file: str, pid: int) -> subprocess.Popen:
     """Has calls of a running server fail."""
-    strace = subprocess.Popen([*failure.words(log), "-p", str(pid)], stderr=subprocess.PIPE, text=True)
-    strace.stderr.readline()  # it has attached
+    strace = subprocess.Popen([*failure.words(file), "-p", str(pid)], stderr=subprocess.PIPE, text=True)
+    while " attached" not in strace.stderr.readline():
+        pass
     return strace
 
 
@@ -269,8 +272,8 @@ def tried_failure(program: list[str], folder: str, failure: Failure, number: int
     try:
         with Stored(program, file, *options) as server:
             ask_some(server, filling, time.monotonic() + SECONDS)
-            came = "" if failure.at_start else has_failing(server, failure, file + ".strace", filling)
-        if failure.at_start:
+            came = "" if failure.where == STARTS else has_failing(server, failure, file, filling)
+        if failure.where == STARTS:
             came = starts_failing(program, file, failure, filling, options)
         came += "" if has_failed(file + ".strace") else NONE
         fault = fault_behind_start(program, file, filling)
@@ -284,7 +287,7 @@ def tried_failure(program: list[str], folder: str, failure: Failure, number: int
     return came, fault
 
 
-GOOD, NONE = ("goes on", "goes on when it is over", "ends", "is refused", "is not even loaded", "withholds"), ", and no such call came"
+GOOD, NONE = ("goes on", "goes on when it is over", "ends", "is refused", "withholds"), ", and no such call came"
 
 
 def has_failed(log: str) -> bool:
@@ -293,9 +296,11 @@ def has_failed(log: str) -> bool:
         return "(INJECTED)" in opened.read()
 
 
-def has_failing(server: Stored, failure: Failure, log: str, filling: Filling) -> str:
+def has_failing(server: Stored, failure: Failure, file: str, filling: Filling) -> str:
     """What becomes of a server whose calls fail."""
-    strace = attached(failure, log, server.pid)
+    strace = attached(failure, file, server.pid)
+    if failure.where == RESTS:
+        time.sleep(REST)
     went_on = ask_some(server, filling, time.monotonic() + (8 if "+" in failure.when else 30))
     strace.terminate()
     strace.wait()
@@ -312,7 +317,7 @@ def has_failing(server: Stored, failure: Failure, log: str, filling: Filling) ->
 def starts_failing(program: list[str], file: str, failure: Failure, filling: Filling, options: list[str]) -> str:
     """What becomes of a server whose calls fail while it starts, and then."""
     try:
-        with Stored([*failure.words(file + ".strace"), "-D", *program], file, *options) as server:
+        with Stored([*failure.words(file), "-D", *program], file, *options) as server:
             is_there = filling.fault_in(Client(server.port, seconds=TIMEOUT + SLACK))
             went_on = ask_some(server, filling, time.monotonic() + (6 if "+" in failure.when else 30))
             if is_there:
@@ -321,8 +326,6 @@ def starts_failing(program: list[str], file: str, failure: Failure, filling: Fil
                 return "ends" if server.process.returncode == LOST else f"ends with {server.process.returncode}"
             return "goes on" if went_on else "withholds" if "+" in failure.when else f"answers nothing any more: {server.log[-3:]}"
     except Fault as refusal:
-        if "error while loading shared libraries" in str(refusal):
-            return "is not even loaded"
         return "is refused" if f"ended with {LOST}" in str(refusal) and "upsd: the store" in str(refusal) else str(refusal)
 
 

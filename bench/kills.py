@@ -546,21 +546,28 @@ def tried_lie(program: list[str], given: argparse.Namespace, kind: str) -> Optio
 # all of it
 
 def run(program: list[str], given: argparse.Namespace, results: Results) -> None:
-    """Tells what comes of so many kills."""
+    """Tells what comes of so many kills, of so many on one store."""
     if given.self_test:
         for kind in LIES:
             results.tell(f"a lie is found: {kind}", tried_lie(program, given, kind))
         return
-    with folder_for(given.folder) as folder:
-        trial = Trial(program, os.path.join(folder, "store"), given.seed, given)
-        done = kill_often(trial, folder, given.kills)
+    for part, first in enumerate(range(0, given.kills, given.each)):
+        if results.failed == 0:
+            run_part(program, given, min(given.each, given.kills - first), given.seed + part, results)
+
+
+def run_part(program: list[str], given: argparse.Namespace, kills: int, seed: int, results: Results) -> None:
+    """The same on a new store."""
+    with folder_for(given.folder and os.path.join(given.folder, str(seed))) as folder:
+        trial = Trial(program, os.path.join(folder, "store"), seed, given)
+        done = kill_often(trial, folder, kills)
         keep_faulty(trial, folder)
         for kind, count in trial.counts.items():
             if kind != "starts":
                 faults = trial.faults[kind]
                 results.tell(f"{kind}, {count} times", f"{len(faults)} are wrong: {faults[0]}" if faults else None)
         plan = trial.plan
-        print(f"{done} kills, seed {given.seed}: {plan.asked:,} requests asked and {plan.answered:,} answered, {len(plan.steps):,} steps, "
+        print(f"{done} kills, seed {seed}: {plan.asked:,} requests asked and {plan.answered:,} answered, {len(plan.steps):,} steps, "
               f"{trial.reader.count:,} looks, {sum(len(it.reports) for it in trial.watchers.values()):,} reports; "
               f"the longest start took {trial.longest:.2f} s, the store has {os.path.getsize(trial.file):,} bytes", flush=True)
 

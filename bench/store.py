@@ -7,7 +7,7 @@
     cuts 2000        records the writes and syncs of a server by strace, and opens so many of the states that a disk may have kept
                      where the power is cut
     full             fills a small tmpfs, and makes room again (as root)
-    failing 12       has the first, second and so on write and sync of a server fail, by strace
+    failing 6        has the first, second and so on write and sync of a server fail, by strace
     million 1000000  starts a server on so many requests: how long that takes, and its memory
     settings         starts servers with other settings, on a file that is held, on files that are no store, and on damaged ones
     compact 5000     compares what a store of so many requests shows before and after a compaction
@@ -66,11 +66,12 @@ def arguments() -> argparse.Namespace:
     about, _, more = (__doc__ or "").partition("\n\n")
     asked = argparse.ArgumentParser(description=about, epilog=more, formatter_class=argparse.RawDescriptionHelpFormatter)
     trials = asked.add_subparsers(dest="trial", required=True, metavar="TRIAL")
-    options_of(trials, "kills", kills.run, ("kills", 20, "how many servers are killed"), positional=True, flags=(SELF_TEST,))
+    options_of(trials, "kills", kills.run, ("kills", 20, "how many servers are killed"), ("each", 250, "how many of them on one store"),
+               positional=True, flags=(SELF_TEST,))
     options_of(trials, "cuts", cuts.run, ("cuts", 2_000, "how many states are tried"), ("requests", 200, "how many requests are recorded, about"),
                ("opened", 100, "how many of the states the program opens, beside sqlite3"), positional=True, flags=(SELF_TEST,))
     options_of(trials, "full", disks.run_full, ("size", 16, "MiB of the file system"), ("minutes", 1, "how often the log has to tell of it again"))
-    options_of(trials, "failing", disks.run_failing, ("calls", 12, "how many writes, and how many syncs, fail in turn"), positional=True)
+    options_of(trials, "failing", disks.run_failing, ("calls", 6, "how many writes, and how many syncs, fail in turn"), positional=True)
     options_of(trials, "million", stored_days.run_million, ("requests", 1_000_000, "how many requests the store has"),
                ("seconds", 30, "how long a start may take"), positional=True)
     options_of(trials, "settings", restarts.run, ("flips", 20, "how many bits are flipped, in the file and in the log"))

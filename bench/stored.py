@@ -83,10 +83,8 @@ class Stored(Server):
         guard.cancel()
         self.took = time.monotonic() - self.began
         if not re.fullmatch(r"\d+\s*", line):
-            with contextlib.suppress(subprocess.TimeoutExpired):
-                self.process.wait(2)
             self.kill()
-            self.reader.join(2)
+            self.reader.join(5)
             raise Fault(f"the server does not start: it printed {line!r} for a port, and ended with {self.process.returncode}: {self.log[-5:]}")
         self.port = int(line)
         self.pid = pid_of(self.process)
