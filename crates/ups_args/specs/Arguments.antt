@@ -172,12 +172,12 @@ pub record IsFlag (found : Found) (id : List ℕ) (flag : Bool) : Type 0 where
   pub reset : one_text found id ≡ Some (codes "false") → flag ≡ false
 
 -- the word behind `--ae`, or where there is none an empty one, spells no title
-abbrev pub NoTitle : Found → Type 0
-NoTitle found = (title : List ℕ) → SpellsAe (unwrap_or (first_value found (codes "ae")) []) title → ⊥
+abbrev pub SpellsNoTitle : Found → Type 0
+SpellsNoTitle found = (title : List ℕ) → SpellsAe (unwrap_or (first_value found (codes "ae")) []) title → ⊥
 
 -- why nothing is asked of `pipe`: the word behind `--ae` spells no title; or the words name no peers
 abbrev pub FailToAskPipe : Found → ArgumentFault → Type 0
-FailToAskPipe found faults.Ae = NoTitle found
+FailToAskPipe found faults.Ae = SpellsNoTitle found
 FailToAskPipe found fault = FailToName (argument_words found (codes "peer")) fault
 
 -- why nothing is asked of `script`: the word behind `--keep` says no seconds, or that behind `--offset` no offset; or the
@@ -198,6 +198,6 @@ FailToLimit found fault = ⊥
 -- why nothing is asked of `serve`: the word behind `--ae` spells no title, or that behind `--port` says no port; the words
 -- say no limits; or they fail as those of `script`
 abbrev pub FailToAskServe : Found → ArgumentFault → Type 0
-FailToAskServe found faults.Ae = NoTitle found
+FailToAskServe found faults.Ae = SpellsNoTitle found
 FailToAskServe found faults.Port = (port : ℕ) → SaysPort (unwrap_or (first_value found (codes "port")) []) port → ⊥
 FailToAskServe found fault = FailToLimit found fault ⊎ FailToAskScript found fault

@@ -7,8 +7,8 @@ use crate::server::serve_command;
 use clap::Command;
 use std::alloc::{AllocError, Global};
 
-/// The version of `upsd`.
-pub const VERSION: &str = "0.1.0";
+/// The version of `upsd`, which its implementation version name ends in too (`ups_assoc::version_name`).
+pub const VERSION: &str = "0.2.0";
 
 /// A command line with another command; or that lacked memory.
 fn with_command<'a>(

@@ -41,9 +41,13 @@ number_reason r = (numbers r).2
 abbrev pub counted : ℕ → ℕ
 counted max = if max == 0 || nat_lt max_data_length max then max_data_length else max
 
+-- the implementation version name of this program (PS3.7 annex D.3.3.2.4)
+abbrev pub version_name : List ℕ
+version_name = codes "UPSD_0.2.0"
+
 -- what is said of this server (PS3.7 annex D.3.3.2)
 abbrev pub this_server : {A : Type 0} → UserInformation A
-this_server = record { maximum_length = max_data_length; implementation_class = Some (text_of Implementation); asynchronous_window = None; roles = []; implementation_version = Some (codes "UPSD_1") }
+this_server = record { maximum_length = max_data_length; implementation_class = Some (text_of Implementation); asynchronous_window = None; roles = []; implementation_version = Some version_name }
 
 -- the answer that accepts: the titles as they stood, and an answer to each context in order
 abbrev pub accepting_answer : {A : Type 0} → AssociateRq A → AssociateAc A

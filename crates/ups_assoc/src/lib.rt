@@ -18,6 +18,7 @@ pub use limits::{LONGEST_MESSAGE, limits_are_those_of_the_profile};
 pub use message::RawMessage;
 pub use negotiating::{
     Acceptance, AcceptedContext, AcceptedContexts, Config, Outcome, Rejection, negotiate,
+    version_name,
 };
 pub use sop_class::SopClass;
 pub use walking::{data_follows, the_first_data_set_type_decides};

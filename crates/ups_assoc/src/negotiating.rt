@@ -8,7 +8,7 @@ ghost use Rattle.ups_assoc.specs.declared.fault.AssocFault.TheVariants.{Memory};
 ghost use Rattle.ups_assoc.specs.declared.negotiating.Outcome.TheVariants.{Accept};
 ghost use Rattle.ups_assoc.specs.Titles.{title, is_this_title};
 ghost use Rattle.ups_assoc.specs.Contexts.{known_syntax, first_syntax, syntax_uid, answer_of, context_answer, answered, context_of, accepted};
-ghost use Rattle.ups_assoc.specs.Negotiation.{number_result, number_source, number_reason, has_version_1, is_dicom, counted, is_too_small, this_server, acceptance, outcome, IsWritable};
+ghost use Rattle.ups_assoc.specs.Negotiation.{number_result, number_source, number_reason, has_version_1, is_dicom, counted, is_too_small, version_name, this_server, acceptance, outcome, IsWritable};
 
 use crate::fault::AssocFault;
 use crate::sop_class::SopClass;
@@ -342,19 +342,28 @@ fn is_too_small(max: u32) -> bool
     max > 0 && max < 8
 }
 
+/// The implementation version name (PS3.7 annex D.3.3.2.4): `UPSD_` and the version of the program.
+///
+/// Errors: lack of memory.
+pub fn version_name<A: Allocator + Copy>(alloc: A) -> Result<Bytes<A>, AllocError>
+    ensures { IfOk result (λ name. name ≡ version_name) }
+{
+    Bytes::copy_of(alloc, b"UPSD_0.2.0")
+}
+
 /// What is said of this server (PS3.7 annex D.3.3.2).
 ///
 /// Errors: lack of memory.
 fn this_server<A: Allocator + Copy>(alloc: A) -> Result<UserInformation<A>, AllocError>
     ensures { IfOk result (λ u. u ≡ this_server) }
 {
-    let version_name = Bytes::copy_of(alloc, b"UPSD_1")?;
+    let implementation_version = version_name(alloc)?;
     Ok(UserInformation {
         maximum_length: MAX_DATA_LENGTH,
         implementation_class: Some(RegisteredUid::Implementation.uid()),
         asynchronous_window: None,
         roles: Roles::from_vec(Vec::new(alloc)),
-        implementation_version: Some(version_name),
+        implementation_version: Some(implementation_version),
     })
 }
 

@@ -14,7 +14,7 @@ use Rattle.ups_life.specs.Filters.{filter_now}
 use Rattle.ups_life.specs.Events.{events, acked_after, acked}
 use Rattle.ups_life.proofs.Texts.{same_text}
 use Rattle.ups_life.proofs.Accepted.{neither}
-use Rattle.ups_compact.specs.Compacting.{is_left, left, with_ack, with_acks, is_twice}
+use Rattle.ups_compact.specs.Compacting.{is_left, left, with_ack, with_acks, has_title_twice}
 
 -- an acknowledgement, as an entry
 abbrev pub ack : {A : Type 0} → ℕ → ℕ → List ℕ → ℕ → Entry A
@@ -72,7 +72,7 @@ none_acked caller moment number w (p ∷ ps) es h =
     let none = neither (bytes_eq p.ae w) (is_peer ps w) h in
     none_acked caller moment number w ps (with_ack caller moment p.ae (number p.ae) es) none.1 ∙ other_ack caller moment p.ae w (number p.ae) es none.0
 
-pub one_acked : {A : Type 0} (caller moment : ℕ) (number : List ℕ → Option ℕ) (w : List ℕ) (ps : List Peer) (es : List (Entry A)) → is_twice ps ≡ false → is_peer ps w ≡ true
+pub one_acked : {A : Type 0} (caller moment : ℕ) (number : List ℕ → Option ℕ) (w : List ℕ) (ps : List Peer) (es : List (Entry A)) → has_title_twice ps ≡ false → is_peer ps w ≡ true
     → acked (with_acks caller moment number ps es) w ≡ unwrap_or (number w) (acked es w)
 one_acked caller moment number w [] es once h = absurd cc
 one_acked {A} caller moment number w (p ∷ ps) es once h = at (bytes_eq p.ae w) refl (λ g. one_acked caller moment number w ps next alone.1 g) h
@@ -80,8 +80,8 @@ one_acked {A} caller moment number w (p ∷ ps) es once h = at (bytes_eq p.ae w)
     next : List (Entry A)
     next = with_ack caller moment p.ae (number p.ae) es
 
-    alone : (is_peer ps p.ae ≡ false) × (is_twice ps ≡ false)
-    alone = neither (is_peer ps p.ae) (is_twice ps) once
+    alone : (is_peer ps p.ae ≡ false) × (has_title_twice ps ≡ false)
+    alone = neither (is_peer ps p.ae) (has_title_twice ps) once
 
     at : (b : Bool) → bytes_eq p.ae w ≡ b → (is_peer ps w ≡ true → acked (with_acks caller moment number ps next) w ≡ unwrap_or (number w) (acked next w)) → b || is_peer ps w ≡ true
         → acked (with_acks caller moment number ps next) w ≡ unwrap_or (number w) (acked es w)

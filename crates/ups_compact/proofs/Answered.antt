@@ -24,7 +24,7 @@ use Rattle.ups_life.specs.Worklist.{rows, worklist}
 use Rattle.ups_life.proofs.Texts.{text_is_itself}
 use Rattle.ups_life.proofs.Accepted.{differ}
 use Rattle.ups_life.proofs.HeldOnce.{is_held_used}
-use Rattle.ups_compact.specs.Compacting.{compact, upto, compacted, is_twice, is_answered_alike}
+use Rattle.ups_compact.specs.Compacting.{compact, upto, compacted, has_title_twice, is_answered_alike}
 use Rattle.ups_compact.proofs.Holding.{row_of_left}
 use Rattle.ups_compact.proofs.Watching.{due_left}
 use Rattle.ups_compact.proofs.Staying.{Away, held_left, all_among}
@@ -125,7 +125,7 @@ module _ {A : Type 0} (caller moment : ℕ) (s : Settings) (law : Away A s) (es 
   has_space : (n m : ℕ) → n < m → nat_lt n m ≡ true
   has_space n m h = grind (arith, nat_tests)
 
-  pub reply_same : is_twice s.peers ≡ false → (e : Entry A) → is_answered_alike s es e.request ≡ true → length es < s.limit → reply s (compacted caller moment s es) e ≡ reply s es e
+  pub reply_same : has_title_twice s.peers ≡ false → (e : Entry A) → is_answered_alike s es e.request ≡ true → length es < s.limit → reply s (compacted caller moment s es) e ≡ reply s es e
   reply_same once e h room =
       let free = has_space (length es) s.limit room in
       has_room (nat_lt (length (compacted caller moment s es)) s.limit) (decided s (compacted caller moment s es) e e.request)

@@ -16,14 +16,14 @@ use Rattle.ups_life.specs.declared.event_reports.EventReport.{EventReport}
 use Rattle.ups_life.specs.Watching.{is_among}
 use Rattle.ups_match.specs.Uids.{has_uid}
 use Rattle.ups_match.proofs.UidSets.{has_put}
-use Rattle.ups_compact.specs.Compacting.{of_steps, events_of, last_number, known_up_to}
+use Rattle.ups_compact.specs.Compacting.{of_steps, events_of, number_of_last, known_up_to}
 
 -- a UID that is put among others
 pub has_added : {Z : Type 0} (old new : BTreeSet (Vec ℕ Z)) (k : Vec ℕ Z) (uid other : List ℕ) → new.keys ≡ insert_key (λ x y. slice_cmp nat_cmp x.items y.items) old.keys k → k.items ≡ uid → has_uid new other ≡ (bytes_eq uid other || has_uid old other)
 has_added old new k uid other put is = has_put old new k uid other put is ∙ ap (λ (b : Bool). b || has_uid old other) (nat_list_eq_equiv.symm other uid)
 
 -- the number of the last one
-pub last_is : (xs : List Event) → option_map (λ (x : Event). x.number) (slice_get xs (length xs - 1)) ≡ last_number xs
+pub last_is : (xs : List Event) → option_map (λ (x : Event). x.number) (slice_get xs (length xs - 1)) ≡ number_of_last xs
 last_is [] = refl
 last_is (x ∷ []) = refl
 last_is (x ∷ y ∷ ys) =
@@ -35,7 +35,7 @@ last_is (x ∷ y ∷ ys) =
 
 pub known_is : (xs known : List Event) (n k : ℕ) (r : Option Event) → k ≡ length xs - n → known ≡ take k xs → r ≡ slice_get known (length known - 1) → option_map (λ (x : Event). x.number) r ≡ known_up_to n xs
 known_is xs known n k r long front last =
-    ap (option_map (λ (x : Event). x.number)) last ∙ last_is known ∙ ap last_number front ∙ ap (λ (i : ℕ). last_number (take i xs)) long
+    ap (option_map (λ (x : Event). x.number)) last ∙ last_is known ∙ ap number_of_last front ∙ ap (λ (i : ℕ). number_of_last (take i xs)) long
 
 or_swap : (a b : Bool) → a || b ≡ b || a
 or_swap true true = refl

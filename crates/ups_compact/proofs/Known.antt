@@ -10,7 +10,7 @@ use Rattle.ups_life.specs.declared.event.Report.{Report}
 use Rattle.ups_life.specs.Settings.{Settings}
 use Rattle.ups_life.specs.Events.{is_state_report, is_report_of, current, reports_of, numbered, events}
 use Rattle.ups_life.proofs.Current.{Rising, rising_current, later, all_later}
-use Rattle.ups_compact.specs.Compacting.{last_number}
+use Rattle.ups_compact.specs.Compacting.{number_of_last}
 
 -- WHAT IS BEHIND A NUMBER
 
@@ -30,15 +30,15 @@ front_and_later n m (x ∷ xs) h = at (nat_lt n x.number) refl (front_and_later 
 
 -- THE NUMBER OF THE LAST ONE
 
-last_next : (n : ℕ) (x : Event) (xs : List Event) → unwrap_or (last_number (x ∷ xs)) n ≡ unwrap_or (last_number xs) x.number
+last_next : (n : ℕ) (x : Event) (xs : List Event) → unwrap_or (number_of_last (x ∷ xs)) n ≡ unwrap_or (number_of_last xs) x.number
 last_next n x [] = refl
 last_next n x (y ∷ ys) = some_last n x.number y ys
   where
-    some_last : (n m : ℕ) (y : Event) (ys : List Event) → unwrap_or (last_number (y ∷ ys)) n ≡ unwrap_or (last_number (y ∷ ys)) m
+    some_last : (n m : ℕ) (y : Event) (ys : List Event) → unwrap_or (number_of_last (y ∷ ys)) n ≡ unwrap_or (number_of_last (y ∷ ys)) m
     some_last n m y [] = refl
     some_last n m y (z ∷ zs) = some_last n m z zs
 
-last_not_below : (n i : ℕ) (xs : List Event) → Rising n xs → n ≤ unwrap_or (last_number (take i xs)) n
+last_not_below : (n i : ℕ) (xs : List Event) → Rising n xs → n ≤ unwrap_or (number_of_last (take i xs)) n
 unfolding Rising
 last_not_below n zero xs h = omega arith
 last_not_below n (suc i) [] h = omega arith
@@ -51,14 +51,14 @@ not_later : (n m : ℕ) → m ≤ n → nat_lt n m ≡ false
 not_later n m h = grind (arith, nat_tests)
 
 -- where the first of them are acknowledged, the others are later
-pub later_than_known : (n i : ℕ) (xs : List Event) → Rising n xs → later (unwrap_or (last_number (take i xs)) n) xs ≡ drop i xs
+pub later_than_known : (n i : ℕ) (xs : List Event) → Rising n xs → later (unwrap_or (number_of_last (take i xs)) n) xs ≡ drop i xs
 unfolding Rising
 later_than_known n zero xs h = all_later n n xs (omega arith) h
 later_than_known n (suc i) [] h = refl
 later_than_known n (suc i) (x ∷ xs) h =
     ap (λ (k : ℕ). later k (x ∷ xs)) (last_next n x (take i xs))
-    ∙ ap (λ (b : Bool). cond b (x ∷ later (unwrap_or (last_number (take i xs)) x.number) xs) (later (unwrap_or (last_number (take i xs)) x.number) xs))
-    (not_later (unwrap_or (last_number (take i xs)) x.number) x.number (last_not_below x.number i xs h.1))
+    ∙ ap (λ (b : Bool). cond b (x ∷ later (unwrap_or (number_of_last (take i xs)) x.number) xs) (later (unwrap_or (number_of_last (take i xs)) x.number) xs))
+    (not_later (unwrap_or (number_of_last (take i xs)) x.number) x.number (last_not_below x.number i xs h.1))
     ∙ later_than_known x.number i xs h.1
 
 -- EVENTS ARE NUMBERED FROM 1
@@ -118,28 +118,28 @@ within_take m zero xs h = tt
 within_take m (suc i) [] h = tt
 within_take m (suc i) (x ∷ xs) (low, h) = (low, within_take m i xs h)
 
-within_last : (m n : ℕ) (xs : List Event) → Within m xs → last_number xs ≡ Some n → n ≤ m
+within_last : (m n : ℕ) (xs : List Event) → Within m xs → number_of_last xs ≡ Some n → n ≤ m
 within_last m n [] h is = absurd cc
 within_last m n (x ∷ []) (low, h) is = let same : x.number ≡ n = cc in omega (arith, low, same)
 within_last m n (x ∷ y ∷ xs) (low, h) is = within_last m n (y ∷ xs) h is
 
 -- the number of one of them is that of an event
-pub known_was_made : {A : Type 0} (s : Settings) (es : List (Entry A)) (w : List ℕ) (i n : ℕ) → last_number (take i (current (events s es w))) ≡ Some n → n ≤ length (events s es w)
+pub known_was_made : {A : Type 0} (s : Settings) (es : List (Entry A)) (w : List ℕ) (i n : ℕ) → number_of_last (take i (current (events s es w))) ≡ Some n → n ≤ length (events s es w)
 known_was_made s es w i n is =
     within_last (length (events s es w)) n (take i (current (events s es w)))
     (within_take (length (events s es w)) i (current (events s es w))
     (within_current (length (events s es w)) (events s es w) (counted_within 0 (length (events s es w)) (events s es w) (omega arith) (events_counted s es w)))) is
 
-above_last : (m n i : ℕ) (xs : List Event) → Rising m xs → last_number (take i xs) ≡ Some n → m < n
+above_last : (m n i : ℕ) (xs : List Event) → Rising m xs → number_of_last (take i xs) ≡ Some n → m < n
 unfolding Rising
 above_last m n zero xs h is = absurd cc
 above_last m n (suc i) [] h is = absurd cc
 above_last m n (suc i) (x ∷ xs) h is =
     let above = h.0 in
     let low = last_not_below x.number i xs h.1 in
-    let same : unwrap_or (last_number (take i xs)) x.number ≡ n = sym (last_next 0 x (take i xs)) ∙ ap (λ (o : Option ℕ). unwrap_or o 0) is in
+    let same : unwrap_or (number_of_last (take i xs)) x.number ≡ n = sym (last_next 0 x (take i xs)) ∙ ap (λ (o : Option ℕ). unwrap_or o 0) is in
     omega (arith, above, low, same)
 
 -- and it is above 0
-pub known_is_some : {A : Type 0} (s : Settings) (es : List (Entry A)) (w : List ℕ) (i n : ℕ) → last_number (take i (current (events s es w))) ≡ Some n → 0 < n
+pub known_is_some : {A : Type 0} (s : Settings) (es : List (Entry A)) (w : List ℕ) (i n : ℕ) → number_of_last (take i (current (events s es w))) ≡ Some n → 0 < n
 known_is_some s es w i n is = above_last 0 n i (current (events s es w)) (current_rises s es w) is

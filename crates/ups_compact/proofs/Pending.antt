@@ -13,7 +13,7 @@ use Rattle.ups_life.specs.Watching.{held, is_among, is_peer}
 use Rattle.ups_life.specs.Events.{is_state_report, is_report_of, current, events, acked, pending}
 use Rattle.ups_life.specs.History.{legal}
 use Rattle.ups_life.proofs.Current.{Rising, later, all_later}
-use Rattle.ups_compact.specs.Compacting.{compact, reported, told, told_of_steps, to_tell, of_steps, upto, compacted, is_twice}
+use Rattle.ups_compact.specs.Compacting.{compact, reported, told_to, told_of_steps, to_tell, of_steps, upto, compacted, has_title_twice}
 use Rattle.ups_compact.proofs.Off.{other}
 use Rattle.ups_compact.proofs.Staying.{Away}
 use Rattle.ups_compact.proofs.Told.{told_left}
@@ -88,7 +88,7 @@ ends_with s law es w l =
     ap (map reported) (fresh s es w)
     ∙ reported_current (events s (compact s es) w)
     ∙ ap latest (told_left s law (held s es) es w l (λ u h known. h))
-    ∙ sym (latest_of_steps (held s es) (told s es w))
+    ∙ sym (latest_of_steps (held s es) (told_to s es w))
     ∙ ap (told_of_steps (held s es)) (sym (reported_current (events s es w)))
     ∙ ap (λ (xs : List Event). told_of_steps (held s es) (map reported xs)) (front_and_later (acked es w) 0 (current (events s es w)) (current_rises s es w))
     ∙ ap (told_of_steps (held s es)) (map-append reported (front (acked es w) (current (events s es w))) (pending s es w))
@@ -123,7 +123,7 @@ last_of s law es w l =
     ∙ behind n (first_known s es w) (told_of_steps (held s es) (to_tell s es w)) (sym (same_count (held s es) (pending s es w)))
 
 -- WHAT IS PENDING BEHIND THE ACKNOWLEDGEMENTS
-pub pending_stays : {A : Type 0} (caller moment : ℕ) (s : Settings) → Away A s → (es : List (Entry A)) (w : List ℕ) → legal s es ≡ true → is_twice s.peers ≡ false → is_peer s.peers w ≡ true
+pub pending_stays : {A : Type 0} (caller moment : ℕ) (s : Settings) → Away A s → (es : List (Entry A)) (w : List ℕ) → legal s es ≡ true → has_title_twice s.peers ≡ false → is_peer s.peers w ≡ true
     → to_tell s (compacted caller moment s es) w ≡ told_of_steps (held s es) (to_tell s es w)
 pending_stays caller moment s law es w l once peer =
     let old = pending s (compact s es) w in

@@ -19,7 +19,7 @@ use Rattle.ups_life.specs.History.{accepts, acknowledged, decided, in_room, repl
 use Rattle.ups_life.proofs.Texts.{same_text, text_is_itself}
 use Rattle.ups_life.proofs.Accepted.{neither, differ}
 use Rattle.ups_life.proofs.Current.{Rising}
-use Rattle.ups_compact.specs.Compacting.{is_left, left, compact, reported, told_of_steps, to_tell, of_steps, last_number, upto, with_ack, with_acks, compacted, is_twice}
+use Rattle.ups_compact.specs.Compacting.{is_left, left, compact, reported, told_of_steps, to_tell, of_steps, number_of_last, upto, with_ack, with_acks, compacted, has_title_twice}
 use Rattle.ups_compact.proofs.Staying.{Away}
 use Rattle.ups_compact.proofs.Accepting.{legal_left, had_room, has_room, both, join}
 use Rattle.ups_compact.proofs.Acked.{ack, left_acked}
@@ -65,12 +65,12 @@ none_more ae n before (p ∷ ps) h =
     ap (λ (b : Bool). cond (nat_lt 0 (cond b n (before p.ae))) (count (acked_then ae n before) ps + 1) (count (acked_then ae n before) ps)) (apart p.ae ae none.0)
     ∙ ap (λ (k : ℕ). cond (nat_lt 0 (before p.ae)) (k + 1) k) (none_more ae n before ps none.1)
 
-one_more : (ae : List ℕ) (n : ℕ) (before : List ℕ → ℕ) (ps : List Peer) → is_twice ps ≡ false → count (acked_then ae n before) ps ≤ count (λ w. nat_lt 0 (before w)) ps + 1
+one_more : (ae : List ℕ) (n : ℕ) (before : List ℕ → ℕ) (ps : List Peer) → has_title_twice ps ≡ false → count (acked_then ae n before) ps ≤ count (λ w. nat_lt 0 (before w)) ps + 1
 one_more ae n before [] once = omega arith
 one_more ae n before (p ∷ ps) once = at (bytes_eq ae p.ae) refl (one_more ae n before ps alone.1)
   where
-    alone : (is_peer ps p.ae ≡ false) × (is_twice ps ≡ false)
-    alone = neither (is_peer ps p.ae) (is_twice ps) once
+    alone : (is_peer ps p.ae ≡ false) × (has_title_twice ps ≡ false)
+    alone = neither (is_peer ps p.ae) (has_title_twice ps) once
 
     at_most : (b c : Bool) (k : ℕ) → cond b (k + 1) k ≤ cond c (k + 1) k + 1
     at_most true true k = omega arith
@@ -91,7 +91,7 @@ one_more ae n before (p ∷ ps) once = at (bytes_eq ae p.ae) refl (one_more ae n
     at false is rest = too (nat_lt 0 (before p.ae)) (count (acked_then ae n before) ps) (count (λ w. nat_lt 0 (before w)) ps) rest
 
 -- each of them made one of the entries that are dropped
-step : {A : Type 0} (steps : List (List ℕ)) (e : Entry A) (es : List (Entry A)) (ps : List Peer) (r : Request A) → is_twice ps ≡ false → (b : Bool) → is_left steps r ≡ b
+step : {A : Type 0} (steps : List (List ℕ)) (e : Entry A) (es : List (Entry A)) (ps : List Peer) (r : Request A) → has_title_twice ps ≡ false → (b : Bool) → is_left steps r ≡ b
     → length (left steps es) + count (has_acked es) ps ≤ length es → length (cond b (e ∷ left steps es) (left steps es)) + count (λ w. nat_lt 0 (acked_after w e.ae (acked es w) r)) ps ≤ length (e ∷ es)
 step steps e es ps (Ack n) once true is h = absurd cc
 step steps e es ps (Ack n) once false is h = let some = one_more e.ae n (acked es) ps once in omega (arith, h, some)
@@ -116,7 +116,7 @@ none_has : (A : Type 0) (ps : List Peer) → count (has_acked {A = A} []) ps ≡
 none_has A [] = refl
 none_has A (p ∷ ps) = none_has A ps
 
-made_room : {A : Type 0} (steps : List (List ℕ)) (es : List (Entry A)) (ps : List Peer) → is_twice ps ≡ false → length (left steps es) + count (has_acked es) ps ≤ length es
+made_room : {A : Type 0} (steps : List (List ℕ)) (es : List (Entry A)) (ps : List Peer) → has_title_twice ps ≡ false → length (left steps es) + count (has_acked es) ps ≤ length es
 made_room {A} steps [] ps once = let none = none_has A ps in omega (arith, none)
 made_room steps (e ∷ es) ps once = step steps e es ps e.request once (is_left steps e.request) refl (made_room steps es ps once)
 
@@ -138,8 +138,8 @@ all_told s law es w l none =
     ∙ ap (λ (xs : List Event). length (told_of_steps (held s es) (map reported xs) ++ told_of_steps (held s es) (to_tell s es w))) (none_in_front 0 (current (events s es w)) (current_rises s es w))
     ∙ same_count (held s es) (pending s es w)
 
-none_known : (n m : ℕ) (xs : List Event) → n ≡ m → last_number (take (n - m) xs) ≡ None
-none_known n m xs same = ap (λ (k : ℕ). last_number (take k xs)) (let none : n - m ≡ 0 = omega (arith, same) in none)
+none_known : (n m : ℕ) (xs : List Event) → n ≡ m → number_of_last (take (n - m) xs) ≡ None
+none_known n m xs same = ap (λ (k : ℕ). number_of_last (take k xs)) (let none : n - m ≡ 0 = omega (arith, same) in none)
 
 knows : {A : Type 0} (s : Settings) → Away A s → (es : List (Entry A)) (w : List ℕ) → legal s es ≡ true → is_some (upto s es w) ≡ true → has_acked es w ≡ true
 knows s law es w l h = at (nat_lt 0 (acked es w)) refl
@@ -195,14 +195,14 @@ abbrev Can : {A : Type 0} → Settings → List (Entry A) → (List ℕ → Opti
 Can s es number = (w : List ℕ) (n : ℕ) → number w ≡ Some n → (n ≤ length (events s es w)) × (0 < n)
 
 -- after the acknowledgement of p those of the peers behind it
-legal_acks : {A : Type 0} (caller moment : ℕ) (s : Settings) (number : List ℕ → Option ℕ) (ps : List Peer) (es : List (Entry A)) → is_twice ps ≡ false → legal s es ≡ true → Can s es number
+legal_acks : {A : Type 0} (caller moment : ℕ) (s : Settings) (number : List ℕ → Option ℕ) (ps : List Peer) (es : List (Entry A)) → has_title_twice ps ≡ false → legal s es ≡ true → Can s es number
     → ((w : List ℕ) → is_peer ps w ≡ true → acked es w ≡ 0) → length es + count (λ w. is_some (number w)) ps ≤ s.limit → legal s (with_acks caller moment number ps es) ≡ true
 legal_acks caller moment s number [] es once l can none room = l
 legal_acks {A} caller moment s number (p ∷ ps) es once l can none room =
     at (number p.ae) refl room (λ next. legal_acks caller moment s number ps next alone.1)
   where
-    alone : (is_peer ps p.ae ≡ false) × (is_twice ps ≡ false)
-    alone = neither (is_peer ps p.ae) (is_twice ps) once
+    alone : (is_peer ps p.ae ≡ false) × (has_title_twice ps ≡ false)
+    alone = neither (is_peer ps p.ae) (has_title_twice ps) once
 
     other : (w : List ℕ) → is_peer ps w ≡ true → bytes_eq p.ae w ≡ false
     other w there = by (bytes_eq p.ae w) refl
@@ -223,20 +223,20 @@ legal_acks {A} caller moment s number (p ∷ ps) es once l can none room =
         (λ w there. ap (λ (b : Bool). cond b n (acked es w)) (other w there) ∙ none w (ap (λ (b : Bool). bytes_eq p.ae w || b) there ∙ or_true (bytes_eq p.ae w)))
         (omega (arith, enough))
 
-few_enough : {A : Type 0} (s : Settings) → Away A s → (es : List (Entry A)) → legal s es ≡ true → is_twice s.peers ≡ false → length (compact s es) + count (λ w. is_some (upto s es w)) s.peers ≤ length es
+few_enough : {A : Type 0} (s : Settings) → Away A s → (es : List (Entry A)) → legal s es ≡ true → has_title_twice s.peers ≡ false → length (compact s es) + count (λ w. is_some (upto s es w)) s.peers ≤ length es
 few_enough s law es l once =
     let fewer = count_more (λ w. is_some (upto s es w)) (has_acked es) (λ w. knows s law es w l) s.peers in
     let room = made_room (held s es) es s.peers once in
     omega (arith, fewer, room)
 
-pub legal_compacted : {A : Type 0} (caller moment : ℕ) (s : Settings) → Away A s → (es : List (Entry A)) → legal s es ≡ true → is_twice s.peers ≡ false → legal s (compacted caller moment s es) ≡ true
+pub legal_compacted : {A : Type 0} (caller moment : ℕ) (s : Settings) → Away A s → (es : List (Entry A)) → legal s es ≡ true → has_title_twice s.peers ≡ false → legal s (compacted caller moment s es) ≡ true
 legal_compacted caller moment s law es l once =
     legal_acks caller moment s (upto s es) s.peers (compact s es) once (legal_left s law (held s es) es l (λ u h known. h)) can (λ w there. left_acked (held s es) w es)
     (let few = few_enough s law es l once in let limit = within_limit s es l in omega (arith, few, limit))
   where
     can : Can s (compact s es) (upto s es)
     can w n h =
-        let known = ap (λ (xs : List Event). last_number (take (length (pending s (compact s es) w) - length (of_steps (held s es) (pending s es w))) xs)) (sym (fresh s es w)) ∙ h in (
+        let known = ap (λ (xs : List Event). number_of_last (take (length (pending s (compact s es) w) - length (of_steps (held s es) (pending s es w))) xs)) (sym (fresh s es w)) ∙ h in (
           known_was_made s (compact s es) w (length (pending s (compact s es) w) - length (of_steps (held s es) (pending s es w))) n known,
           known_is_some s (compact s es) w (length (pending s (compact s es) w) - length (of_steps (held s es) (pending s es w))) n known,
         )
@@ -249,7 +249,7 @@ length_acks {A} caller moment number (p ∷ ps) es = length_acks caller moment n
     at None = refl
     at (Some n) = omega arith
 
-pub no_longer : {A : Type 0} (caller moment : ℕ) (s : Settings) → Away A s → (es : List (Entry A)) → legal s es ≡ true → is_twice s.peers ≡ false → length (compacted caller moment s es) ≤ length es
+pub no_longer : {A : Type 0} (caller moment : ℕ) (s : Settings) → Away A s → (es : List (Entry A)) → legal s es ≡ true → has_title_twice s.peers ≡ false → length (compacted caller moment s es) ≤ length es
 no_longer caller moment s law es l once =
     let long = length_acks caller moment (upto s es) s.peers (compact s es) in
     let few = few_enough s law es l once in

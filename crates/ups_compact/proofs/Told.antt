@@ -25,7 +25,7 @@ use Rattle.ups_life.specs.Events.{readiness, report, as_it_is, only_if, has, can
 use Rattle.ups_life.specs.History.{legal}
 use Rattle.ups_life.proofs.Texts.{same_text}
 use Rattle.ups_life.proofs.Accepted.{legal_tail}
-use Rattle.ups_compact.specs.Compacting.{is_about, is_left, left, reported, told, told_of_steps}
+use Rattle.ups_compact.specs.Compacting.{is_about, is_left, left, reported, told_to, told_of_steps}
 use Rattle.ups_compact.proofs.Holding.{state_left, row_next, row_left}
 use Rattle.ups_compact.proofs.Covering.{cover_left}
 use Rattle.ups_compact.proofs.Watching.{watch_left, watch_next}
@@ -36,10 +36,10 @@ unnumbered : (n place : ℕ) (xs : List Report) → map reported (numbered n pla
 unnumbered n place [] = refl
 unnumbered n place (x ∷ xs) = ap (λ (ys : List Report). x ∷ ys) (unnumbered (n + 1) place xs)
 
-pub told_next : {A : Type 0} (s : Settings) (e : Entry A) (es : List (Entry A)) (w : List ℕ) → told s (e ∷ es) w ≡ told s es w ++ reports_of s es e w e.request
+pub told_next : {A : Type 0} (s : Settings) (e : Entry A) (es : List (Entry A)) (w : List ℕ) → told_to s (e ∷ es) w ≡ told_to s es w ++ reports_of s es e w e.request
 told_next s e es w =
     map-append reported (events s es w) (numbered (length (events s es w) + 1) (length es) (reports_of s es e w e.request))
-    ∙ ap (λ (ys : List Report). told s es w ++ ys) (unnumbered (length (events s es w) + 1) (length es) (reports_of s es e w e.request))
+    ∙ ap (λ (ys : List Report). told_to s es w ++ ys) (unnumbered (length (events s es w) + 1) (length es) (reports_of s es e w e.request))
 
 -- REPORTS OF ONE STEP
 
@@ -223,20 +223,20 @@ gone_reports s steps e es w (Suspend receiver) a = refl
 gone_reports s steps e es w (Ack upto) a = refl
 gone_reports s steps e es w Sweep a = refl
 
-told_case : {A : Type 0} (s : Settings) → Away A s → (steps : List (List ℕ)) (e : Entry A) (es : List (Entry A)) (w : List ℕ) → legal s es ≡ true → Stays s steps es → told s (left steps es) w ≡ told_of_steps steps (told s es w)
-    → (b : Bool) → is_left steps e.request ≡ b → told s (cond b (e ∷ left steps es) (left steps es)) w ≡ told_of_steps steps (told s (e ∷ es) w)
+told_case : {A : Type 0} (s : Settings) → Away A s → (steps : List (List ℕ)) (e : Entry A) (es : List (Entry A)) (w : List ℕ) → legal s es ≡ true → Stays s steps es → told_to s (left steps es) w ≡ told_of_steps steps (told_to s es w)
+    → (b : Bool) → is_left steps e.request ≡ b → told_to s (cond b (e ∷ left steps es) (left steps es)) w ≡ told_of_steps steps (told_to s (e ∷ es) w)
 told_case {A} s law steps e es w l stays h true a =
     told_next s e (left steps es) w
     ∙ (ap (λ (xs : List Report). xs ++ reports_of s (left steps es) e w e.request) h
-    ∙ (ap (λ (ys : List Report). told_of_steps steps (told s es w) ++ ys) (kept_reports s law steps e es w e.request l stays a)
-    ∙ (sym (filter-append (λ (x : Report). is_among x.step steps) (told s es w) (reports_of s es e w e.request)) ∙ ap (told_of_steps steps) (sym (told_next s e es w)))))
+    ∙ (ap (λ (ys : List Report). told_of_steps steps (told_to s es w) ++ ys) (kept_reports s law steps e es w e.request l stays a)
+    ∙ (sym (filter-append (λ (x : Report). is_among x.step steps) (told_to s es w) (reports_of s es e w e.request)) ∙ ap (told_of_steps steps) (sym (told_next s e es w)))))
 told_case {A} s law steps e es w l stays h false a =
     h
-    ∙ (sym (append-nil (told_of_steps steps (told s es w)))
-    ∙ (ap (λ (ys : List Report). told_of_steps steps (told s es w) ++ ys) (sym (gone_reports s steps e es w e.request a))
-    ∙ (sym (filter-append (λ (x : Report). is_among x.step steps) (told s es w) (reports_of s es e w e.request)) ∙ ap (told_of_steps steps) (sym (told_next s e es w)))))
+    ∙ (sym (append-nil (told_of_steps steps (told_to s es w)))
+    ∙ (ap (λ (ys : List Report). told_of_steps steps (told_to s es w) ++ ys) (sym (gone_reports s steps e es w e.request a))
+    ∙ (sym (filter-append (λ (x : Report). is_among x.step steps) (told_to s es w) (reports_of s es e w e.request)) ∙ ap (told_of_steps steps) (sym (told_next s e es w)))))
 
-pub told_left : {A : Type 0} (s : Settings) → Away A s → (steps : List (List ℕ)) (es : List (Entry A)) (w : List ℕ) → legal s es ≡ true → Stays s steps es → told s (left steps es) w ≡ told_of_steps steps (told s es w)
+pub told_left : {A : Type 0} (s : Settings) → Away A s → (steps : List (List ℕ)) (es : List (Entry A)) (w : List ℕ) → legal s es ≡ true → Stays s steps es → told_to s (left steps es) w ≡ told_of_steps steps (told_to s es w)
 told_left s law steps [] w l stays = refl
 told_left s law steps (e ∷ es) w l stays =
     let before = stays_before s law steps e es l stays in

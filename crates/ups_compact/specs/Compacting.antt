@@ -36,8 +36,8 @@ abbrev pub reported : Event → Report
 reported x = record { kind = x.kind; step = x.step; state = x.state; readiness = x.readiness }
 
 -- all that w was told, oldest first, without the numbers of the events
-abbrev pub told : {A : Type 0} → Settings → List (Entry A) → List ℕ → List Report
-told s es w = map reported (events s es w)
+abbrev pub told_to : {A : Type 0} → Settings → List (Entry A) → List ℕ → List Report
+told_to s es w = map reported (events s es w)
 
 -- what was told of these steps
 abbrev pub told_of_steps : List (List ℕ) → List Report → List Report
@@ -59,15 +59,15 @@ abbrev pub events_of : {A : Type 0} → List (EventReport A) → List Event
 events_of reports = map (λ r. r.event) reports
 
 -- the number of the last of these events
-abbrev pub last_number : List Event → Option ℕ
-last_number [] = None
-last_number (x ∷ []) = Some x.number
-last_number (x ∷ y ∷ xs) = last_number (y ∷ xs)
+abbrev pub number_of_last : List Event → Option ℕ
+number_of_last [] = None
+number_of_last (x ∷ []) = Some x.number
+number_of_last (x ∷ y ∷ xs) = number_of_last (y ∷ xs)
 
 -- The number up to which these events are known, where the last `untold` of them are still to be told: that of the last one
 -- before these, if there is one
 abbrev pub known_up_to : ℕ → List Event → Option ℕ
-known_up_to untold xs = last_number (take (length xs - untold) xs)
+known_up_to untold xs = number_of_last (take (length xs - untold) xs)
 
 -- THE NUMBER TO ACKNOWLEDGE for w behind the compact history: of what is pending in that, as many of the last are still to
 -- be told as events of steps held were pending
@@ -89,9 +89,9 @@ abbrev pub compacted : {A : Type 0} → ℕ → ℕ → Settings → List (Entry
 compacted caller moment s es = with_acks caller moment (upto s es) s.peers (compact s es)
 
 -- two of these peers have one title
-abbrev pub is_twice : List Peer → Bool
-is_twice [] = false
-is_twice (p ∷ ps) = is_peer ps p.ae || is_twice ps
+abbrev pub has_title_twice : List Peer → Bool
+has_title_twice [] = false
+has_title_twice (p ∷ ps) = is_peer ps p.ae || has_title_twice ps
 
 -- what is answered after a compaction as before: no acknowledgement, since events have other numbers, and no creation under
 -- the UID of a removed step

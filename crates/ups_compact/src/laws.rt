@@ -11,7 +11,7 @@ ghost use Rattle.ups_life.specs.Watching.{is_peer, cover, held, watch, is_due, i
 ghost use Rattle.ups_life.specs.Filters.{filter_now};
 ghost use Rattle.ups_life.specs.History.{reply, legal, got};
 ghost use Rattle.ups_life.specs.Worklist.{worklist};
-ghost use Rattle.ups_compact.specs.Compacting.{compact, told, told_of_steps, to_tell, compacted, is_twice, is_answered_alike};
+ghost use Rattle.ups_compact.specs.Compacting.{compact, told_to, told_of_steps, to_tell, compacted, has_title_twice, is_answered_alike};
 
 use std::alloc::Allocator;
 use ups_life::laws::a_removed_step_stays_away;
@@ -48,7 +48,7 @@ pub fn a_compact_history_is_legal<A: Allocator + Copy>()
 /// A compact history tells each watcher, of the steps held, what the history told, in the same order, and nothing of any
 /// other step.
 pub fn of_the_steps_held_the_same_is_told<A: Allocator + Copy>()
-    ensures { (s : Settings) → (es : List (Entry A)) → (w : List ℕ) → legal s es ≡ true → told s (compact s es) w ≡ told_of_steps (held s es) (told s es w) }
+    ensures { (s : Settings) → (es : List (Entry A)) → (w : List ℕ) → legal s es ≡ true → told_to s (compact s es) w ≡ told_of_steps (held s es) (told_to s es w) }
 {
     a_removed_step_stays_away::<A>();
 }
@@ -67,7 +67,7 @@ pub fn what_is_held_stays_behind_acknowledgements<A: Allocator + Copy>()
 /// The steps held are the same, in the same order, and what was told of them too, with acknowledgements behind a compact history.
 pub fn the_steps_held_stay_behind_acknowledgements<A: Allocator + Copy>()
     ensures held { (caller moment : ℕ) → (s : Settings) → (es : List (Entry A)) → legal s es ≡ true → held s (compacted caller moment s es) ≡ held s es }
-    ensures told { (caller moment : ℕ) → (s : Settings) → (es : List (Entry A)) → (w : List ℕ) → legal s es ≡ true → told s (compacted caller moment s es) w ≡ told_of_steps (held s es) (told s es w) }
+    ensures told { (caller moment : ℕ) → (s : Settings) → (es : List (Entry A)) → (w : List ℕ) → legal s es ≡ true → told_to s (compacted caller moment s es) w ≡ told_of_steps (held s es) (told_to s es w) }
 {
     a_removed_step_stays_away::<A>();
 }
@@ -75,8 +75,8 @@ pub fn the_steps_held_stay_behind_acknowledgements<A: Allocator + Copy>()
 /// With acknowledgements too it is legal, and it is no longer than the history was: each of these takes the place of one that the
 /// peer had made.
 pub fn a_compacted_history_is_legal<A: Allocator + Copy>()
-    ensures length { (caller moment : ℕ) → (s : Settings) → (es : List (Entry A)) → legal s es ≡ true → is_twice s.peers ≡ false → length (compacted caller moment s es) ≤ length es }
-    ensures legal { (caller moment : ℕ) → (s : Settings) → (es : List (Entry A)) → legal s es ≡ true → is_twice s.peers ≡ false → legal s (compacted caller moment s es) ≡ true }
+    ensures length { (caller moment : ℕ) → (s : Settings) → (es : List (Entry A)) → legal s es ≡ true → has_title_twice s.peers ≡ false → length (compacted caller moment s es) ≤ length es }
+    ensures legal { (caller moment : ℕ) → (s : Settings) → (es : List (Entry A)) → legal s es ≡ true → has_title_twice s.peers ≡ false → legal s (compacted caller moment s es) ≡ true }
 {
     a_removed_step_stays_away::<A>();
 }
@@ -84,7 +84,7 @@ pub fn a_compacted_history_is_legal<A: Allocator + Copy>()
 /// No watcher is told anew what it has acknowledged, and none loses what it has not, of steps that are held: with acknowledgements
 /// what is pending for a peer behind a compact history is, without numbers, what was pending for it of the steps held, in order.
 pub fn what_is_pending_stays<A: Allocator + Copy>()
-    ensures { (caller moment : ℕ) → (s : Settings) → (es : List (Entry A)) → (w : List ℕ) → legal s es ≡ true → is_twice s.peers ≡ false → is_peer s.peers w ≡ true
+    ensures { (caller moment : ℕ) → (s : Settings) → (es : List (Entry A)) → (w : List ℕ) → legal s es ≡ true → has_title_twice s.peers ≡ false → is_peer s.peers w ≡ true
         → to_tell s (compacted caller moment s es) w ≡ told_of_steps (held s es) (to_tell s es w) }
 {
     a_removed_step_stays_away::<A>();
@@ -94,7 +94,7 @@ pub fn what_is_pending_stays<A: Allocator + Copy>()
 /// events have other numbers, and for the creation of a step under the UID of a removed one. What an N-GET and a query are
 /// answered is the same (PS3.4 CC.2.7, CC.2.8).
 pub fn a_request_is_answered_as_before<A: Allocator + Copy>()
-    ensures reply { (caller moment : ℕ) → (s : Settings) → (es : List (Entry A)) → (e : Entry A) → legal s es ≡ true → is_twice s.peers ≡ false → length es < s.limit
+    ensures reply { (caller moment : ℕ) → (s : Settings) → (es : List (Entry A)) → (e : Entry A) → legal s es ≡ true → has_title_twice s.peers ≡ false → length es < s.limit
         → is_answered_alike s es e.request ≡ true → reply s (compacted caller moment s es) e ≡ reply s es e }
     ensures got { (caller moment : ℕ) → (s : Settings) → (es : List (Entry A)) → (step : Option (List ℕ)) → (tags : List Tag) → legal s es ≡ true → got s (compacted caller moment s es) step tags ≡ got s es step tags }
     ensures found { (caller moment : ℕ) → (s : Settings) → (es : List (Entry A)) → (keys : KeySet) → legal s es ≡ true → worklist s (compacted caller moment s es) keys ≡ worklist s es keys }

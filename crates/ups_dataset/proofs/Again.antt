@@ -14,7 +14,7 @@ use Rattle.ups_dataset.specs.Vr.{letters, is_long}
 use Rattle.ups_dataset.specs.Data.{Data, bytes, items, Items, no_items, item, Elements, no_elements, element, El, elements_of}
 use Rattle.ups_dataset.specs.Valid.{depth_data, depth_items, depth_elements, IsValue, HoldsSets, AreElements, AreSets, IsDataSet}
 use Rattle.ups_dataset.specs.Head.{IsHead, is_sequence, implicit_vr}
-use Rattle.ups_dataset.specs.Spelling.{SpellsElements, SpellsData, SpellsItems, SpellsSet, inside, kept, kept_data, kept_items}
+use Rattle.ups_dataset.specs.Spelling.{SpellsElements, SpellsValue, SpellsItems, SpellsSet, inside, kept, kept_data, kept_items}
 use Rattle.ups_dataset.specs.Written.{written_length, written_head, written_elements, written_data, written_items, written, AreImplicit, IsImplicitData, AreImplicitItems, KeepsVrs}
 use Rattle.ups_dataset.proofs.Depths.{within}
 use Rattle.ups_dataset.proofs.Letters.{letters_two}
@@ -119,7 +119,7 @@ mutual
         again_elements syntax level (number tag + 1) more (omega (arith, deep)) later parts.1 (omega (arith, l, sum)),
       )
 
-  again_data : (syntax : TransferSyntax) (level : ℕ) (vr : Vr) (d : Data) (rest : List ℕ) → level + depth_data d ≤ max_depth → IsValue vr d → HoldsSets d → IsKeptData syntax d → length (written_data syntax d) < undefined_length → SpellsData syntax level vr (length (written_data syntax d)) (written_data syntax d ++ rest) vr d rest
+  again_data : (syntax : TransferSyntax) (level : ℕ) (vr : Vr) (d : Data) (rest : List ℕ) → level + depth_data d ≤ max_depth → IsValue vr d → HoldsSets d → IsKeptData syntax d → length (written_data syntax d) < undefined_length → SpellsValue syntax level vr (length (written_data syntax d)) (written_data syntax d ++ rest) vr d rest
   again_data syntax level vr (bytes b) rest deep (n, e, _) sets k fits = (plain vr (length b) n fits, refl, fits, e, refl, refl)
   again_data syntax level vr (items is) rest deep (s, _) sets k fits = (
     ap (λ v. is_sequence v (length (written_items syntax is))) s,

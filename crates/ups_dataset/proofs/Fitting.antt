@@ -14,7 +14,7 @@ use Rattle.ups_dataset.specs.Dictionary.{vr_of}
 use Rattle.ups_dataset.specs.Data.{Data, bytes, items, Items, no_items, item, Elements, no_elements, element}
 use Rattle.ups_dataset.specs.Valid.{depth_data, depth_items, depth_elements, IsValue, HoldsSets, AreElements, AreSets}
 use Rattle.ups_dataset.specs.Head.{IsHead, is_sequence}
-use Rattle.ups_dataset.specs.Spelling.{SpellsElements, SpellsData, SpellsItems, inside, kept, kept_data, kept_items}
+use Rattle.ups_dataset.specs.Spelling.{SpellsElements, SpellsValue, SpellsItems, inside, kept, kept_data, kept_items}
 use Rattle.ups_dataset.proofs.Heads.{begins}
 
 -- only a representation with a long length has many bytes without letters
@@ -44,7 +44,7 @@ mutual
   depth_spelled syntax level reach from text (element tag vr d more) rest l (next, head_vr, len, after, is, rises, value, later) =
       depth_of level (kept_data d) tag vr (kept more) (is_group_length tag) (depth_value syntax level head_vr len after vr d next l value) (depth_spelled syntax level reach (number tag + 1) next more rest l later)
 
-  depth_value : (syntax : TransferSyntax) (level : ℕ) (head_vr : Vr) (len : ℕ) (after : List ℕ) (vr : Vr) (d : Data) (next : List ℕ) → level ≤ max_depth → SpellsData syntax level head_vr len after vr d next → level + depth_data (kept_data d) ≤ max_depth
+  depth_value : (syntax : TransferSyntax) (level : ℕ) (head_vr : Vr) (len : ℕ) (after : List ℕ) (vr : Vr) (d : Data) (next : List ℕ) → level ≤ max_depth → SpellsValue syntax level head_vr len after vr d next → level + depth_data (kept_data d) ≤ max_depth
   depth_value syntax level head_vr len after vr (bytes b) next l value = omega (arith, l)
   depth_value syntax level head_vr len after vr (items is) next l (_, _, reach, inner, left, _, spelled) = depth_in (inside syntax head_vr) level reach inner is left l spelled
 
@@ -66,13 +66,13 @@ mutual
       fit_by low tag vr (kept_data d) (kept more) (is_group_length tag) refl (omega (arith, le, rises)) b.low b.is (fit_value syntax level text tag head_vr len after vr d next l is value) (fit_sets syntax level head_vr len after vr d next l value)
       (λ m k. fit_elements syntax level reach (number tag + 1) next more rest l later m k)
 
-  fit_value : (syntax : TransferSyntax) (level : ℕ) (text : List ℕ) (tag : Tag) (head_vr : Vr) (len : ℕ) (after : List ℕ) (vr : Vr) (d : Data) (next : List ℕ) → level ≤ max_depth → IsHead syntax text (Known tag head_vr len) after → SpellsData syntax level head_vr len after vr d next → IsValue vr (kept_data d)
+  fit_value : (syntax : TransferSyntax) (level : ℕ) (text : List ℕ) (tag : Tag) (head_vr : Vr) (len : ℕ) (after : List ℕ) (vr : Vr) (d : Data) (next : List ℕ) → level ≤ max_depth → IsHead syntax text (Known tag head_vr len) after → SpellsValue syntax level head_vr len after vr d next → IsValue vr (kept_data d)
   fit_value syntax level text tag head_vr len after vr (bytes b) next l is (plain, v, low, even, e, _) =
       ((λ s. not_sequence head_vr len plain (sym v ∙ s)), subst (λ (n : ℕ). (n % 2) ≡ 0) (sym e) even, (λ short. omega (arith, e, head_says syntax text tag head_vr len after is low even (sym (ap is_long v) ∙ short))))
   fit_value syntax level text tag head_vr len after vr (items js) next l is (plain, s, reach, inner, left, spans, spelled) =
       (s, omega (arith, depth_value syntax level head_vr len after vr (items js) next l (plain, s, reach, inner, left, spans, spelled)))
 
-  fit_sets : (syntax : TransferSyntax) (level : ℕ) (head_vr : Vr) (len : ℕ) (after : List ℕ) (vr : Vr) (d : Data) (next : List ℕ) → level ≤ max_depth → SpellsData syntax level head_vr len after vr d next → HoldsSets (kept_data d)
+  fit_sets : (syntax : TransferSyntax) (level : ℕ) (head_vr : Vr) (len : ℕ) (after : List ℕ) (vr : Vr) (d : Data) (next : List ℕ) → level ≤ max_depth → SpellsValue syntax level head_vr len after vr d next → HoldsSets (kept_data d)
   fit_sets syntax level head_vr len after vr (bytes b) next l value = tt
   fit_sets syntax level head_vr len after vr (items js) next l (_, _, reach, inner, left, _, spelled) = fit_items (inside syntax head_vr) level reach inner js left l spelled
 

@@ -8,8 +8,8 @@ use Rattle.ups_pdu.specs.declared.syntax.TransferSyntax.{TransferSyntax}
 use Rattle.ups_dataset.specs.declared.head.Reach.{Reach}
 use Rattle.ups_dataset.specs.declared.fault.SetFault.{SetFault}
 use Rattle.ups_dataset.specs.Data.{Data, Items, item, Elements, element}
-use Rattle.ups_dataset.specs.Spelling.{SpellsElements, SpellsData, SpellsItems}
-use Rattle.ups_dataset.specs.Failing.{ElementsFail, ItemsFail, behind, behind_item}
+use Rattle.ups_dataset.specs.Spelling.{SpellsElements, SpellsValue, SpellsItems}
+use Rattle.ups_dataset.specs.Failing.{ElementsFail, ItemsFail, behind_value, behind_item}
 use Rattle.ups_dataset.proofs.Goods.{known_rises, known_shorter, mark_shorter, data_shorter, elements_shorter, spans_shorter, item_deep}
 
 -- what is spelled from here on is spelled from the start, and so for what fails
@@ -24,11 +24,11 @@ pub record ItemsGo (syntax : TransferSyntax) (level : ℕ) (reach : Reach) (text
   pub left : length rest ≤ length text
 
 pub go_element : (syntax : TransferSyntax) (level : ℕ) (reach : Reach) (text : List ℕ) (from : ℕ) (rest : List ℕ) (tag : Tag) (vr : Vr) (len : ℕ) (after : List ℕ) (kept : Vr) (d : Data) (next : List ℕ)
-    → ((end : List ℕ) → Ends item_delimitation reach rest end → ⊥) → IsKnown syntax from rest tag vr len after → SpellsData syntax level vr len after kept d next
+    → ((end : List ℕ) → Ends item_delimitation reach rest end → ⊥) → IsKnown syntax from rest tag vr len after → SpellsValue syntax level vr len after kept d next
     → ElementsGo syntax level reach text from rest → ElementsGo syntax level reach text (number tag + 1) next
 go_element syntax level reach text from rest tag vr len after kept d next more known value go = record {
   spelled = λ es end s. go.spelled (element tag kept d es) end (next, vr, len, after, known.head, known_rises syntax from rest tag vr len after known, value, s);
-  fails = λ fault f. go.fails fault (behind syntax level reach from rest fault tag vr len after kept d next more known value f);
+  fails = λ fault f. go.fails fault (behind_value syntax level reach from rest fault tag vr len after kept d next more known value f);
   left = omega (arith, go.left, known_shorter syntax from rest tag vr len after known, data_shorter syntax level vr len after kept d next value);
 }
 

@@ -17,7 +17,7 @@ use Rattle.ups_dataset.specs.Tag.{number, item_delimitation, sequence_delimitati
 use Rattle.ups_dataset.specs.Vr.{letters}
 use Rattle.ups_dataset.specs.Head.{IsMark, IsHead, IsKnown, IsSequenceItem, IsLength, IsLeft, Ends, Spans, is_sequence, length_fault}
 use Rattle.ups_dataset.specs.Data.{Data, bytes, items, Items, no_items, item, Elements, no_elements, element}
-use Rattle.ups_dataset.specs.Spelling.{SpellsElements, SpellsData, SpellsItems, inside}
+use Rattle.ups_dataset.specs.Spelling.{SpellsElements, SpellsValue, SpellsItems, inside}
 
 stops : (b : Bool) (f : SetFault) (x : Option SetFault) → (if b then Some f else x) ≡ None → (b ≡ false) × (x ≡ None)
 stops true f x e = absurd cc
@@ -93,7 +93,7 @@ mutual
   elements_shorter syntax level reach from text (element tag vr d more) rest (next, head_vr, len, after, is, low, value, later) =
       omega (arith, head_shorter syntax text (Known tag head_vr len) after is, data_shorter syntax level head_vr len after vr d next value, elements_shorter syntax level reach (number tag + 1) next more rest later)
 
-  pub data_shorter : (syntax : TransferSyntax) (level : ℕ) (head_vr : Vr) (len : ℕ) (after : List ℕ) (vr : Vr) (d : Data) (next : List ℕ) → SpellsData syntax level head_vr len after vr d next → length next ≤ length after
+  pub data_shorter : (syntax : TransferSyntax) (level : ℕ) (head_vr : Vr) (len : ℕ) (after : List ℕ) (vr : Vr) (d : Data) (next : List ℕ) → SpellsValue syntax level head_vr len after vr d next → length next ≤ length after
   data_shorter syntax level head_vr len after vr (bytes b) next (_, _, _, _, _, parts) = rw parts (omega (arith, length-append b next))
   data_shorter syntax level head_vr len after vr (items is) next (_, _, reach, inner, left, spans, spelled) = spans_shorter len after reach inner left next spans (items_shorter (inside syntax head_vr) level reach inner is left spelled)
 
@@ -118,7 +118,7 @@ item_deep level text len after k =
       | inr (_, e) ↦ let a = goes ((len % 2) == 0) OddLength _ e in let b = stops (nat_lt (length after) len) Short _ a.1 in let s = goes (nat_lt level max_depth) Depth None b.1 in grind (arith, s.0)
     ]
 
-pub bytes_data : (syntax : TransferSyntax) (level : ℕ) (vr : Vr) (len : ℕ) (after b next : List ℕ) → is_sequence vr len ≡ false → len < undefined_length → IsLength len (length after) → length b ≡ len → after ≡ b ++ next → SpellsData syntax level vr len after vr (bytes b) next
+pub bytes_data : (syntax : TransferSyntax) (level : ℕ) (vr : Vr) (len : ℕ) (after b next : List ℕ) → is_sequence vr len ≡ false → len < undefined_length → IsLength len (length after) → length b ≡ len → after ≡ b ++ next → SpellsValue syntax level vr len after vr (bytes b) next
 bytes_data syntax level vr len after b next plain low (inl e) l p = absurd (omega (arith, e, low))
 bytes_data syntax level vr len after b next plain low (inr (_, even, _)) l p = (plain, refl, low, even, l, p)
 

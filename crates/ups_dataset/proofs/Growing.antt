@@ -9,7 +9,7 @@ use Rattle.ups_dataset.specs.Tag.{number, is_group_length, item_delimitation, se
 use Rattle.ups_dataset.specs.Head.{IsKnown, IsSequenceItem, Ends, Spans}
 use Rattle.ups_dataset.specs.Data.{Data, Items, no_items, item, Elements, no_elements, element, El, elements_of, items_of}
 use Rattle.ups_dataset.specs.Spelling.{SpellsElements, SpellsItems, kept, kept_data, kept_items}
-use Rattle.ups_dataset.specs.Failing.{ElementsFail, ItemsFail, behind, behind_item}
+use Rattle.ups_dataset.specs.Failing.{ElementsFail, ItemsFail, behind_value, behind_item}
 use Rattle.ups_dataset.specs.Building.{keeps, BuildsValue, BuildsElements, BuildsItems}
 use Rattle.ups_dataset.specs.Limits.{max_depth}
 use Rattle.ups_dataset.specs.Valid.{AreElements, IsDataSet}
@@ -57,7 +57,7 @@ grow : (syntax : TransferSyntax) (level : ℕ) (reach : Reach) (text : List ℕ)
     → ElementsGrow syntax level reach text from rest xs → ElementsGrow syntax level reach text (number tag + 1) next ys
 grow syntax level reach text from rest xs ys tag vr len after value kept_vr next more known b e go = record {
   spelled = λ es end s. let r = go.spelled (element tag kept_vr b.all es) end (next, vr, len, after, known.head, known_rises syntax from rest tag vr len after known, b.spelled, s) in (r.0, r.1, r.2 ∙ e es);
-  fails = λ fault f. go.fails fault (behind syntax level reach from rest fault tag vr len after kept_vr b.all next more known b.spelled f);
+  fails = λ fault f. go.fails fault (behind_value syntax level reach from rest fault tag vr len after kept_vr b.all next more known b.spelled f);
   left = omega (arith, go.left, known_shorter syntax from rest tag vr len after known, data_shorter syntax level vr len after kept_vr b.all next b.spelled);
 }
 

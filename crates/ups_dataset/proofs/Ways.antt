@@ -14,8 +14,8 @@ use Rattle.ups_dataset.specs.declared.fault.SetFault.{SetFault}
 use Rattle.ups_dataset.specs.declared.fault.SetFault.TheVariants.{Short, BadItem, Memory}
 use Rattle.ups_dataset.specs.Head.{IsMark, IsHead, HeadFails, ItemHeadFails, Ends, Spans, Opens, is_sequence, head_fault, item_fault}
 use Rattle.ups_dataset.specs.Data.{Data, bytes, items, Items, no_items, item, Elements, no_elements, element}
-use Rattle.ups_dataset.specs.Spelling.{SpellsElements, SpellsData, SpellsItems, inside}
-use Rattle.ups_dataset.specs.Failing.{ElementsFail, ValueFails, ItemsFail, at_head, in_value, behind, in_items, at_item, in_item, behind_item}
+use Rattle.ups_dataset.specs.Spelling.{SpellsElements, SpellsValue, SpellsItems, inside}
+use Rattle.ups_dataset.specs.Failing.{ElementsFail, ValueFails, ItemsFail, at_head, in_value, behind_value, in_items, at_item, in_item, behind_item}
 use Rattle.ups_dataset.specs.Tag.{number, item_tag, item_delimitation, sequence_delimitation}
 use Rattle.ups_pdu.proofs.Parts.{same_parts}
 use Rattle.ups_dataset.proofs.Heads.{one_mark, one_head, begins, mark_begins, not_both, head_tag}
@@ -65,9 +65,9 @@ pub one_rest : (len : ℕ) (after : List ℕ) (reach : Reach) (inner left left' 
 one_rest len after Filled inner left left' rest rest' e (_, _, l, p, _) (_, _, m, q, _) = (same_parts inner inner rest rest' refl (sym p ∙ q)).1
 one_rest len after Ended inner left left' rest rest' e (_, _, p) (_, _, q) = sym p ∙ e ∙ q
 
-pub move_data : (syntax : TransferSyntax) (level : ℕ) (v w : Vr) (m n : ℕ) (x y : List ℕ) (vr : Vr) (d : Data) (next : List ℕ) → v ≡ w → m ≡ n → x ≡ y → SpellsData syntax level w n y vr d next → SpellsData syntax level v m x vr d next
+pub move_data : (syntax : TransferSyntax) (level : ℕ) (v w : Vr) (m n : ℕ) (x y : List ℕ) (vr : Vr) (d : Data) (next : List ℕ) → v ≡ w → m ≡ n → x ≡ y → SpellsValue syntax level w n y vr d next → SpellsValue syntax level v m x vr d next
 move_data syntax level v w m n x y vr d next ev em ex s =
-    subst (λ (a : List ℕ). SpellsData syntax level v m a vr d next) (sym ex) (subst (λ (a : ℕ). SpellsData syntax level v a y vr d next) (sym em) (subst (λ (a : Vr). SpellsData syntax level a n y vr d next) (sym ev) s))
+    subst (λ (a : List ℕ). SpellsValue syntax level v m a vr d next) (sym ex) (subst (λ (a : ℕ). SpellsValue syntax level v a y vr d next) (sym em) (subst (λ (a : Vr). SpellsValue syntax level a n y vr d next) (sym ev) s))
 
 mutual
   pub one_elements : (syntax : TransferSyntax) (level : ℕ) (reach : Reach) (from : ℕ) (text : List ℕ) (es fs : Elements) (r s : List ℕ) → SpellsElements syntax level reach from text es r → SpellsElements syntax level reach from text fs s → (es ≡ fs) × (r ≡ s)
@@ -80,7 +80,7 @@ mutual
       let rest = one_elements syntax level reach (number j + 1) nj more later r s ej (subst (λ (l : List ℕ). SpellsElements syntax level reach (number j + 1) l later s) (sym values.2) (subst (λ (t : Tag). SpellsElements syntax level reach (number t + 1) nk later s) (sym same.tags) ek)) in
       (λ i. element (same.tags i) (values.0 i) (values.1 i) (rest.0 i), rest.1)
 
-  pub one_data : (syntax : TransferSyntax) (level : ℕ) (head_vr : Vr) (len : ℕ) (after : List ℕ) (v : Vr) (d : Data) (r : List ℕ) (w : Vr) (f : Data) (s : List ℕ) → SpellsData syntax level head_vr len after v d r → SpellsData syntax level head_vr len after w f s → (v ≡ w) × (d ≡ f) × (r ≡ s)
+  pub one_data : (syntax : TransferSyntax) (level : ℕ) (head_vr : Vr) (len : ℕ) (after : List ℕ) (v : Vr) (d : Data) (r : List ℕ) (w : Vr) (f : Data) (s : List ℕ) → SpellsValue syntax level head_vr len after v d r → SpellsValue syntax level head_vr len after w f s → (v ≡ w) × (d ≡ f) × (r ≡ s)
   one_data syntax level head_vr len after v (bytes b) r w (bytes c) s (_, ev, _, _, lb, p) (_, ew, _, _, lc, q) =
       let parts = same_parts b c r s (lb ∙ sym lc) (sym p ∙ q) in
       (ev ∙ sym ew, ap (λ l. bytes l) parts.0, parts.1)
@@ -124,7 +124,7 @@ spans_length : (len : ℕ) (after : List ℕ) (reach : Reach) (inner left rest :
 spans_length len after Filled inner left rest (l, even, e, p, _) = inr (l, even, omega (arith, e, ap length p, length-append inner rest))
 spans_length len after Ended inner left rest (e, _, _) = inl e
 
-pub spelled_good : (syntax : TransferSyntax) (level from : ℕ) (tag : Tag) (head_vr : Vr) (len : ℕ) (after : List ℕ) (vr : Vr) (d : Data) (next : List ℕ) → from ≤ number tag → SpellsData syntax level head_vr len after vr d next → head_fault from (Known tag head_vr len) (length after) ≡ None
+pub spelled_good : (syntax : TransferSyntax) (level from : ℕ) (tag : Tag) (head_vr : Vr) (len : ℕ) (after : List ℕ) (vr : Vr) (d : Data) (next : List ℕ) → from ≤ number tag → SpellsValue syntax level head_vr len after vr d next → head_fault from (Known tag head_vr len) (length after) ≡ None
 spelled_good syntax level from tag head_vr len after vr (bytes b) next low (_, _, l, even, e, p) = good_head from tag head_vr len (length after) low (inr (l, even, omega (arith, e, ap length p, length-append b next)))
 spelled_good syntax level from tag head_vr len after vr (items is) next low (s, _, reach, inner, left, spans, _) = elim (spans_length len after reach inner left next spans) [
   | inl e ↦ good_head from tag head_vr len (length after) low (inl (e, s))
@@ -163,18 +163,18 @@ mutual
   pub not_elements : (syntax : TransferSyntax) (level : ℕ) (reach : Reach) (from : ℕ) (text : List ℕ) (fault : SetFault) (es : Elements) (rest : List ℕ) → ElementsFail syntax level reach from text fault → SpellsElements syntax level reach from text es rest → ⊥
   not_elements syntax level reach from text fault no_elements rest (at_head _ _ _ _ _ _ noend bad) p = noend rest p
   not_elements syntax level reach from text fault no_elements rest (in_value _ _ _ _ _ _ tag vr len after noend known bad) p = noend rest p
-  not_elements syntax level reach from text fault no_elements rest (behind _ _ _ _ _ _ tag vr len after kept d next noend known value bad) p = noend rest p
+  not_elements syntax level reach from text fault no_elements rest (behind_value _ _ _ _ _ _ tag vr len after kept d next noend known value bad) p = noend rest p
   not_elements syntax level reach from text fault (element k w f later) rest (at_head _ _ _ _ _ _ noend bad) (nk, hk, mk, ak, ik, lk, dk, ek) =
       head_not syntax from text fault k hk mk ak bad ik (spelled_good syntax level from k hk mk ak w f nk lk dk)
   not_elements syntax level reach from text fault (element k w f later) rest (in_value _ _ _ _ _ _ tag vr len after noend known bad) (nk, hk, mk, ak, ik, lk, dk, ek) =
       let same = same_heads syntax text tag k vr hk len mk after ak known.head ik in
       not_value syntax level vr len after fault w f nk bad (move_data syntax level vr hk len mk after ak w f nk same.vrs same.lens same.rests dk)
-  not_elements syntax level reach from text fault (element k w f later) rest (behind _ _ _ _ _ _ tag vr len after kept d next noend known value bad) (nk, hk, mk, ak, ik, lk, dk, ek) =
+  not_elements syntax level reach from text fault (element k w f later) rest (behind_value _ _ _ _ _ _ tag vr len after kept d next noend known value bad) (nk, hk, mk, ak, ik, lk, dk, ek) =
       let same = same_heads syntax text tag k vr hk len mk after ak known.head ik in
       let values = one_data syntax level vr len after kept d next w f nk value (move_data syntax level vr hk len mk after ak w f nk same.vrs same.lens same.rests dk) in
       not_elements syntax level reach (number tag + 1) next fault later rest bad (subst (λ (l : List ℕ). SpellsElements syntax level reach (number tag + 1) l later rest) (sym values.2) (subst (λ (t : Tag). SpellsElements syntax level reach (number t + 1) nk later rest) (sym same.tags) ek))
 
-  pub not_value : (syntax : TransferSyntax) (level : ℕ) (vr : Vr) (len : ℕ) (after : List ℕ) (fault : SetFault) (kept : Vr) (d : Data) (next : List ℕ) → ValueFails syntax level vr len after fault → SpellsData syntax level vr len after kept d next → ⊥
+  pub not_value : (syntax : TransferSyntax) (level : ℕ) (vr : Vr) (len : ℕ) (after : List ℕ) (fault : SetFault) (kept : Vr) (d : Data) (next : List ℕ) → ValueFails syntax level vr len after fault → SpellsValue syntax level vr len after kept d next → ⊥
   not_value syntax level vr len after fault kept (bytes b) next (in_items _ _ _ _ _ _ reach inner is opens bad) p = let e : true ≡ false = sym is ∙ p.0 in absurd cc
   not_value syntax level vr len after fault kept (items js) next (in_items _ _ _ _ _ _ reach inner is opens bad) (_, _, within, inner', left, spans, spelled) =
       let same = opens_spans len after reach inner within inner' left next opens spans in
@@ -218,7 +218,7 @@ mutual
   never_elements syntax level reach from text fault (at_head _ _ _ _ _ _ noend (inl (s, _))) m = let e : Short ≡ Memory = sym s ∙ m in absurd cc
   never_elements syntax level reach from text fault (at_head _ _ _ _ _ _ noend (inr (head, rest, is, e))) m = head_never from head (length rest) (e ∙ ap (λ f. Some f) m)
   never_elements syntax level reach from text fault (in_value _ _ _ _ _ _ tag vr len after noend known bad) m = never_value syntax level vr len after fault bad m
-  never_elements syntax level reach from text fault (behind _ _ _ _ _ _ tag vr len after kept d next noend known value bad) m = never_elements syntax level reach (number tag + 1) next fault bad m
+  never_elements syntax level reach from text fault (behind_value _ _ _ _ _ _ tag vr len after kept d next noend known value bad) m = never_elements syntax level reach (number tag + 1) next fault bad m
 
   pub never_value : (syntax : TransferSyntax) (level : ℕ) (vr : Vr) (len : ℕ) (after : List ℕ) (fault : SetFault) → ValueFails syntax level vr len after fault → fault ≡ Memory → ⊥
   never_value syntax level vr len after fault (in_items _ _ _ _ _ _ reach inner is opens bad) m = never_items (inside syntax vr) level reach inner fault bad m

@@ -8,7 +8,7 @@ use Rattle.ups_dataset.specs.declared.fault.SetFault.{SetFault}
 use Rattle.ups_dataset.specs.declared.fault.SetFault.TheVariants.{Memory}
 use Rattle.ups_dataset.specs.Data.{Data, Items, Elements, El, elements_of, items_of}
 use Rattle.ups_dataset.specs.Tag.{is_group_length}
-use Rattle.ups_dataset.specs.Spelling.{SpellsElements, SpellsData, SpellsItems, kept, kept_data, kept_items}
+use Rattle.ups_dataset.specs.Spelling.{SpellsElements, SpellsValue, SpellsItems, kept, kept_data, kept_items}
 
 -- the elements, with one more unless it is a group length
 abbrev pub keeps : Tag → Vr → Data → List El → List El
@@ -17,7 +17,7 @@ keeps tag vr value xs = if is_group_length tag then xs else xs ++ record { tag =
 -- the value, without group lengths, of what is spelled
 pub record BuildsValue (syntax : TransferSyntax) (level : ℕ) (head_vr : Vr) (len : ℕ) (after : List ℕ) (value : Data) (vr : Vr) (next : List ℕ) : Type 0 where
   pub all : Data
-  pub spelled : SpellsData syntax level head_vr len after vr all next
+  pub spelled : SpellsValue syntax level head_vr len after vr all next
   pub is : kept_data all ≡ value
 
 pub record BuildsElements (syntax : TransferSyntax) (level : ℕ) (reach : Reach) (from : ℕ) (text : List ℕ) (set : List El) (rest : List ℕ) : Type 0 where

@@ -8,7 +8,7 @@ use Rattle.ups_dataset.specs.declared.fault.SetFault.{SetFault}
 use Rattle.ups_dataset.specs.Tag.{number, item_delimitation, sequence_delimitation}
 use Rattle.ups_dataset.specs.Data.{Data, Elements}
 use Rattle.ups_dataset.specs.Head.{IsKnown, HeadFails, IsSequenceItem, ItemHeadFails, Ends, Opens, Spans, is_sequence}
-use Rattle.ups_dataset.specs.Spelling.{inside, SpellsData, SpellsElements}
+use Rattle.ups_dataset.specs.Spelling.{inside, SpellsValue, SpellsElements}
 
 -- At the front there is no end. Then either what begins there fails, or the inside of it does, or it is good and what comes behind it fails.
 mutual
@@ -17,8 +17,8 @@ mutual
         → ((rest : List ℕ) → Ends item_delimitation reach text rest → ⊥) → HeadFails syntax from text fault → ElementsFail syntax level reach from text fault
     in_value : (syntax : TransferSyntax) (level : ℕ) (reach : Reach) (from : ℕ) (text : List ℕ) (fault : SetFault) (tag : Tag) (vr : Vr) (len : ℕ) (after : List ℕ)
         → ((rest : List ℕ) → Ends item_delimitation reach text rest → ⊥) → IsKnown syntax from text tag vr len after → ValueFails syntax level vr len after fault → ElementsFail syntax level reach from text fault
-    behind : (syntax : TransferSyntax) (level : ℕ) (reach : Reach) (from : ℕ) (text : List ℕ) (fault : SetFault) (tag : Tag) (vr : Vr) (len : ℕ) (after : List ℕ) (kept_vr : Vr) (d : Data) (next : List ℕ)
-        → ((rest : List ℕ) → Ends item_delimitation reach text rest → ⊥) → IsKnown syntax from text tag vr len after → SpellsData syntax level vr len after kept_vr d next → ElementsFail syntax level reach (number tag + 1) next fault
+    behind_value : (syntax : TransferSyntax) (level : ℕ) (reach : Reach) (from : ℕ) (text : List ℕ) (fault : SetFault) (tag : Tag) (vr : Vr) (len : ℕ) (after : List ℕ) (kept_vr : Vr) (d : Data) (next : List ℕ)
+        → ((rest : List ℕ) → Ends item_delimitation reach text rest → ⊥) → IsKnown syntax from text tag vr len after → SpellsValue syntax level vr len after kept_vr d next → ElementsFail syntax level reach (number tag + 1) next fault
         → ElementsFail syntax level reach from text fault
 
   pub data ValueFails : TransferSyntax → ℕ → Vr → ℕ → List ℕ → SetFault → Type 0 where

@@ -24,13 +24,13 @@ abbrev mutual
   SpellsElements syntax level reach from text no_elements rest = Ends item_delimitation reach text rest
   SpellsElements syntax level reach from text (element tag vr d more) rest =
       (next : List ℕ) × (head_vr : Vr) × (len : ℕ) × (after : List ℕ) × IsHead syntax text (Known tag head_vr len) after × (from ≤ number tag)
-      × SpellsData syntax level head_vr len after vr d next × SpellsElements syntax level reach (number tag + 1) next more rest
+      × SpellsValue syntax level head_vr len after vr d next × SpellsElements syntax level reach (number tag + 1) next more rest
 
   -- Behind a header of this representation and length: an even number of bytes, or the items of a sequence.
-  pub SpellsData : TransferSyntax → ℕ → Vr → ℕ → List ℕ → Vr → Data → List ℕ → Type 0
-  SpellsData syntax level head_vr len after vr (bytes b) next =
+  pub SpellsValue : TransferSyntax → ℕ → Vr → ℕ → List ℕ → Vr → Data → List ℕ → Type 0
+  SpellsValue syntax level head_vr len after vr (bytes b) next =
       (is_sequence head_vr len ≡ false) × (vr ≡ head_vr) × (len < undefined_length) × ((len % 2) ≡ 0) × (length b ≡ len) × (after ≡ b ++ next)
-  SpellsData syntax level head_vr len after vr (items is) next =
+  SpellsValue syntax level head_vr len after vr (items is) next =
       (is_sequence head_vr len ≡ true) × (vr ≡ Sq)
       × (reach : Reach) × (inner : List ℕ) × (left : List ℕ) × Spans len after reach inner left next × SpellsItems (inside syntax head_vr) level reach inner is left
 

@@ -3,7 +3,7 @@
 ghost use Rattle.std.specs.Prelude.{◌≡◌, ◌<◌, ◌≤◌, false, length, MatchResult};
 ghost use Rattle.ups_dataset.specs.Data.{Data, Items, Elements};
 ghost use Rattle.ups_dataset.specs.Head.{IsLength, IsDelimited, is_sequence, rest_behind};
-ghost use Rattle.ups_dataset.specs.Spelling.{inside, SpellsElements, SpellsData, SpellsItems};
+ghost use Rattle.ups_dataset.specs.Spelling.{inside, SpellsElements, SpellsValue, SpellsItems};
 ghost use Rattle.ups_dataset.specs.Failing.{ElementsFail, ValueFails, ItemsFail};
 ghost use Rattle.ups_dataset.specs.Limits.{max_depth, undefined_length};
 
@@ -58,7 +58,7 @@ fn value_end(
     requires nested { level ≤ max_depth }
     requires fits { IsLength len (length after.now) }
     requires bytes { is_sequence vr len ≡ false → len < undefined_length }
-    ensures { MatchResult result (λ rest. (kept : Vr) × (d : Data) × SpellsData syntax level vr len after.now kept d rest.now) (ValueFails syntax level vr len after.now) }
+    ensures { MatchResult result (λ rest. (kept : Vr) × (d : Data) × SpellsValue syntax level vr len after.now kept d rest.now) (ValueFails syntax level vr len after.now) }
 {
     if !is_sequence(vr, len) {
         let (_, rest) = after.split_at(len as usize);

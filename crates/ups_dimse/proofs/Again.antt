@@ -21,7 +21,7 @@ use Rattle.ups_dimse.specs.declared.command.OperationResult.{OperationResult}
 use Rattle.ups_dimse.specs.declared.command.OperationResult.TheVariants as results
 use Rattle.ups_dimse.specs.declared.message.Message.{Message}
 use Rattle.ups_dimse.specs.declared.message.Message.TheVariants.{EventReportRequest, EventReportResponse, GetRequest, GetResponse, SetRequest, SetResponse, ActionRequest, ActionResponse, CreateRequest, CreateResponse, EchoRequest, EchoResponse, FindRequest, FindResponse, CancelRequest}
-use Rattle.ups_dimse.specs.Elements.{CommandElement, IsCommandElement, SpellsElements, value_in}
+use Rattle.ups_dimse.specs.Elements.{CommandElement, IsCommandElement, SpellsCommandElements, value_in}
 use Rattle.ups_dimse.specs.Limits.{max_attributes}
 use Rattle.ups_dimse.specs.Messages.{field_of}
 use Rattle.ups_dimse.specs.Values.{MayHaveUs, HasUid, HasDataSet, IsTagAt}
@@ -44,7 +44,7 @@ AreGood from (e ∷ es) = IsGood e × (from ≤ e.number) × AreGood (e.number +
 element_again : (e : CommandElement) (rest : List ℕ) → IsGood e → IsCommandElement (written_command_element e ++ rest) e rest
 element_again e rest g = record { in_group = g.in_group; defined = g.defined; even = g.even; parts = simp append_assoc }
 
-elements_again : (from : ℕ) (es : List CommandElement) → AreGood from es → SpellsElements from (flat_map written_command_element es) es []
+elements_again : (from : ℕ) (es : List CommandElement) → AreGood from es → SpellsCommandElements from (flat_map written_command_element es) es []
 elements_again from [] g = refl
 elements_again from (e ∷ es) g = (flat_map written_command_element es, element_again e (flat_map written_command_element es) g.0, g.1, elements_again (e.number + 1) es g.2)
 
@@ -378,6 +378,6 @@ command_again (Cancel c) h = cancel_again c h
 pub again : {A : Type 0} (bytes : List ℕ) (c : Command A) → FitsCommand c → IsHeld c → bytes ≡ written_command c → SpellsCommand bytes c
 again bytes c fits h e = record {
   elements = grouped (command_elements c);
-  spelled = subst (λ (b : List ℕ). SpellsElements 0 b (grouped (command_elements c)) []) (sym e) (elements_again 0 (grouped (command_elements c)) (good_grouped (command_elements c) (good_command c fits h)));
+  spelled = subst (λ (b : List ℕ). SpellsCommandElements 0 b (grouped (command_elements c)) []) (sym e) (elements_again 0 (grouped (command_elements c)) (good_grouped (command_elements c) (good_command c fits h)));
   is = command_again c h;
 }

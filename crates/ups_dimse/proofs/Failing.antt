@@ -15,7 +15,7 @@ use Rattle.ups_dimse.specs.declared.command.OperationResult.{OperationResult}
 use Rattle.ups_dimse.specs.declared.command.OperationResult.TheVariants as results
 use Rattle.ups_dimse.specs.declared.message.Message.{Message}
 use Rattle.ups_dimse.specs.declared.message.Message.TheVariants.{GetRequest}
-use Rattle.ups_dimse.specs.Elements.{CommandElement, SpellsElements}
+use Rattle.ups_dimse.specs.Elements.{CommandElement, SpellsCommandElements}
 use Rattle.ups_dimse.specs.Messages.{Need, has_us, may_have_us, may_have_at, field_of, needs}
 use Rattle.ups_dimse.specs.Values.{HasUs, UsFails, MayHaveUs, PresentUsFails, HasUid, HasDataSet, HasTags, TagsFail}
 use Rattle.ups_dimse.specs.Commands.{request_of, response_of, IsRequest, IsCommand, SpellsCommand, HasOperation, HasResult}
@@ -80,17 +80,17 @@ elements_no es c f p (inr (inr k)) =
     all_no es (needs (message_of c)) f (command_holds es c p) (subst (λ (m : Message). FirstFails es (needs m) f) same k.2)
 
 -- the elements of bytes that spell a command are not at fault
-pub spelled_no : {A : Type 0} (bytes : List ℕ) (c : Command A) (es : List CommandElement) (f : DimseFault) → SpellsCommand bytes c → SpellsElements 0 bytes es [] → CommandElementsFail es f → ⊥
+pub spelled_no : {A : Type 0} (bytes : List ℕ) (c : Command A) (es : List CommandElement) (f : DimseFault) → SpellsCommand bytes c → SpellsCommandElements 0 bytes es [] → CommandElementsFail es f → ⊥
 spelled_no bytes c es f p s k = elements_no p.elements c f p.is (subst (λ (l : List CommandElement). CommandElementsFail l f) (one_list 0 bytes es p.elements s p.spelled) k)
 
 -- the last step of reading
-pub only_command : {A : Type 0} (bytes : List ℕ) (m : Message) (es : List CommandElement) → SpellsElements 0 bytes es [] → HasUs es 0x0100 (field_of m)
+pub only_command : {A : Type 0} (bytes : List ℕ) (m : Message) (es : List CommandElement) → SpellsCommandElements 0 bytes es [] → HasUs es 0x0100 (field_of m)
     → (r : Result (Command A) DimseFault) → ReadsOrFails (IsCommand es) (FirstFails es (needs m)) r → (c : Command A) → SpellsCommand bytes c → MatchResult r (λ x. x ≡ c) (λ e. e ≡ Memory)
 only_command bytes m es s h (Ok x) g c p = one_command bytes x c (record { elements = es; spelled = s; is = g }) p
 only_command bytes m es s h (Err e) (inl g) c p = g.0
 only_command bytes m es s h (Err e) (inr g) c p = absurd (spelled_no bytes c es e p s (inr (inr (m, h, g))))
 
-pub fault_command : {A : Type 0} (bytes : List ℕ) (m : Message) (es : List CommandElement) → SpellsElements 0 bytes es [] → HasUs es 0x0100 (field_of m)
+pub fault_command : {A : Type 0} (bytes : List ℕ) (m : Message) (es : List CommandElement) → SpellsCommandElements 0 bytes es [] → HasUs es 0x0100 (field_of m)
     → (r : Result (Command A) DimseFault) → ReadsOrFails (IsCommand es) (FirstFails es (needs m)) r → IfErr r (IsCommandFault A bytes)
 fault_command bytes m es s h (Ok x) g = tt
 fault_command bytes m es s h (Err e) (inl g) = inl (g.0, g.1, record { elements = es; spelled = s; is = g.2 })

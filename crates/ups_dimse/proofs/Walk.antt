@@ -5,7 +5,7 @@ use Rattle.std.proofs.lemmas.Bool.{false≢true, eq-eqb, ne_eqb}
 use Rattle.std.proofs.lemmas.List.{length-append}
 use Rattle.ups_pdu.proofs.Parts.{same_parts, same_le_2, same_le_4}
 use Rattle.ups_dataset.specs.Tag.{tag_bytes}
-use Rattle.ups_dimse.specs.Elements.{CommandElement, IsCommandElement, SpellsElements, AreElements, command_tag, value_in}
+use Rattle.ups_dimse.specs.Elements.{CommandElement, IsCommandElement, SpellsCommandElements, AreCommandElements, command_tag, value_in}
 
 -- one element at the front, and one rest
 pub one_element : (bytes : List ℕ) (e f : CommandElement) (r s : List ℕ) → IsCommandElement bytes e r → IsCommandElement bytes f s → (e ≡ f) × (r ≡ s)
@@ -23,14 +23,14 @@ element_shorter bytes e r p = rw p.parts (omega (arith, length-append e.value r)
 
 -- what holds of the elements from here on holds of them all
 pub record GoesOn (bytes : List ℕ) (from : ℕ) (rest : List ℕ) : Type 0 where
-  pub back : AreElements from rest → AreElements 0 bytes
-  pub on : AreElements 0 bytes → AreElements from rest
+  pub back : AreCommandElements from rest → AreCommandElements 0 bytes
+  pub on : AreCommandElements 0 bytes → AreCommandElements from rest
 
-pub front_of : (from : ℕ) (bytes : List ℕ) (e : CommandElement) (rest : List ℕ) → IsCommandElement bytes e rest → AreElements from bytes → (from ≤ e.number) × AreElements (e.number + 1) rest
+pub front_of : (from : ℕ) (bytes : List ℕ) (e : CommandElement) (rest : List ℕ) → IsCommandElement bytes e rest → AreCommandElements from bytes → (from ≤ e.number) × AreCommandElements (e.number + 1) rest
 front_of from bytes e rest p ([], s) = let none : length bytes ≡ 0 = ap length s in absurd (omega (arith, none, element_shorter bytes e rest p))
 front_of from bytes e rest p (f ∷ fs, s) =
     let same = one_element bytes f e s.0 rest s.1 p in
-    (subst (λ (x : CommandElement). from ≤ x.number) same.0 s.2, (fs, subst (λ (l : List ℕ). SpellsElements (e.number + 1) l fs []) same.1 (subst (λ (x : CommandElement). SpellsElements (x.number + 1) s.0 fs []) same.0 s.3)))
+    (subst (λ (x : CommandElement). from ≤ x.number) same.0 s.2, (fs, subst (λ (l : List ℕ). SpellsCommandElements (e.number + 1) l fs []) same.1 (subst (λ (x : CommandElement). SpellsCommandElements (x.number + 1) s.0 fs []) same.0 s.3)))
 
 pub goes_next : (bytes : List ℕ) (from : ℕ) (rest : List ℕ) (e : CommandElement) (after : List ℕ) → GoesOn bytes from rest → IsCommandElement rest e after → from ≤ e.number → GoesOn bytes (e.number + 1) after
 goes_next bytes from rest e after g p low = record {
@@ -40,36 +40,36 @@ goes_next bytes from rest e after g p low = record {
 
 -- the element of a number is still to come
 abbrev pub StillIn : ℕ → List ℕ → List ℕ → Type 0
-StillIn number bytes rest = (es : List CommandElement) → SpellsElements 0 bytes es [] → (from : ℕ) × (tail : List CommandElement) × SpellsElements from rest tail [] × (value_in number es ≡ value_in number tail)
+StillIn number bytes rest = (es : List CommandElement) → SpellsCommandElements 0 bytes es [] → (from : ℕ) × (tail : List CommandElement) × SpellsCommandElements from rest tail [] × (value_in number es ≡ value_in number tail)
 
-pub front_value : (number from : ℕ) (bytes : List ℕ) (es : List CommandElement) (e : CommandElement) (rest : List ℕ) → IsCommandElement bytes e rest → SpellsElements from bytes es []
-    → (tail : List CommandElement) × SpellsElements (e.number + 1) rest tail [] × (value_in number es ≡ cond (eqb e.number number) (Some e.value) (value_in number tail))
+pub front_value : (number from : ℕ) (bytes : List ℕ) (es : List CommandElement) (e : CommandElement) (rest : List ℕ) → IsCommandElement bytes e rest → SpellsCommandElements from bytes es []
+    → (tail : List CommandElement) × SpellsCommandElements (e.number + 1) rest tail [] × (value_in number es ≡ cond (eqb e.number number) (Some e.value) (value_in number tail))
 front_value number from bytes [] e rest p s = let none : length bytes ≡ 0 = ap length s in absurd (omega (arith, none, element_shorter bytes e rest p))
 front_value number from bytes (f ∷ fs) e rest p s =
     let same = one_element bytes f e s.0 rest s.1 p in
-    (fs, subst (λ (l : List ℕ). SpellsElements (e.number + 1) l fs []) same.1 (subst (λ (x : CommandElement). SpellsElements (x.number + 1) s.0 fs []) same.0 s.3), ap (λ (x : CommandElement). cond (eqb x.number number) (Some x.value) (value_in number fs)) same.0)
+    (fs, subst (λ (l : List ℕ). SpellsCommandElements (e.number + 1) l fs []) same.1 (subst (λ (x : CommandElement). SpellsCommandElements (x.number + 1) s.0 fs []) same.0 s.3), ap (λ (x : CommandElement). cond (eqb x.number number) (Some x.value) (value_in number fs)) same.0)
 
 -- where no element stands at the front, there is none
-pub no_front : (from : ℕ) (bytes : List ℕ) (es : List CommandElement) → ((e : CommandElement) → (rest : List ℕ) → IsCommandElement bytes e rest → ⊥) → SpellsElements from bytes es [] → es ≡ []
+pub no_front : (from : ℕ) (bytes : List ℕ) (es : List CommandElement) → ((e : CommandElement) → (rest : List ℕ) → IsCommandElement bytes e rest → ⊥) → SpellsCommandElements from bytes es [] → es ≡ []
 no_front from bytes [] none s = refl
 no_front from bytes (e ∷ es) none s = absurd (none e s.0 s.1)
 
 pub refused : (P : Type 0) → (P → ⊥) → (IsTrue false → P) × (P → IsTrue false)
 refused P none = (λ e. absurd (false≢true e), λ p. absurd (none p))
 
-pub not_here : (bytes : List ℕ) (from : ℕ) (rest : List ℕ) → GoesOn bytes from rest → 0 < length rest → ((e : CommandElement) → (after : List ℕ) → IsCommandElement rest e after → ⊥) → AreElements 0 bytes → ⊥
+pub not_here : (bytes : List ℕ) (from : ℕ) (rest : List ℕ) → GoesOn bytes from rest → 0 < length rest → ((e : CommandElement) → (after : List ℕ) → IsCommandElement rest e after → ⊥) → AreCommandElements 0 bytes → ⊥
 not_here bytes from rest g some none a =
     let b = g.on a in
     let es : b.0 ≡ [] = no_front from rest b.0 none b.1 in
-    let nil : rest ≡ [] = subst (λ (l : List CommandElement). SpellsElements from rest l []) es b.1 in
+    let nil : rest ≡ [] = subst (λ (l : List CommandElement). SpellsCommandElements from rest l []) es b.1 in
     let zero : length rest ≡ 0 = ap length nil in
     omega (arith, some, zero)
 
-pub too_low : (bytes : List ℕ) (from : ℕ) (rest : List ℕ) (e : CommandElement) (after : List ℕ) → GoesOn bytes from rest → IsCommandElement rest e after → e.number < from → AreElements 0 bytes → ⊥
+pub too_low : (bytes : List ℕ) (from : ℕ) (rest : List ℕ) (e : CommandElement) (after : List ℕ) → GoesOn bytes from rest → IsCommandElement rest e after → e.number < from → AreCommandElements 0 bytes → ⊥
 too_low bytes from rest e after g p low a = omega (arith, low, (front_of from rest e after p (g.on a)).0)
 
 pub found_here : (number : ℕ) (bytes rest : List ℕ) (e : CommandElement) (after : List ℕ) → StillIn number bytes rest → IsCommandElement rest e after → e.number ≡ number
-    → (es : List CommandElement) → SpellsElements 0 bytes es [] → value_in number es ≡ Some e.value
+    → (es : List CommandElement) → SpellsCommandElements 0 bytes es [] → value_in number es ≡ Some e.value
 found_here number bytes rest e after still p same es s =
     let t = still es s in
     let f = front_value number t.0 rest t.1 e after p t.2 in
@@ -81,18 +81,18 @@ still_next number bytes rest e after still p other = λ es s.
     let f = front_value number t.0 rest t.1 e after p t.2 in
     (e.number + 1, f.0, f.1, t.3 ∙ f.2 ∙ ap (λ (b : Bool). cond b (Some e.value) (value_in number f.0)) (ne_eqb e.number number other))
 
-pub found_none : (number : ℕ) (bytes rest : List ℕ) → StillIn number bytes rest → ((e : CommandElement) → (after : List ℕ) → IsCommandElement rest e after → ⊥) → (es : List CommandElement) → SpellsElements 0 bytes es [] → value_in number es ≡ None
+pub found_none : (number : ℕ) (bytes rest : List ℕ) → StillIn number bytes rest → ((e : CommandElement) → (after : List ℕ) → IsCommandElement rest e after → ⊥) → (es : List CommandElement) → SpellsCommandElements 0 bytes es [] → value_in number es ≡ None
 found_none number bytes rest still none es s =
     let t = still es s in
     t.3 ∙ ap (value_in number) (no_front t.0 rest t.1 none t.2)
 
 -- the bytes are one list of elements
-pub one_list : (from : ℕ) (bytes : List ℕ) (es fs : List CommandElement) → SpellsElements from bytes es [] → SpellsElements from bytes fs [] → es ≡ fs
+pub one_list : (from : ℕ) (bytes : List ℕ) (es fs : List CommandElement) → SpellsCommandElements from bytes es [] → SpellsCommandElements from bytes fs [] → es ≡ fs
 one_list from bytes [] [] s t = refl
 one_list from bytes [] (f ∷ fs) s t = let none : length bytes ≡ 0 = ap length s in absurd (omega (arith, none, element_shorter bytes f t.0 t.1))
 one_list from bytes (e ∷ es) [] s t = let none : length bytes ≡ 0 = ap length t in absurd (omega (arith, none, element_shorter bytes e s.0 s.1))
 one_list from bytes (e ∷ es) (f ∷ fs) s t =
     let same = one_element bytes f e t.0 s.0 t.1 s.1 in
-    let tail = subst (λ (l : List ℕ). SpellsElements (e.number + 1) l fs []) same.1 (subst (λ (x : CommandElement). SpellsElements (x.number + 1) t.0 fs []) same.0 t.3) in
+    let tail = subst (λ (l : List ℕ). SpellsCommandElements (e.number + 1) l fs []) same.1 (subst (λ (x : CommandElement). SpellsCommandElements (x.number + 1) t.0 fs []) same.0 t.3) in
     let inner = one_list (e.number + 1) s.0 es fs s.3 tail in
     λ i. sym same.0 i ∷ inner i

@@ -11,7 +11,7 @@ use Rattle.ups_dimse.specs.declared.command.OperationResult.{OperationResult}
 use Rattle.ups_dimse.specs.declared.command.OperationResult.TheVariants as results
 use Rattle.ups_dimse.specs.declared.message.Message.{Message}
 use Rattle.ups_dimse.specs.declared.message.Message.TheVariants.{EventReportRequest, EventReportResponse, GetRequest, GetResponse, SetRequest, SetResponse, ActionRequest, ActionResponse, CreateRequest, CreateResponse, EchoRequest, EchoResponse, FindRequest, FindResponse, CancelRequest}
-use Rattle.ups_dimse.specs.Elements.{CommandElement, SpellsElements}
+use Rattle.ups_dimse.specs.Elements.{CommandElement, SpellsCommandElements}
 use Rattle.ups_dimse.specs.Messages.{field_of}
 use Rattle.ups_dimse.specs.Values.{HasUs, MayHaveUs, HasUid, HasDataSet, HasTags}
 
@@ -103,7 +103,7 @@ IsCommand elements (Cancel cancel) = IsCancel elements cancel
 -- is none of the command's, so it may be absent, and is not looked at.
 pub record SpellsCommand {A : Type 0} (bytes : List ℕ) (command : Command A) : Type 0 where
   pub elements : List CommandElement
-  pub spelled : SpellsElements 0 bytes elements []
+  pub spelled : SpellsCommandElements 0 bytes elements []
   pub is : IsCommand elements command
 
 -- what a response to an operation is the result of

@@ -23,13 +23,13 @@ pub record IsCommandElement (bytes : List ℕ) (element : CommandElement) (rest 
   pub parts : bytes ≡ tag_bytes (command_tag element.number) ++ (to_le_bytes w32 (length element.value) ++ (element.value ++ rest))
 
 -- The bytes begin with these elements, whose numbers rise and are at least from (PS3.5 section 7.1). The rest follows.
-abbrev pub SpellsElements : ℕ → List ℕ → List CommandElement → List ℕ → Type 0
-SpellsElements from bytes [] rest = bytes ≡ rest
-SpellsElements from bytes (e ∷ es) rest = (next : List ℕ) × IsCommandElement bytes e next × (from ≤ e.number) × SpellsElements (e.number + 1) next es rest
+abbrev pub SpellsCommandElements : ℕ → List ℕ → List CommandElement → List ℕ → Type 0
+SpellsCommandElements from bytes [] rest = bytes ≡ rest
+SpellsCommandElements from bytes (e ∷ es) rest = (next : List ℕ) × IsCommandElement bytes e next × (from ≤ e.number) × SpellsCommandElements (e.number + 1) next es rest
 
 -- the bytes are elements, and nothing else
-abbrev pub AreElements : ℕ → List ℕ → Type 0
-AreElements from bytes = (elements : List CommandElement) × SpellsElements from bytes elements []
+abbrev pub AreCommandElements : ℕ → List ℕ → Type 0
+AreCommandElements from bytes = (elements : List CommandElement) × SpellsCommandElements from bytes elements []
 
 -- the value of the element of a number
 abbrev pub value_in : ℕ → List CommandElement → Option (List ℕ)

@@ -5,7 +5,7 @@ use Rattle.ups_dimse.specs.declared.fault.DimseFault.{DimseFault}
 use Rattle.ups_dimse.specs.declared.fault.DimseFault.TheVariants.{BadValue, UnknownField, Memory}
 use Rattle.ups_dimse.specs.declared.message.Message.{Message}
 use Rattle.ups_dimse.specs.declared.command.Command.{Command}
-use Rattle.ups_dimse.specs.Elements.{CommandElement, command_tag, SpellsElements, AreElements}
+use Rattle.ups_dimse.specs.Elements.{CommandElement, command_tag, SpellsCommandElements, AreCommandElements}
 use Rattle.ups_dimse.specs.Messages.{Need, has_us, may_have_us, may_have_at, field_of, needs}
 use Rattle.ups_dimse.specs.Values.{HasUs, UsFails, MayHaveUs, PresentUsFails, HasTags, TagsFail}
 use Rattle.ups_dimse.specs.Commands.{SpellsCommand}
@@ -38,8 +38,8 @@ CommandElementsFail elements fault = UsFails elements 0x0100 fault
 -- BadValue of (0000,0000); or their elements are those of no command.
 abbrev pub IsCommandFault : (A : Type 0) → List ℕ → DimseFault → Type 0
 IsCommandFault A bytes fault = ((fault ≡ Memory) × (command : Command A) × SpellsCommand bytes command)
-    ⊎ (((AreElements 0 bytes → ⊥) × (fault ≡ BadValue (command_tag 0x0000)))
-    ⊎ ((elements : List CommandElement) × SpellsElements 0 bytes elements [] × CommandElementsFail elements fault))
+    ⊎ (((AreCommandElements 0 bytes → ⊥) × (fault ≡ BadValue (command_tag 0x0000)))
+    ⊎ ((elements : List CommandElement) × SpellsCommandElements 0 bytes elements [] × CommandElementsFail elements fault))
 
 -- What a reader of a part answers: the part; or lack of memory, where the part is there; or a fault.
 abbrev pub ReadsOrFails : {X : Type 0} → (X → Type 0) → (DimseFault → Type 0) → Result X DimseFault → Type 0

@@ -4,7 +4,7 @@
 ghost use Rattle.std.specs.Prelude.{◌≡◌, ◌↔◌, ◌%◌, ℕ, List, [], None, Some, length, IsTrue, IfOk, MatchOption, MatchResult};
 ghost use Rattle.ups_pdu.specs.Each.{Each};
 ghost use Rattle.ups_dataset.specs.declared.tag.Tag.{Tag};
-ghost use Rattle.ups_dimse.specs.Elements.{CommandElement, IsCommandElement, SpellsElements, AreElements, value_in};
+ghost use Rattle.ups_dimse.specs.Elements.{CommandElement, IsCommandElement, SpellsCommandElements, AreCommandElements, value_in};
 ghost use Rattle.ups_dimse.specs.Faults.{ReadsOrFails};
 ghost use Rattle.ups_dimse.specs.Values.{HasUs, UsFails, MayHaveUs, PresentUsFails, HasUid, HasDataSet, IsTagAt, HasTags, TagsFail};
 
@@ -32,7 +32,7 @@ fn element_at(bytes: &[u8]) -> Option<(u16, &[u8], &[u8])>
 
 /// Whether the bytes are elements with rising tags, and nothing else.
 pub(crate) fn are_elements(bytes: &[u8]) -> bool
-    ensures { IsTrue result ↔ AreElements 0 bytes.now }
+    ensures { IsTrue result ↔ AreCommandElements 0 bytes.now }
 {
     let mut from = 0;
     let mut rest = bytes;
@@ -51,7 +51,7 @@ pub(crate) fn are_elements(bytes: &[u8]) -> bool
 
 /// The value of an element, in bytes that are elements.
 fn value_of(bytes: &[u8], number: u16) -> Option<&[u8]>
-    ensures { (elements : List CommandElement) → SpellsElements 0 bytes.now elements [] → MatchOption result (value_in number elements ≡ None) (λ v. value_in number elements ≡ Some v.now) }
+    ensures { (elements : List CommandElement) → SpellsCommandElements 0 bytes.now elements [] → MatchOption result (value_in number elements ≡ None) (λ v. value_in number elements ≡ Some v.now) }
 {
     let mut rest = bytes;
     while let Some((found, value, after)) = element_at(rest) {
@@ -65,7 +65,7 @@ fn value_of(bytes: &[u8], number: u16) -> Option<&[u8]>
 
 /// The number in an element with the value representation US (PS3.5 section 6.2).
 pub(crate) fn us_of(bytes: &[u8], number: u16) -> Result<u16, DimseFault>
-    ensures { (elements : List CommandElement) → SpellsElements 0 bytes.now elements [] → MatchResult result (HasUs elements number) (UsFails elements number) }
+    ensures { (elements : List CommandElement) → SpellsCommandElements 0 bytes.now elements [] → MatchResult result (HasUs elements number) (UsFails elements number) }
 {
     let Some(value) = optional_us_of(bytes, number)? else {
         return Err(DimseFault::Missing(command_tag(number)));
@@ -75,7 +75,7 @@ pub(crate) fn us_of(bytes: &[u8], number: u16) -> Result<u16, DimseFault>
 
 /// The number in an element with the value representation US, which may be absent.
 pub(crate) fn optional_us_of(bytes: &[u8], number: u16) -> Result<Option<u16>, DimseFault>
-    ensures { (elements : List CommandElement) → SpellsElements 0 bytes.now elements [] → MatchResult result (MayHaveUs elements number) (PresentUsFails elements number) }
+    ensures { (elements : List CommandElement) → SpellsCommandElements 0 bytes.now elements [] → MatchResult result (MayHaveUs elements number) (PresentUsFails elements number) }
 {
     let Some(value) = value_of(bytes, number) else {
         return Ok(None);
@@ -88,14 +88,14 @@ pub(crate) fn optional_us_of(bytes: &[u8], number: u16) -> Result<Option<u16>, D
 
 /// The UID in an element with the value representation UI (PS3.5 section 6.2).
 pub(crate) fn uid_of(bytes: &[u8], number: u16) -> Option<Uid>
-    ensures { (elements : List CommandElement) → SpellsElements 0 bytes.now elements [] → HasUid elements number result }
+    ensures { (elements : List CommandElement) → SpellsCommandElements 0 bytes.now elements [] → HasUid elements number result }
 {
     Uid::of(value_of(bytes, number)?)
 }
 
 /// Whether a data set follows the command (PS3.7 annex E.1, Command Data Set Type).
 pub(crate) fn has_data_set(bytes: &[u8]) -> Result<bool, DimseFault>
-    ensures { (elements : List CommandElement) → SpellsElements 0 bytes.now elements [] → MatchResult result (HasDataSet elements) (UsFails elements 0x0800) }
+    ensures { (elements : List CommandElement) → SpellsCommandElements 0 bytes.now elements [] → MatchResult result (HasDataSet elements) (UsFails elements 0x0800) }
 {
     Ok(us_of(bytes, DATA_SET_TYPE)? != 0x0101)
 }
@@ -121,7 +121,7 @@ pub(crate) fn tags_of<A: Allocator + Copy>(
     bytes: &[u8],
     number: u16,
 ) -> Result<Tags<A>, DimseFault>
-    ensures { (elements : List CommandElement) → SpellsElements 0 bytes.now elements [] → ReadsOrFails (HasTags elements number) (TagsFail elements number) result }
+    ensures { (elements : List CommandElement) → SpellsCommandElements 0 bytes.now elements [] → ReadsOrFails (HasTags elements number) (TagsFail elements number) result }
 {
     let Some(value) = value_of(bytes, number) else {
         return Ok(Tags::new(alloc));

@@ -4,7 +4,7 @@ ghost use Rattle.std.specs.Prelude.{◌≡◌, List, ℕ, [], IfOk, IfErr, Match
 ghost use Rattle.ups_dimse.specs.declared.command.Command.{Command};
 ghost use Rattle.ups_dimse.specs.declared.fault.DimseFault.{DimseFault};
 ghost use Rattle.ups_dimse.specs.declared.fault.DimseFault.TheVariants.{Memory};
-ghost use Rattle.ups_dimse.specs.Elements.{CommandElement, SpellsElements};
+ghost use Rattle.ups_dimse.specs.Elements.{CommandElement, SpellsCommandElements};
 ghost use Rattle.ups_dimse.specs.Messages.{field_of, needs};
 ghost use Rattle.ups_dimse.specs.Values.{HasUs};
 ghost use Rattle.ups_dimse.specs.Commands.{HasOperation, HasResult, IsRequest, IsResponse, IsCancel, IsCommand, SpellsCommand, request_of, response_of};
@@ -26,7 +26,7 @@ use std::alloc::Allocator;
 
 /// N-EVENT-REPORT-RQ (PS3.7 section 10.3.1.1).
 fn event_report_request<A: Allocator + Copy>(bytes: &[u8]) -> Result<RequestCommand<A>, DimseFault>
-    ensures { (elements : List CommandElement) → SpellsElements 0 bytes.now elements [] → HasUs elements 0x0100 (field_of EventReportRequest)
+    ensures { (elements : List CommandElement) → SpellsCommandElements 0 bytes.now elements [] → HasUs elements 0x0100 (field_of EventReportRequest)
         → MatchResult result (IsRequest elements) (FirstFails elements (needs EventReportRequest)) }
 {
     Ok(RequestCommand {
@@ -42,7 +42,7 @@ fn event_report_request<A: Allocator + Copy>(bytes: &[u8]) -> Result<RequestComm
 
 /// N-GET-RQ (PS3.7 section 10.3.2.1).
 fn get_request<A: Allocator + Copy>(alloc: A, bytes: &[u8]) -> Result<RequestCommand<A>, DimseFault>
-    ensures { (elements : List CommandElement) → SpellsElements 0 bytes.now elements [] → HasUs elements 0x0100 (field_of GetRequest)
+    ensures { (elements : List CommandElement) → SpellsCommandElements 0 bytes.now elements [] → HasUs elements 0x0100 (field_of GetRequest)
         → ReadsOrFails (IsRequest elements) (FirstFails elements (needs GetRequest)) result }
 {
     Ok(RequestCommand {
@@ -58,7 +58,7 @@ fn get_request<A: Allocator + Copy>(alloc: A, bytes: &[u8]) -> Result<RequestCom
 
 /// N-ACTION-RQ (PS3.7 section 10.3.4.1).
 fn action_request<A: Allocator + Copy>(bytes: &[u8]) -> Result<RequestCommand<A>, DimseFault>
-    ensures { (elements : List CommandElement) → SpellsElements 0 bytes.now elements [] → HasUs elements 0x0100 (field_of ActionRequest)
+    ensures { (elements : List CommandElement) → SpellsCommandElements 0 bytes.now elements [] → HasUs elements 0x0100 (field_of ActionRequest)
         → MatchResult result (IsRequest elements) (FirstFails elements (needs ActionRequest)) }
 {
     Ok(RequestCommand {
@@ -74,7 +74,7 @@ fn action_request<A: Allocator + Copy>(bytes: &[u8]) -> Result<RequestCommand<A>
 
 /// C-FIND-RQ (PS3.7 section 9.3.2.1).
 fn find_request<A: Allocator + Copy>(bytes: &[u8]) -> Result<RequestCommand<A>, DimseFault>
-    ensures { (elements : List CommandElement) → SpellsElements 0 bytes.now elements [] → HasUs elements 0x0100 (field_of FindRequest)
+    ensures { (elements : List CommandElement) → SpellsCommandElements 0 bytes.now elements [] → HasUs elements 0x0100 (field_of FindRequest)
         → MatchResult result (IsRequest elements) (FirstFails elements (needs FindRequest)) }
 {
     Ok(RequestCommand {
@@ -89,7 +89,7 @@ fn find_request<A: Allocator + Copy>(bytes: &[u8]) -> Result<RequestCommand<A>, 
 
 /// C-CANCEL-RQ (PS3.7 section 9.3.2.3).
 fn cancel_request(bytes: &[u8]) -> Result<CancelCommand, DimseFault>
-    ensures { (elements : List CommandElement) → SpellsElements 0 bytes.now elements [] → HasUs elements 0x0100 (field_of CancelRequest)
+    ensures { (elements : List CommandElement) → SpellsCommandElements 0 bytes.now elements [] → HasUs elements 0x0100 (field_of CancelRequest)
         → MatchResult result (IsCancel elements) (FirstFails elements (needs CancelRequest)) }
 {
     Ok(CancelCommand {
@@ -103,7 +103,7 @@ fn request<A: Allocator + Copy>(
     bytes: &[u8],
     operation: Operation<A>,
 ) -> Result<RequestCommand<A>, DimseFault>
-    ensures { (elements : List CommandElement) → SpellsElements 0 bytes.now elements [] → HasUs elements 0x0100 (field_of (request_of operation))
+    ensures { (elements : List CommandElement) → SpellsCommandElements 0 bytes.now elements [] → HasUs elements 0x0100 (field_of (request_of operation))
         → HasOperation elements operation → MatchResult result (λ r. IsRequest elements r × (r.operation ≡ operation)) (FirstFails elements (needs (request_of operation))) }
 {
     Ok(RequestCommand {
@@ -116,7 +116,7 @@ fn request<A: Allocator + Copy>(
 
 /// N-EVENT-REPORT-RSP (PS3.7 section 10.3.1.2).
 fn event_report_response(bytes: &[u8]) -> Result<ResponseCommand, DimseFault>
-    ensures { (elements : List CommandElement) → SpellsElements 0 bytes.now elements [] → HasUs elements 0x0100 (field_of EventReportResponse)
+    ensures { (elements : List CommandElement) → SpellsCommandElements 0 bytes.now elements [] → HasUs elements 0x0100 (field_of EventReportResponse)
         → MatchResult result (IsResponse elements) (FirstFails elements (needs EventReportResponse)) }
 {
     Ok(ResponseCommand {
@@ -133,7 +133,7 @@ fn event_report_response(bytes: &[u8]) -> Result<ResponseCommand, DimseFault>
 
 /// N-ACTION-RSP (PS3.7 section 10.3.4.2).
 fn action_response(bytes: &[u8]) -> Result<ResponseCommand, DimseFault>
-    ensures { (elements : List CommandElement) → SpellsElements 0 bytes.now elements [] → HasUs elements 0x0100 (field_of ActionResponse)
+    ensures { (elements : List CommandElement) → SpellsCommandElements 0 bytes.now elements [] → HasUs elements 0x0100 (field_of ActionResponse)
         → MatchResult result (IsResponse elements) (FirstFails elements (needs ActionResponse)) }
 {
     Ok(ResponseCommand {
@@ -150,7 +150,7 @@ fn action_response(bytes: &[u8]) -> Result<ResponseCommand, DimseFault>
 
 /// The response with this result, whose own elements were read (PS3.7 sections 9.3 and 10.3).
 fn response(bytes: &[u8], outcome: OperationResult) -> Result<ResponseCommand, DimseFault>
-    ensures { (elements : List CommandElement) → SpellsElements 0 bytes.now elements [] → HasUs elements 0x0100 (field_of (response_of outcome))
+    ensures { (elements : List CommandElement) → SpellsCommandElements 0 bytes.now elements [] → HasUs elements 0x0100 (field_of (response_of outcome))
         → HasResult elements outcome → MatchResult result (λ r. IsResponse elements r × (r.result ≡ outcome)) (FirstFails elements (needs (response_of outcome))) }
 {
     Ok(ResponseCommand {
@@ -168,7 +168,7 @@ fn command_of<A: Allocator + Copy>(
     bytes: &[u8],
     message: Message,
 ) -> Result<Command<A>, DimseFault>
-    ensures { (elements : List CommandElement) → SpellsElements 0 bytes.now elements [] → HasUs elements 0x0100 (field_of message)
+    ensures { (elements : List CommandElement) → SpellsCommandElements 0 bytes.now elements [] → HasUs elements 0x0100 (field_of message)
         → ReadsOrFails (IsCommand elements) (FirstFails elements (needs message)) result }
 {
     match message {

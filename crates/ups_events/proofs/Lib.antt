@@ -1,4 +1,3 @@
-pub mod Followed
 mod NewQueues
 mod SlotLists
 mod Spending

@@ -11,7 +11,7 @@ use Rattle.ups_life.specs.declared.event.Event.{Event}
 use Rattle.ups_life.specs.Events.{is_state_report, is_report_of}
 use Rattle.ups_events.specs.declared.slots.Slot.{Slot}
 use Rattle.ups_events.specs.Queue.{added, above}
-use Rattle.ups_events.specs.Kept.{lives, is_live, spent, made_way, goes, dropped, Rises, Rising, UpTo, Indexed, Keeps}
+use Rattle.ups_events.specs.Kept.{lives, is_live, spent, made_way, goes, dropped, Rises, Rising, UpTo, Indexed, KeepsQueue}
 use Rattle.ups_events.proofs.Spending.{None as NoReport}
 
 pub same_text : (a b : List ℕ) → bytes_eq a b ≡ true → a ≡ b
@@ -117,7 +117,7 @@ module _ (made acked : ℕ) (index new : List (List ℕ × ℕ)) (s : Slot) (for
   rest_indexed h low [] le r k = tt
   rest_indexed h low (t ∷ ss) le r k = (still_indexed h t (omega (arith, le, r.0)) k.0, rest_indexed h t.event.number ss (omega (arith, le, r.0)) r.1 k.1)
 
-  pub pop_keeps : (ss : List Slot) → Keeps made acked index (s ∷ ss) → Keeps made acked new ss
+  pub pop_keeps : (ss : List Slot) → KeepsQueue made acked index (s ∷ ss) → KeepsQueue made acked new ss
   pop_keeps ss k = record {
     rising = rising_lower acked s.event.number ss (omega (arith, k.rising.0)) k.rising.1;
     up_to = k.up_to.1;
@@ -267,11 +267,11 @@ all_push P [] s h l = (l, tt)
 all_push P (t ∷ ss) s h l = (h.0, all_push P ss s h.1 l)
 
 pub put_keeps : (made acked : ℕ) (index new : List (List ℕ × ℕ)) (ss : List Slot) (s : Slot) → acked ≤ made → s.event.number ≡ made + 1
-    → ((v : List ℕ) → lookup (bytes_eq v) new ≡ cond (is_state_report s.event.kind && bytes_eq s.event.step v) (Some s.event.number) (lookup (bytes_eq v) index)) → Keeps made acked index ss
-    → Keeps (made + 1) acked new (made_way s.event.kind s.event.step ss ++ s ∷ [])
+    → ((v : List ℕ) → lookup (bytes_eq v) new ≡ cond (is_state_report s.event.kind && bytes_eq s.event.step v) (Some s.event.number) (lookup (bytes_eq v) index)) → KeepsQueue made acked index ss
+    → KeepsQueue (made + 1) acked new (made_way s.event.kind s.event.step ss ++ s ∷ [])
 put_keeps made acked index new ss s le number puts k = by (is_state_report s.event.kind) refl puts
   where
-    by : (b : Bool) → is_state_report s.event.kind ≡ b → ((v : List ℕ) → lookup (bytes_eq v) new ≡ cond (b && bytes_eq s.event.step v) (Some s.event.number) (lookup (bytes_eq v) index)) → Keeps (made + 1) acked new (cond b (map (spent s.event.step) ss) ss ++ s ∷ [])
+    by : (b : Bool) → is_state_report s.event.kind ≡ b → ((v : List ℕ) → lookup (bytes_eq v) new ≡ cond (b && bytes_eq s.event.step v) (Some s.event.number) (lookup (bytes_eq v) index)) → KeepsQueue (made + 1) acked new (cond b (map (spent s.event.step) ss) ss ++ s ∷ [])
     by true e puts = record {
       rising = rising_push acked (map (spent s.event.step) ss) s made le (omega (arith, number)) (rising_spent s.event.step acked ss k.rising) (up_to_spent s.event.step made ss k.up_to);
       up_to = up_to_push (map (spent s.event.step) ss) s made (made + 1) (omega arith) (omega (arith, number)) (up_to_spent s.event.step made ss k.up_to);
@@ -291,10 +291,10 @@ put_keeps made acked index new ss s le number puts k = by (is_state_report s.eve
 -- SPENT SLOTS ARE THROWN AWAY
 
 module _ (old new : List Slot) (tidied : (new ≡ old) ⊎ (new ≡ filter is_live old)) where
-  pub tidy_keeps : (made acked : ℕ) (index : List (List ℕ × ℕ)) → Keeps made acked index old → Keeps made acked index new
+  pub tidy_keeps : (made acked : ℕ) (index : List (List ℕ × ℕ)) → KeepsQueue made acked index old → KeepsQueue made acked index new
   tidy_keeps made acked index k = elim tidied [
-    | inl e ↦ subst (Keeps made acked index) (sym e) k
-    | inr e ↦ subst (Keeps made acked index) (sym e) (record { rising = rising_filter is_live acked old k.rising; up_to = all_filter (λ (s : Slot). s.event.number ≤ made) is_live old k.up_to; indexed = all_filter (IsIndexed index) is_live old k.indexed })
+    | inl e ↦ subst (KeepsQueue made acked index) (sym e) k
+    | inr e ↦ subst (KeepsQueue made acked index) (sym e) (record { rising = rising_filter is_live acked old k.rising; up_to = all_filter (λ (s : Slot). s.event.number ≤ made) is_live old k.up_to; indexed = all_filter (IsIndexed index) is_live old k.indexed })
   ]
 
   pub lives_tidy : lives new ≡ lives old
@@ -335,8 +335,8 @@ found_more ss i max s found within is so_far less = (
 )
 
 -- the index in another order
-pub keeps_same : (made acked : ℕ) (index new : List (List ℕ × ℕ)) (ss more : List Slot) → ((q : List ℕ) → lookup (bytes_eq q) new ≡ lookup (bytes_eq q) index) → more ≡ ss → Keeps made acked index ss → Keeps made acked new more
-keeps_same made acked index new ss more same is k = subst (Keeps made acked new) (sym is) (record { rising = k.rising; up_to = k.up_to; indexed = again ss k.indexed })
+pub keeps_same : (made acked : ℕ) (index new : List (List ℕ × ℕ)) (ss more : List Slot) → ((q : List ℕ) → lookup (bytes_eq q) new ≡ lookup (bytes_eq q) index) → more ≡ ss → KeepsQueue made acked index ss → KeepsQueue made acked new more
+keeps_same made acked index new ss more same is k = subst (KeepsQueue made acked new) (sym is) (record { rising = k.rising; up_to = k.up_to; indexed = again ss k.indexed })
   where
     again : (ss : List Slot) → Indexed index ss → Indexed new ss
     again [] h = tt

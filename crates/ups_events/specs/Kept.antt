@@ -51,7 +51,7 @@ abbrev pub Indexed : List (List ℕ × ℕ) → List Slot → Type 0
 Indexed index ss = AllByRecursion (λ (s : Slot). s.live ≡ true → is_state_report s.event.kind ≡ true → lookup (bytes_eq s.event.step) index ≡ Some s.event.number) ss
 
 -- what a queue keeps to: numbers rise from what was acknowledged to what was made, and the index has each live State Report
-pub record Keeps (made acked : ℕ) (index : List (List ℕ × ℕ)) (ss : List Slot) : Type 0 where
+pub record KeepsQueue (made acked : ℕ) (index : List (List ℕ × ℕ)) (ss : List Slot) : Type 0 where
   pub rising : Rising acked ss
   pub up_to : UpTo made ss
   pub indexed : Indexed index ss

@@ -1,4 +1,3 @@
-pub mod Following
 pub mod Kept
 pub mod Queue
 pub mod Telling

@@ -9,7 +9,7 @@ use Rattle.ups_events.specs.declared.fault.AckFault.TheVariants.{AckAhead, AckSt
 
 -- the greatest number made, the greatest acknowledged (each 0 where there is none), the events that are pending, oldest
 -- first, and for how many more there is room
-pub record Standing : Type 0 where
+pub record QueueView : Type 0 where
   pub made : ℕ
   pub acked : ℕ
   pub events : List Event
@@ -28,7 +28,7 @@ abbrev pub above : ℕ → List Event → List Event
 above n xs = filter (λ (x : Event). nat_lt n x.number) xs
 
 -- the event x was added, with the next number
-pub record IsAdded (old : Standing) (x : Event) (new : Standing) : Type 0 where
+pub record IsAdded (old : QueueView) (x : Event) (new : QueueView) : Type 0 where
   pub made : new.made ≡ old.made + 1
   pub number : x.number ≡ new.made
   pub acked : new.acked ≡ old.acked
@@ -36,33 +36,33 @@ pub record IsAdded (old : Standing) (x : Event) (new : Standing) : Type 0 where
   pub spare : old.spare ≤ new.spare + 1
 
 -- the events up to a number were acknowledged
-pub record IsAcked (old : Standing) (upto : ℕ) (new : Standing) : Type 0 where
+pub record IsAcked (old : QueueView) (upto : ℕ) (new : QueueView) : Type 0 where
   pub made : new.made ≡ old.made
   pub acked : new.acked ≡ upto
   pub events : new.events ≡ above upto old.events
   pub spare : old.spare ≤ new.spare
 
 -- room was made for more events, and nothing else changed
-pub record IsReserved (old new : Standing) : Type 0 where
+pub record IsReserved (old new : QueueView) : Type 0 where
   pub made : new.made ≡ old.made
   pub acked : new.acked ≡ old.acked
   pub events : new.events ≡ old.events
   pub spare : old.spare ≤ new.spare
 
 -- no event was made yet
-pub record IsNew (q : Standing) : Type 0 where
+pub record IsNew (q : QueueView) : Type 0 where
   pub made : q.made ≡ 0
   pub acked : q.acked ≡ 0
   pub events : q.events ≡ []
 
 -- why an acknowledgement up to a number is refused, if it is (the profile's)
-abbrev pub ack_fault : Standing → ℕ → Option AckFault
+abbrev pub ack_fault : QueueView → ℕ → Option AckFault
 ack_fault q upto = if nat_lt q.made upto then Some AckAhead else (if nat_le upto q.acked then Some AckStale else None)
 
 -- an empty queue that has no room: what stands for a place without a peer
-abbrev pub empty : Standing
+abbrev pub empty : QueueView
 empty = record { made = 0; acked = 0; events = []; spare = 0 }
 
 -- the queue of the peer at a place
-abbrev pub queue_at : List Standing → ℕ → Standing
+abbrev pub queue_at : List QueueView → ℕ → QueueView
 queue_at qs p = slice_index_or qs p empty

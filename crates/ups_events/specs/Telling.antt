@@ -2,7 +2,7 @@
 use Rattle.std.specs.Prelude.{ℕ, ◌+◌, List, [], ◌∷◌}
 use Rattle.ups_life.specs.declared.event.Event.{Event}
 use Rattle.ups_life.specs.declared.event.Report.{Report}
-use Rattle.ups_events.specs.Queue.{Standing, added, above, queue_at}
+use Rattle.ups_events.specs.Queue.{QueueView, added, above, queue_at}
 
 -- a queue, but for its room: the greatest number made, the greatest acknowledged, and the events that are pending
 pub record Line : Type 0 where
@@ -10,11 +10,11 @@ pub record Line : Type 0 where
   pub acked : ℕ
   pub events : List Event
 
-abbrev pub line : Standing → Line
+abbrev pub line : QueueView → Line
 line q = record { made = q.made; acked = q.acked; events = q.events }
 
 -- that of the peer at a place
-abbrev pub line_at : List Standing → ℕ → Line
+abbrev pub line_at : List QueueView → ℕ → Line
 line_at qs p = line (queue_at qs p)
 
 -- that of a watcher that was told nothing

@@ -29,15 +29,15 @@ impl<A: Allocator + Copy> Model for Queue<A> {
     ghost use Rattle.std.specs.Prelude.{◌-◌, ◌^◌, ◌≤◌, min};
     ghost use Rattle.std.specs.HashMap.{spare};
     ghost use Rattle.std.specs.VecDeque.{deque_len, deque_capacity};
-    ghost use Rattle.ups_events.specs.Queue.{Standing};
+    ghost use Rattle.ups_events.specs.Queue.{QueueView};
 
-    ghost Value = { Standing };
+    ghost Value = { QueueView };
 
-    ghost use Rattle.ups_events.specs.Kept.{lives, Keeps};
+    ghost use Rattle.ups_events.specs.Kept.{lives, KeepsQueue};
 
     ghost view = { λ q. record { made = q.made; acked = q.acked; events = lives q.slots.items; spare = min (deque_capacity q.slots - deque_len q.slots) (min (spare q.index) (2 ^ 64 - 1 - q.made)) } };
 
-    ghost invariant = { λ q. Keeps q.made q.acked q.index.entries q.slots.items × (q.acked ≤ q.made) };
+    ghost invariant = { λ q. KeepsQueue q.made q.acked q.index.entries q.slots.items × (q.acked ≤ q.made) };
 }
 
 impl<A: Allocator + Copy> Queue<A> {

@@ -1,7 +1,7 @@
 //! The queues of all watchers.
 
 ghost use Rattle.std.specs.Prelude.{◌≡◌, ◌≢◌, ◌<◌, ◌≤◌, ◌+◌, ℕ, List, true, false, None, Some, is_some, length, slice_index_or, if◌then◌else◌, IfOk, IsOk, OnOk, OnErr, MatchResult};
-ghost use Rattle.ups_events.specs.Queue.{Standing, queue_at, IsAdded, IsAcked, IsReserved, IsNew, ack_fault};
+ghost use Rattle.ups_events.specs.Queue.{QueueView, queue_at, IsAdded, IsAcked, IsReserved, IsNew, ack_fault};
 ghost use Rattle.ups_events.specs.Telling.{event_of, line_at, told};
 
 use crate::fault::AckFault;
@@ -19,9 +19,9 @@ pub struct Queues<A: Allocator + Copy> {
 
 impl<A: Allocator + Copy> Model for Queues<A> {
     ghost use Rattle.std.specs.Prelude.{List};
-    ghost use Rattle.ups_events.specs.Queue.{Standing};
+    ghost use Rattle.ups_events.specs.Queue.{QueueView};
 
-    ghost Value = { List Standing };
+    ghost Value = { List QueueView };
 
     ghost view = { λ q. q.queues.items };
 }

@@ -5,7 +5,7 @@ ghost use Rattle.std.specs.HashMap.{get, spare};
 ghost use Rattle.std.specs.Str.{bytes_eq};
 ghost use Rattle.std.specs.VecDeque.{deque_len, deque_capacity};
 ghost use Rattle.ups_life.specs.Events.{is_state_report, is_report_of};
-ghost use Rattle.ups_events.specs.Kept.{lives, is_live, spent, made_way, goes, dropped, Rises, Indexed, Keeps};
+ghost use Rattle.ups_events.specs.Kept.{lives, is_live, spent, made_way, goes, dropped, Rises, Indexed, KeepsQueue};
 
 use std::alloc::{AllocError, Allocator};
 use std::collections::{HashMap, VecDeque};
@@ -146,7 +146,7 @@ pub(crate) fn drop_front<A: Allocator + Copy>(
     upto: u64,
 )
     ensures slots { slots.new.items ≡ dropped upto slots.old.items }
-    ensures keeps { (made : ℕ) → (acked : ℕ) → Keeps made acked index.old.entries slots.old.items → Keeps made acked index.new.entries slots.new.items }
+    ensures keeps { (made : ℕ) → (acked : ℕ) → KeepsQueue made acked index.old.entries slots.old.items → KeepsQueue made acked index.new.entries slots.new.items }
     ensures len { deque_len slots.new ≤ deque_len slots.old }
     ensures capacity { deque_capacity slots.new ≡ deque_capacity slots.old }
     ensures spare { spare index.old ≤ spare index.new }

@@ -11,14 +11,14 @@ use Rattle.std.proofs.lemmas.List.Elements.{filter_map-append}
 use Rattle.ups_dataset.specs.declared.tag.Tag.{Tag}
 use Rattle.ups_index.specs.declared.posts.Post.{Post}
 use Rattle.ups_index.specs.declared.slots.Slot.{Slot}
-use Rattle.ups_index.specs.Indexed.{has_step, altered, dropped}
-use Rattle.ups_index.specs.Kept.{seen_slot, seen_slots, IsSlot, Keeps}
+use Rattle.ups_index.specs.Indexed.{has_step, altered, put_values, without_uid}
+use Rattle.ups_index.specs.Kept.{seen_slot, seen_slots, IsSlot, KeepsIndex}
 use Rattle.ups_index.specs.Numbers.{text_number, step_number, moment_number}
 use Rattle.ups_index.specs.Posts.{post, KeepsEach, KeepsOthers}
 use Rattle.ups_index.specs.Stored.{RowValues}
 use Rattle.ups_index.proofs.Placed.{text_is_itself}
 
-pub keeps_live : {A : Type 0} (slots : List (Slot A)) (s t p s2 t2 p2 : List Post) → Keeps slots s t p → KeepsEach s s2 → KeepsEach t t2 → KeepsEach p p2 → Keeps slots s2 t2 p2
+pub keeps_live : {A : Type 0} (slots : List (Slot A)) (s t p s2 t2 p2 : List Post) → KeepsIndex slots s t p → KeepsEach s s2 → KeepsEach t t2 → KeepsEach p p2 → KeepsIndex slots s2 t2 p2
 keeps_live slots s t p s2 t2 p2 k a b c = record {
   steps_posted = λ place step values r. a (step_number step) place (k.steps_posted place step values r);
   texts_posted = λ place step values r stored h. b (text_number stored.0 stored.1) place (k.texts_posted place step values r stored h);
@@ -27,8 +27,8 @@ keeps_live slots s t p s2 t2 p2 k a b c = record {
   few = k.few;
 }
 
-pub same_slots : {A : Type 0} (slots other : List (Slot A)) (s t p : List Post) → other ≡ slots → Keeps slots s t p → Keeps other s t p
-same_slots slots other s t p e k = subst (λ (r : List (Slot _)). Keeps r s t p) (sym e) k
+pub same_slots : {A : Type 0} (slots other : List (Slot A)) (s t p : List Post) → other ≡ slots → KeepsIndex slots s t p → KeepsIndex other s t p
+same_slots slots other s t p e k = subst (λ (r : List (Slot _)). KeepsIndex r s t p) (sym e) k
 
 abbrev pub held : {A : Type 0} → List ℕ → RowValues → Slot A
 held step values = record { step = step; values = Some values }
@@ -74,9 +74,9 @@ changed slots at slot place step values within (l, is) = elim (cases_lt place at
     other n = (n, ((let k = length-set slots at slot in omega (arith, l, k)), λ d. sym (get_or-set_other slots at place slot d n) ∙ is d))
 
 module _ {A : Type 0} (slots : List (Slot A)) (step : List ℕ) (values : RowValues) (absent : (place : ℕ) (v : RowValues) → IsSlot slots place step v → ⊥) (few : length slots < 2 ^ 32) where
-  pub add_keeps : (s t p s2 t2 p2 : List Post) → Keeps slots s t p → KeepsEach s s2 → KeepsEach t t2 → KeepsEach p p2 → Contains s2 (post (step_number step) (length slots))
+  pub add_keeps : (s t p s2 t2 p2 : List Post) → KeepsIndex slots s t p → KeepsEach s s2 → KeepsEach t t2 → KeepsEach p p2 → Contains s2 (post (step_number step) (length slots))
       → ((stored : Tag × List ℕ) → Contains values.texts stored → Contains t2 (post (text_number stored.0 stored.1) (length slots))) → ((moment : ℤ) → values.start ≡ Some moment → Contains p2 (post (moment_number moment) (length slots)))
-      → Keeps (slots ++ held step values ∷ []) s2 t2 p2
+      → KeepsIndex (slots ++ held step values ∷ []) s2 t2 p2
   add_keeps s t p s2 t2 p2 k a b c hs ht hp = record {
     steps_posted = λ place u v r. elim (pushed slots (held step values) place u v r) [
       | inl x ↦ a (step_number u) place (k.steps_posted place u v x)
@@ -104,9 +104,9 @@ module _ {A : Type 0} (slots : List (Slot A)) (step : List ℕ) (values : RowVal
   }
 
 module _ {A : Type 0} (slots : List (Slot A)) (at : ℕ) (step : List ℕ) (old : RowValues) (is : IsSlot slots at step old) where
-  pub alter_keeps : (values : RowValues) (s t p tm pm t2 p2 : List Post) → Keeps slots s t p → KeepsOthers at t tm → KeepsOthers at p pm → KeepsEach tm t2 → KeepsEach pm p2
+  pub alter_keeps : (values : RowValues) (s t p tm pm t2 p2 : List Post) → KeepsIndex slots s t p → KeepsOthers at t tm → KeepsOthers at p pm → KeepsEach tm t2 → KeepsEach pm p2
       → ((stored : Tag × List ℕ) → Contains values.texts stored → Contains t2 (post (text_number stored.0 stored.1) at)) → ((moment : ℤ) → values.start ≡ Some moment → Contains p2 (post (moment_number moment) at))
-      → Keeps (set slots at (held step values)) s t2 p2
+      → KeepsIndex (set slots at (held step values)) s t2 p2
   alter_keeps values s t p tm pm t2 p2 k a b c d ht hp = record {
     steps_posted = λ place u v r. elim (changed slots at (held step values) place u v is.0 r) [
       | inl (n, x) ↦ k.steps_posted place u v x
@@ -133,7 +133,7 @@ module _ {A : Type 0} (slots : List (Slot A)) (at : ℕ) (step : List ℕ) (old 
     few = (let n = length-set slots at (held step values) in omega (arith, n, k.few));
   }
 
-  pub drop_keeps : (s t p s2 t2 p2 : List Post) → Keeps slots s t p → KeepsOthers at s s2 → KeepsOthers at t t2 → KeepsOthers at p p2 → Keeps (set slots at (gone step)) s2 t2 p2
+  pub drop_keeps : (s t p s2 t2 p2 : List Post) → KeepsIndex slots s t p → KeepsOthers at s s2 → KeepsOthers at t t2 → KeepsOthers at p p2 → KeepsIndex (set slots at (gone step)) s2 t2 p2
   drop_keeps s t p s2 t2 p2 k a b c = record {
     steps_posted = λ place u v r. let (n, x) = kept place u v r in a (step_number u) place n (k.steps_posted place u v x);
     texts_posted = λ place u v r stored h. let (n, x) = kept place u v r in b (text_number stored.0 stored.1) place n (k.texts_posted place u v x stored h);
@@ -194,15 +194,15 @@ unaltered {A} (r ∷ rs) step w never = here r.values refl (unaltered rs step w 
         by_test true f = absurd (never 0 v (head_slot r rs step v e f))
         by_test false f = ap (λ (t : List (List ℕ × RowValues)). (r.step, v) ∷ t) rest
 
-pub undropped : {A : Type 0} (slots : List (Slot A)) (step : List ℕ) → Absent slots step → seen_slots slots ≡ dropped step (seen_slots slots)
+pub undropped : {A : Type 0} (slots : List (Slot A)) (step : List ℕ) → Absent slots step → seen_slots slots ≡ without_uid step (seen_slots slots)
 undropped [] step never = refl
 undropped {A} (r ∷ rs) step never = here r.values refl (undropped rs step (absent_tail r rs step never))
   where
-    here : (o : Option RowValues) → r.values ≡ o → seen_slots rs ≡ dropped step (seen_slots rs) → cons_option (option_map (λ v. (r.step, v)) o) (seen_slots rs) ≡ dropped step (cons_option (option_map (λ v. (r.step, v)) o) (seen_slots rs))
+    here : (o : Option RowValues) → r.values ≡ o → seen_slots rs ≡ without_uid step (seen_slots rs) → cons_option (option_map (λ v. (r.step, v)) o) (seen_slots rs) ≡ without_uid step (cons_option (option_map (λ v. (r.step, v)) o) (seen_slots rs))
     here None e rest = rest
     here (Some v) e rest = by_test (bytes_eq r.step step) refl
       where
-        by_test : (b : Bool) → bytes_eq r.step step ≡ b → (r.step, v) ∷ seen_slots rs ≡ cond (not b) ((r.step, v) ∷ dropped step (seen_slots rs)) (dropped step (seen_slots rs))
+        by_test : (b : Bool) → bytes_eq r.step step ≡ b → (r.step, v) ∷ seen_slots rs ≡ cond (not b) ((r.step, v) ∷ without_uid step (seen_slots rs)) (without_uid step (seen_slots rs))
         by_test true f = absurd (never 0 v (head_slot r rs step v e f))
         by_test false f = ap (λ (t : List (List ℕ × RowValues)). (r.step, v) ∷ t) rest
 
@@ -232,21 +232,21 @@ altered_slots {A} (r ∷ rs) (suc at) step v w is once =
         by_test false f = ap (λ (t : List (List ℕ × RowValues)). (r.step, x) ∷ t) rest
 
 pub dropped_slots : {A : Type 0} (slots : List (Slot A)) (at : ℕ) (step : List ℕ) (v : RowValues) → IsSlot slots at step v → ((place : ℕ) (u : RowValues) → IsSlot slots place step u → place ≡ at)
-    → seen_slots (set slots at (gone step)) ≡ dropped step (seen_slots slots)
+    → seen_slots (set slots at (gone step)) ≡ without_uid step (seen_slots slots)
 dropped_slots [] at step v (l, is) once = absurd (omega (arith, l))
 dropped_slots {A} (r ∷ rs) zero step v (l, is) once =
     undropped rs step (λ place u r2. absurd (zero_suc place (sym (once (suc place) u (tail_slot r rs place step u r2)))))
-    ∙ sym (ap (λ (b : Bool). cond (not b) ((step, v) ∷ dropped step (seen_slots rs)) (dropped step (seen_slots rs))) (text_is_itself step))
-    ∙ sym (ap (λ (x : Slot A). dropped step (cons_option (seen_slot x) (seen_slots rs))) (is r))
+    ∙ sym (ap (λ (b : Bool). cond (not b) ((step, v) ∷ without_uid step (seen_slots rs)) (without_uid step (seen_slots rs))) (text_is_itself step))
+    ∙ sym (ap (λ (x : Slot A). without_uid step (cons_option (seen_slot x) (seen_slots rs))) (is r))
 dropped_slots {A} (r ∷ rs) (suc at) step v is once =
     here r.values refl (dropped_slots rs at step v (slot_tail r rs at step v is) (λ place u r2. suc_in place at (once (suc place) u (tail_slot r rs place step u r2))))
   where
-    here : (o : Option RowValues) → r.values ≡ o → seen_slots (set rs at (gone step)) ≡ dropped step (seen_slots rs)
-        → cons_option (option_map (λ x. (r.step, x)) o) (seen_slots (set rs at (gone step))) ≡ dropped step (cons_option (option_map (λ x. (r.step, x)) o) (seen_slots rs))
+    here : (o : Option RowValues) → r.values ≡ o → seen_slots (set rs at (gone step)) ≡ without_uid step (seen_slots rs)
+        → cons_option (option_map (λ x. (r.step, x)) o) (seen_slots (set rs at (gone step))) ≡ without_uid step (cons_option (option_map (λ x. (r.step, x)) o) (seen_slots rs))
     here None e rest = rest
     here (Some x) e rest = by_test (bytes_eq r.step step) refl
       where
-        by_test : (b : Bool) → bytes_eq r.step step ≡ b → (r.step, x) ∷ seen_slots (set rs at (gone step)) ≡ cond (not b) ((r.step, x) ∷ dropped step (seen_slots rs)) (dropped step (seen_slots rs))
+        by_test : (b : Bool) → bytes_eq r.step step ≡ b → (r.step, x) ∷ seen_slots (set rs at (gone step)) ≡ cond (not b) ((r.step, x) ∷ without_uid step (seen_slots rs)) (without_uid step (seen_slots rs))
         by_test true f = absurd (zero_suc at (once 0 x (head_slot r rs step x e f)))
         by_test false f = ap (λ (t : List (List ℕ × RowValues)). (r.step, x) ∷ t) rest
 
@@ -272,7 +272,7 @@ start_moved posts (Some x) want k l e f has m is = let same : x ≡ m = one_valu
     one_value x m e = cc
 
 -- whether a step is among those seen
-absent_has : {A : Type 0} (slots : List (Slot A)) (step : List ℕ) → Absent slots step → has_step step (seen_slots slots) ≡ false
+pub absent_has : {A : Type 0} (slots : List (Slot A)) (step : List ℕ) → Absent slots step → has_step step (seen_slots slots) ≡ false
 absent_has [] step never = refl
 absent_has {A} (r ∷ rs) step never = here r.values refl (absent_has rs step (absent_tail r rs step never))
   where
@@ -291,3 +291,15 @@ has_is slots step (Some p) (v, r) = here (has_step step (seen_slots slots)) refl
     here : (b : Bool) → has_step step (seen_slots slots) ≡ b → true ≡ b
     here true e = refl
     here false e = absurd (not_there slots step e p v r)
+
+-- values of a step that has a slot take the place of those there
+pub put_there : {A : Type 0} (slots : List (Slot A)) (step : List ℕ) (values : RowValues) (at : ℕ) (old : RowValues) → IsSlot slots at step old → altered step values (seen_slots slots) ≡ put_values step values (seen_slots slots)
+put_there slots step values at old is =
+    let seen = seen_slots slots in
+    ap (λ (b : Bool). cond b (altered step values seen) (seen ++ (step, values) ∷ [])) (has_is slots step (Some at) (old, is))
+
+-- and those of a step that has none are put behind the others
+pub put_behind : {A : Type 0} (slots : List (Slot A)) (step : List ℕ) (values : RowValues) → Absent slots step → seen_slots slots ++ (step, values) ∷ [] ≡ put_values step values (seen_slots slots)
+put_behind slots step values never =
+    let seen = seen_slots slots in
+    ap (λ (b : Bool). cond b (altered step values seen) (seen ++ (step, values) ∷ [])) (sym (absent_has slots step never))

@@ -8,20 +8,20 @@ use Rattle.ups_dataset.specs.declared.dictionary.TheConstants.{CODE_VALUE}
 use Rattle.ups_dataset.specs.Data.{El, elements_of, items_of}
 use Rattle.ups_match.specs.Matching.{value_at}
 use Rattle.ups_match.specs.Values.{is_backslash}
-use Rattle.ups_index.specs.Stored.{kept, values_in, stored_values, codes_in, under}
+use Rattle.ups_index.specs.Stored.{nonempty, values_in, stored_values, codes_in, under}
 
 -- the first value, and then the others
 abbrev pub values_of_list : List (List ℕ) → List (List ℕ)
 values_of_list vs = filter (λ v. not (is_nil v)) (map without_padding vs)
 
-kept_first : (v : List ℕ) (rest : List (List ℕ)) → cond (not (is_nil v)) (v ∷ rest) rest ≡ kept v ++ rest
+kept_first : (v : List ℕ) (rest : List (List ℕ)) → cond (not (is_nil v)) (v ∷ rest) rest ≡ nonempty v ++ rest
 kept_first v rest = here (is_nil v)
   where
     here : (b : Bool) → cond (not b) (v ∷ rest) rest ≡ cond b [] (v ∷ []) ++ rest
     here true = refl
     here false = refl
 
-pub first_value : (text value : List ℕ) (others : List (List ℕ)) → slice_split is_backslash text ≡ value ∷ others → values_in text ≡ kept (without_padding value) ++ values_of_list others
+pub first_value : (text value : List ℕ) (others : List (List ℕ)) → slice_split is_backslash text ≡ value ∷ others → values_in text ≡ nonempty (without_padding value) ++ values_of_list others
 first_value text value others e = ap values_of_list e ∙ kept_first (without_padding value) (values_of_list others)
 
 under_append : (tag : Tag) (a b : List (List ℕ)) → under tag (a ++ b) ≡ under tag a ++ under tag b
@@ -29,12 +29,12 @@ under_append tag a b = map-append (λ text. (tag, text)) a b
 
 -- one value more is put
 pub more_put : (tag : Tag) (old new after : List (Tag × List ℕ)) (text value : List ℕ) (others : List (List ℕ)) (v : List ℕ) → v ≡ without_padding value → slice_split is_backslash text ≡ value ∷ others
-    → after ≡ new ++ under tag (kept v) → new ++ under tag (values_in text) ≡ old → after ++ under tag (values_of_list others) ≡ old
+    → after ≡ new ++ under tag (nonempty v) → new ++ under tag (values_in text) ≡ old → after ++ under tag (values_of_list others) ≡ old
 more_put tag old new after text value others v ve e put is =
     ap (λ (t : List (Tag × List ℕ)). t ++ under tag (values_of_list others)) put
-    ∙ append_assoc new (under tag (kept v)) (under tag (values_of_list others))
-    ∙ ap (λ (t : List (Tag × List ℕ)). new ++ t) (sym (under_append tag (kept v) (values_of_list others)))
-    ∙ ap (λ (t : List (List ℕ)). new ++ under tag t) (ap (λ (w : List ℕ). kept w ++ values_of_list others) ve ∙ sym (first_value text value others e))
+    ∙ append_assoc new (under tag (nonempty v)) (under tag (values_of_list others))
+    ∙ ap (λ (t : List (Tag × List ℕ)). new ++ t) (sym (under_append tag (nonempty v) (values_of_list others)))
+    ∙ ap (λ (t : List (List ℕ)). new ++ under tag t) (ap (λ (w : List ℕ). nonempty w ++ values_of_list others) ve ∙ sym (first_value text value others e))
     ∙ is
 
 pub append_nil : (xs : List (Tag × List ℕ)) → xs ++ [] ≡ xs

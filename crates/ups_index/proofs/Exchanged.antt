@@ -1,10 +1,10 @@
 -- Posts that are put in the place of others.
-use Rattle.std.proofs.Common.{◌≡◌, ◌≢◌, ℕ, ◌+◌, ◌<◌, ◌≤◌, ◌⊎◌, Bool, true, false, List, [], ◌∷◌, ◌++◌, length, get_or, map, take, Contains, refl, sym, ap, ◌∙◌, subst, inl, inr}
+use Rattle.std.proofs.Common.{◌≡◌, ◌≢◌, ℕ, ◌+◌, ◌<◌, ◌≤◌, ◌⊎◌, Bool, true, List, [], ◌∷◌, ◌++◌, length, get_or, map, take, Contains, refl, sym, ap, ◌∙◌, subst, inl, inr}
 use Rattle.std.specs.Prelude.{Option, None, Some, ℤ}
 use Rattle.std.specs.List.{list_any}
 use Rattle.std.specs.Str.{bytes_eq}
 use Rattle.std.specs.Cmp.Lexicographic.{same_text}
-use Rattle.std.proofs.lemmas.List.{get_or_default, take_more, take_all, map_more}
+use Rattle.std.proofs.lemmas.List.{take_all, map_more}
 use Rattle.std.proofs.lemmas.List.Elements.{Contains-push_cases}
 use Rattle.std.proofs.lemmas.List.Folds.{Any-from_list_any}
 use Rattle.ups_dataset.specs.declared.tag.Tag.{Tag}
@@ -14,14 +14,14 @@ use Rattle.ups_index.specs.declared.posts.Post.{Post}
 use Rattle.ups_index.specs.declared.values.StoredText.{StoredText}
 use Rattle.ups_index.specs.Kept.{text_view}
 use Rattle.ups_index.specs.Numbers.{text_number, moment_number}
-use Rattle.ups_index.specs.Posts.{post, KeepsEach, KeepsOthers, KeepsTexts, HasTexts, HasStart}
-use Rattle.ups_index.specs.Stored.{is_text}
+use Rattle.ups_index.specs.Posts.{post, KeepsEach, KeepsTexts, HasTexts, HasStart}
+use Rattle.ups_index.specs.Stored.{is_stored_text}
 use Rattle.ups_index.proofs.Placed.{any_viewed}
 
 -- a text that a test finds is one of the texts
-pub found_among : {A : Type 0} (texts : List (StoredText A)) (stored : StoredText A) (b : Bool) → b ≡ list_any (λ s. is_text stored.tag stored.text.items (text_view s)) texts → b ≡ true → Contains (map text_view texts) (text_view stored)
+pub found_among : {A : Type 0} (texts : List (StoredText A)) (stored : StoredText A) (b : Bool) → b ≡ list_any (λ s. is_stored_text stored.tag stored.text.items (text_view s)) texts → b ≡ true → Contains (map text_view texts) (text_view stored)
 found_among texts stored b is passed =
-    let (k, s, l, at, passes) = Any-from_list_any (is_text stored.tag stored.text.items) (map text_view texts) (sym (any_viewed stored.tag stored.text.items texts) ∙ sym is ∙ passed) in
+    let (k, s, l, at, passes) = Any-from_list_any (is_stored_text stored.tag stored.text.items) (map text_view texts) (sym (any_viewed stored.tag stored.text.items texts) ∙ sym is ∙ passed) in
     let two = both (is_tag s.0 stored.tag) (bytes_eq stored.text.items s.1) passes in
     let same : s ≡ text_view stored = λ i. (same_tag s.0 stored.tag two.0 i, sym (same_text stored.text.items s.1 (sym two.1)) i) in
     subst (Contains (map text_view texts)) same (k, l, at)

@@ -8,8 +8,8 @@ use Rattle.std.proofs.lemmas.List.Folds.{list_any_at}
 use Rattle.ups_dataset.specs.Data.{El, elements_of}
 use Rattle.ups_match.specs.Class.{first_key, meets_first, class}
 use Rattle.ups_match.specs.Matching.{KeySet}
-use Rattle.ups_index.specs.Indexed.{class_of}
-use Rattle.ups_index.specs.Stored.{values_of}
+use Rattle.ups_index.specs.Indexed.{indexed_class}
+use Rattle.ups_index.specs.Stored.{values_of_row}
 use Rattle.ups_index.proofs.Placed.{text_is_itself}
 use Rattle.ups_index.proofs.Same.{class_of_rows}
 
@@ -61,7 +61,7 @@ rows_filtered p (r ∷ rs) = here (p r.1) (rows_filtered p rs)
 
 -- The rows of the candidates are the class, where the indexes have of each row, in order, what it stores.
 pub candidates_are_class : (configured : ℤ) (keys : KeySet) (rows : List (List ℕ × List El)) → AreOnce rows
-    → filter_map (attributes_under rows) (class_of (first_key configured keys) (map (λ r. (r.0, values_of configured r.1)) rows)) ≡ class configured keys (map (λ r. r.1) rows)
+    → filter_map (attributes_under rows) (indexed_class (first_key configured keys) (map (λ r. (r.0, values_of_row configured r.1)) rows)) ≡ class configured keys (map (λ r. r.1) rows)
 unfolding class
 candidates_are_class configured keys rows once =
     ap (filter_map (attributes_under rows)) (class_of_rows configured keys rows)

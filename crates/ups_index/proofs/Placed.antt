@@ -20,20 +20,20 @@ use Rattle.ups_match.proofs.Class.{both, same_tag}
 use Rattle.ups_index.specs.declared.posts.Post.{Post}
 use Rattle.ups_index.specs.declared.slots.Slot.{Slot}
 use Rattle.ups_index.specs.declared.values.StoredText.{StoredText}
-use Rattle.ups_index.specs.Indexed.{class_of}
+use Rattle.ups_index.specs.Indexed.{indexed_class}
 use Rattle.ups_index.specs.Kept.{text_view, seen_slots, step_of_class, in_class, HasNoneIn, IsSlot, StepsPosted, TextsPosted, StartsPosted}
 use Rattle.ups_index.specs.Numbers.{text_number, step_number, moment_number, low_number, high_number}
 use Rattle.ups_index.specs.Posts.{post, KeepsEach, KeepsOthers, HasTexts}
-use Rattle.ups_index.specs.Stored.{RowValues, is_text, has_first}
+use Rattle.ups_index.specs.Stored.{RowValues, is_stored_text, has_first}
 
 pub text_is_itself : (t : List ℕ) → bytes_eq t t ≡ true
 text_is_itself [] = refl
 text_is_itself (x ∷ xs) = let rest = text_is_itself xs in grind (arith, rest)
 
 -- what is stored, as it is seen
-pub any_viewed : {A : Type 0} (tag : Tag) (text : List ℕ) (texts : List (StoredText A)) → list_any (λ stored. is_text tag text (text_view stored)) texts ≡ list_any (is_text tag text) (map text_view texts)
+pub any_viewed : {A : Type 0} (tag : Tag) (text : List ℕ) (texts : List (StoredText A)) → list_any (λ stored. is_stored_text tag text (text_view stored)) texts ≡ list_any (is_stored_text tag text) (map text_view texts)
 any_viewed tag text [] = refl
-any_viewed tag text (t ∷ ts) = ap (λ (b : Bool). is_text tag text (text_view t) || b) (any_viewed tag text ts)
+any_viewed tag text (t ∷ ts) = ap (λ (b : Bool). is_stored_text tag text (text_view t) || b) (any_viewed tag text ts)
 
 -- a slot with something stored is that of its step
 pub held_as : {A : Type 0} (slot : Slot A) (step : List ℕ) (v : RowValues) → slot.values ≡ Some v → (b : Bool) → b ≡ bytes_eq slot.step step
@@ -224,11 +224,11 @@ module _ {A : Type 0} (first : FirstKey) (slots : List (Slot A)) where
       ]
 
 -- the class, as callers see it
-pub class_slots : {A : Type 0} (first : FirstKey) (slots : List (Slot A)) → filter_map (in_class first) slots ≡ class_of first (seen_slots slots)
+pub class_slots : {A : Type 0} (first : FirstKey) (slots : List (Slot A)) → filter_map (in_class first) slots ≡ indexed_class first (seen_slots slots)
 class_slots first [] = refl
 class_slots {A} first (r ∷ rs) = here r.values (class_slots first rs)
   where
-    here : (o : Option RowValues) → filter_map (in_class first) rs ≡ class_of first (seen_slots rs) → cons_option (step_of_class first r.step o) (filter_map (in_class first) rs) ≡ class_of first (cons_option (option_map (λ v. (r.step, v)) o) (seen_slots rs))
+    here : (o : Option RowValues) → filter_map (in_class first) rs ≡ indexed_class first (seen_slots rs) → cons_option (step_of_class first r.step o) (filter_map (in_class first) rs) ≡ indexed_class first (cons_option (option_map (λ v. (r.step, v)) o) (seen_slots rs))
     here None rest = rest
     here (Some v) rest = by_test (has_first first v)
       where
@@ -236,8 +236,8 @@ class_slots {A} first (r ∷ rs) = here r.values (class_slots first rs)
         by_test true = ap (λ (t : List (List ℕ)). r.step ∷ t) rest
         by_test false = rest
 
-pub class_same : {A : Type 0} (slots got : List (Slot A)) (first key : FirstKey) (steps : List (List ℕ × RowValues)) → got ≡ slots → first ≡ key → seen_slots slots ≡ steps → filter_map (in_class first) got ≡ class_of key steps
-class_same slots got first key steps e f h = (λ i. filter_map (in_class (f i)) (e i)) ∙ class_slots key slots ∙ ap (class_of key) h
+pub class_same : {A : Type 0} (slots got : List (Slot A)) (first key : FirstKey) (steps : List (List ℕ × RowValues)) → got ≡ slots → first ≡ key → seen_slots slots ≡ steps → filter_map (in_class first) got ≡ indexed_class key steps
+class_same slots got first key steps e f h = (λ i. filter_map (in_class (f i)) (e i)) ∙ class_slots key slots ∙ ap (indexed_class key) h
 
 -- where no post leads to a step, it has no slot
 pub place_either : {A : Type 0} (slots : List (Slot A)) (step : List ℕ) (posts merged fresh : List Post) (number : ℕ) → StepsPosted slots posts → number ≡ step_number step → ((n place : ℕ) → Contains posts (post n place) → number ≤ n → n ≤ number → Contains merged (post n place) ⊎ Contains fresh (post n place))
@@ -257,7 +257,7 @@ text_number_of tag other text stored e f = λ i. text_number (e i) (f i)
 pub texts_lead : {A : Type 0} (slots got : List (Slot A)) (texts : List Post) (tag : Tag) (text : List ℕ) (n : ℕ) (first : FirstKey) → first ≡ value tag text → got ≡ slots → n ≡ text_number tag text → TextsPosted slots texts
     → (place : ℕ) (step : List ℕ) (values : RowValues) → IsSlot got place step values → has_first first values ≡ true → (x : ℕ) × (n ≤ x) × (x ≤ n) × Contains texts (post x place)
 texts_lead {A} slots got texts tag text n first fe ge ne posted place step values r h =
-    let (k, stored, l, at, passes) = Any-from_list_any (is_text tag text) values.texts (sym (ap (λ (f : FirstKey). has_first f values) fe) ∙ h) in
+    let (k, stored, l, at, passes) = Any-from_list_any (is_stored_text tag text) values.texts (sym (ap (λ (f : FirstKey). has_first f values) fe) ∙ h) in
     let two = both (is_tag stored.0 tag) (bytes_eq text stored.1) passes in
     let same : text_number stored.0 stored.1 ≡ text_number tag text = text_number_of stored.0 tag stored.1 text (same_tag stored.0 tag two.0) (sym (same_text text stored.1 (sym two.1))) in
     (text_number stored.0 stored.1, omega (arith, ne, same), omega (arith, ne, same), posted place step values (subst (λ (g : List (Slot A)). IsSlot g place step values) ge r) stored (k, l, at))

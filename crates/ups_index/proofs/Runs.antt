@@ -1,5 +1,5 @@
 -- What is kept of posts.
-use Rattle.std.proofs.Common.{ℕ, List, [], ◌++◌, Contains, ◌⊎◌, inl, inr}
+use Rattle.std.proofs.Common.{ℕ, List, [], ◌++◌, inl, inr}
 use Rattle.std.proofs.lemmas.List.Elements.{Contains-append_right, Contains-append_left, Contains-append_cases}
 use Rattle.ups_index.specs.declared.posts.Post.{Post}
 use Rattle.ups_index.specs.Posts.{post, KeepsEach, KeepsOthers}

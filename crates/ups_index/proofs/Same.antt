@@ -17,8 +17,8 @@ use Rattle.ups_match.specs.Matching.{KeySet, value_at, any_item, any_stored_item
 use Rattle.ups_match.specs.Ranges.{span_of, spans}
 use Rattle.ups_match.specs.Values.{is_backslash, is_universal_text}
 use Rattle.ups_match.proofs.Class.{stored_like, stored_equal, meets_uid, meets_patient, meets_label, meets_state, meets_priority, meets_station, text_of_plain}
-use Rattle.ups_index.specs.Indexed.{class_of}
-use Rattle.ups_index.specs.Stored.{stored_values, codes_in, stored_codes, under, values_under, codes_under, RowValues, values_of, is_text, has_first}
+use Rattle.ups_index.specs.Indexed.{indexed_class}
+use Rattle.ups_index.specs.Stored.{stored_values, codes_in, stored_codes, under, values_under, codes_under, RowValues, values_of_row, is_stored_text, has_first}
 
 -- a pattern without wild cards is like itself alone
 plain_byte : (s q b rest : Bool) → ((s || (q || b)) || rest) ≡ false → (s ≡ false) × (q ≡ false) × (rest ≡ false)
@@ -117,15 +117,15 @@ module _ (text : List ℕ) (is : IsPlain text) where
   stored_codes_same (Some (items is)) = codes_same is
 
 -- what is stored under a tag is found under it, and not under another
-under_own : (tag t : Tag) (text : List ℕ) (vs : List (List ℕ)) → is_tag t tag ≡ true → list_any (is_text tag text) (under t vs) ≡ list_any (bytes_eq text) vs
+under_own : (tag t : Tag) (text : List ℕ) (vs : List (List ℕ)) → is_tag t tag ≡ true → list_any (is_stored_text tag text) (under t vs) ≡ list_any (bytes_eq text) vs
 under_own tag t text [] e = refl
 under_own tag t text (v ∷ vs) e =
-    ap (λ (b : Bool). (b && bytes_eq text v) || list_any (is_text tag text) (under t vs)) e ∙ ap (λ (b : Bool). bytes_eq text v || b) (under_own tag t text vs e)
+    ap (λ (b : Bool). (b && bytes_eq text v) || list_any (is_stored_text tag text) (under t vs)) e ∙ ap (λ (b : Bool). bytes_eq text v || b) (under_own tag t text vs e)
 
-under_other : (tag t : Tag) (text : List ℕ) (vs : List (List ℕ)) → is_tag t tag ≡ false → list_any (is_text tag text) (under t vs) ≡ false
+under_other : (tag t : Tag) (text : List ℕ) (vs : List (List ℕ)) → is_tag t tag ≡ false → list_any (is_stored_text tag text) (under t vs) ≡ false
 under_other tag t text [] e = refl
 under_other tag t text (v ∷ vs) e =
-    ap (λ (b : Bool). (b && bytes_eq text v) || list_any (is_text tag text) (under t vs)) e ∙ under_other tag t text vs e
+    ap (λ (b : Bool). (b && bytes_eq text v) || list_any (is_stored_text tag text) (under t vs)) e ∙ under_other tag t text vs e
 
 module _ (p : Tag × List ℕ → Bool) (a b c d e f : List (Tag × List ℕ)) where
   six : list_any p (a ++ b ++ c ++ d ++ e ++ f) ≡ (((((list_any p a || list_any p b) || list_any p c) || list_any p d) || list_any p e) || list_any p f)
@@ -164,20 +164,20 @@ module _ (configured : ℤ) (row : List El) (text : List ℕ) (is : IsPlain text
   set = elements_of row
 
   abbrev found : Tag → Bool
-  found tag = list_any (is_text tag text) (values_under SOP_INSTANCE_UID set ++ values_under PATIENT_ID set ++ values_under WORKLIST_LABEL set ++ codes_under SCHEDULED_STATION_NAME_CODE_SEQUENCE set ++ values_under PROCEDURE_STEP_STATE set ++ values_under SCHEDULED_PROCEDURE_STEP_PRIORITY set)
+  found tag = list_any (is_stored_text tag text) (values_under SOP_INSTANCE_UID set ++ values_under PATIENT_ID set ++ values_under WORKLIST_LABEL set ++ codes_under SCHEDULED_STATION_NAME_CODE_SEQUENCE set ++ values_under PROCEDURE_STEP_STATE set ++ values_under SCHEDULED_PROCEDURE_STEP_PRIORITY set)
 
-  parts : (tag : Tag) (o q r s t u : Bool) → list_any (is_text tag text) (values_under SOP_INSTANCE_UID set) ≡ o → list_any (is_text tag text) (values_under PATIENT_ID set) ≡ q → list_any (is_text tag text) (values_under WORKLIST_LABEL set) ≡ r
-      → list_any (is_text tag text) (codes_under SCHEDULED_STATION_NAME_CODE_SEQUENCE set) ≡ s → list_any (is_text tag text) (values_under PROCEDURE_STEP_STATE set) ≡ t → list_any (is_text tag text) (values_under SCHEDULED_PROCEDURE_STEP_PRIORITY set) ≡ u
+  parts : (tag : Tag) (o q r s t u : Bool) → list_any (is_stored_text tag text) (values_under SOP_INSTANCE_UID set) ≡ o → list_any (is_stored_text tag text) (values_under PATIENT_ID set) ≡ q → list_any (is_stored_text tag text) (values_under WORKLIST_LABEL set) ≡ r
+      → list_any (is_stored_text tag text) (codes_under SCHEDULED_STATION_NAME_CODE_SEQUENCE set) ≡ s → list_any (is_stored_text tag text) (values_under PROCEDURE_STEP_STATE set) ≡ t → list_any (is_stored_text tag text) (values_under SCHEDULED_PROCEDURE_STEP_PRIORITY set) ≡ u
       → found tag ≡ (((((o || q) || r) || s) || t) || u)
-  parts tag o q r s t u d e f g h k = six (is_text tag text) _ _ _ _ _ _ ∙ any_of _ _ _ _ _ _ o q r s t u d e f g h k
+  parts tag o q r s t u d e f g h k = six (is_stored_text tag text) _ _ _ _ _ _ ∙ any_of _ _ _ _ _ _ o q r s t u d e f g h k
 
-  own : (tag : Tag) → is_tag tag tag ≡ true → list_any (is_text tag text) (values_under tag set) ≡ stored_like text (value_at tag set)
+  own : (tag : Tag) → is_tag tag tag ≡ true → list_any (is_stored_text tag text) (values_under tag set) ≡ stored_like text (value_at tag set)
   own tag e = under_own tag tag text (stored_values (value_at tag set)) e ∙ values_same text is (value_at tag set)
 
-  other : (tag t : Tag) → is_tag t tag ≡ false → list_any (is_text tag text) (values_under t set) ≡ false
+  other : (tag t : Tag) → is_tag t tag ≡ false → list_any (is_stored_text tag text) (values_under t set) ≡ false
   other tag t e = under_other tag t text (stored_values (value_at t set)) e
 
-  other_codes : (tag t : Tag) → is_tag t tag ≡ false → list_any (is_text tag text) (codes_under t set) ≡ false
+  other_codes : (tag t : Tag) → is_tag t tag ≡ false → list_any (is_stored_text tag text) (codes_under t set) ≡ false
   other_codes tag t e = under_other tag t text (stored_codes (value_at t set)) e
 
   uid : found SOP_INSTANCE_UID ≡ stored_equal text (value_at SOP_INSTANCE_UID set)
@@ -208,14 +208,14 @@ module _ (configured : ℤ) (row : List El) (text : List ℕ) (is : IsPlain text
 
 module _ (configured : ℤ) (keys : KeySet) (row : List El) where
   abbrev Same : FirstKey → Type 0
-  Same first = meets_first keys.offset first (elements_of row) ≡ has_first first (values_of configured row)
+  Same first = meets_first keys.offset first (elements_of row) ≡ has_first first (values_of_row configured row)
 
   step : (tag : Tag) (o : Option (List ℕ)) (later : FirstKey) → ((text : List ℕ) → o ≡ Some text → Same (value tag text)) → Same later → Same (or_else tag o later)
   step tag None later this rest = rest
   step tag (Some text) later this rest = this text refl
 
   range_same : (span : Option _) → keys.offset ≡ configured → Same (range_key span)
-  unfolding values_of
+  unfolding values_of_row
   range_same None e = refl
   range_same (Some s) e = ap (λ (o : ℤ). spans (Some s) (start_of o (elements_of row))) e
 
@@ -231,7 +231,7 @@ module _ (configured : ℤ) (keys : KeySet) (row : List El) where
 
   -- what is stored of a row has the first indexed key of a query where the row matches it
   pub first_same : Same (first_key configured keys)
-  unfolding first_key values_of
+  unfolding first_key values_of_row
   first_same =
       let set = elements_of keys.attributes in
       step SOP_INSTANCE_UID _ _ (λ text p. meets_uid keys.offset (value_at SOP_INSTANCE_UID set) text (elements_of row) p ∙ sym (uid configured row text (value_is (value_at SOP_INSTANCE_UID set) text p)))
@@ -243,14 +243,14 @@ module _ (configured : ℤ) (keys : KeySet) (row : List El) where
       (start_same (value_at SCHEDULED_PROCEDURE_STEP_START_DATE_TIME set)))))))
 
 -- So the steps that have the first indexed key, by what is stored of them, are those of the rows that match it alone.
-pub class_of_rows : (configured : ℤ) (keys : KeySet) (rows : List (List ℕ × List El)) → class_of (first_key configured keys) (map (λ r. (r.0, values_of configured r.1)) rows) ≡ map (λ r. r.0) (filter (λ r. meets_first keys.offset (first_key configured keys) (elements_of r.1)) rows)
+pub class_of_rows : (configured : ℤ) (keys : KeySet) (rows : List (List ℕ × List El)) → indexed_class (first_key configured keys) (map (λ r. (r.0, values_of_row configured r.1)) rows) ≡ map (λ r. r.0) (filter (λ r. meets_first keys.offset (first_key configured keys) (elements_of r.1)) rows)
 class_of_rows configured keys [] = refl
 class_of_rows configured keys (r ∷ rs) =
-    ap (λ (b : Bool). map (λ (s : List ℕ × RowValues). s.0) (cond b ((r.0, values_of configured r.1) ∷ filter (λ s. has_first (first_key configured keys) s.1) (map (λ (q : List ℕ × List El). (q.0, values_of configured q.1)) rs)) (filter (λ s. has_first (first_key configured keys) s.1) (map (λ (q : List ℕ × List El). (q.0, values_of configured q.1)) rs)))) (sym (first_same configured keys r.1))
+    ap (λ (b : Bool). map (λ (s : List ℕ × RowValues). s.0) (cond b ((r.0, values_of_row configured r.1) ∷ filter (λ s. has_first (first_key configured keys) s.1) (map (λ (q : List ℕ × List El). (q.0, values_of_row configured q.1)) rs)) (filter (λ s. has_first (first_key configured keys) s.1) (map (λ (q : List ℕ × List El). (q.0, values_of_row configured q.1)) rs)))) (sym (first_same configured keys r.1))
     ∙ here (meets_first keys.offset (first_key configured keys) (elements_of r.1)) (class_of_rows configured keys rs)
   where
-    here : (b : Bool) → class_of (first_key configured keys) (map (λ q. (q.0, values_of configured q.1)) rs) ≡ map (λ q. q.0) (filter (λ q. meets_first keys.offset (first_key configured keys) (elements_of q.1)) rs)
-        → map (λ (s : List ℕ × RowValues). s.0) (cond b ((r.0, values_of configured r.1) ∷ filter (λ s. has_first (first_key configured keys) s.1) (map (λ (q : List ℕ × List El). (q.0, values_of configured q.1)) rs)) (filter (λ s. has_first (first_key configured keys) s.1) (map (λ (q : List ℕ × List El). (q.0, values_of configured q.1)) rs)))
+    here : (b : Bool) → indexed_class (first_key configured keys) (map (λ q. (q.0, values_of_row configured q.1)) rs) ≡ map (λ q. q.0) (filter (λ q. meets_first keys.offset (first_key configured keys) (elements_of q.1)) rs)
+        → map (λ (s : List ℕ × RowValues). s.0) (cond b ((r.0, values_of_row configured r.1) ∷ filter (λ s. has_first (first_key configured keys) s.1) (map (λ (q : List ℕ × List El). (q.0, values_of_row configured q.1)) rs)) (filter (λ s. has_first (first_key configured keys) s.1) (map (λ (q : List ℕ × List El). (q.0, values_of_row configured q.1)) rs)))
         ≡ map (λ (q : List ℕ × List El). q.0) (cond b (r ∷ filter (λ q. meets_first keys.offset (first_key configured keys) (elements_of q.1)) rs) (filter (λ q. meets_first keys.offset (first_key configured keys) (elements_of q.1)) rs))
     here true rest = ap (λ (t : List (List ℕ)). r.0 ∷ t) rest
     here false rest = rest

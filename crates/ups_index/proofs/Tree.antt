@@ -1,9 +1,9 @@
 -- What becomes of posts in a tree.
-use Rattle.std.proofs.Common.{◌≡◌, ◌≢◌, ℕ, ◌≤◌, ◌<◌, ◌+◌, ◌⊎◌, ◌∷◌, [], Bool, true, false, cond, not, List, Contains, filter, refl, sym, ap, ◌∙◌, subst, arith, inl, inr, zero, suc, length, get_or, take, ◌++◌, ◌||◌, true≢false}
+use Rattle.std.proofs.Common.{◌≡◌, ◌≢◌, ℕ, ◌≤◌, ◌<◌, ◌+◌, ◌∷◌, [], Bool, true, false, cond, not, List, Contains, filter, refl, sym, ap, ◌∙◌, subst, arith, inl, inr, zero, suc, length, get_or, take, ◌++◌, ◌||◌, true≢false}
 use Rattle.std.specs.declared.cmp.Ordering.{Ordering}
 use Rattle.std.specs.declared.cmp.Ordering.TheVariants.{Less, Equal, Greater}
 use Rattle.std.specs.Cmp.{IsTotalOrder}
-use Rattle.std.specs.Ordering.{nat_cmp, on, then_cmp, is_gt, is_eq, ordering_then, MatchOrdering}
+use Rattle.std.specs.Ordering.{nat_cmp, on, then_cmp, is_gt, is_eq, ordering_then}
 use Rattle.std.specs.BTreeSet.{BTreeSet, contains, UpdatesBy}
 use Rattle.std.proofs.lemmas.Bool.{ne_eqb}
 use Rattle.std.proofs.Math.Dec.{eqb}

@@ -28,9 +28,9 @@ abbrev pub put_values : List ℕ → RowValues → List (List ℕ × RowValues) 
 put_values step values steps = if has_step step steps then altered step values steps else steps ++ (step, values) ∷ []
 
 -- the steps without one
-abbrev pub dropped : List ℕ → List (List ℕ × RowValues) → List (List ℕ × RowValues)
-dropped step steps = filter (λ s. not (bytes_eq s.0 step)) steps
+abbrev pub without_uid : List ℕ → List (List ℕ × RowValues) → List (List ℕ × RowValues)
+without_uid step steps = filter (λ s. not (bytes_eq s.0 step)) steps
 
 -- the steps that have the first indexed key, in order
-abbrev pub class_of : FirstKey → List (List ℕ × RowValues) → List (List ℕ)
-class_of first steps = map (λ s. s.0) (filter (λ s. has_first first s.1) steps)
+abbrev pub indexed_class : FirstKey → List (List ℕ × RowValues) → List (List ℕ)
+indexed_class first steps = map (λ s. s.0) (filter (λ s. has_first first s.1) steps)

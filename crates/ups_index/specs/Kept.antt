@@ -19,9 +19,9 @@ abbrev pub text_view : {A : Type 0} → StoredText A → Tag × List ℕ
 text_view stored = (stored.tag, stored.text.items)
 
 -- a start lies between two moments
-abbrev pub within : Option ℤ → Option ℤ → Option ℤ → Bool
-within least greatest None = false
-within least greatest (Some m) = is_from least m && is_up_to greatest m
+abbrev pub starts_within : Option ℤ → Option ℤ → Option ℤ → Bool
+starts_within least greatest None = false
+starts_within least greatest (Some m) = is_from least m && is_up_to greatest m
 
 -- what callers see of a slot: nothing once its step is dropped
 abbrev pub seen_slot : {A : Type 0} → Slot A → Option (List ℕ × RowValues)
@@ -62,7 +62,7 @@ StartsPosted slots posts = (place : ℕ) (step : List ℕ) (values : RowValues) 
 abbrev pub HasOneSlot : {A : Type 0} → List (Slot A) → Type 0
 HasOneSlot slots = (one other : ℕ) (step : List ℕ) (values others : RowValues) → IsSlot slots one step values → IsSlot slots other step others → one ≡ other
 
-pub record Keeps {A : Type 0} (slots : List (Slot A)) (steps texts starts : List Post) : Type 0 where
+pub record KeepsIndex {A : Type 0} (slots : List (Slot A)) (steps texts starts : List Post) : Type 0 where
   pub steps_posted : StepsPosted slots steps
   pub texts_posted : TextsPosted slots texts
   pub starts_posted : StartsPosted slots starts

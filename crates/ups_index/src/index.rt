@@ -3,7 +3,7 @@
 ghost use Rattle.std.specs.Prelude.{◌≡◌, ◌≤◌, ◌<◌, ◌+◌, ◌++◌, [], ◌∷◌, false, length, IfOk, IsSome, IfSome, OnOk, pos};
 ghost use Rattle.std.specs.Bool.{MatchBool};
 ghost use Rattle.ups_match.specs.Class.{first_key, all};
-ghost use Rattle.ups_index.specs.Indexed.{values_len, has_step, altered, put_values, dropped, class_of};
+ghost use Rattle.ups_index.specs.Indexed.{values_len, has_step, put_values, without_uid, indexed_class};
 ghost use Rattle.ups_index.specs.Numbers.{low_number, high_number};
 ghost use Rattle.ups_index.specs.Posts.{KeepsOthers, HasTexts, HasStart};
 
@@ -47,11 +47,11 @@ impl<A: Allocator + Copy> Model for Index<A> {
 
     ghost Value = { Contents };
 
-    ghost use Rattle.ups_index.specs.Kept.{Keeps, least_room, seen_slots};
+    ghost use Rattle.ups_index.specs.Kept.{KeepsIndex, least_room, seen_slots};
 
     ghost view = { λ x. record { offset = x.offset; steps = seen_slots x.slots.items; spare = least_room x.slots x.steps.room x.texts.room x.starts.room } };
 
-    ghost invariant = { λ x. Keeps x.slots.items x.steps.posts x.texts.posts x.starts.posts };
+    ghost invariant = { λ x. KeepsIndex x.slots.items x.steps.posts x.texts.posts x.starts.posts };
 }
 
 /// Puts the posts of values at a place instead of those of the values of the step there.
@@ -136,13 +136,6 @@ impl<A: Allocator + Copy> Index<A> {
         }
     }
 
-    /// Whether a step is in the index.
-    fn has(&self, step: StepUid) -> bool
-        ensures { result ≡ has_step step self.now.steps }
-    {
-        place_of(&self.steps, &self.slots, step).is_some()
-    }
-
     /// Makes room for the values of a step.
     ///
     /// # Errors
@@ -208,30 +201,6 @@ impl<A: Allocator + Copy> Index<A> {
         });
     }
 
-    /// Stores other values of a step, which keeps its place in the order.
-    fn alter(&mut self, step: StepUid, values: Values<A>)
-        requires { values_len values ≤ self.old.spare }
-        ensures offset { self.new.offset ≡ self.old.offset }
-        ensures steps { self.new.steps ≡ altered step values self.old.steps }
-        ensures spare { self.old.spare ≤ self.new.spare + values_len values }
-    {
-        let Index {
-            slots,
-            steps,
-            texts,
-            starts,
-            ..
-        } = self;
-        let Some(at) = place_of(steps, slots, step) else {
-            return;
-        };
-        exchange_values(texts, starts, &slots[at].values, &values, at as u32);
-        slots[at] = Slot {
-            step,
-            values: Some(values),
-        };
-    }
-
     /// Stores values of a step in the place of those that it has, or else behind those of the other steps. There is room for
     /// them.
     pub fn put(&mut self, step: StepUid, values: Values<A>)
@@ -239,17 +208,27 @@ impl<A: Allocator + Copy> Index<A> {
         ensures offset { self.new.offset ≡ self.old.offset }
         ensures steps { self.new.steps ≡ put_values step values self.old.steps }
     {
-        if self.has(step) {
-            self.alter(step, values);
+        let Some(at) = place_of(&self.steps, &self.slots, step) else {
+            self.add(step, values);
             return;
-        }
-        self.add(step, values);
+        };
+        let Index {
+            slots,
+            texts,
+            starts,
+            ..
+        } = self;
+        exchange_values(texts, starts, &slots[at].values, &values, at as u32);
+        slots[at] = Slot {
+            step,
+            values: Some(values),
+        };
     }
 
     /// Takes a step out of the index.
     pub fn remove(&mut self, step: StepUid)
         ensures offset { self.new.offset ≡ self.old.offset }
-        ensures steps { self.new.steps ≡ dropped step self.old.steps }
+        ensures steps { self.new.steps ≡ without_uid step self.old.steps }
         ensures spare { self.old.spare ≤ self.new.spare }
     {
         let Index {
@@ -284,7 +263,7 @@ impl<A: Allocator + Copy> Index<A> {
     ///
     /// Where memory runs out.
     pub fn candidates(&self, keys: &Keys<A>) -> Result<Vec<StepUid, A>, AllocError>
-        ensures { IfOk result (λ found. found.items ≡ class_of (first_key self.now.offset keys.now) self.now.steps) }
+        ensures { IfOk result (λ found. found.items ≡ indexed_class (first_key self.now.offset keys.now) self.now.steps) }
     {
         let first = keys.first(self.offset);
         match &first {

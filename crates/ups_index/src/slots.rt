@@ -20,6 +20,9 @@ use std::collections::btree_set;
 use ups_life::StepUid;
 use ups_match::First;
 
+/// For how many places room is taken at once: most look-ups find a few steps. How many there will be isn't known before.
+const USUAL_PLACES: usize = 16;
+
 /// A step with its values; None once it is taken out.
 #[derive(Drop)]
 pub(crate) struct Slot<A: Allocator + Copy> {
@@ -194,11 +197,11 @@ fn places_of<A: Allocator + Copy>(
     ensures sorted { IfOk result (λ places. IsNonDecreasing places.items) }
     ensures has { IfOk result (λ places. (number place : ℕ) → Contains table.now.posts (post number place) → low ≤ number → number ≤ high → Contains places.items place) }
 {
-    let mut places = Vec::new(alloc);
     if high < low {
-        return Ok(places);
+        return Ok(Vec::new(alloc));
     }
     let (run, waiting) = table.runs(low, high);
+    let mut places = Vec::with_capacity(alloc, USUAL_PLACES)?;
     add_run(&mut places, run)?;
     add_places(&mut places, waiting)?;
     places.sort_unstable();
@@ -266,7 +269,7 @@ fn steps_at<A: Allocator + Copy>(
     requires has { (place : ℕ) → (step : List ℕ) → (values : RowValues) → IsSlot slots.now place step values → has_first (first_view first.now) values ≡ true → Contains places.now place }
     ensures { IfOk result (λ steps. steps.items ≡ filter_map (in_class (first_view first.now)) slots.now) }
 {
-    let mut steps = Vec::new(alloc);
+    let mut steps = Vec::with_capacity(alloc, places.len())?;
     let mut next = 0;
     for place in places {
         next = visit(&mut steps, slots, next, *place, first)?;

@@ -8,8 +8,8 @@ ghost use Rattle.ups_match.specs.Class.{first_view, start_of};
 ghost use Rattle.ups_match.specs.Matching.{value_at};
 ghost use Rattle.ups_match.specs.Ranges.{is_from, is_up_to};
 ghost use Rattle.ups_match.specs.Values.{is_backslash};
-ghost use Rattle.ups_index.specs.Kept.{text_view, within};
-ghost use Rattle.ups_index.specs.Stored.{values_of, is_text, has_first};
+ghost use Rattle.ups_index.specs.Kept.{text_view, starts_within};
+ghost use Rattle.ups_index.specs.Stored.{values_of_row, is_stored_text, has_first};
 
 use crate::storing::{put_stations, put_stored, start_of};
 use std::alloc::{AllocError, Allocator};
@@ -56,7 +56,7 @@ impl<A: Allocator + Copy> Values<A> {
     ///
     /// Where memory runs out.
     pub fn of(alloc: A, row: &DataSet<A>, offset: i16) -> Result<Values<A>, AllocError>
-        ensures { IfOk result (λ v. v ≡ values_of offset row.now) }
+        ensures { IfOk result (λ v. v ≡ values_of_row offset row.now) }
     {
         let mut texts = Vec::with_capacity(alloc, USUAL_TEXTS)?;
         put_stored(alloc, &mut texts, row, SOP_INSTANCE_UID, SOP_INSTANCE_UID)?;
@@ -109,21 +109,21 @@ impl<A: Allocator + Copy> Values<A> {
 
 /// Whether what is stored is a text under a tag.
 fn is_text<A: Allocator + Copy>(stored: &StoredText<A>, tag: Tag, text: &[u8]) -> bool
-    ensures { result ≡ is_text tag text.now (text_view stored.now) }
+    ensures { result ≡ is_stored_text tag text.now (text_view stored.now) }
 {
     stored.tag == tag && text == stored.text.as_slice()
 }
 
 /// Whether a text is stored under a tag.
 pub(crate) fn has_text<A: Allocator + Copy>(texts: &[StoredText<A>], tag: Tag, text: &[u8]) -> bool
-    ensures { result ≡ list_any (λ stored. is_text tag text.now (text_view stored)) texts.now }
+    ensures { result ≡ list_any (λ stored. is_stored_text tag text.now (text_view stored)) texts.now }
 {
     texts.iter().any(|stored| is_text(stored, tag, text))
 }
 
 /// Whether a start lies between two moments; an open end has none.
 fn is_within(start: Option<i64>, least: Option<i64>, greatest: Option<i64>) -> bool
-    ensures { result ≡ within least greatest start }
+    ensures { result ≡ starts_within least greatest start }
 {
     match start {
         Some(moment) => is_from(least, moment) && is_up_to(greatest, moment),

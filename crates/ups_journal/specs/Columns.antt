@@ -58,15 +58,15 @@ transaction_text Absent = None
 transaction_text Malformed = Some []
 transaction_text (Proper uid) = Some uid
 
-abbrev pub transaction_of : {A : Type 0} → Request A → Option (List ℕ)
-transaction_of (Change step state transaction) = transaction_text transaction
-transaction_of (Set step transaction attributes) = transaction_text transaction
-transaction_of request = None
+abbrev pub transaction_cell_of : {A : Type 0} → Request A → Option (List ℕ)
+transaction_cell_of (Change step state transaction) = transaction_text transaction
+transaction_cell_of (Set step transaction attributes) = transaction_text transaction
+transaction_cell_of request = None
 
 -- the state that a step is to have
-abbrev pub state_of : {A : Type 0} → Request A → Option StepState
-state_of (Change step state transaction) = Some state
-state_of request = None
+abbrev pub wanted_state : {A : Type 0} → Request A → Option StepState
+wanted_state (Change step state transaction) = Some state
+wanted_state request = None
 
 -- the deletion lock
 abbrev pub lock_of : {A : Type 0} → Request A → Option Bool
@@ -74,18 +74,18 @@ lock_of (Subscribe target receiver lock) = Some lock
 lock_of request = None
 
 -- the number that is acknowledged
-abbrev pub number_in : {A : Type 0} → Request A → Option ℕ
-number_in (Ack upto) = Some upto
-number_in request = None
+abbrev pub acknowledged_in : {A : Type 0} → Request A → Option ℕ
+acknowledged_in (Ack upto) = Some upto
+acknowledged_in request = None
 
 -- by which offset the keys of a filter are read, in minutes east of UTC
 abbrev pub target_offset : {A : Type 0} → Target A → Option ℤ
 target_offset (Filtered keys) = Some keys.offset
 target_offset target = None
 
-abbrev pub offset_of : {A : Type 0} → Request A → Option ℤ
-offset_of (Subscribe target receiver lock) = target_offset target
-offset_of request = None
+abbrev pub offset_cell_of : {A : Type 0} → Request A → Option ℤ
+offset_cell_of (Subscribe target receiver lock) = target_offset target
+offset_cell_of request = None
 
 -- the attributes, or the keys of a filter, in Explicit VR Little Endian
 abbrev pub target_set : {A : Type 0} → Target A → Option (List ℕ)
@@ -103,12 +103,12 @@ abbrev pub columns_of : {A : Type 0} → Request A → Columns A
 columns_of request = record {
   operation = operation_of request;
   instance = instance_of request;
-  transaction = transaction_of request;
-  state = state_of request;
+  transaction = transaction_cell_of request;
+  state = wanted_state request;
   receiver = receiver_of request;
   lock = lock_of request;
-  number = number_in request;
-  offset = offset_of request;
+  number = acknowledged_in request;
+  offset = offset_cell_of request;
   attributes = set_of request;
 }
 

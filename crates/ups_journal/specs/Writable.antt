@@ -41,10 +41,10 @@ pub record AreKeys (keys : KeySet) : Type 0 where
   pub filter : IsFilter keys
   pub stored : IsStored keys.attributes
 
-abbrev pub IsTarget : {A : Type 0} → Target A → Type 0
-IsTarget (Single step) = IsStep step
-IsTarget Global = Unit {0}
-IsTarget (Filtered keys) = AreKeys keys
+abbrev pub IsWritableTarget : {A : Type 0} → Target A → Type 0
+IsWritableTarget (Single step) = IsStep step
+IsWritableTarget Global = Unit {0}
+IsWritableTarget (Filtered keys) = AreKeys keys
 
 abbrev pub IsPlace : Place → Type 0
 IsPlace (At step) = IsStep step
@@ -55,12 +55,12 @@ IsRecordable (Create step attributes) = IsStepUid step × IsStored attributes
 IsRecordable (Change step state transaction) = IsStep step × IsTransaction transaction
 IsRecordable (AskCancel step reasons) = IsStep step × IsStored reasons
 IsRecordable (Set step transaction attributes) = IsStep step × IsTransaction transaction × IsStored attributes
-IsRecordable (Subscribe target receiver lock) = IsTarget target × IsTitle receiver
+IsRecordable (Subscribe target receiver lock) = IsWritableTarget target × IsTitle receiver
 IsRecordable (Unsubscribe place receiver) = IsPlace place × IsTitle receiver
 IsRecordable (Suspend receiver) = IsTitle receiver
 IsRecordable (Ack upto) = Unit {0}
 IsRecordable Sweep = Unit {0}
 
-pub record IsWritable {A : Type 0} (e : Entry A) : Type 0 where
+pub record IsWritableEntry {A : Type 0} (e : Entry A) : Type 0 where
   pub title : IsTitle e.ae
   pub request : IsRecordable e.request

@@ -2,7 +2,7 @@
 
 ghost use Rattle.std.specs.Prelude.{◌≡◌, ◌≢◌, IfOk, IfErr};
 ghost use Rattle.ups_journal.specs.declared.fault.RecordingFault.TheVariants.{Memory};
-ghost use Rattle.ups_journal.specs.Writable.{IsWritable};
+ghost use Rattle.ups_journal.specs.Writable.{IsWritableEntry};
 
 use crate::fault::RecordingFault;
 use crate::reading::entry_of;
@@ -20,7 +20,7 @@ pub fn what_is_recorded_is_read_again<A: Allocator + Copy>(
     entry: &Entry<A>,
 ) -> Result<Entry<A>, RecordingFault>
     ensures again { IfOk result (λ e. e ≡ entry.now) }
-    ensures fault { IfErr result (λ f. f ≢ Memory → IsWritable entry.now → ⊥) }
+    ensures fault { IfErr result (λ f. f ≢ Memory → IsWritableEntry entry.now → ⊥) }
 {
     let stored = record_of(alloc, entry)?;
     match entry_of(alloc, &stored) {

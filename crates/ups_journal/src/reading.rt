@@ -10,7 +10,7 @@ ghost use Rattle.ups_life.specs.declared.watching.Target.{Target};
 ghost use Rattle.ups_life.specs.declared.watching.Place.{Place};
 ghost use Rattle.ups_life.specs.declared.entry.Entry.{Entry};
 ghost use Rattle.ups_journal.specs.Columns.{target_instance, target_offset, target_set, place_instance, columns_of, recorded};
-ghost use Rattle.ups_journal.specs.Writable.{IsTarget, IsPlace, IsRecordable, IsWritable};
+ghost use Rattle.ups_journal.specs.Writable.{IsWritableTarget, IsPlace, IsRecordable, IsWritableEntry};
 ghost use Rattle.ups_journal.specs.declared.fault.RecordFault.TheVariants.{Memory};
 ghost use Rattle.ups_journal.specs.declared.operation.Operation.TheVariants as operations;
 
@@ -324,8 +324,8 @@ fn request_in<A: Allocator + Copy>(
 /// `BadSet` or `BadKeys` where a column has no such value as is written there; `BadColumns` where a column is empty that
 /// the operation needs, or one isn't that it has no use for. `Memory` where memory runs out.
 pub fn entry_of<A: Allocator + Copy>(alloc: A, stored: &Record<A>) -> Result<Entry<A>, RecordFault>
-    ensures read { IfOk result (λ e. (recorded e ≡ stored.now) × IsWritable e) }
-    ensures only { (e : Entry A) → IsWritable e → recorded e ≡ stored.now → MatchResult result (λ x. x ≡ e) (λ f. f ≡ Memory) }
+    ensures read { IfOk result (λ e. (recorded e ≡ stored.now) × IsWritableEntry e) }
+    ensures only { (e : Entry A) → IsWritableEntry e → recorded e ≡ stored.now → MatchResult result (λ x. x ≡ e) (λ f. f ≡ Memory) }
 {
     let Some(ae) = title_in(stored.title.as_slice()) else {
         return Err(RecordFault::BadTitle);

@@ -4,7 +4,7 @@ ghost use Rattle.std.specs.Prelude.{◌≡◌, ◌≢◌, None, Some, IfOk, IfEr
 ghost use Rattle.ups_pdu.specs.Registered.{text_of};
 ghost use Rattle.ups_life.specs.declared.request.Request.TheVariants.{Create, Change, AskCancel, Set, Subscribe, Unsubscribe, Suspend};
 ghost use Rattle.ups_journal.specs.Columns.{target_instance, target_offset, target_set, place_instance, transaction_text, columns_of, recorded};
-ghost use Rattle.ups_journal.specs.Writable.{IsTitle, IsStep, IsTransaction, IsTarget, IsPlace, IsRecordable, IsWritable};
+ghost use Rattle.ups_journal.specs.Writable.{IsTitle, IsStep, IsTransaction, IsWritableTarget, IsPlace, IsRecordable, IsWritableEntry};
 ghost use Rattle.ups_journal.specs.declared.operation.Operation.TheVariants as operations;
 ghost use Rattle.ups_journal.specs.declared.fault.RecordingFault.TheVariants.{Memory};
 
@@ -137,8 +137,8 @@ fn target_columns<A: Allocator + Copy>(
     alloc: A,
     target: &Target<A>,
 ) -> Result<Columns<A>, RecordingFault>
-    ensures written { IfOk result (λ c. (c ≡ record { operation = operations.Subscribe; instance = target_instance target.now; transaction = None; state = None; receiver = None; lock = None; number = None; offset = target_offset target.now; attributes = target_set target.now }) × IsTarget target.now) }
-    ensures fault { IfErr result (λ f. f ≢ Memory → IsTarget target.now → ⊥) }
+    ensures written { IfOk result (λ c. (c ≡ record { operation = operations.Subscribe; instance = target_instance target.now; transaction = None; state = None; receiver = None; lock = None; number = None; offset = target_offset target.now; attributes = target_set target.now }) × IsWritableTarget target.now) }
+    ensures fault { IfErr result (λ f. f ≢ Memory → IsWritableTarget target.now → ⊥) }
 {
     let mut columns = Columns::of(Operation::Subscribe);
     match target {
@@ -262,8 +262,8 @@ pub fn record_of<A: Allocator + Copy>(
     entry: &Entry<A>,
 ) -> Result<Record<A>, RecordingFault>
     ensures written { IfOk result (λ r. r ≡ recorded entry.now) }
-    ensures again { IfOk result (λ r. IsWritable entry.now) }
-    ensures fault { IfErr result (λ f. f ≢ Memory → IsWritable entry.now → ⊥) }
+    ensures again { IfOk result (λ r. IsWritableEntry entry.now) }
+    ensures fault { IfErr result (λ f. f ≢ Memory → IsWritableEntry entry.now → ⊥) }
 {
     Ok(Record {
         caller: entry.caller,

@@ -11,7 +11,7 @@ ghost use Rattle.ups_life.specs.declared.watching.Target.TheVariants.{Filtered};
 ghost use Rattle.ups_life.specs.declared.watching.Place.{Place};
 ghost use Rattle.ups_life.specs.Subscribing.{is_instance};
 ghost use Rattle.ups_journal.specs.Columns.{target_instance, target_offset, target_set, place_instance};
-ghost use Rattle.ups_journal.specs.Writable.{AreKeys, IsTarget, IsPlace};
+ghost use Rattle.ups_journal.specs.Writable.{AreKeys, IsWritableTarget, IsPlace};
 ghost use Rattle.ups_journal.specs.declared.fault.RecordFault.TheVariants.{Memory};
 
 use crate::fault::RecordFault;
@@ -43,7 +43,7 @@ fn filtered_in<A: Allocator + Copy>(
     offset: &Option<i16>,
     attributes: &Option<Bytes<A>>,
 ) -> Result<Target<A>, RecordFault>
-    ensures read { IfOk result (λ t. (target_instance t ≡ Some (text_of FilteredGlobalSubscription)) × (target_offset t ≡ offset.now) × (target_set t ≡ attributes.now) × IsTarget t) }
+    ensures read { IfOk result (λ t. (target_instance t ≡ Some (text_of FilteredGlobalSubscription)) × (target_offset t ≡ offset.now) × (target_set t ≡ attributes.now) × IsWritableTarget t) }
     ensures only { (keys : KeySet) → AreKeys keys → Some keys.offset ≡ offset.now → Some (written Explicit keys.attributes) ≡ attributes.now
         → MatchResult result (λ t. t ≡ Filtered keys) (λ f. f ≡ Memory) }
 {
@@ -63,8 +63,8 @@ pub(crate) fn target_in<A: Allocator + Copy>(
     offset: &Option<i16>,
     attributes: &Option<Bytes<A>>,
 ) -> Result<Target<A>, RecordFault>
-    ensures read { IfOk result (λ t. (target_instance t ≡ instance.now) × (target_offset t ≡ offset.now) × (target_set t ≡ attributes.now) × IsTarget t) }
-    ensures only { (t : Target A) → IsTarget t → target_instance t ≡ instance.now → target_offset t ≡ offset.now → target_set t ≡ attributes.now
+    ensures read { IfOk result (λ t. (target_instance t ≡ instance.now) × (target_offset t ≡ offset.now) × (target_set t ≡ attributes.now) × IsWritableTarget t) }
+    ensures only { (t : Target A) → IsWritableTarget t → target_instance t ≡ instance.now → target_offset t ≡ offset.now → target_set t ≡ attributes.now
         → MatchResult result (λ x. x ≡ t) (λ f. f ≡ Memory) }
 {
     if is_instance(instance, RegisteredUid::FilteredGlobalSubscription) {

@@ -9,7 +9,7 @@ use Rattle.std.proofs.lemmas.Bool.{cases_lt}
 use Rattle.std.proofs.lemmas.List.Sorted.{IsPermutation-refl, IsPermutation-sym, IsPermutation-cons, IsPermutation-middle, IsPermutation-trans, IsPermutation-push_more}
 use Rattle.std.proofs.lemmas.List.{append_assoc, take_more}
 use Rattle.ups_keep.specs.declared.due.Final.{Final}
-use Rattle.ups_keep.specs.Due.{inserted, removed, is_same, up_to, later_than, is_any, NoneSame, moment_of}
+use Rattle.ups_keep.specs.Due.{inserted, without_final, is_same_final, due_until, later_than, is_any, NoneSame, moment_of}
 
 later_leb : (m n : ℕ) → m < n → leb n m ≡ false
 later_leb m n l = by (leb n m) refl
@@ -29,13 +29,13 @@ insert_is (y ∷ ys) (suc k) x le before after =
 pub sorted_tail : (x : Final) (xs : List Final) → IsNonDecreasingBy moment_of (x ∷ xs) → IsNonDecreasingBy moment_of xs
 sorted_tail x xs s i j d le l = s (suc i) (suc j) d (omega (arith, le)) (omega (arith, l))
 
-all_later : (m : ℕ) (xs : List Final) → ((i : ℕ) (d : Final) → i < length xs → m < (get_or xs i d).moment) → (later_than m xs ≡ xs) × (up_to m xs ≡ [])
+all_later : (m : ℕ) (xs : List Final) → ((i : ℕ) (d : Final) → i < length xs → m < (get_or xs i d).moment) → (later_than m xs ≡ xs) × (due_until m xs ≡ [])
 all_later m [] h = (refl, refl)
 all_later m (x ∷ xs) h =
     let rest = all_later m xs (λ i d l. h (suc i) d (omega (arith, l))) in
     let e = later_leb m x.moment (h 0 x (omega arith)) in (
       ap (λ (b : Bool). cond (not b) (x ∷ later_than m xs) (later_than m xs)) e ∙ ap (λ (r : List Final). x ∷ r) rest.0,
-      ap (λ (b : Bool). cond b (x ∷ up_to m xs) (up_to m xs)) e ∙ rest.1,
+      ap (λ (b : Bool). cond b (x ∷ due_until m xs) (due_until m xs)) e ∙ rest.1,
     )
 
 -- where the first is later, all are
@@ -43,35 +43,35 @@ pub none_left : (m : ℕ) (xs : List Final) → IsNonDecreasingBy moment_of xs �
 none_left m [] s e = refl
 none_left m (x ∷ xs) s e = (all_later m (x ∷ xs) (λ i d l. let h = leb-false x.moment m e in let up = s 0 i d (omega arith) l in omega (arith, h, up))).0
 
-pub none_up_to : (m : ℕ) (xs : List Final) → IsNonDecreasingBy moment_of xs → is_any m xs ≡ false → up_to m xs ≡ []
+pub none_up_to : (m : ℕ) (xs : List Final) → IsNonDecreasingBy moment_of xs → is_any m xs ≡ false → due_until m xs ≡ []
 none_up_to m [] s e = refl
 none_up_to m (x ∷ xs) s e = (all_later m (x ∷ xs) (λ i d l. let h = leb-false x.moment m e in let up = s 0 i d (omega arith) l in omega (arith, h, up))).1
 
 -- none of an earlier moment where there is none of a later
-pub none_before : (m n : ℕ) (xs : List Final) → n ≤ m → up_to m xs ≡ [] → up_to n xs ≡ []
+pub none_before : (m n : ℕ) (xs : List Final) → n ≤ m → due_until m xs ≡ [] → due_until n xs ≡ []
 none_before m n [] le e = refl
 none_before m n (x ∷ xs) le e = by (leb x.moment m) refl e (none_before m n xs le)
   where
-    by : (b : Bool) → leb x.moment m ≡ b → cond b (x ∷ up_to m xs) (up_to m xs) ≡ [] → (up_to m xs ≡ [] → up_to n xs ≡ []) → cond (leb x.moment n) (x ∷ up_to n xs) (up_to n xs) ≡ []
+    by : (b : Bool) → leb x.moment m ≡ b → cond b (x ∷ due_until m xs) (due_until m xs) ≡ [] → (due_until m xs ≡ [] → due_until n xs ≡ []) → cond (leb x.moment n) (x ∷ due_until n xs) (due_until n xs) ≡ []
     by true h g rest = absurd cc
-    by false h g rest = let f = leb-false x.moment m h in ap (λ (b : Bool). cond b (x ∷ up_to n xs) (up_to n xs)) (later_leb n x.moment (omega (arith, f, le))) ∙ rest g
+    by false h g rest = let f = leb-false x.moment m h in ap (λ (b : Bool). cond b (x ∷ due_until n xs) (due_until n xs)) (later_leb n x.moment (omega (arith, f, le))) ∙ rest g
 
 -- those of no later moment stand in front
-pub front_is : (m : ℕ) (xs : List Final) (k : ℕ) → k ≤ length xs → ((i : ℕ) (d : Final) → i < k → (get_or xs i d).moment ≤ m) → ((i : ℕ) (d : Final) → k ≤ i → i < length xs → m < (get_or xs i d).moment) → take k xs ≡ up_to m xs
+pub front_is : (m : ℕ) (xs : List Final) (k : ℕ) → k ≤ length xs → ((i : ℕ) (d : Final) → i < k → (get_or xs i d).moment ≤ m) → ((i : ℕ) (d : Final) → k ≤ i → i < length xs → m < (get_or xs i d).moment) → take k xs ≡ due_until m xs
 front_is m xs zero le before after = sym (all_later m xs (λ i d l. after i d (omega arith) l)).1
 front_is m [] (suc k) le before after = absurd (omega (arith, le))
 front_is m (x ∷ xs) (suc k) le before after =
     ap (λ (r : List Final). x ∷ r) (front_is m xs k (omega (arith, le)) (λ i d l. before (suc i) d (omega (arith, l))) (λ i d a l. after (suc i) d (omega (arith, a)) (omega (arith, l))))
-    ∙ sym (ap (λ (b : Bool). cond b (x ∷ up_to m xs) (up_to m xs)) (le-leb x.moment m (before 0 x (omega arith))))
+    ∙ sym (ap (λ (b : Bool). cond b (x ∷ due_until m xs) (due_until m xs)) (le-leb x.moment m (before 0 x (omega arith))))
 
-pub none_removed : (x : Final) (xs : List Final) → NoneSame x (length xs) xs → xs ≡ removed x xs
+pub none_removed : (x : Final) (xs : List Final) → NoneSame x (length xs) xs → xs ≡ without_final x xs
 none_removed x [] n = refl
-none_removed x (y ∷ ys) n = ap (λ (r : List Final). y ∷ r) (none_removed x ys (λ i d l. n (suc i) d (omega (arith, l)))) ∙ sym (ap (λ (b : Bool). cond b ys (y ∷ removed x ys)) (n 0 y (omega arith)))
+none_removed x (y ∷ ys) n = ap (λ (r : List Final). y ∷ r) (none_removed x ys (λ i d l. n (suc i) d (omega (arith, l)))) ∙ sym (ap (λ (b : Bool). cond b ys (y ∷ without_final x ys)) (n 0 y (omega arith)))
 
-pub one_removed : (x : Final) (xs : List Final) (k : ℕ) → k < length xs → NoneSame x k xs → ((d : Final) → is_same x (get_or xs k d) ≡ true) → remove xs k ≡ removed x xs
+pub one_removed : (x : Final) (xs : List Final) (k : ℕ) → k < length xs → NoneSame x k xs → ((d : Final) → is_same_final x (get_or xs k d) ≡ true) → remove xs k ≡ without_final x xs
 one_removed x [] k l n is = absurd (omega (arith, l))
-one_removed x (y ∷ ys) zero l n is = sym (ap (λ (b : Bool). cond b ys (y ∷ removed x ys)) (is y))
-one_removed x (y ∷ ys) (suc k) l n is = ap (λ (r : List Final). y ∷ r) (one_removed x ys k (omega (arith, l)) (λ i d a. n (suc i) d (omega (arith, a))) is) ∙ sym (ap (λ (b : Bool). cond b ys (y ∷ removed x ys)) (n 0 y (omega arith)))
+one_removed x (y ∷ ys) zero l n is = sym (ap (λ (b : Bool). cond b ys (y ∷ without_final x ys)) (is y))
+one_removed x (y ∷ ys) (suc k) l n is = ap (λ (r : List Final). y ∷ r) (one_removed x ys k (omega (arith, l)) (λ i d a. n (suc i) d (omega (arith, a))) is) ∙ sym (ap (λ (b : Bool). cond b ys (y ∷ without_final x ys)) (n 0 y (omega arith)))
 
 -- steps of another moment are others
 pub earlier_differs : (x : Final) (xs : List Final) (k : ℕ) → ((i : ℕ) (d : Final) → i < k → (get_or xs i d).moment < x.moment) → NoneSame x k xs

@@ -11,7 +11,7 @@ use Rattle.ups_life.specs.Distinct.{Distinct}
 use Rattle.ups_life.specs.Watching.{is_among}
 use Rattle.ups_life.proofs.Texts.{same_text, text_is_itself}
 use Rattle.ups_keep.specs.declared.due.Final.{Final}
-use Rattle.ups_keep.specs.Due.{inserted, removed, is_same}
+use Rattle.ups_keep.specs.Due.{inserted, without_final, is_same_final}
 use Rattle.ups_keep.specs.Waits.{steps_of, waits, only_where}
 
 -- TESTS
@@ -91,54 +91,54 @@ distinct_inserted x (y ∷ ys) none once = by (leb y.moment x.moment) (bytes_eq 
 -- ONE LESS
 
 module _ (x : Final) where
-  first_goes : (y : Final) → bytes_eq x.step y.step ≡ true → Some y.moment ≡ Some x.moment → is_same x y ≡ true
+  first_goes : (y : Final) → bytes_eq x.step y.step ≡ true → Some y.moment ≡ Some x.moment → is_same_final x y ≡ true
   first_goes y same m =
       let e : x.moment ≡ y.moment = (let d : y.moment ≡ x.moment = cc in sym d) in
       ap (λ b. b && bytes_eq x.step y.step) (eq-eqb x.moment y.moment e) ∙ same
 
-  other_stays : (y : Final) → bytes_eq x.step y.step ≡ false → is_same x y ≡ false
+  other_stays : (y : Final) → bytes_eq x.step y.step ≡ false → is_same_final x y ≡ false
   other_stays y differ = ap (λ b. nat_eq x.moment y.moment && b) differ ∙ never (nat_eq x.moment y.moment)
     where
       never : (b : Bool) → (b && false) ≡ false
       never true = refl
       never false = refl
 
-  pub waits_removed : (xs : List Final) → Distinct (steps_of xs) → waits x.step xs ≡ Some x.moment → (u : List ℕ) → waits u (removed x xs) ≡ cond (bytes_eq x.step u) None (waits u xs)
+  pub waits_removed : (xs : List Final) → Distinct (steps_of xs) → waits x.step xs ≡ Some x.moment → (u : List ℕ) → waits u (without_final x xs) ≡ cond (bytes_eq x.step u) None (waits u xs)
   waits_removed [] once here u = absurd cc
   waits_removed (y ∷ ys) once here u = by (bytes_eq y.step x.step) refl here (λ h. waits_removed ys once.1 h u)
     where
-      by : (d : Bool) → bytes_eq y.step x.step ≡ d → cond d (Some y.moment) (waits x.step ys) ≡ Some x.moment → (waits x.step ys ≡ Some x.moment → waits u (removed x ys) ≡ cond (bytes_eq x.step u) None (waits u ys))
-          → waits u (cond (is_same x y) ys (y ∷ removed x ys)) ≡ cond (bytes_eq x.step u) None (cond (bytes_eq y.step u) (Some y.moment) (waits u ys))
+      by : (d : Bool) → bytes_eq y.step x.step ≡ d → cond d (Some y.moment) (waits x.step ys) ≡ Some x.moment → (waits x.step ys ≡ Some x.moment → waits u (without_final x ys) ≡ cond (bytes_eq x.step u) None (waits u ys))
+          → waits u (cond (is_same_final x y) ys (y ∷ without_final x ys)) ≡ cond (bytes_eq x.step u) None (cond (bytes_eq y.step u) (Some y.moment) (waits u ys))
       by true same h rest =
-          ap (λ b. waits u (cond b ys (y ∷ removed x ys))) (first_goes y (other_text x.step y.step ∙ same) h)
+          ap (λ b. waits u (cond b ys (y ∷ without_final x ys))) (first_goes y (other_text x.step y.step ∙ same) h)
           ∙ at (bytes_eq x.step u) refl
         where
           at : (b : Bool) → bytes_eq x.step u ≡ b → waits u ys ≡ cond b None (cond (bytes_eq y.step u) (Some y.moment) (waits u ys))
           at true e = no_wait u ys (ap (λ v. is_among v (steps_of ys)) (sym (same_text x.step u e)) ∙ ap (λ v. is_among v (steps_of ys)) (sym (same_text y.step x.step same)) ∙ once.0)
           at false e = sym (ap (λ k. cond k (Some y.moment) (waits u ys)) (ap (λ v. bytes_eq v u) (same_text y.step x.step same) ∙ e))
       by false differ h rest =
-          ap (λ b. waits u (cond b ys (y ∷ removed x ys))) (other_stays y (other_text x.step y.step ∙ differ))
+          ap (λ b. waits u (cond b ys (y ∷ without_final x ys))) (other_stays y (other_text x.step y.step ∙ differ))
           ∙ at (bytes_eq y.step u) refl
         where
-          at : (b : Bool) → bytes_eq y.step u ≡ b → cond b (Some y.moment) (waits u (removed x ys)) ≡ cond (bytes_eq x.step u) None (cond b (Some y.moment) (waits u ys))
+          at : (b : Bool) → bytes_eq y.step u ≡ b → cond b (Some y.moment) (waits u (without_final x ys)) ≡ cond (bytes_eq x.step u) None (cond b (Some y.moment) (waits u ys))
           at true e = sym (ap (λ k. cond k None (Some y.moment)) (is_false (bytes_eq x.step u) (λ s. true≢false (sym e ∙ ap (bytes_eq y.step) (sym (same_text x.step u s)) ∙ differ))))
           at false e = rest h
 
-  not_left : (zs : List Final) (u : List ℕ) → is_among u (steps_of zs) ≡ false → is_among u (steps_of (removed x zs)) ≡ false
+  not_left : (zs : List Final) (u : List ℕ) → is_among u (steps_of zs) ≡ false → is_among u (steps_of (without_final x zs)) ≡ false
   not_left [] u h = refl
   not_left (z ∷ zs) u h =
       let n = neither (bytes_eq z.step u) (is_among u (steps_of zs)) h in
-      at (is_same x z) n.1 (both_false (bytes_eq z.step u) (is_among u (steps_of (removed x zs))) n.0 (not_left zs u n.1))
+      at (is_same_final x z) n.1 (both_false (bytes_eq z.step u) (is_among u (steps_of (without_final x zs))) n.0 (not_left zs u n.1))
     where
-      at : (b : Bool) → is_among u (steps_of zs) ≡ false → (bytes_eq z.step u || is_among u (steps_of (removed x zs))) ≡ false → is_among u (steps_of (cond b zs (z ∷ removed x zs))) ≡ false
+      at : (b : Bool) → is_among u (steps_of zs) ≡ false → (bytes_eq z.step u || is_among u (steps_of (without_final x zs))) ≡ false → is_among u (steps_of (cond b zs (z ∷ without_final x zs))) ≡ false
       at true p q = p
       at false p q = q
 
-  pub distinct_removed : (xs : List Final) → Distinct (steps_of xs) → Distinct (steps_of (removed x xs))
+  pub distinct_removed : (xs : List Final) → Distinct (steps_of xs) → Distinct (steps_of (without_final x xs))
   distinct_removed [] once = tt
-  distinct_removed (y ∷ ys) once = by (is_same x y) (distinct_removed ys once.1)
+  distinct_removed (y ∷ ys) once = by (is_same_final x y) (distinct_removed ys once.1)
     where
-      by : (b : Bool) → Distinct (steps_of (removed x ys)) → Distinct (steps_of (cond b ys (y ∷ removed x ys)))
+      by : (b : Bool) → Distinct (steps_of (without_final x ys)) → Distinct (steps_of (cond b ys (y ∷ without_final x ys)))
       by true rest = once.1
       by false rest = (not_left ys y.step once.0, rest)
 

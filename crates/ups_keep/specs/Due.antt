@@ -5,7 +5,7 @@ use Rattle.std.specs.Str.{bytes_eq}
 use Rattle.ups_keep.specs.declared.due.Final.{Final}
 
 -- what callers see: the steps in the order of their moments, and how many more there is room for
-pub record Standing : Type 0 where
+pub record DueView : Type 0 where
   pub steps : List Final
   pub spare : ℕ
 
@@ -15,17 +15,17 @@ inserted x [] = x ∷ []
 inserted x (y ∷ ys) = if nat_le y.moment x.moment then y ∷ inserted x ys else x ∷ y ∷ ys
 
 -- the same step, final since the same moment
-abbrev pub is_same : Final → Final → Bool
-is_same x y = nat_eq x.moment y.moment && bytes_eq x.step y.step
+abbrev pub is_same_final : Final → Final → Bool
+is_same_final x y = nat_eq x.moment y.moment && bytes_eq x.step y.step
 
 -- without a step, if it is there: the first that is the same goes
-abbrev pub removed : Final → List Final → List Final
-removed x [] = []
-removed x (y ∷ ys) = if is_same x y then ys else y ∷ removed x ys
+abbrev pub without_final : Final → List Final → List Final
+without_final x [] = []
+without_final x (y ∷ ys) = if is_same_final x y then ys else y ∷ without_final x ys
 
 -- the steps that a sweep up to this moment removes: those that became final no later (the profile's rule of retention)
-abbrev pub up_to : ℕ → List Final → List Final
-up_to moment xs = filter (λ (x : Final). nat_le x.moment moment) xs
+abbrev pub due_until : ℕ → List Final → List Final
+due_until moment xs = filter (λ (x : Final). nat_le x.moment moment) xs
 
 -- the steps that such a sweep leaves
 abbrev pub later_than : ℕ → List Final → List Final
@@ -42,4 +42,4 @@ is_any moment (x ∷ xs) = nat_le x.moment moment
 
 -- none of the first k is the same as this step
 abbrev pub NoneSame : Final → ℕ → List Final → Type 0
-NoneSame x k xs = (i : ℕ) (d : Final) → i < k → is_same x (slice_index_or xs i d) ≡ false
+NoneSame x k xs = (i : ℕ) (d : Final) → i < k → is_same_final x (slice_index_or xs i d) ≡ false

@@ -5,7 +5,7 @@ ghost use Rattle.std.specs.Fn.{CalledAt};
 ghost use Rattle.std.specs.List.Retain.{IsFiltered};
 ghost use Rattle.std.specs.VecDeque.{deque_len, deque_capacity};
 ghost use Rattle.std.specs.List.Sorted.{IsNonDecreasingBy, IsPermutation};
-ghost use Rattle.ups_keep.specs.Due.{Standing, inserted, removed, up_to, later_than, is_same, is_any, NoneSame, moment_of};
+ghost use Rattle.ups_keep.specs.Due.{DueView, inserted, without_final, due_until, later_than, is_same_final, is_any, NoneSame, moment_of};
 
 use std::alloc::{AllocError, Allocator};
 use std::collections::VecDeque;
@@ -40,9 +40,9 @@ impl<A: Allocator + Copy> Model for Due<A> {
     ghost use Rattle.std.specs.Prelude.{◌-◌};
     ghost use Rattle.std.specs.VecDeque.{deque_len, deque_capacity};
     ghost use Rattle.std.specs.List.Sorted.{IsNonDecreasingBy};
-    ghost use Rattle.ups_keep.specs.Due.{Standing, moment_of};
+    ghost use Rattle.ups_keep.specs.Due.{DueView, moment_of};
 
-    ghost Value = { Standing };
+    ghost Value = { DueView };
 
     ghost view = { λ d. record { steps = d.steps.items; spare = deque_capacity d.steps - deque_len d.steps } };
 
@@ -61,7 +61,7 @@ fn place_behind<A: Allocator + Copy>(steps: &VecDeque<Final, A>, moment: u64) ->
 
 /// Whether two are the same step, final since the same moment.
 fn is_same(one: &Final, other: &Final) -> bool
-    ensures { result ≡ is_same one.now other.now }
+    ensures { result ≡ is_same_final one.now other.now }
 {
     one.moment == other.moment && one.step.as_bytes() == other.step.as_bytes()
 }
@@ -98,7 +98,7 @@ fn list_up_to<A: Allocator + Copy>(
     moment: u64,
 ) -> Result<Vec<Final, A>, AllocError>
     requires { IsNonDecreasingBy moment_of steps.now.items }
-    ensures { IfOk result (λ v. v.items ≡ up_to moment steps.now.items) }
+    ensures { IfOk result (λ v. v.items ≡ due_until moment steps.now.items) }
 {
     let end = place_behind(steps, moment);
     steps.range(..end).copied().collect(alloc)
@@ -108,7 +108,7 @@ fn list_up_to<A: Allocator + Copy>(
 /// compared with it.
 fn place_of<A: Allocator + Copy>(steps: &VecDeque<Final, A>, step: &Final) -> Option<usize>
     requires { IsNonDecreasingBy moment_of steps.now.items }
-    ensures { MatchOption result (NoneSame step.now (length steps.now.items) steps.now.items) (λ k. (k < length steps.now.items) × NoneSame step.now k steps.now.items × ((d : Final) → is_same step.now (slice_index_or steps.now.items k d) ≡ true)) }
+    ensures { MatchOption result (NoneSame step.now (length steps.now.items) steps.now.items) (λ k. (k < length steps.now.items) × NoneSame step.now k steps.now.items × ((d : Final) → is_same_final step.now (slice_index_or steps.now.items k d) ≡ true)) }
 {
     let start = steps.partition_point(|other| other.moment < step.moment);
     for place in start..steps.len() {
@@ -125,7 +125,7 @@ fn place_of<A: Allocator + Copy>(steps: &VecDeque<Final, A>, step: &Final) -> Op
 /// Takes out a step, where it stands in the list with its moment.
 fn take_from<A: Allocator + Copy>(steps: &mut VecDeque<Final, A>, step: &Final)
     requires { IsNonDecreasingBy moment_of steps.old.items }
-    ensures steps { steps.new.items ≡ removed step.now steps.old.items }
+    ensures steps { steps.new.items ≡ without_final step.now steps.old.items }
     ensures sorted { IsNonDecreasingBy moment_of steps.new.items }
     ensures len { deque_len steps.new ≤ deque_len steps.old }
     ensures capacity { deque_capacity steps.new ≡ deque_capacity steps.old }
@@ -249,7 +249,7 @@ impl<A: Allocator + Copy> Due<A> {
     /// Takes out a step on which a peer has got a deletion lock (PS3.4 CC.2.3). Where it doesn't stand in the list with
     /// this moment, nothing changes.
     pub fn take(&mut self, step: &Final)
-        ensures steps { self.new.steps ≡ removed step.now self.old.steps }
+        ensures steps { self.new.steps ≡ without_final step.now self.old.steps }
         ensures spare { self.old.spare ≤ self.new.spare }
     {
         take_from(&mut self.steps, step);
@@ -280,7 +280,7 @@ impl<A: Allocator + Copy> Due<A> {
     /// is looked at.
     pub fn is_any(&self, moment: u64) -> bool
         ensures first { result ≡ is_any moment self.now.steps }
-        ensures none { result ≡ false → up_to moment self.now.steps ≡ [] }
+        ensures none { result ≡ false → due_until moment self.now.steps ≡ [] }
     {
         is_any(&self.steps, moment)
     }
@@ -291,7 +291,7 @@ impl<A: Allocator + Copy> Due<A> {
     ///
     /// Where memory runs out.
     pub fn up_to(&self, alloc: A, moment: u64) -> Result<Vec<Final, A>, AllocError>
-        ensures { IfOk result (λ v. v.items ≡ up_to moment self.now.steps) }
+        ensures { IfOk result (λ v. v.items ≡ due_until moment self.now.steps) }
     {
         list_up_to(alloc, &self.steps, moment)
     }

@@ -7,7 +7,7 @@ use Rattle.ups_journal.specs.Columns.{recorded}
 use Rattle.ups_ledger.specs.declared.keeper.Keeper.{Keeper}
 use Rattle.ups_ledger.specs.declared.ledger.Ledger.{Ghosts}
 use Rattle.ups_ledger.specs.declared.recorder.Recorder.{Recorder}
-use Rattle.ups_turn.specs.Pass.{Standing, SamePass}
+use Rattle.ups_turn.specs.Pass.{PassView, SamePass}
 
 -- the records that are taken down of a history: those of its entries from the place on, at most so many
 pub record TakesDown {A : Type 0} (old : Recorder A) (history : List (Entry A)) (new : Recorder A) : Type 0 where
@@ -21,7 +21,7 @@ pub record AreFirst {A : Type 0} (records : List (Record A)) (history : List (En
   pub are : records ≡ map recorded (take count history)
 
 -- the pass has seen what others entered meanwhile, and has entered nothing
-pub record HasWatched {A : Type 0} (old new : Standing A) : Type 0 where
+pub record HasWatched {A : Type 0} (old new : PassView A) : Type 0 where
   pub same : SamePass old new
   pub between : List (Entry A)
   pub others : All (λ (e : Entry A). e.caller ≢ old.number) between

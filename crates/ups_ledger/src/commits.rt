@@ -4,12 +4,21 @@ use std::sync::Wait;
 use std::sync::atomic::{AtomicU64, Ordering};
 use std::time::{Clock, Duration, Instant};
 
-/// How many entries of a history are committed, for which threads wait. No contract speaks of it: that who waits is let go
-/// only when so many are committed is read off the code.
+/// How many entries of a history are committed, for which threads wait, and for how many the one that commits is asked. No
+/// contract speaks of it: that who waits is let go only when so many are committed is read off the code.
 #[derive(Drop)]
 pub struct Commits {
     count: AtomicU64,
+    /// The most that was asked for.
+    asked: AtomicU64,
+    /// How many threads wait.
+    waiting: AtomicU64,
+    /// How many have to be asked for until the one that commits is woken; 0 where it is awake.
+    alarm: AtomicU64,
 }
+
+/// That the one that commits is awake.
+const AWAKE: u64 = 0;
 
 /// The count that stands for a server where nothing is kept, since no history has so many entries.
 const ALL: u64 = u64::MAX;
@@ -30,6 +39,9 @@ impl Commits {
     pub fn new(count: u64) -> Commits {
         Commits {
             count: AtomicU64::new(count),
+            asked: AtomicU64::new(count),
+            waiting: AtomicU64::new(0),
+            alarm: AtomicU64::new(AWAKE),
         }
     }
 
@@ -51,10 +63,37 @@ impl Commits {
         }
     }
 
-    /// So many are committed now: wakes all that wait.
+    /// The most that was asked for.
+    pub fn asked(&self) -> u64 {
+        self.asked.load(Ordering::SeqCst)
+    }
+
+    /// So many are committed now: wakes all that wait, where some do.
     pub fn advance(&self, count: u64) {
         self.count.store(count, Ordering::SeqCst);
-        self.count.wake_all();
+        if self.waiting.load(Ordering::SeqCst) > 0 {
+            self.count.wake_all();
+        }
+    }
+
+    // Asks for so many, and wakes the one that commits where it sleeps until as many are asked for.
+    fn ask(&self, count: u64) {
+        self.asked.fetch_max(count, Ordering::SeqCst);
+        let alarm = self.alarm.load(Ordering::SeqCst);
+        if alarm != AWAKE && count >= alarm && self.alarm.swap(AWAKE, Ordering::SeqCst) != AWAKE {
+            self.alarm.wake_one();
+        }
+    }
+
+    /// Waits until so many are asked for, for so long at most. The most that was asked for then. One thread alone waits so:
+    /// the one that commits.
+    pub fn await_asked<R: Wait>(&self, rt: &R, count: u64, limit: Duration) -> u64 {
+        self.alarm.store(count, Ordering::SeqCst);
+        if self.asked() < count {
+            self.alarm.park_timeout(rt, low_half(count), limit);
+        }
+        self.alarm.store(AWAKE, Ordering::SeqCst);
+        self.asked()
     }
 
     /// Waits until so many are committed, since a moment for so long at most. False where they aren't then, or the clock
@@ -80,14 +119,19 @@ impl Commits {
         unreachable!()
     }
 
-    /// Waits until so many are committed, for so long at most. False where they aren't then, or the clock fails.
+    /// Waits until so many are committed, for so long at most, and asks for them. False where they aren't then, or the clock
+    /// fails.
     pub fn wait_for<R: Wait + Clock>(&self, rt: &R, count: u64, limit: Duration) -> bool {
         if self.count() >= count {
             return true;
         }
-        match Instant::now(rt) {
+        self.waiting.fetch_add(1, Ordering::SeqCst);
+        self.ask(count);
+        let is_committed = match Instant::now(rt) {
             Ok(since) => self.wait_since(rt, count, limit, since),
             Err(_) => false,
-        }
+        };
+        self.waiting.fetch_sub(1, Ordering::SeqCst);
+        is_committed
     }
 }

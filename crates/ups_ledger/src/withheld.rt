@@ -1,47 +1,30 @@
-//! A service whose answers are withheld until they are committed.
+//! A service that tells what its answers rest on.
 
 ghost use Rattle.std.specs.Prelude.{◌≡◌};
 
-use crate::commits::Commits;
 use std::alloc::Global;
 use std::sync::Wait;
-use std::sync::atomic::{AtomicBool, Ordering};
-use std::time::{Clock, Duration};
+use std::sync::atomic::{AtomicU64, Ordering};
 use ups_life::{Ask, Reply};
 use ups_pdu::Ae;
 use ups_service::{Service, SharedService};
 use ups_turn::{Fixed, Seated};
 
-/// A pass at its desk, as a service that answers when what the pass has seen is committed: its own request, and those of
-/// others on which the answer rests. It answers as what is inside. Where that takes too long it says so, beside the
-/// answer, and whoever sends answers has to keep it back.
+/// A pass at its desk, as a service that notes with each answer how many entries have to be committed before it may leave:
+/// as many as the pass has seen, its own request and those of others on which the answer rests. It answers as what is
+/// inside, and waits for no commit: whoever sends answers has to withhold them until then.
 #[derive(Drop)]
-pub struct Withheld<'a, F: Fixed, M: SharedService<Global>, R: Wait + Clock> {
+pub struct Withheld<'a, F: Fixed, M: SharedService<Global>, R: Wait> {
     seated: Seated<'a, F, M, Global, R>,
-    rt: &'a R,
-    commits: &'a Commits,
-    limit: Duration,
-    is_late: &'a AtomicBool,
+    due: &'a AtomicU64,
 }
 
-impl<'a, F: Fixed, M: SharedService<Global>, R: Wait + Clock> Withheld<'a, F, M, R> {
-    /// A service that waits for commits, for each answer so long at most. Where one takes longer, `is_late` is set.
-    pub fn new(
-        rt: &'a R,
-        seated: Seated<'a, F, M, Global, R>,
-        commits: &'a Commits,
-        limit: Duration,
-        is_late: &'a AtomicBool,
-    ) -> Withheld<'a, F, M, R>
+impl<'a, F: Fixed, M: SharedService<Global>, R: Wait> Withheld<'a, F, M, R> {
+    /// A service that notes in `due` what its answers rest on.
+    pub fn new(seated: Seated<'a, F, M, Global, R>, due: &'a AtomicU64) -> Withheld<'a, F, M, R>
         ensures { result.seated ≡ seated.entry }
     {
-        Withheld {
-            seated,
-            rt,
-            commits,
-            limit,
-            is_late,
-        }
+        Withheld { seated, due }
     }
 
     /// What is inside.
@@ -53,8 +36,7 @@ impl<'a, F: Fixed, M: SharedService<Global>, R: Wait + Clock> Withheld<'a, F, M,
     }
 }
 
-impl<'a, F: Fixed, M: SharedService<Global>, R: Wait + Clock> Service<Global>
-    for Withheld<'a, F, M, R> {
+impl<'a, F: Fixed, M: SharedService<Global>, R: Wait> Service<Global> for Withheld<'a, F, M, R> {
     ghost use Rattle.ups_service.specs.Law.{callers};
     ghost use Rattle.ups_turn.specs.Pass.{seen_by};
 
@@ -68,12 +50,7 @@ impl<'a, F: Fixed, M: SharedService<Global>, R: Wait + Clock> Service<Global>
 
     fn answer(&mut self, ae: Ae, moment: u64, ask: &mut Option<Ask<Global>>) -> Reply<Global> {
         let reply = self.seated.answer(ae, moment, ask);
-        if !self
-            .commits
-            .wait_for(self.rt, self.seated.seen(), self.limit)
-        {
-            self.is_late.store(true, Ordering::SeqCst);
-        }
+        self.due.store(self.seated.seen(), Ordering::SeqCst);
         reply
     }
 }

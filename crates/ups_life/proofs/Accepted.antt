@@ -54,6 +54,14 @@ of_peer_done peers (Some w) x h = at (is_peer peers w) h
     at true g = g
     at false g = absurd cc
 
+-- what is accepted for a watcher is for a peer
+pub for_peer : (peers : List Peer) (receiver : List ℕ) (x : Status) → is_done (of_peer peers (Some receiver) x) ≡ true → is_peer peers receiver ≡ true
+for_peer peers receiver x h = at (is_peer peers receiver) h
+  where
+    at : (b : Bool) → is_done (cond b x UnknownReceivingAe) ≡ true → b ≡ true
+    at true g = refl
+    at false g = absurd cc
+
 of_lock_done : {A : Type 0} (peers : List Peer) (r : Request A) (x : Status) → is_done (of_lock peers r x) ≡ true → is_done x ≡ true
 of_lock_done peers (Subscribe target receiver lock) Success h = refl
 of_lock_done peers (Subscribe target receiver lock) x h = h

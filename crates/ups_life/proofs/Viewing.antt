@@ -26,7 +26,7 @@ use Rattle.ups_life.specs.Settings.{Settings}
 use Rattle.ups_life.specs.Readiness.{readiness_in, named_readiness, is_same_readiness}
 use Rattle.ups_life.specs.Steps.{canceled, state, row, state_element, progress_element, cancel_gives, without_transaction}
 use Rattle.ups_life.specs.Watching.{takes_in, is_at, cover, is_among, watch_after, watch, held, is_held, watched_step, watched}
-use Rattle.ups_life.specs.Events.{readiness, report, as_it_is, only_if, cancel_reports, has, set_reports, told_of, reports_of, numbered, events, Seen, shows, view, present}
+use Rattle.ups_life.specs.Events.{readiness, report, as_it_is, only_if, cancel_reports, has, set_reports, told_of, reports_of, numbered, events, Learned, shows, view, present}
 use Rattle.ups_life.proofs.Texts.{same_text, text_is_itself}
 use Rattle.ups_life.proofs.RowsTell.{held_before}
 
@@ -96,7 +96,7 @@ about_cancel v Completed r = tt
 about_cancel v Canceled r = tt
 
 -- one State Report of u shows what it says
-state_told : (u : List ℕ) (n place : ℕ) (t : StepState) (r : Option InputReadiness) (before : Option Seen) → option_or (view (numbered n place (report StateReport u t r ∷ [])) u) before ≡ Some (record { state = t; readiness = r })
+state_told : (u : List ℕ) (n place : ℕ) (t : StepState) (r : Option InputReadiness) (before : Option Learned) → option_or (view (numbered n place (report StateReport u t r ∷ [])) u) before ≡ Some (record { state = t; readiness = r })
 state_told u n place t r before = rw (text_is_itself u)
 
 -- READINESS
@@ -213,7 +213,7 @@ canceled_readiness Completed s now reasons old = refl
 canceled_readiness Canceled s now reasons old = refl
 
 -- what a cancel request tells of its step
-cancel_told : (u : List ℕ) (n place : ℕ) (t : StepState) (r after : Option InputReadiness) (before : Option Seen) → before ≡ Some (record { state = t; readiness = r }) → after ≡ r
+cancel_told : (u : List ℕ) (n place : ℕ) (t : StepState) (r after : Option InputReadiness) (before : Option Learned) → before ≡ Some (record { state = t; readiness = r }) → after ≡ r
     → option_or (view (numbered n place (cancel_reports u t after)) u) before ≡ Some (record { state = canceled t; readiness = after })
 cancel_told u n place Scheduled r after before so same = rw (text_is_itself u)
 cancel_told u n place InProgress r after before so same = rw (text_is_itself u, so, same)
@@ -234,7 +234,7 @@ asked_other s es w u k ae now v set other before is_in some n =
     (rw other (before is_in some))
 
 -- what an N-SET tells of its step: where it makes no State Report, nothing has changed
-set_told : (u : List ℕ) (n place : ℕ) (t : StepState) (r after : Option InputReadiness) (before : Option Seen) (b c d : Bool) → before ≡ Some (record { state = t; readiness = r }) → (b ≡ false → r ≡ after)
+set_told : (u : List ℕ) (n place : ℕ) (t : StepState) (r after : Option InputReadiness) (before : Option Learned) (b c d : Bool) → before ≡ Some (record { state = t; readiness = r }) → (b ≡ false → r ≡ after)
     → option_or (view (numbered n place (only_if b (report StateReport u t after) ++ (only_if c (report ProgressReport u t after) ++ only_if d (report Assigned u t after)))) u) before ≡ Some (record { state = t; readiness = after })
 set_told u n place t r after before true true true so same = rw (text_is_itself u)
 set_told u n place t r after before true true false so same = rw (text_is_itself u)

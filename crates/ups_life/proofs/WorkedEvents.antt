@@ -21,7 +21,7 @@ use Rattle.ups_cycle.specs.declared.state.StepState.TheVariants.{Scheduled, InPr
 use Rattle.ups_life.specs.declared.watching.Place.TheVariants.{At}
 use Rattle.ups_life.specs.declared.watching.Target.TheVariants.{Global}
 use Rattle.ups_life.specs.Steps.{cancellation}
-use Rattle.ups_life.specs.Events.{events, pending, view, Seen}
+use Rattle.ups_life.specs.Events.{events, pending, view, Learned}
 use Rattle.ups_life.proofs.WorkedWatching.{w1, w2, room_for, site, Call, at, u1, u2, says, label, relabel, followed, step, create, claim, cancel, subscribe, filtered, sweep, after_all, replies, done}
 
 abbrev told : ℕ → ℕ → EventKind → List ℕ → StepState → InputReadiness → Event
@@ -144,7 +144,7 @@ unfolding moment day_number days_of_month field is_date is_time date_number seco
 a_full_history_takes_no_acknowledgement = refl
 
 -- a view is what the last State Report of the step shows
-abbrev seen : StepState → InputReadiness → Seen
+abbrev seen : StepState → InputReadiness → Learned
 seen state readiness = record { state = state; readiness = Some readiness }
 
 the_last_report_counts : view (told 1 1 StateReport u1 Scheduled Ready ∷ told 2 1 StateReport u2 Scheduled Ready ∷ told 3 2 StateReport u1 InProgress Unavailable ∷ told 4 3 CancelRequested u1 InProgress Ready ∷ []) u1 ≡ Some (seen InProgress Unavailable)

@@ -136,19 +136,19 @@ received s (e ∷ es) w = received_after s es w e.ae (received s es w) e.request
 -- THE VIEW
 
 -- what a watcher has learned of a step
-pub record Seen : Type 0 where
+pub record Learned : Type 0 where
   pub state : StepState
   pub readiness : Option InputReadiness
 
 -- what an event shows of u
-abbrev pub shows : List ℕ → Event → Option Seen
+abbrev pub shows : List ℕ → Event → Option Learned
 shows u x = if is_report_of u x then Some (record { state = x.state; readiness = x.readiness }) else None
 
 -- THE VIEW of a watcher: what the last State Report of u shows
-abbrev pub view : List Event → List ℕ → Option Seen
+abbrev pub view : List Event → List ℕ → Option Learned
 view [] u = None
 view (x ∷ xs) u = option_or (view xs u) (shows u x)
 
 -- what is so of u
-abbrev pub present : {A : Type 0} → Settings → List (Entry A) → List ℕ → Seen
+abbrev pub present : {A : Type 0} → Settings → List (Entry A) → List ℕ → Learned
 present s es u = record { state = state es u; readiness = readiness s es u }

@@ -10,8 +10,8 @@ use Rattle.ups_dataset.specs.Data.{El, elements_of, answer}
 use Rattle.ups_match.specs.Class.{first_key, meets_first, all, class}
 use Rattle.ups_match.specs.Matching.{KeySet, is_match}
 use Rattle.ups_match.proofs.Class.{found_in_class}
-use Rattle.ups_index.specs.Indexed.{Contents, class_of}
-use Rattle.ups_index.specs.Stored.{values_of}
+use Rattle.ups_index.specs.Indexed.{Contents, indexed_class}
+use Rattle.ups_index.specs.Stored.{values_of_row}
 use Rattle.ups_index.proofs.Found.{attributes_under, AreOnce, candidates_are_class}
 use Rattle.ups_life.specs.declared.entry.Entry.{Entry}
 use Rattle.ups_life.specs.declared.row.Row.{Row}
@@ -20,9 +20,9 @@ use Rattle.ups_life.specs.Distinct.{Distinct}
 use Rattle.ups_life.specs.Steps.{row}
 use Rattle.ups_life.specs.Watching.{held}
 use Rattle.ups_life.specs.Worklist.{rows, worklist}
-use Rattle.ups_live.specs.declared.rows.HeldStep.{HeldStep}
-use Rattle.ups_live.specs.Held.{held_step, held_steps, attributes_in, step_at, row_in}
-use Rattle.ups_manager.specs.Finding.{answered, asked_rows, attributes_of, attributes_at}
+use Rattle.ups_tables.specs.declared.rows.HeldStep.{HeldStep}
+use Rattle.ups_tables.specs.HeldSteps.{held_step, held_steps, attributes_in, step_at, row_in}
+use Rattle.ups_manager.specs.Finding.{answers_among, asked_rows, attributes_of, attributes_at}
 use Rattle.ups_manager.specs.Indexing.{uids_in, indexed, IsIndexed}
 use Rattle.ups_manager.proofs.Matches.{filter_alike}
 
@@ -48,7 +48,7 @@ pairs_once : {A : Type 0} (hs : List (HeldStep A)) → Distinct (uids_in hs) →
 pairs_once [] once = tt
 pairs_once (h ∷ hs) (none, once) = (any_pair h.step hs ∙ none, pairs_once hs once)
 
-indexed_pairs : {A : Type 0} (offset : ℤ) (hs : List (HeldStep A)) → map (λ r. (r.0, values_of offset r.1)) (pairs hs) ≡ map (indexed offset) hs
+indexed_pairs : {A : Type 0} (offset : ℤ) (hs : List (HeldStep A)) → map (λ r. (r.0, values_of_row offset r.1)) (pairs hs) ≡ map (indexed offset) hs
 indexed_pairs offset [] = refl
 indexed_pairs offset (h ∷ hs) = ap (λ l. indexed offset h ∷ l) (indexed_pairs offset hs)
 
@@ -61,10 +61,10 @@ alike f g [] same = refl
 alike {X} {Y} f g (x ∷ xs) same = ap (λ (o : Option Y). cons_option o (filter_map f xs)) (same x) ∙ ap (λ (l : List Y). cons_option (g x) l) (alike f g xs same)
 
 candidates_rows : {A : Type 0} (configured : ℤ) (keys : KeySet) (hs : List (HeldStep A)) → Distinct (uids_in hs)
-    → filter_map (attributes_at hs) (class_of (first_key configured keys) (map (indexed configured) hs)) ≡ class configured keys (attributes_in hs)
+    → filter_map (attributes_at hs) (indexed_class (first_key configured keys) (map (indexed configured) hs)) ≡ class configured keys (attributes_in hs)
 candidates_rows configured keys hs once =
     sym (alike (attributes_under (pairs hs)) (attributes_at hs) _ (attributes_in_pairs hs))
-    ∙ ap (λ l. filter_map (attributes_under (pairs hs)) (class_of (first_key configured keys) l)) (sym (indexed_pairs configured hs))
+    ∙ ap (λ l. filter_map (attributes_under (pairs hs)) (indexed_class (first_key configured keys) l)) (sym (indexed_pairs configured hs))
     ∙ candidates_are_class configured keys (pairs hs) (pairs_once hs once)
     ∙ ap (class configured keys) (attributes_pairs hs)
 
@@ -74,9 +74,9 @@ rows_of s es (u ∷ us) = ap (λ (l : List (List El)). row s es u ∷ l) (rows_o
 
 -- they are the class of the query
 pub asked_are : {A : Type 0} (index : Contents) (keys : KeySet) (hs : List (HeldStep A)) (candidates lent : List (List ℕ)) → index.steps ≡ map (indexed index.offset) hs → Distinct (uids_in hs)
-    → candidates ≡ class_of (first_key index.offset keys) index.steps → lent ≡ candidates → filter_map (attributes_at hs) lent ≡ class index.offset keys (attributes_in hs)
+    → candidates ≡ indexed_class (first_key index.offset keys) index.steps → lent ≡ candidates → filter_map (attributes_at hs) lent ≡ class index.offset keys (attributes_in hs)
 asked_are {A} index keys hs candidates lent is once found same =
-    ap (filter_map (attributes_at hs)) (same ∙ found ∙ ap (class_of (first_key index.offset keys)) is) ∙ candidates_rows index.offset keys hs once
+    ap (filter_map (attributes_at hs)) (same ∙ found ∙ ap (indexed_class (first_key index.offset keys)) is) ∙ candidates_rows index.offset keys hs once
 
 -- where it has no indexed key, they are all
 pub class_of_all : (offset : ℤ) (keys : KeySet) (rs : List (List El)) → first_key offset keys ≡ all → rs ≡ class offset keys rs
@@ -104,13 +104,13 @@ pub index_is : {A : Type 0} (s : Settings) (es : List (Entry A)) (index : Conten
 index_is s es index hs is kept = is.steps ∙ ap (map (indexed s.offset)) (sym kept) ∙ ap (λ (o : ℤ). map (indexed o) hs) (sym is.offset)
 
 -- and what is answered by them is the worklist, by a test that says what the rules say
-pub answered_worklist : {A : Type 0} (says : List El → Bool) (s : Settings) (es : List (Entry A)) (keys : KeySet) → ((r : List El) → says r ≡ is_match keys r) → answered says keys.attributes (asked_rows s es keys) ≡ worklist s es keys
+pub answered_worklist : {A : Type 0} (says : List El → Bool) (s : Settings) (es : List (Entry A)) (keys : KeySet) → ((r : List El) → says r ≡ is_match keys r) → answers_among says keys.attributes (asked_rows s es keys) ≡ worklist s es keys
 answered_worklist says s es keys same =
     ap (map (λ r. answer r keys.attributes)) (filter_alike says (is_match keys) (asked_rows s es keys) same ∙ found_in_class s.offset keys (rows s es))
 
 -- ONE MORE CANDIDATE
 
-answered-append : (says : List El → Bool) (keys : List El) (rs qs : List (List El)) → answered says keys (rs ++ qs) ≡ answered says keys rs ++ answered says keys qs
+answered-append : (says : List El → Bool) (keys : List El) (rs qs : List (List El)) → answers_among says keys (rs ++ qs) ≡ answers_among says keys rs ++ answers_among says keys qs
 answered-append says keys rs qs = ap (map (λ r. answer r keys)) (filter-append says rs qs) ∙ map-append (λ r. answer r keys) (filter says rs) (filter says qs)
 
 rows_more : {A : Type 0} (hs : List (HeldStep A)) (us : List (List ℕ)) (i : ℕ) (u : List ℕ) → i < length us → u ≡ get_or us i u
@@ -132,10 +132,10 @@ asked_more {A} hs us i u o low is found =
 
 -- and answered, where it matches
 pub found_more : {A : Type 0} (says : List El → Bool) (keys : List El) (hs : List (HeldStep A)) (us : List (List ℕ)) (i : ℕ) (u : List ℕ) (o : Option (Row A)) (before after : List (List El)) → i < length us → u ≡ get_or us i u → o ≡ row_in u hs
-    → before ≡ answered says keys (filter_map (attributes_at hs) (take i us)) → after ≡ before ++ answered says keys (option_to_list (attributes_of o)) → after ≡ answered says keys (filter_map (attributes_at hs) (take (i + 1) us))
+    → before ≡ answers_among says keys (filter_map (attributes_at hs) (take i us)) → after ≡ before ++ answers_among says keys (option_to_list (attributes_of o)) → after ≡ answers_among says keys (filter_map (attributes_at hs) (take (i + 1) us))
 found_more says keys hs us i u o before after low is found was more =
-    more ∙ ap (λ (l : List (List El)). l ++ answered says keys (option_to_list (attributes_of o))) was
-    ∙ sym (ap (answered says keys) (asked_more hs us i u o low is found) ∙ answered-append says keys (filter_map (attributes_at hs) (take i us)) (option_to_list (attributes_of o)))
+    more ∙ ap (λ (l : List (List El)). l ++ answers_among says keys (option_to_list (attributes_of o))) was
+    ∙ sym (ap (answers_among says keys) (asked_more hs us i u o low is found) ∙ answered-append says keys (filter_map (attributes_at hs) (take i us)) (option_to_list (attributes_of o)))
 
 -- HOW OFTEN A MATCHER IS ASKED
 

@@ -22,13 +22,13 @@ use Rattle.ups_life.specs.Watching.{known}
 use Rattle.ups_life.specs.Verdict.{verdict}
 use Rattle.ups_life.specs.History.{accepts, legal, reply, sized, in_room, is_sized, fits, repeats, row_then, decided}
 use Rattle.ups_life.proofs.Past.{length-past}
-use Rattle.ups_live.specs.declared.rows.HeldStep.{HeldStep}
-use Rattle.ups_live.specs.Held.{held_steps, step_at, row_in, row_of_step, holder_in, claims_it, put_step}
-use Rattle.ups_live.proofs.Holding.{row_in-held_steps, row_of_step-held_steps, held_steps-after}
+use Rattle.ups_tables.specs.declared.rows.HeldStep.{HeldStep}
+use Rattle.ups_tables.specs.HeldSteps.{held_steps, step_at, row_in, row_of_step, holder_in, claims_it, put_step}
+use Rattle.ups_tables.proofs.Holding.{row_in-held_steps, row_of_step-held_steps, held_steps-after}
 use Rattle.ups_steps.specs.declared.held.Held.{Held}
 use Rattle.ups_tables.specs.declared.tables.Tables.{Tables}
 use Rattle.ups_tables.specs.Held.{held_at}
-use Rattle.ups_tables.specs.Keyed.{whole, as_steps, row_held, holder_held}
+use Rattle.ups_tables.specs.Keyed.{step_with_held, as_steps, row_held, holder_held}
 use Rattle.ups_tables.proofs.Keyed.{row_found, holder_found}
 use Rattle.ups_service.specs.Law.{is_granted, OrLacking, Answers, SmallReply, is_legal, entry, entered}
 use Rattle.ups_service.proofs.Legality.{no_room}
@@ -234,7 +234,7 @@ step_not_done offset moment row used r f (inr h) = ap is_done (lack_of offset mo
 pub accepted : {A : Type 0} (s : Settings) (history : List (Entry A)) (es : List (List ℕ × Held A)) (call : Entry A) (step : List ℕ) (held : Held A) (offset : ℤ) → offset ≡ s.offset
     → step_of call.request ≡ Some step → verdict (row_held (held_at step es)) (repeats (past history) call.request) call.request ≡ Success
     → held.row ≡ row_after offset call.moment (unwrap_or (row_held (held_at step es)) nothing) call.request → held.holder ≡ option_or (claims_it call) (holder_held (held_at step es))
-    → (is_sized call.request ≡ true → fits held.row.attributes ≡ true) → Accepted s history (as_steps es) call (whole step held)
+    → (is_sized call.request ≡ true → fits held.row.attributes ≡ true) → Accepted s history (as_steps es) call (step_with_held step held)
 accepted {A} s history es call step held offset zone on allowed row holder fits = record {
   step = on;
   allowed = ap (λ (k : Option (Row A)). verdict k (repeats (past history) call.request) call.request) (sym (row_found step es)) ∙ allowed;

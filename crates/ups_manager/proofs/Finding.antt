@@ -16,9 +16,9 @@ use Rattle.ups_life.specs.declared.request.Reply.TheVariants.{Status as Answered
 use Rattle.ups_life.specs.Settings.{Settings}
 use Rattle.ups_life.specs.Watching.{known}
 use Rattle.ups_life.specs.History.{got, shown, shown_of}
-use Rattle.ups_live.specs.declared.rows.HeldStep.{HeldStep}
-use Rattle.ups_live.specs.Held.{held_steps, step_at}
-use Rattle.ups_live.proofs.Holding.{row_in-held_steps}
+use Rattle.ups_tables.specs.declared.rows.HeldStep.{HeldStep}
+use Rattle.ups_tables.specs.HeldSteps.{held_steps, step_at}
+use Rattle.ups_tables.proofs.Holding.{row_in-held_steps}
 use Rattle.ups_service.specs.Law.{IsSmall, SmallReply, is_granted}
 use Rattle.ups_manager.specs.Held.{slack, IsSmallStep}
 use Rattle.ups_manager.proofs.Small.{small_at}

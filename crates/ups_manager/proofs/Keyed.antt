@@ -7,13 +7,13 @@ use Rattle.ups_life.specs.declared.peer.Peer.{Peer}
 use Rattle.ups_life.specs.Settings.{Settings}
 use Rattle.ups_life.specs.Steps.{past}
 use Rattle.ups_life.specs.Watching.{held}
-use Rattle.ups_live.specs.declared.rows.HeldStep.{HeldStep}
-use Rattle.ups_live.specs.Held.{held_step, step_at}
+use Rattle.ups_tables.specs.declared.rows.HeldStep.{HeldStep}
+use Rattle.ups_tables.specs.HeldSteps.{held_step, step_at}
 use Rattle.ups_steps.specs.declared.held.Held.{Held}
 use Rattle.ups_tables.specs.declared.tables.Tables.{Tables}
 use Rattle.ups_tables.specs.Held.{held_at}
-use Rattle.ups_tables.specs.Keyed.{whole, as_steps}
-use Rattle.ups_tables.specs.Places.{place_in}
+use Rattle.ups_tables.specs.Keyed.{step_with_held, as_steps}
+use Rattle.ups_tables.specs.Places.{place_of_title}
 use Rattle.ups_tables.specs.Stands.{Stands}
 use Rattle.ups_tables.proofs.Keyed.{steps_kept, found_at}
 use Rattle.ups_tables.proofs.Titled.{place_within}
@@ -22,8 +22,8 @@ use Rattle.ups_manager.proofs.Matches.{uids_are}
 -- A STEP
 
 -- what was looked up is the step of the definitions
-pub is_found : {A : Type 0} (u : List ℕ) (es : List (List ℕ × Held A)) (o : Option (Held A)) → o ≡ held_at u es → option_map (whole u) o ≡ step_at u (as_steps es)
-is_found u es o is = ap (option_map (whole u)) is ∙ found_at u es
+pub is_found : {A : Type 0} (u : List ℕ) (es : List (List ℕ × Held A)) (o : Option (Held A)) → o ≡ held_at u es → option_map (step_with_held u) o ≡ step_at u (as_steps es)
+is_found u es o is = ap (option_map (step_with_held u)) is ∙ found_at u es
 
 -- the UIDs of the table are those of the steps held
 keys_are : {A : Type 0} (es : List (List ℕ × Held A)) → keys_of es ≡ map (λ (h : HeldStep A). h.step) (as_steps es)
@@ -52,6 +52,6 @@ as_many s history t st = sym (steps_many t.steps.entries) ∙ ap length (steps_k
 -- A PEER
 
 -- there is a queue at the place of a peer
-pub queue_fits : {A : Type 0} (s : Settings) (history : List (Entry A)) (t : Tables A) (peers : List Peer) (w : List ℕ) (o : Option ℕ) → Stands s history t → peers ≡ s.peers → o ≡ place_in peers w → (p : ℕ) → o ≡ Some p → p < length t.queues
+pub queue_fits : {A : Type 0} (s : Settings) (history : List (Entry A)) (t : Tables A) (peers : List Peer) (w : List ℕ) (o : Option ℕ) → Stands s history t → peers ≡ s.peers → o ≡ place_of_title peers w → (p : ℕ) → o ≡ Some p → p < length t.queues
 queue_fits s history t peers w o st named is p at =
-    subst (λ (n : ℕ). p < n) (sym (st.fits.queues ∙ st.peers)) (place_within s.peers w p (ap (λ (ps : List Peer). place_in ps w) (sym named) ∙ sym is ∙ at))
+    subst (λ (n : ℕ). p < n) (sym (st.fits.queues ∙ st.peers)) (place_within s.peers w p (ap (λ (ps : List Peer). place_of_title ps w) (sym named) ∙ sym is ∙ at))

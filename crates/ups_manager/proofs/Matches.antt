@@ -3,8 +3,8 @@ use Rattle.std.proofs.Common.{◌≡◌, ℕ, Bool, if◌then◌else◌, List, [
 use Rattle.ups_life.specs.declared.entry.Entry.{Entry}
 use Rattle.ups_life.specs.Watching.{held}
 use Rattle.ups_life.specs.Settings.{Settings}
-use Rattle.ups_live.specs.declared.rows.HeldStep.{HeldStep}
-use Rattle.ups_live.specs.Held.{held_step, held_steps}
+use Rattle.ups_tables.specs.declared.rows.HeldStep.{HeldStep}
+use Rattle.ups_tables.specs.HeldSteps.{held_step, held_steps}
 
 -- their UIDs
 uids_of : {A : Type 0} (s : Settings) (es : List (Entry A)) (us : List (List ℕ)) → map (λ (h : HeldStep A). h.step) (map (held_step s es) us) ≡ us

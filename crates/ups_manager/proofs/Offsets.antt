@@ -4,7 +4,7 @@ use Rattle.std.specs.Prelude.{pos, negsuc, not, ◌≤ℤ◌}
 use Rattle.std.specs.Int.Signed.{lt_z, lt_z_no}
 use Rattle.ups_life.specs.declared.peer.Peer.{Peer}
 use Rattle.ups_life.specs.Settings.{IsOffset}
-use Rattle.ups_live.specs.Seen.{Once}
+use Rattle.ups_tables.specs.Seen.{Once}
 use Rattle.ups_settings.specs.declared.fault.ManagerFault.{ManagerFault}
 use Rattle.ups_settings.specs.declared.fault.ManagerFault.TheVariants.{TwicePeer, BadLimit, BadOffset}
 use Rattle.ups_settings.specs.Refusal.{is_named, is_twice, is_bad_limit, is_bad_offset, refusal}

@@ -19,16 +19,8 @@ use Rattle.ups_life.specs.Events.{only_if, as_it_is, told_of, reports_of, number
 use Rattle.ups_life.specs.History.{of_peer, legal}
 use Rattle.ups_cycle.specs.Statuses.{is_done}
 use Rattle.ups_life.proofs.Texts.{same_text}
-use Rattle.ups_life.proofs.Accepted.{differ, legal_head, legal_tail}
+use Rattle.ups_life.proofs.Accepted.{differ, legal_head, legal_tail, for_peer}
 use Rattle.ups_service.specs.Law.{is_legal, entry}
-
--- what is accepted for a watcher is for a peer
-for_peer : (peers : List Peer) (receiver : List ℕ) (x : Status) → is_done (of_peer peers (Some receiver) x) ≡ true → is_peer peers receiver ≡ true
-for_peer peers receiver x h = at (is_peer peers receiver) h
-  where
-    at : (b : Bool) → is_done (cond b x UnknownReceivingAe) ≡ true → b ≡ true
-    at true g = refl
-    at false g = absurd cc
 
 -- what a peer asks for changes nothing for another
 beside_peer : {X : Type 0} (peers : List Peer) (receiver w : List ℕ) (more : Bool) (now before : X) → is_peer peers w ≡ false → is_peer peers receiver ≡ true → cond (bytes_eq receiver w && more) now before ≡ before

@@ -4,8 +4,8 @@ use Rattle.std.specs.List.{list_any}
 use Rattle.std.specs.Str.{bytes_eq}
 use Rattle.std.proofs.lemmas.List.{take_more, map-append}
 use Rattle.std.proofs.lemmas.List.Folds.{list_any-append}
-use Rattle.ups_index.specs.Indexed.{has_step, altered, put_values, dropped}
-use Rattle.ups_index.specs.Stored.{RowValues, values_of}
+use Rattle.ups_index.specs.Indexed.{has_step, altered, put_values, without_uid}
+use Rattle.ups_index.specs.Stored.{RowValues, values_of_row}
 use Rattle.ups_keep.specs.declared.due.Final.{Final}
 use Rattle.ups_keep.specs.Waits.{steps_of}
 use Rattle.ups_keep.proofs.Waiting.{other_text}
@@ -19,10 +19,10 @@ use Rattle.ups_life.specs.History.{legal}
 use Rattle.ups_life.proofs.Texts.{same_text}
 use Rattle.ups_life.proofs.Accepted.{neither}
 use Rattle.ups_life.proofs.HeldOnce.{held_once}
-use Rattle.ups_live.specs.declared.rows.HeldStep.{HeldStep}
-use Rattle.ups_live.specs.Held.{held_steps, put_step}
-use Rattle.ups_live.specs.Live.{is_of_no_step}
-use Rattle.ups_live.proofs.Holding.{steps_same, steps_sweep}
+use Rattle.ups_tables.specs.declared.rows.HeldStep.{HeldStep}
+use Rattle.ups_tables.specs.HeldSteps.{held_steps, put_step}
+use Rattle.ups_tables.specs.Live.{is_of_no_step}
+use Rattle.ups_tables.proofs.Holding.{steps_same, steps_sweep}
 use Rattle.ups_tables.specs.declared.plan.Plan.{Plan}
 use Rattle.ups_tables.specs.declared.plan.Plan.TheVariants.{Create as ToCreate, Change as ToChange, Set as ToSet, Single as ToSingle, Global as ToGlobal, End as ToEnd, EndAll as ToEndAll, Suspend as ToSuspend, Ack as ToAck, Sweep as ToSweep, Idle as ToIdle}
 use Rattle.ups_tables.specs.declared.tables.Tables.{Tables}
@@ -46,7 +46,7 @@ altered_none {A} offset u v (h ∷ hs) none =
     let both = neither (bytes_eq h.step u) (list_any (λ w. bytes_eq w u) (uids_in hs)) none in
     ap (λ (b : Bool). cond b (u, v) (indexed offset h) ∷ altered u v (map (indexed offset) hs)) both.0 ∙ ap (λ (l : List (List ℕ × RowValues)). indexed offset h ∷ l) (altered_none offset u v hs both.1)
 
-put_indexed : {A : Type 0} (offset : ℤ) (x : HeldStep A) (v : RowValues) (hs : List (HeldStep A)) → v ≡ values_of offset x.row.attributes → Distinct (uids_in hs)
+put_indexed : {A : Type 0} (offset : ℤ) (x : HeldStep A) (v : RowValues) (hs : List (HeldStep A)) → v ≡ values_of_row offset x.row.attributes → Distinct (uids_in hs)
     → put_values x.step v (map (indexed offset) hs) ≡ map (indexed offset) (put_step x hs)
 put_indexed offset x v [] is once = ap (λ (w : RowValues). (x.step, w) ∷ []) is
 put_indexed {A} offset x v (h ∷ hs) is (none, once) = here (bytes_eq h.step x.step) refl (put_indexed offset x v hs is once)
@@ -66,10 +66,10 @@ put_indexed {A} offset x v (h ∷ hs) is (none, once) = here (bytes_eq h.step x.
     here false other rest = push (has_step x.step old) (indexed offset h) (altered x.step v old) (old ++ (x.step, v) ∷ []) ∙ ap (λ (l : List (List ℕ × RowValues)). indexed offset h ∷ l) rest
 
 -- by a request that creates or changes a step
-pub step_indexed : {A : Type 0} (s : Settings) (history : List (Entry A)) (call : Entry A) (x : HeldStep A) (v : RowValues) (offset : ℤ) (hs : List (HeldStep A)) → legal s (past history) ≡ true → offset ≡ s.offset → v ≡ values_of offset x.row.attributes
+pub step_indexed : {A : Type 0} (s : Settings) (history : List (Entry A)) (call : Entry A) (x : HeldStep A) (v : RowValues) (offset : ℤ) (hs : List (HeldStep A)) → legal s (past history) ≡ true → offset ≡ s.offset → v ≡ values_of_row offset x.row.attributes
     → hs ≡ held_steps s (past history) → put_step x hs ≡ held_steps s (call ∷ past history) → put_values x.step v (indexed_steps s (past history)) ≡ indexed_steps s (call ∷ past history)
 step_indexed {A} s history call x v offset hs so zone is kept after =
-    put_indexed s.offset x v (held_steps s (past history)) (is ∙ ap (λ (z : ℤ). values_of z x.row.attributes) zone) (are_once s (past history) so)
+    put_indexed s.offset x v (held_steps s (past history)) (is ∙ ap (λ (z : ℤ). values_of_row z x.row.attributes) zone) (are_once s (past history) so)
     ∙ ap (map (indexed s.offset)) (ap (put_step x) (sym kept) ∙ after)
 
 -- A REQUEST OF NO STEP leaves the index
@@ -117,20 +117,20 @@ or_none : (a b : Bool) → a || (b || false) ≡ a || b
 or_none a true = refl
 or_none a false = refl
 
-dropped_push : (u : List ℕ) (us : List (List ℕ)) (steps : List (List ℕ × RowValues)) → dropped u (without_steps us steps) ≡ without_steps (us ++ u ∷ []) steps
+dropped_push : (u : List ℕ) (us : List (List ℕ)) (steps : List (List ℕ × RowValues)) → without_uid u (without_steps us steps) ≡ without_steps (us ++ u ∷ []) steps
 dropped_push u us [] = refl
 dropped_push u us (s ∷ ss) =
     here (is_among s.0 us) (bytes_eq s.0 u) refl (dropped_push u us ss)
     ∙ ap (λ (b : Bool). cond (not b) (s ∷ without_steps (us ++ u ∷ []) ss) (without_steps (us ++ u ∷ []) ss)) (sym (list_any-append (λ v. bytes_eq v s.0) us (u ∷ []) ∙ or_none (is_among s.0 us) (bytes_eq u s.0) ∙ ap (λ (b : Bool). is_among s.0 us || b) (other_text u s.0)))
   where
-    here : (a b : Bool) → bytes_eq s.0 u ≡ b → dropped u (without_steps us ss) ≡ without_steps (us ++ u ∷ []) ss
-        → dropped u (cond (not a) (s ∷ without_steps us ss) (without_steps us ss)) ≡ cond (not (a || b)) (s ∷ without_steps (us ++ u ∷ []) ss) (without_steps (us ++ u ∷ []) ss)
+    here : (a b : Bool) → bytes_eq s.0 u ≡ b → without_uid u (without_steps us ss) ≡ without_steps (us ++ u ∷ []) ss
+        → without_uid u (cond (not a) (s ∷ without_steps us ss) (without_steps us ss)) ≡ cond (not (a || b)) (s ∷ without_steps (us ++ u ∷ []) ss) (without_steps (us ++ u ∷ []) ss)
     here true b is rest = rest
-    here false true is rest = ap (λ (b : Bool). cond (not b) (s ∷ dropped u (without_steps us ss)) (dropped u (without_steps us ss))) is ∙ rest
-    here false false is rest = ap (λ (b : Bool). cond (not b) (s ∷ dropped u (without_steps us ss)) (dropped u (without_steps us ss))) is ∙ ap (λ (l : List (List ℕ × RowValues)). s ∷ l) rest
+    here false true is rest = ap (λ (b : Bool). cond (not b) (s ∷ without_uid u (without_steps us ss)) (without_uid u (without_steps us ss))) is ∙ rest
+    here false false is rest = ap (λ (b : Bool). cond (not b) (s ∷ without_uid u (without_steps us ss)) (without_uid u (without_steps us ss))) is ∙ ap (λ (l : List (List ℕ × RowValues)). s ∷ l) rest
 
 -- one more is taken out
-pub dropped_more : (xs : List Final) (i : ℕ) (x : Final) (steps : List (List ℕ × RowValues)) → i < length xs → x.step ≡ (get_or xs i x).step → dropped x.step (without_steps (steps_of (take i xs)) steps) ≡ without_steps (steps_of (take (i + 1) xs)) steps
+pub dropped_more : (xs : List Final) (i : ℕ) (x : Final) (steps : List (List ℕ × RowValues)) → i < length xs → x.step ≡ (get_or xs i x).step → without_uid x.step (without_steps (steps_of (take i xs)) steps) ≡ without_steps (steps_of (take (i + 1) xs)) steps
 dropped_more xs i x steps low is =
     dropped_push x.step (steps_of (take i xs)) steps
     ∙ ap (λ (us : List (List ℕ)). without_steps us steps) (ap (λ (v : List ℕ). steps_of (take i xs) ++ v ∷ []) is ∙ sym (map-append (λ (y : Final). y.step) (take i xs) (get_or xs i x ∷ [])) ∙ sym (ap steps_of (take_more xs i x low)))

@@ -26,8 +26,8 @@ use Rattle.ups_life.specs.Steps.{step_of, state_element, row_after, nothing}
 use Rattle.ups_life.specs.Verdict.{verdict, if_held, change_status, is_proper, is_right, is_performed, is_discontinued}
 use Rattle.ups_life.specs.Limits.{row_limit}
 use Rattle.ups_life.specs.History.{fits, is_sized}
-use Rattle.ups_live.specs.declared.rows.HeldStep.{HeldStep}
-use Rattle.ups_live.specs.Held.{step_at, row_in, put_step}
+use Rattle.ups_tables.specs.declared.rows.HeldStep.{HeldStep}
+use Rattle.ups_tables.specs.HeldSteps.{step_at, row_in, put_step}
 use Rattle.ups_manager.specs.Held.{slack, HasSmallRow, IsSmallStep}
 
 -- an element that is put adds its own bytes at most

@@ -20,10 +20,10 @@ use Rattle.ups_life.specs.Steps.{named_step}
 use Rattle.ups_life.specs.Verdict.{verdict}
 use Rattle.ups_life.specs.Watching.{is_among, known, removed}
 use Rattle.ups_life.specs.History.{fits, receiver_of, of_peer, of_lock, row_then, status, decided}
-use Rattle.ups_live.specs.declared.rows.HeldStep.{HeldStep}
-use Rattle.ups_live.specs.Held.{held_steps, row_of_step}
-use Rattle.ups_live.specs.Live.{is_of_no_step}
-use Rattle.ups_live.proofs.Holding.{row_of_step-held_steps, steps_same, steps_sweep}
+use Rattle.ups_tables.specs.declared.rows.HeldStep.{HeldStep}
+use Rattle.ups_tables.specs.HeldSteps.{held_steps, row_of_step}
+use Rattle.ups_tables.specs.Live.{is_of_no_step}
+use Rattle.ups_tables.proofs.Holding.{row_of_step-held_steps, steps_same, steps_sweep}
 use Rattle.ups_service.specs.Law.{entry}
 use Rattle.ups_manager.specs.declared.deciding.Kind.TheVariants.{OfWatcher, OfTime}
 use Rattle.ups_manager.specs.Deciding.{kind_of}

@@ -11,12 +11,13 @@ use Rattle.ups_life.specs.Steps.{past}
 use Rattle.ups_life.specs.Watching.{watched_step, watched}
 use Rattle.ups_life.specs.Events.{events, view, present, pending}
 use Rattle.ups_life.proofs.Viewing.{watched_views}
-use Rattle.ups_live.specs.Live.{IsLive, Queue, empty_queue, final, locked}
-use Rattle.ups_live.proofs.Asking.{watched_by}
+use Rattle.ups_events.specs.Telling.{Line, empty_line}
+use Rattle.ups_tables.specs.Live.{IsLive, final, locked}
+use Rattle.ups_tables.proofs.Asking.{watched_by}
 use Rattle.ups_tables.specs.declared.tables.Tables.{Tables}
-use Rattle.ups_tables.specs.Fit.{how, queue, uses}
-use Rattle.ups_tables.specs.Places.{place_in, by_place}
-use Rattle.ups_tables.specs.Stands.{Stands, Lives, as_queue, cover_of, how_of, queue_of}
+use Rattle.ups_tables.specs.Fit.{how, queue_line, uses}
+use Rattle.ups_tables.specs.Places.{place_of_title, by_place}
+use Rattle.ups_tables.specs.Stands.{Stands, Lives, cover_of, how_of, queue_of}
 use Rattle.ups_manager.proofs.Keyed.{keys_held_are}
 
 -- the tables are live
@@ -24,10 +25,10 @@ pub to_live : {A : Type 0} (s : Settings) (es : List (Entry A)) (t : Tables A) �
 to_live s es t l = record { covers = l.covers; pairs = l.pairs; finals = λ u. refl; locks = λ u. refl; queues = l.queues; used = l.used }
 
 pub watched_is : {A : Type 0} (s : Settings) (history : List (Entry A)) (t : Tables A) (us lent : List (List ℕ)) (peers : List Peer) (place : Option ℕ) (w : List ℕ) (found : List Watched) → Stands s history t
-    → us ≡ keys_of t.steps.entries → lent ≡ us → peers ≡ s.peers → place ≡ place_in peers w → found ≡ filter_map (λ u. watched_step u (by_place None (λ p. how t p u) place)) lent → found ≡ watched s (past history) w
+    → us ≡ keys_of t.steps.entries → lent ≡ us → peers ≡ s.peers → place ≡ place_of_title peers w → found ≡ filter_map (λ u. watched_step u (by_place None (λ p. how t p u) place)) lent → found ≡ watched s (past history) w
 watched_is {A} s history t us lent peers place w found st keys are named at is =
     is
-    ∙ ap (λ (o : Option ℕ). filter_map (λ u. watched_step u (by_place None (λ p. how t p u) o)) lent) (at ∙ ap (λ (ps : List Peer). place_in ps w) named)
+    ∙ ap (λ (o : Option ℕ). filter_map (λ u. watched_step u (by_place None (λ p. how t p u) o)) lent) (at ∙ ap (λ (ps : List Peer). place_of_title ps w) named)
     ∙ ap (filter_map (λ (u : List ℕ). watched_step u (how_of s.peers t w u))) (are ∙ keys ∙ keys_held_are s history t st)
     ∙ watched_by s (past history) _ _ _ _ _ _ (to_live s (past history) t st.lives) w
 
@@ -37,7 +38,7 @@ views_are s es w found is = subst (λ (l : List Watched). AllByRecursion (λ (x 
 
 -- where memory sufficed
 pub watched_if_ok : {A E : Type 0} (s : Settings) (history : List (Entry A)) (t : Tables A) (us lent : List (List ℕ)) (peers : List Peer) (place : Option ℕ) (w : List ℕ) (r : Result (Vec Watched A) E) → Stands s history t
-    → us ≡ keys_of t.steps.entries → lent ≡ us → peers ≡ s.peers → place ≡ place_in peers w → IfOk r (λ v. v.items ≡ filter_map (λ u. watched_step u (by_place None (λ p. how t p u) place)) lent) → IfOk r (λ v. v.items ≡ watched s (past history) w)
+    → us ≡ keys_of t.steps.entries → lent ≡ us → peers ≡ s.peers → place ≡ place_of_title peers w → IfOk r (λ v. v.items ≡ filter_map (λ u. watched_step u (by_place None (λ p. how t p u) place)) lent) → IfOk r (λ v. v.items ≡ watched s (past history) w)
 watched_if_ok s history t us lent peers place w (Ok v) st keys are named at is = watched_is s history t us lent peers place w v.items st keys are named at is
 watched_if_ok s history t us lent peers place w (Err e) st keys are named at is = is
 
@@ -46,7 +47,7 @@ views_if_ok s es w (Ok v) is = views_are s es w v.items is
 views_if_ok s es w (Err e) is = is
 
 -- what is pending
-pub pending_is : {A : Type 0} (s : Settings) (history : List (Entry A)) (t : Tables A) (peers : List Peer) (place : Option ℕ) (w : List ℕ) → Stands s history t → peers ≡ s.peers → place ≡ place_in peers w
-    → (by_place empty_queue (λ p. as_queue (queue t p)) place).events ≡ pending s (past history) w
+pub pending_is : {A : Type 0} (s : Settings) (history : List (Entry A)) (t : Tables A) (peers : List Peer) (place : Option ℕ) (w : List ℕ) → Stands s history t → peers ≡ s.peers → place ≡ place_of_title peers w
+    → (by_place empty_line (λ p. queue_line t p) place).events ≡ pending s (past history) w
 pending_is s history t peers place w st named at =
-    ap (λ (o : Option ℕ). (by_place empty_queue (λ p. as_queue (queue t p)) o).events) (at ∙ ap (λ (ps : List Peer). place_in ps w) named) ∙ ap (λ (k : Queue). k.events) (st.lives.queues w)
+    ap (λ (o : Option ℕ). (by_place empty_line (λ p. queue_line t p) o).events) (at ∙ ap (λ (ps : List Peer). place_of_title ps w) named) ∙ ap (λ (k : Line). k.events) (st.lives.queues w)

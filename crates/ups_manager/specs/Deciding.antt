@@ -10,7 +10,7 @@ use Rattle.ups_life.specs.Settings.{Settings}
 use Rattle.ups_life.specs.Steps.{past}
 use Rattle.ups_life.specs.History.{accepts, decided}
 use Rattle.ups_keep.specs.Waits.{steps_of}
-use Rattle.ups_live.specs.Held.{held_steps}
+use Rattle.ups_tables.specs.HeldSteps.{held_steps}
 use Rattle.ups_tables.specs.declared.tables.Tables.{Tables}
 use Rattle.ups_tables.specs.Planned.{IsPlan, removed_by}
 use Rattle.ups_service.specs.Law.{Answers, SmallReply}

@@ -6,8 +6,8 @@ use Rattle.ups_cycle.specs.declared.state.StepState.{StepState}
 use Rattle.ups_cycle.specs.declared.state.StepState.TheVariants.{Scheduled, InProgress, Completed, Canceled}
 use Rattle.ups_life.specs.declared.row.Row.{Row}
 use Rattle.ups_life.specs.Limits.{row_limit}
-use Rattle.ups_live.specs.declared.rows.HeldStep.{HeldStep}
-pub use Rattle.ups_live.specs.Held.{holder_of}
+use Rattle.ups_tables.specs.declared.rows.HeldStep.{HeldStep}
+pub use Rattle.ups_tables.specs.HeldSteps.{holder_of}
 
 -- By how many bytes a row may pass the limit: a change of state takes 20 bytes at most, and isn't refused for them.
 abbrev pub slack : StepState → ℕ

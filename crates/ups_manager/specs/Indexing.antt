@@ -1,18 +1,18 @@
 -- What the index has of the steps held, and what a request that is accepted makes of it.
 use Rattle.std.specs.Prelude.{◌≡◌, ◌≤◌, ℕ, ℤ, not, List, map, filter}
 use Rattle.ups_index.specs.Indexed.{Contents, values_len, put_values}
-use Rattle.ups_index.specs.Stored.{RowValues, values_of}
+use Rattle.ups_index.specs.Stored.{RowValues, values_of_row}
 use Rattle.ups_life.specs.declared.entry.Entry.{Entry}
 use Rattle.ups_life.specs.Settings.{Settings}
 use Rattle.ups_life.specs.Watching.{is_among}
-use Rattle.ups_live.specs.declared.rows.HeldStep.{HeldStep}
-use Rattle.ups_live.specs.Held.{held_steps}
+use Rattle.ups_tables.specs.declared.rows.HeldStep.{HeldStep}
+use Rattle.ups_tables.specs.HeldSteps.{held_steps}
 use Rattle.ups_manager.specs.declared.indexing.IndexChange.{IndexChange}
 use Rattle.ups_manager.specs.declared.indexing.IndexChange.TheVariants.{Put, Remove, Nothing}
 
 -- a step that is held, with the values by which it is found
 abbrev pub indexed : {A : Type 0} → ℤ → HeldStep A → List ℕ × RowValues
-indexed offset h = (h.step, values_of offset h.row.attributes)
+indexed offset h = (h.step, values_of_row offset h.row.attributes)
 
 -- the steps held after a history, in order of creation, each with its values
 abbrev pub indexed_steps : {A : Type 0} → Settings → List (Entry A) → List (List ℕ × RowValues)

@@ -4,7 +4,7 @@ use Rattle.std.specs.List.{AllByRecursion}
 use Rattle.ups_life.specs.declared.entry.Entry.{Entry}
 use Rattle.ups_life.specs.Settings.{Settings, IsMoment, IsOffset}
 use Rattle.ups_life.specs.Steps.{past}
-use Rattle.ups_live.specs.Held.{held_steps}
+use Rattle.ups_tables.specs.HeldSteps.{held_steps}
 use Rattle.ups_tables.specs.declared.tables.Tables.{Tables}
 use Rattle.ups_tables.specs.Stands.{Stands as TablesStand}
 use Rattle.ups_manager.specs.declared.manager.Manager.TheInside.{Inside}
@@ -12,11 +12,11 @@ use Rattle.ups_manager.specs.Held.{IsSmallStep}
 use Rattle.ups_manager.specs.Indexing.{IsIndexed}
 
 -- the tables stand by the history, which is legal; its moments have a date, and the steps that are held are small
-pub record Stands {A : Type 0} (s : Settings) (history : List (Entry A)) (t : Tables A) : Type 0 where
+pub record ManagerStands {A : Type 0} (s : Settings) (history : List (Entry A)) (t : Tables A) : Type 0 where
   pub offset : IsOffset s.offset
   pub moments : All (λ (e : Entry A). IsMoment e.moment) history
   pub tables : TablesStand s history t
   pub small : AllByRecursion IsSmallStep (held_steps s (past history))
 
-abbrev pub IsKept : {A : Type 0} → Inside A → Type 0
-IsKept m = Stands m.configuration m.history.items m.tables × IsIndexed m.configuration (past m.history.items) m.index
+abbrev pub IsKeptInside : {A : Type 0} → Inside A → Type 0
+IsKeptInside m = ManagerStands m.configuration m.history.items m.tables × IsIndexed m.configuration (past m.history.items) m.index

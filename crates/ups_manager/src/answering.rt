@@ -6,7 +6,7 @@ ghost use Rattle.ups_life.specs.declared.request.Ask.TheVariants.{Do};
 ghost use Rattle.ups_life.specs.Steps.{past};
 ghost use Rattle.ups_manager.specs.Deciding.{IsDecided, IsRefused};
 ghost use Rattle.ups_manager.specs.Indexing.{IsIndexed};
-ghost use Rattle.ups_manager.specs.Kept.{Stands};
+ghost use Rattle.ups_manager.specs.Kept.{ManagerStands};
 ghost use Rattle.ups_service.specs.Law.{Answers, SmallReply, entered};
 
 use crate::deciding::{Decision, decide};
@@ -30,7 +30,7 @@ fn decide_with_room<A: Allocator + Copy>(
     call: &Entry<A>,
 ) -> Result<Decision<A>, Reply<A>>
     requires moment { IsMoment call.now.moment }
-    requires stands { Stands configuration.now history.now tables.now }
+    requires stands { ManagerStands configuration.now history.now tables.now }
     ensures decided { IfOk result (IsDecided configuration.now history.now tables.now call.now) }
     ensures room { OnOk result (length history.now < configuration.now.limit) }
     ensures refused { IfErr result (IsRefused configuration.now history.now call.now) }
@@ -53,12 +53,12 @@ pub(crate) fn answer_call<A: Allocator + Copy>(
     call: Entry<A>,
 ) -> Reply<A>
     requires moment { IsMoment call.moment }
-    requires stands { Stands configuration.now history.old.items tables.old }
+    requires stands { ManagerStands configuration.now history.old.items tables.old }
     requires indexed { IsIndexed configuration.now (past history.old.items) index.old }
     ensures answer { Answers configuration.now history.old.items call.caller call.ae call.moment (Do call.request) result }
     ensures history { history.new.items ≡ history.old.items ++ entered call.caller call.ae call.moment (Do call.request) result }
     ensures small { SmallReply result }
-    ensures stands { Stands configuration.now history.new.items tables.new }
+    ensures stands { ManagerStands configuration.now history.new.items tables.new }
     ensures indexed { IsIndexed configuration.now (past history.new.items) index.new }
 {
     match decide_with_room(alloc, configuration, history.as_slice(), tables, &call) {

@@ -11,7 +11,7 @@ ghost use Rattle.ups_tables.specs.Planned.{IsPlan};
 ghost use Rattle.ups_tables.specs.Stands.{Stands as TablesStand};
 ghost use Rattle.ups_manager.specs.declared.deciding.Kind.TheVariants.{OfStep, OfWatcher, OfEvents, OfTime};
 ghost use Rattle.ups_manager.specs.Deciding.{kind_of, IsDecided, IsRefused};
-ghost use Rattle.ups_manager.specs.Kept.{Stands};
+ghost use Rattle.ups_manager.specs.Kept.{ManagerStands};
 
 use crate::indexing::IndexChange;
 use crate::peers::{acked_at, made_at};
@@ -76,7 +76,7 @@ fn decide_step<A: Allocator + Copy>(
     call: &Entry<A>,
 ) -> Result<Decision<A>, Reply<A>>
     requires moment { IsMoment call.now.moment }
-    requires stands { Stands configuration.now history.now tables.now }
+    requires stands { ManagerStands configuration.now history.now tables.now }
     requires kind { kind_of call.now.request ≡ OfStep }
     ensures { MatchResult result (IsDecided configuration.now history.now tables.now call.now) (IsRefused configuration.now history.now call.now) }
 {
@@ -190,7 +190,7 @@ fn decide_watcher<A: Allocator + Copy>(
     tables: &Tables<A>,
     call: &Entry<A>,
 ) -> Result<Decision<A>, Reply<A>>
-    requires stands { Stands configuration.now history.now tables.now }
+    requires stands { ManagerStands configuration.now history.now tables.now }
     requires kind { kind_of call.now.request ≡ OfWatcher }
     ensures { MatchResult result (IsDecided configuration.now history.now tables.now call.now) (IsRefused configuration.now history.now call.now) }
 {
@@ -245,7 +245,7 @@ fn decide_ack<A: Allocator + Copy>(
     call: &Entry<A>,
     upto: u64,
 ) -> Result<Decision<A>, Reply<A>>
-    requires stands { Stands configuration.now history.now tables.now }
+    requires stands { ManagerStands configuration.now history.now tables.now }
     requires kind { kind_of call.now.request ≡ OfEvents upto }
     ensures { MatchResult result (IsDecided configuration.now history.now tables.now call.now) (IsRefused configuration.now history.now call.now) }
 {
@@ -277,7 +277,7 @@ fn decide_sweep<A: Allocator + Copy>(
     tables: &Tables<A>,
     call: &Entry<A>,
 ) -> Result<Decision<A>, Reply<A>>
-    requires stands { Stands configuration.now history.now tables.now }
+    requires stands { ManagerStands configuration.now history.now tables.now }
     requires kind { kind_of call.now.request ≡ OfTime }
     ensures { MatchResult result (IsDecided configuration.now history.now tables.now call.now) (IsRefused configuration.now history.now call.now) }
 {
@@ -306,7 +306,7 @@ pub(crate) fn decide<A: Allocator + Copy>(
     call: &Entry<A>,
 ) -> Result<Decision<A>, Reply<A>>
     requires moment { IsMoment call.now.moment }
-    requires stands { Stands configuration.now history.now tables.now }
+    requires stands { ManagerStands configuration.now history.now tables.now }
     ensures { MatchResult result (IsDecided configuration.now history.now tables.now call.now) (IsRefused configuration.now history.now call.now) }
 {
     match kind_of(&call.request) {

@@ -17,7 +17,7 @@ ghost use Rattle.ups_life.specs.Events.{events, view, present};
 ghost use Rattle.ups_life.specs.History.{got};
 ghost use Rattle.ups_life.specs.Worklist.{worklist};
 ghost use Rattle.ups_settings.specs.declared.fault.ManagerFault.TheVariants.{Memory};
-ghost use Rattle.ups_manager.specs.Finding.{answered, asked_rows, IsAsked};
+ghost use Rattle.ups_manager.specs.Finding.{answers_among, asked_rows, IsAsked};
 ghost use Rattle.ups_manager.specs.Held.{holder_of};
 ghost use Rattle.ups_service.specs.Law.{OrLacking, Answers, SmallReply, entered, is_legal};
 ghost use Rattle.ups_settings.specs.Refusal.{refusal};
@@ -64,9 +64,9 @@ impl<A: Allocator + Copy> Model for Manager<A> {
 
     ghost view = { λ m. record { settings = m.configuration; history = m.history.items } };
 
-    ghost use Rattle.ups_manager.specs.Kept.{IsKept};
+    ghost use Rattle.ups_manager.specs.Kept.{IsKeptInside};
 
-    ghost invariant = { IsKept };
+    ghost invariant = { IsKeptInside };
 }
 
 impl<A: Allocator + Copy> Manager<A> {
@@ -199,7 +199,7 @@ impl<A: Allocator + Copy> Manager<A> {
     /// for each step that has the first indexed key, and for no other. A700 where memory runs out.
     pub fn find<M: Matcher>(&self, keys: &Keys<A>, matcher: &mut M) -> Reply<A>
         requires count { M.asked matcher.old < 2 ^ 63 }
-        ensures answer { OrLacking OutOfResources (Found (answered (M.says keys.now) keys.now.attributes (asked_rows self.now.settings (past self.now.history) keys.now))) result }
+        ensures answer { OrLacking OutOfResources (Found (answers_among (M.says keys.now) keys.now.attributes (asked_rows self.now.settings (past self.now.history) keys.now))) result }
         ensures whole { ((row : List El) → M.says keys.now row ≡ is_match keys.now row) → OrLacking OutOfResources (Found (worklist self.now.settings (past self.now.history) keys.now)) result }
         ensures asked { IsAsked (M.asked matcher.old) (length (asked_rows self.now.settings (past self.now.history) keys.now)) (M.asked matcher.new) result }
         ensures legal { is_legal self.now.settings self.now.history }

@@ -3,10 +3,9 @@
 ghost use Rattle.std.specs.Prelude.{◌≡◌, ◌<◌, ◌++◌, ◌∷◌, [], ℕ, None, Some, take, length, IfOk, OnOk};
 ghost use Rattle.std.specs.List.{filter_map};
 ghost use Rattle.ups_life.specs.Watching.{watched_step};
-ghost use Rattle.ups_live.specs.Live.{empty_queue};
-ghost use Rattle.ups_tables.specs.Fit.{how, queue};
+ghost use Rattle.ups_events.specs.Telling.{empty_line};
+ghost use Rattle.ups_tables.specs.Fit.{how, queue_line};
 ghost use Rattle.ups_tables.specs.Places.{by_place};
-ghost use Rattle.ups_tables.specs.Stands.{as_queue};
 
 use std::alloc::{AllocError, Allocator};
 use ups_life::{Event, StepUid, Subscription, Watched};
@@ -71,7 +70,7 @@ pub(crate) fn first_pending<A: Allocator + Copy>(
     max: u64,
 ) -> Result<Vec<Event, A>, AllocError>
     requires { (p : ℕ) → place ≡ Some p → p < length tables.now.queues }
-    ensures { IfOk result (λ v. v.items ≡ take max (by_place empty_queue (λ p. as_queue (queue tables.now p)) place).events) }
+    ensures { IfOk result (λ v. v.items ≡ take max (by_place empty_line (λ p. queue_line tables.now p) place).events) }
 {
     match place {
         Some(peer) => tables.queues.of_peer(peer).pending(max),
@@ -82,7 +81,7 @@ pub(crate) fn first_pending<A: Allocator + Copy>(
 /// How many events were made for the peer at a place.
 pub(crate) fn made_at<A: Allocator + Copy>(tables: &Tables<A>, place: Option<usize>) -> u64
     requires { (p : ℕ) → place ≡ Some p → p < length tables.now.queues }
-    ensures { result ≡ (by_place empty_queue (λ p. as_queue (queue tables.now p)) place).made }
+    ensures { result ≡ (by_place empty_line (λ p. queue_line tables.now p) place).made }
 {
     match place {
         Some(peer) => tables.queues.of_peer(peer).made(),
@@ -93,7 +92,7 @@ pub(crate) fn made_at<A: Allocator + Copy>(tables: &Tables<A>, place: Option<usi
 /// Up to which number the peer at a place has acknowledged its events; 0 where it has acknowledged none.
 pub(crate) fn acked_at<A: Allocator + Copy>(tables: &Tables<A>, place: Option<usize>) -> u64
     requires { (p : ℕ) → place ≡ Some p → p < length tables.now.queues }
-    ensures { result ≡ (by_place empty_queue (λ p. as_queue (queue tables.now p)) place).acked }
+    ensures { result ≡ (by_place empty_line (λ p. queue_line tables.now p) place).acked }
 {
     match place {
         Some(peer) => tables.queues.of_peer(peer).acked(),

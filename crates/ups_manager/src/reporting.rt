@@ -1,7 +1,7 @@
 //! What a watcher is told of its events.
 
 ghost use Rattle.std.specs.Prelude.{◌≡◌, map, IfOk};
-ghost use Rattle.ups_service.specs.Reporting.{information_of, reported};
+ghost use Rattle.ups_service.specs.Reporting.{information_of, report_of_event};
 
 use std::alloc::{AllocError, Allocator};
 use ups_dataset::DataSet;
@@ -32,7 +32,7 @@ pub(crate) fn reports_of<A: Allocator + Copy>(
     history: &[Entry<A>],
     events: &[Event],
 ) -> Result<EventReports<A>, AllocError>
-    ensures { IfOk result (λ r. r ≡ map (reported history.now) events.now) }
+    ensures { IfOk result (λ r. r ≡ map (report_of_event history.now) events.now) }
 {
     let mut reports = EventReports::new(alloc);
     for event in events {

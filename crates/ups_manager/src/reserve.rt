@@ -1,7 +1,7 @@
 //! The memory that a creation leaves, for what is asked of the steps that are there.
 
 ghost use Rattle.std.specs.Prelude.{◌≡◌, true, OnErr};
-ghost use Rattle.ups_live.specs.Live.{is_create};
+ghost use Rattle.ups_tables.specs.Live.{is_create};
 
 use std::alloc::{AllocError, Allocator};
 use ups_life::Request;

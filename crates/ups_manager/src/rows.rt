@@ -3,7 +3,7 @@
 ghost use Rattle.std.specs.Prelude.{◌≡◌, IfOk};
 ghost use Rattle.std.specs.Map.{keys_of};
 ghost use Rattle.std.specs.Option.{option_copied};
-ghost use Rattle.ups_live.specs.Held.{row_of_step};
+ghost use Rattle.ups_tables.specs.HeldSteps.{row_of_step};
 ghost use Rattle.ups_tables.specs.Fit.{uses};
 ghost use Rattle.ups_tables.specs.Held.{held_at};
 ghost use Rattle.ups_tables.specs.Keyed.{as_steps, row_held};

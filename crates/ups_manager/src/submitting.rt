@@ -8,7 +8,7 @@ ghost use Rattle.ups_life.specs.Settings.{IsMoment, IsOffset};
 ghost use Rattle.ups_life.specs.Steps.{past, used, row_after, nothing};
 ghost use Rattle.ups_life.specs.Verdict.{verdict};
 ghost use Rattle.ups_life.specs.History.{is_sized, fits, repeats};
-ghost use Rattle.ups_live.specs.Held.{claims_it};
+ghost use Rattle.ups_tables.specs.HeldSteps.{claims_it};
 ghost use Rattle.ups_tables.specs.Fit.{uses};
 ghost use Rattle.ups_tables.specs.Held.{held_at};
 ghost use Rattle.ups_tables.specs.Keyed.{row_held, holder_held};

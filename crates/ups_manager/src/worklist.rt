@@ -5,10 +5,10 @@ ghost use Rattle.std.specs.List.{filter_map};
 ghost use Rattle.std.specs.Option.{option_copied, option_to_list};
 ghost use Rattle.ups_dataset.specs.Data.{answer};
 ghost use Rattle.ups_tables.specs.Keyed.{as_steps};
-ghost use Rattle.ups_live.specs.Held.{attributes_in};
+ghost use Rattle.ups_tables.specs.HeldSteps.{attributes_in};
 ghost use Rattle.ups_life.specs.Distinct.{Distinct};
 ghost use Rattle.ups_match.specs.Class.{class};
-ghost use Rattle.ups_manager.specs.Finding.{answered, attributes_of, attributes_at};
+ghost use Rattle.ups_manager.specs.Finding.{answers_among, attributes_of, attributes_at};
 ghost use Rattle.ups_manager.specs.Indexing.{indexed, uids_in};
 
 use crate::rows::known;
@@ -48,7 +48,7 @@ fn add_held<A: Allocator + Copy, M: Matcher>(
     matcher: &mut M,
 ) -> Result<(), AllocError>
     requires { M.asked matcher.old < 2 ^ 64 - 1 }
-    ensures found { OnOk result (found.new ≡ found.old ++ answered (M.says keys.now) keys.now.attributes (option_to_list (attributes_of (option_copied row.entry)))) }
+    ensures found { OnOk result (found.new ≡ found.old ++ answers_among (M.says keys.now) keys.now.attributes (option_to_list (attributes_of (option_copied row.entry)))) }
     ensures count { M.asked matcher.new ≡ M.asked matcher.old + length (option_to_list (attributes_of (option_copied row.entry))) }
 {
     match row {
@@ -68,7 +68,7 @@ fn matches_among<A: Allocator + Copy, M: Matcher>(
     matcher: &mut M,
 ) -> Result<Sets<A>, AllocError>
     requires { M.asked matcher.old + length candidates.now < 2 ^ 64 }
-    ensures found { IfOk result (λ sets. sets ≡ answered (M.says keys.now) keys.now.attributes (filter_map (attributes_at (as_steps tables.now.steps.entries)) candidates.now)) }
+    ensures found { IfOk result (λ sets. sets ≡ answers_among (M.says keys.now) keys.now.attributes (filter_map (attributes_at (as_steps tables.now.steps.entries)) candidates.now)) }
     ensures each { OnOk result (M.asked matcher.new ≡ M.asked matcher.old + length (filter_map (attributes_at (as_steps tables.now.steps.entries)) candidates.now)) }
     ensures most { M.asked matcher.new ≤ M.asked matcher.old + length (filter_map (attributes_at (as_steps tables.now.steps.entries)) candidates.now) }
 {
@@ -90,7 +90,7 @@ fn matches_of_all<A: Allocator + Copy, M: Matcher>(
     matcher: &mut M,
 ) -> Result<Sets<A>, AllocError>
     requires { M.asked matcher.old < 2 ^ 63 }
-    ensures found { IfOk result (λ sets. sets ≡ answered (M.says keys.now) keys.now.attributes (attributes_in (as_steps tables.now.steps.entries))) }
+    ensures found { IfOk result (λ sets. sets ≡ answers_among (M.says keys.now) keys.now.attributes (attributes_in (as_steps tables.now.steps.entries))) }
     ensures each { OnOk result (M.asked matcher.new ≡ M.asked matcher.old + length tables.now.steps.entries) }
     ensures most { M.asked matcher.new ≤ M.asked matcher.old + length tables.now.steps.entries }
 {
@@ -115,7 +115,7 @@ pub(crate) fn matches_of_class<A: Allocator + Copy, M: Matcher>(
     requires count { M.asked matcher.old < 2 ^ 63 }
     requires indexed { index.now.steps ≡ map (indexed index.now.offset) (as_steps tables.now.steps.entries) }
     requires once { Distinct (uids_in (as_steps tables.now.steps.entries)) }
-    ensures found { IfOk result (λ sets. sets ≡ answered (M.says keys.now) keys.now.attributes (class index.now.offset keys.now (attributes_in (as_steps tables.now.steps.entries)))) }
+    ensures found { IfOk result (λ sets. sets ≡ answers_among (M.says keys.now) keys.now.attributes (class index.now.offset keys.now (attributes_in (as_steps tables.now.steps.entries)))) }
     ensures each { OnOk result (M.asked matcher.new ≡ M.asked matcher.old + length (class index.now.offset keys.now (attributes_in (as_steps tables.now.steps.entries)))) }
     ensures most { M.asked matcher.new ≤ M.asked matcher.old + length (class index.now.offset keys.now (attributes_in (as_steps tables.now.steps.entries))) }
 {

@@ -8,7 +8,7 @@ use Rattle.ups_match.proofs.Fields.{passes-front}
 use Rattle.std.specs.Bool.{MatchBool}
 use Rattle.std.specs.List.{AllPass, prefix_len, list_any}
 use Rattle.ups_match.specs.Likeness.{is_star, is_question_mark, MatchesPart, IsLike, begins_like, ends_of, is_like}
-use Rattle.ups_match.specs.Runs.{is_no_star, run_of, behind_run, behind_front, or_else, behind_first}
+use Rattle.ups_match.specs.Runs.{is_no_star, run_of, behind_run, behind_front, or_behind, behind_first}
 
 pub same_number : (n : ℕ) → (n == n) ≡ true
 same_number n = grind (arith, nat_tests)
@@ -139,7 +139,7 @@ first_like run ps [] all = (
 )
 first_like run ps (b ∷ bs) all = go (first_like run ps bs all) (behind_front run (b ∷ bs)) refl
   where
-    go : (IsLike (42 ∷ run ++ 42 ∷ ps) bs ↔ LeftLike (42 ∷ ps) (behind_first run bs)) → (o : Option (List ℕ)) → behind_front run (b ∷ bs) ≡ o → IsLike (42 ∷ run ++ 42 ∷ ps) (b ∷ bs) ↔ LeftLike (42 ∷ ps) (or_else o (behind_first run bs))
+    go : (IsLike (42 ∷ run ++ 42 ∷ ps) bs ↔ LeftLike (42 ∷ ps) (behind_first run bs)) → (o : Option (List ℕ)) → behind_front run (b ∷ bs) ≡ o → IsLike (42 ∷ run ++ 42 ∷ ps) (b ∷ bs) ↔ LeftLike (42 ∷ ps) (or_behind o (behind_first run bs))
     go more (Some left) is = first_fits run ps (b ∷ bs) left all is
     go more None is = (λ h. on h.0 h.1 h.2 h.4, λ h. let there = more.1 h in (b ∷ there.0, there.1, ap (λ (t : List ℕ). b ∷ t) there.2, tt, there.4))
       where

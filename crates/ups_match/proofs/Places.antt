@@ -7,7 +7,7 @@ use Rattle.std.proofs.lemmas.Bool.Decides.{nat_tests}
 use Rattle.std.specs.List.{list_any}
 use Rattle.memchr.specs.Find.{OccursAt, FindsNeedle}
 use Rattle.ups_match.specs.Likeness.{is_question_mark}
-use Rattle.ups_match.specs.Runs.{behind_front, or_else, behind_first}
+use Rattle.ups_match.specs.Runs.{behind_front, or_behind, behind_first}
 use Rattle.ups_match.proofs.PatternRuns.{behind_is, same_number}
 
 -- a byte of a run stands for a byte
@@ -52,20 +52,20 @@ pub skipped : (run text : List ℕ) (n : ℕ) → n ≤ length text → ((k : �
 skipped run text zero inside none = refl
 skipped run [] (suc n) inside none = absurd (omega arith)
 skipped run (b ∷ bs) (suc n) inside none =
-    skipped run bs n (omega arith) (λ k low. none (suc k) (omega arith)) ∙ sym (ap (λ o. or_else o (behind_first run bs)) (none 0 (omega arith)))
+    skipped run bs n (omega arith) (λ k low. none (suc k) (omega arith)) ∙ sym (ap (λ o. or_behind o (behind_first run bs)) (none 0 (omega arith)))
 
 -- a run fits at no place before the first at which it does
 pub first_at : (run text left : List ℕ) (k : ℕ) → ((j : ℕ) → j < k → behind_front run (drop j text) ≡ None) → behind_front run (drop k text) ≡ Some left → behind_first run text ≡ Some left
 first_at run [] left zero none here = here
 first_at run [] left (suc k) none here = here
-first_at run (b ∷ bs) left zero none here = ap (λ o. or_else o (behind_first run bs)) here
+first_at run (b ∷ bs) left zero none here = ap (λ o. or_behind o (behind_first run bs)) here
 first_at run (b ∷ bs) left (suc k) none here =
-    ap (λ o. or_else o (behind_first run bs)) (none 0 (omega arith)) ∙ first_at run bs left k (λ j low. none (suc j) (omega arith)) here
+    ap (λ o. or_behind o (behind_first run bs)) (none 0 (omega arith)) ∙ first_at run bs left k (λ j low. none (suc j) (omega arith)) here
 
 pub first_nowhere : (run text : List ℕ) → ((j : ℕ) → j ≤ length text → behind_front run (drop j text) ≡ None) → behind_first run text ≡ None
 first_nowhere run [] none = none 0 (omega arith)
 first_nowhere run (b ∷ bs) none =
-    ap (λ o. or_else o (behind_first run bs)) (none 0 (omega arith)) ∙ first_nowhere run bs (λ j low. none (suc j) (omega arith))
+    ap (λ o. or_behind o (behind_first run bs)) (none 0 (omega arith)) ∙ first_nowhere run bs (λ j low. none (suc j) (omega arith))
 
 -- a run without ? fits where its bytes stand
 

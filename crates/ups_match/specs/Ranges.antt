@@ -47,11 +47,11 @@ span_between offset [] [] = None
 span_between offset first last = with_bounds (bound offset false first) (bound offset true last)
 
 -- a single DT stands for its first moment
-abbrev pub alone : ℤ → List ℕ → Option Span
-alone offset text = option_map (λ m. record { least = Some m; greatest = Some m }) (moment text offset false)
+abbrev pub single_moment : ℤ → List ℕ → Option Span
+single_moment offset text = option_map (λ m. record { least = Some m; greatest = Some m }) (moment text offset false)
 
 abbrev pub spanned : ℤ → List ℕ → List ℕ → Option Span
-spanned offset first [] = alone offset first
+spanned offset first [] = single_moment offset first
 spanned offset first (hyphen ∷ last) = span_between offset first last
 
 -- The moments that a key takes in: of a-b those from the first moment of a to the last of b, of a- and -b those on one

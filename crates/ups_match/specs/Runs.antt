@@ -19,11 +19,11 @@ behind_front [] text = Some text
 behind_front (p ∷ ps) [] = None
 behind_front (p ∷ ps) (b ∷ bs) = if is_question_mark p || p == b then behind_front ps bs else None
 
-abbrev pub or_else : Option (List ℕ) → Option (List ℕ) → Option (List ℕ)
-or_else None other = other
-or_else (Some x) other = Some x
+abbrev pub or_behind : Option (List ℕ) → Option (List ℕ) → Option (List ℕ)
+or_behind None other = other
+or_behind (Some x) other = Some x
 
 -- the same at the first place where the run fits
 abbrev pub behind_first : List ℕ → List ℕ → Option (List ℕ)
 behind_first run [] = behind_front run []
-behind_first run (b ∷ bs) = or_else (behind_front run (b ∷ bs)) (behind_first run bs)
+behind_first run (b ∷ bs) = or_behind (behind_front run (b ∷ bs)) (behind_first run bs)

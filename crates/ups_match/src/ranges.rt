@@ -4,7 +4,7 @@ ghost use Rattle.std.specs.Prelude.{◌≡◌, ◌≤◌, length};
 ghost use Rattle.std.specs.Bool.{OnTrue};
 ghost use Rattle.ups_pdu.specs.Padding.{is_nil};
 ghost use Rattle.ups_match.specs.Moments.{split_fraction};
-ghost use Rattle.ups_match.specs.Ranges.{hyphen_at, has_seconds, ends_or_hyphen, is_offset_first, first_len, bound, alone, span_between, span_of, contains_moment, is_from, is_up_to};
+ghost use Rattle.ups_match.specs.Ranges.{hyphen_at, has_seconds, ends_or_hyphen, is_offset_first, first_len, bound, single_moment, span_between, span_of, contains_moment, is_from, is_up_to};
 
 use crate::digits::split_digits;
 use crate::moments::{offset_of, read_dt};
@@ -62,7 +62,7 @@ pub(crate) fn span_of(text: &[u8], offset: i16) -> Option<Span>
 
 /// The first moment of a DT.
 fn alone(text: &[u8], offset: i16) -> Option<Span>
-    ensures { result ≡ alone offset text.now }
+    ensures { result ≡ single_moment offset text.now }
 {
     let moment = read_dt(text, offset, false)?;
     Some(Span {

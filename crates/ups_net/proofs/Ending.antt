@@ -4,28 +4,28 @@ use Rattle.std.specs.Prelude.{MatchBool, MatchOption, Option, is_some}
 use Rattle.std.specs.Vec.Iter.{into_iter_items, into_iter_len}
 use Rattle.std.specs.declared.vec.IntoIter.{IntoIter}
 use Rattle.std.proofs.lemmas.List.{append_assoc, append-nil, length-append, map-append, nil_from_length}
-use Rattle.ups_turn.specs.Pass.{Standing}
+use Rattle.ups_turn.specs.Pass.{PassView}
 use Rattle.ups_net.specs.declared.options.ServerOptions.{ServerOptions}
 use Rattle.ups_net.specs.Working.{EndThreads, Ran}
 use Rattle.ups_net.specs.Sweeping.{Sweeps}
 
 module _ {A : Type 0} (options : ServerOptions) where
   -- some threads, and some more
-  pub ends_append : (begun : Bool) (olds news more then : List (Standing A)) → EndThreads options begun olds news → EndThreads options begun more then → EndThreads options begun (olds ++ more) (news ++ then)
+  pub ends_append : (begun : Bool) (olds news more then : List (PassView A)) → EndThreads options begun olds news → EndThreads options begun more then → EndThreads options begun (olds ++ more) (news ++ then)
   ends_append begun [] [] more then h k = k
   ends_append begun [] (new ∷ news) more then h k = absurd h
   ends_append begun (old ∷ olds) [] more then h k = absurd h
   ends_append begun (old ∷ olds) (new ∷ news) more then h k = (h.0, ends_append begun olds news more then h.1 k)
 
   -- of threads that haven't begun the passes are as they were
-  pub unbegun_alike : (olds news : List (Standing A)) → EndThreads options false olds news → news ≡ olds
+  pub unbegun_alike : (olds news : List (PassView A)) → EndThreads options false olds news → news ≡ olds
   unbegun_alike [] [] h = refl
   unbegun_alike [] (new ∷ news) h = absurd h
   unbegun_alike (old ∷ olds) [] h = absurd h
   unbegun_alike (old ∷ olds) (new ∷ news) h = λ i. h.0 i ∷ unbegun_alike olds news h.1 i
 
   -- threads that were started and have ended, passes whose threads were not started, and that of the sweeper
-  pub ran : (keeps begun : Bool) (hs unbegun rest passes back : List (Standing A)) (sweeper swept : Standing A) → hs ++ unbegun ≡ passes → EndThreads options begun hs rest → back ≡ (rest ++ unbegun) ++ swept ∷ []
+  pub ran : (keeps begun : Bool) (hs unbegun rest passes back : List (PassView A)) (sweeper swept : PassView A) → hs ++ unbegun ≡ passes → EndThreads options begun hs rest → back ≡ (rest ++ unbegun) ++ swept ∷ []
       → (begun ≡ true → unbegun ≡ []) → MatchBool begun (Sweeps options.config.ae keeps options.rounds sweeper swept) (swept ≡ sweeper) → Ran options keeps begun (passes ++ sweeper ∷ []) back
   ran keeps true hs unbegun rest passes back sweeper swept all ends is none sweeps =
       let gone = none refl in
@@ -34,13 +34,13 @@ module _ {A : Type 0} (options : ServerOptions) where
         sweeper = sweeper;
         worked = rest;
         swept = swept;
-        before = ap (λ (l : List (Standing A)). l ++ sweeper ∷ []) (sym all ∙ (ap (λ (l : List (Standing A)). hs ++ l) gone ∙ append-nil hs));
-        after = is ∙ ap (λ (l : List (Standing A)). l ++ swept ∷ []) (ap (λ (l : List (Standing A)). rest ++ l) gone ∙ append-nil rest);
+        before = ap (λ (l : List (PassView A)). l ++ sweeper ∷ []) (sym all ∙ (ap (λ (l : List (PassView A)). hs ++ l) gone ∙ append-nil hs));
+        after = is ∙ ap (λ (l : List (PassView A)). l ++ swept ∷ []) (ap (λ (l : List (PassView A)). rest ++ l) gone ∙ append-nil rest);
         each = ends;
         sweeps = sweeps;
       }
   ran keeps false hs unbegun rest passes back sweeper swept all ends is none sweeps =
-      is ∙ ((λ i. (unbegun_alike hs rest ends i ++ unbegun) ++ sweeps i ∷ []) ∙ ap (λ (l : List (Standing A)). l ++ sweeper ∷ []) all)
+      is ∙ ((λ i. (unbegun_alike hs rest ends i ++ unbegun) ++ sweeps i ∷ []) ∙ ap (λ (l : List (PassView A)). l ++ sweeper ∷ []) all)
 
 -- nothing is left to come
 pub none_left : {X Z : Type 0} (it : IntoIter X Z) → into_iter_len it ≡ 0 → into_iter_items it ≡ []
@@ -60,14 +60,14 @@ module _ {X : Type 0} where
       ap (λ (l : List X). l ++ xs) (sym (append_assoc ms us (x ∷ []))) ∙ (append_assoc (ms ++ us) (x ∷ []) xs ∙ ((λ i. (ms ++ us) ++ sym is i) ∙ was))
 
 -- each thread has one pass
-pub ends_length : {A : Type 0} (options : ServerOptions) (begun : Bool) (olds news : List (Standing A)) → EndThreads options begun olds news → length news ≡ length olds
+pub ends_length : {A : Type 0} (options : ServerOptions) (begun : Bool) (olds news : List (PassView A)) → EndThreads options begun olds news → length news ≡ length olds
 ends_length options begun [] [] h = refl
 ends_length options begun [] (new ∷ news) h = absurd h
 ends_length options begun (old ∷ olds) [] h = absurd h
 ends_length options begun (old ∷ olds) (new ∷ news) h = ap suc (ends_length options begun olds news h.1)
 
 -- as many passes come back
-pub ran_as_many : {A : Type 0} (options : ServerOptions) (keeps begun : Bool) (olds news : List (Standing A)) → Ran options keeps begun olds news → length news ≡ length olds
+pub ran_as_many : {A : Type 0} (options : ServerOptions) (keeps begun : Bool) (olds news : List (PassView A)) → Ran options keeps begun olds news → length news ≡ length olds
 ran_as_many options keeps true olds news w =
     ap length w.after ∙ (length-append w.worked (w.swept ∷ []) ∙ (ap (λ n. n + 1) (ends_length options true w.front w.worked w.each)
     ∙ (sym (length-append w.front (w.sweeper ∷ [])) ∙ sym (ap length w.before))))

@@ -6,34 +6,34 @@ use Rattle.ups_net.specs.Serving.{ServesAssociations}
 use Rattle.ups_net.specs.Sweeping.{Sweeps}
 use Rattle.ups_net.specs.declared.options.ServerOptions.{ServerOptions}
 use Rattle.ups_settings.specs.declared.watcher.Watcher.{Watcher}
-use Rattle.ups_turn.specs.Pass.{Standing}
+use Rattle.ups_turn.specs.Pass.{PassView}
 
 -- a worker has served so many associations, and the deliverer has made so many rounds
-abbrev pub Works : {A : Type 0} → ServerOptions → Bool → Standing A → Standing A → Type 0
+abbrev pub Works : {A : Type 0} → ServerOptions → Bool → PassView A → PassView A → Type 0
 Works options true old new = ServesAssociations options.config options.turns options.associations old new
 Works options false old new = DeliversRounds options.config options.turns (map (λ (w : Watcher). w.ae) options.watchers.items) options.rounds old new
 
 -- a thread has done its job, which is a worker's where its number is one of a worker
-abbrev pub DoesJob : {A : Type 0} → ServerOptions → Standing A → Standing A → Type 0
+abbrev pub DoesJob : {A : Type 0} → ServerOptions → PassView A → PassView A → Type 0
 DoesJob options old new = Works options (nat_le old.number options.workers) old new
 
 -- what becomes of a thread's pass: it has done its job, or none was to begin, and it is as it was
-abbrev pub EndsThread : {A : Type 0} → ServerOptions → Bool → Standing A → Standing A → Type 0
+abbrev pub EndsThread : {A : Type 0} → ServerOptions → Bool → PassView A → PassView A → Type 0
 EndsThread options begun old new = MatchBool begun (DoesJob options old new) (new ≡ old)
 
 -- the same of each of several threads
-abbrev pub EndThreads : {A : Type 0} → ServerOptions → Bool → List (Standing A) → List (Standing A) → Type 0
+abbrev pub EndThreads : {A : Type 0} → ServerOptions → Bool → List (PassView A) → List (PassView A) → Type 0
 EndThreads options begun [] [] = Unit {0}
 EndThreads options begun [] (new ∷ news) = ⊥
 EndThreads options begun (old ∷ olds) [] = ⊥
 EndThreads options begun (old ∷ olds) (new ∷ news) = EndsThread options begun old new × EndThreads options begun olds news
 
 -- each pass but the last has done its job, and the last has swept
-pub record AllWork {A : Type 0} (options : ServerOptions) (keeps : Bool) (olds news : List (Standing A)) : Type 0 where
-  pub front : List (Standing A)
-  pub sweeper : Standing A
-  pub worked : List (Standing A)
-  pub swept : Standing A
+pub record AllWork {A : Type 0} (options : ServerOptions) (keeps : Bool) (olds news : List (PassView A)) : Type 0 where
+  pub front : List (PassView A)
+  pub sweeper : PassView A
+  pub worked : List (PassView A)
+  pub swept : PassView A
   pub before : olds ≡ front ++ sweeper ∷ []
   pub after : news ≡ worked ++ swept ∷ []
   pub each : EndThreads options true front worked
@@ -41,11 +41,11 @@ pub record AllWork {A : Type 0} (options : ServerOptions) (keeps : Bool) (olds n
 
 -- the threads of a server have all done their jobs, with a ledger that is kept or without; or none has begun, and each pass is
 -- as it was
-abbrev pub Ran : {A : Type 0} → ServerOptions → Bool → Bool → List (Standing A) → List (Standing A) → Type 0
+abbrev pub Ran : {A : Type 0} → ServerOptions → Bool → Bool → List (PassView A) → List (PassView A) → Type 0
 Ran options keeps begun olds news = MatchBool begun (AllWork options keeps olds news) (news ≡ olds)
 
 -- the history that the last of these passes has seen
-abbrev pub seen_last : {A : Type 0} → List (Standing A) → List (Entry A)
+abbrev pub seen_last : {A : Type 0} → List (PassView A) → List (Entry A)
 seen_last [] = []
 seen_last (p ∷ []) = p.seen
 seen_last (p ∷ q ∷ ps) = seen_last (q ∷ ps)

@@ -13,7 +13,7 @@ use std::alloc::Global;
 use std::sync::Wait;
 use std::thread;
 use std::time::{Clock, Duration, Instant};
-use ups_ledger::{CommitFault, Keeper, Ledger};
+use ups_ledger::{CommitFault, Commits, Keeper, Ledger};
 use ups_service::SharedService;
 use ups_turn::{Desk, Pass};
 
@@ -23,6 +23,9 @@ pub(crate) const ROUND: u64 = 1_000;
 /// For how many milliseconds the deliverers aren't rung for again, so that a busy server makes some ten deliveries a second to a
 /// watcher, and not one for each request.
 pub(crate) const REST: u64 = 100;
+
+/// For how many microseconds it is waited at most, behind a commit, until as many entries are asked for as then.
+const GATHERING: u64 = 200;
 
 /// How many entries are committed at once at most: so many are recorded in one turn.
 const GROUP: usize = 256;
@@ -52,6 +55,11 @@ pub(crate) struct Committer {
     since: Option<Instant>,
     /// Whether something was committed since the ledger was tidied up.
     is_untidy: bool,
+    /// How many entries came with the last commit and while it was made, and how long it took.
+    came: u64,
+    took: Duration,
+    /// Whether it has looked in this round if more is entered, for which nobody may wait.
+    has_looked: bool,
 }
 
 impl Committer {
@@ -63,6 +71,9 @@ impl Committer {
             rung: committed,
             since: None,
             is_untidy: true,
+            came: 0,
+            took: Duration::ZERO,
+            has_looked: false,
         }
     }
 
@@ -109,6 +120,49 @@ impl Committer {
         left.min(self.left_of_rest(rt).max(Duration::from_millis(1)))
     }
 
+    // Waits until more entries are asked for than are committed, for so long at most; whether they are. Behind a commit it
+    // waits for as many first as came with it and while it was made: for as long as that took, and for a moment at most. So those
+    // that ask one after the other are let go together, and come together.
+    fn await_asked<R: Wait>(
+        &self,
+        rt: &R,
+        commits: &Commits,
+        committed: u64,
+        wait: Duration,
+    ) -> bool {
+        if self.came > 1 {
+            let gathering = self.took.min(Duration::from_micros(GATHERING)).min(wait);
+            let _ = commits.await_asked(rt, committed.saturating_add(self.came), gathering);
+        }
+        commits.await_asked(rt, committed.saturating_add(1), wait) > committed
+    }
+
+    // Whether there are more entries than are committed: at once in a round, where more are entered, and then as soon as more are
+    // asked for, in so long at most.
+    fn await_more<M: SharedService<Global>, R: Wait>(
+        &mut self,
+        rt: &R,
+        desk: &Desk<M, Global>,
+        commits: &Commits,
+        committed: u64,
+        wait: Duration,
+    ) -> bool {
+        if !self.has_looked {
+            self.has_looked = true;
+            return desk.await_entries(rt, committed, Duration::ZERO) != committed;
+        }
+        self.await_asked(rt, commits, committed, wait)
+    }
+
+    // Notes how many entries came with a commit and while it was made since a moment, and how long it took.
+    fn note<R: Clock>(&mut self, rt: &R, came: u64, since: Option<Instant>) {
+        self.came = came.min(GROUP as u64);
+        self.took = match since {
+            Some(since) => since.elapsed(rt).unwrap_or(Duration::ZERO),
+            None => Duration::ZERO,
+        };
+    }
+
     /// Commits what is entered, at most so many entries as are committed at once. Where they can't be committed it says so in
     /// the log, at once and each minute; and false.
     fn commit<M: SharedService<Global>, L: Ledger, R>(
@@ -127,9 +181,13 @@ impl Committer {
         ensures watched { HasWatched pass.old pass.new }
         ensures kept { IsKept L.Ledger keeper.old pass.old.seen → IsKept L.Ledger keeper.new pass.new.seen }
     {
+        let before = keeper.count();
+        let since = Instant::now(rt).ok();
         match keeper.commit(rt, alloc, desk, pass, GROUP) {
             Ok(()) => {
                 premises.commits.advance(keeper.count());
+                let came = premises.commits.asked().saturating_sub(before);
+                self.note(rt, came, since);
                 self.succeed(rt, keeper.count());
                 true
             }
@@ -164,7 +222,7 @@ impl Committer {
         self.commit(rt, premises, alloc, desk, pass, keeper)
     }
 
-    /// Commits what is entered, as soon as it is, until the next round since a moment; and rings for the deliverers where more
+    /// Commits what is entered, as soon as somebody waits for it, until the next round since a moment; and rings for the deliverers where more
     /// is committed, but not twice in a tenth of a second. What can't be committed is tried again in the next round.
     fn keep_until<M: SharedService<Global>, L: Ledger, R>(
         &mut self,
@@ -190,7 +248,7 @@ impl Committer {
             }
             let committed = keeper.count();
             let wait = self.wait_of(rt, committed, left);
-            let is_more = desk.await_entries(rt, committed, wait) != committed;
+            let is_more = self.await_more(rt, desk, &premises.commits, committed, wait);
             let is_done = self.commit_if(is_more, rt, premises, alloc, desk, pass, keeper);
             rest_unless(rt, is_done, begun);
             self.ring(rt, &premises.roster, keeper.count());
@@ -217,6 +275,7 @@ impl Committer {
         ensures kept { IsKept L.Ledger keeper.old pass.old.seen → IsKept L.Ledger keeper.new pass.new.seen }
     {
         let committed = keeper.count();
+        self.has_looked = false;
         match Instant::now(rt) {
             Ok(begun) => self.keep_until(rt, premises, alloc, desk, pass, keeper, begun),
             Err(_) => {

@@ -28,7 +28,7 @@ const FOR_EVER: i32 = -1;
 /// not.
 ///
 /// Where standard error is closed when the log is made, no line is ever written: a connection may get its descriptor later.
-/// No contract promises any of it: `bench/ending.py` tries it.
+/// No contract promises any of it: `trials/ending.py` tries it.
 #[derive(Drop)]
 pub struct LossyLog<R> {
     rt: R,

@@ -3,7 +3,7 @@
 ghost use Rattle.std.specs.Prelude.{◌≡◌, true, ◌≤◌, ◌+◌, ◌++◌, [], ◌∷◌, All, List, length, map, vec_capacity, is_some, IfSome, MatchOption, MatchBool};
 ghost use Rattle.std.specs.Global.{Global};
 ghost use denote.Param.Send.{IsSend, IsSync};
-ghost use Rattle.ups_turn.specs.Pass.{Standing};
+ghost use Rattle.ups_turn.specs.Pass.{PassView};
 ghost use Rattle.ups_net.specs.Serving.{ServesAssociations};
 ghost use Rattle.ups_net.specs.Sweeping.{Sweeps};
 ghost use Rattle.ups_ledger.specs.Keeping.{AreKept};
@@ -207,7 +207,7 @@ fn join_all<'a, M: SharedService<Global>, R: Threads>(
     requires room { length passes.old.items + length handles.items ≤ vec_capacity passes.old }
     requires lock { All (λ h. h.promise.start.value.id ≡ token.now.of) handles.items }
     ensures capacity { vec_capacity passes.new ≡ vec_capacity passes.old }
-    ensures ends { (options : ServerOptions) → All (λ h. h.promise.options.value ≡ options) handles.entry.items → (rest : List (Standing Global)) × (passes.new.items ≡ passes.old.items ++ rest) × EndThreads options token.now.value (map (λ h. h.promise.pass.value) handles.entry.items) rest }
+    ensures ends { (options : ServerOptions) → All (λ h. h.promise.options.value ≡ options) handles.entry.items → (rest : List (PassView Global)) × (passes.new.items ≡ passes.old.items ++ rest) × EndThreads options token.now.value (map (λ h. h.promise.pass.value) handles.entry.items) rest }
 {
     for handle in handles {
         let (pass, other) = handle.join(rt);

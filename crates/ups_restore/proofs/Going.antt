@@ -8,9 +8,9 @@ use Rattle.ups_service.specs.Law.{is_legal}
 use Rattle.ups_service.proofs.Legality.{beginning_legal}
 use Rattle.ups_journal.specs.declared.record.Record.{Record}
 use Rattle.ups_journal.specs.Columns.{recorded}
-use Rattle.ups_journal.specs.Writable.{IsWritable}
+use Rattle.ups_journal.specs.Writable.{IsWritableEntry}
 use Rattle.ups_restore.specs.declared.fault.RestoreFault.{RestoreFault}
-use Rattle.ups_restore.specs.Replaying.{IsOf, IsFailure, AreOf, GoesOnBy, StopsAtRecord}
+use Rattle.ups_restore.specs.Replaying.{IsRecordOf, IsFailure, AreOf, GoesOnBy, StopsAtRecord}
 
 -- one record more
 pub goes_on : {A : Type 0} (h : List (Entry A)) (rs : List (Record A)) (i : ℕ) (r : Record A) (now then : List (Entry A)) → i < length rs → r ≡ get_or rs i r
@@ -33,7 +33,7 @@ begun {A} s h es i l =
 
 -- the record at a place is that of an entry which is accepted after those before it
 pub next : {A : Type 0} (s t : Settings) (h : List (Entry A)) (rs : List (Record A)) (es : List (Entry A)) (i : ℕ) (r : Record A) (now : List (Entry A)) → i < length rs → r ≡ get_or rs i r → AreOf s h rs es
-    → now ≡ h ++ take i es → t ≡ s → (e : Entry A) × IsOf t now r e × (take (i + 1) es ≡ take i es ++ e ∷ [])
+    → now ≡ h ++ take i es → t ≡ s → (e : Entry A) × IsRecordOf t now r e × (take (i + 1) es ≡ take i es ++ e ∷ [])
 next {A} s t h rs [] i r now low is all was same = absurd (omega (arith, many s h rs [] all))
 next {A} s t h rs (y ∷ ys) i r now low is all was same =
     let es = y ∷ ys in
@@ -45,7 +45,7 @@ next {A} s t h rs (y ∷ ys) i r now low is all was same =
     ap (λ (x : List (Entry A)). h ++ x) more ∙ (sym (append_assoc h (take i (y ∷ ys)) (get_or (y ∷ ys) i y ∷ [])) ∙ ap (λ (x : List (Entry A)). x ++ get_or (y ∷ ys) i y ∷ []) (sym was)) in (
       get_or (y ∷ ys) i y,
       record {
-        writable = All-get_or (λ (x : Entry A). IsWritable x) (y ∷ ys) i y lower all.writable;
+        writable = All-get_or (λ (x : Entry A). IsWritableEntry x) (y ∷ ys) i y lower all.writable;
         is = sym (get_or-map recorded (y ∷ ys) i y r lower) ∙ (ap (λ (l : List (Record A)). get_or l i r) all.are ∙ sym is);
         moment = All-get_or (λ (x : Entry A). IsMoment x.moment) (y ∷ ys) i y lower all.moments;
         legal = subst (λ (x : Settings). is_legal x (now ++ get_or (y ∷ ys) i y ∷ [])) (sym same) (subst (λ (x : List (Entry A)). is_legal s x) ends (begun s h (y ∷ ys) (i + 1) all.legal));

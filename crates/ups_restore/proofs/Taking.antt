@@ -7,7 +7,7 @@ use Rattle.ups_journal.specs.declared.record.Record.{Record}
 use Rattle.ups_restore.specs.declared.fault.RestoreFault.{RestoreFault}
 use Rattle.ups_restore.specs.declared.leaving.Restored.{Restored}
 use Rattle.ups_restore.specs.declared.leaving.Restoration.{Restoration}
-use Rattle.ups_restore.specs.Leaving.{Becomes, IsNone, counted, all_counted, BecomeAll, AreTaken, StopsTaking}
+use Rattle.ups_restore.specs.Leaving.{Becomes, IsNone, counted_with, all_counted, BecomeAll, AreTaken, StopsTaking}
 use Rattle.ups_restore.proofs.Going.{parts_at}
 
 become_more : {A : Type 0} (s : Settings) (h : List (Entry A)) (rs : List (Record A)) (may : Bool) (os : List Restored) (now then : List (Entry A)) (r : Record A) (o : Restored)
@@ -17,9 +17,9 @@ become_more s h (x ∷ rs) may (y ∷ os) now then r o b n = (b.0, b.1, become_m
 become_more s h [] may (y ∷ os) now then r o b n = absurd b
 become_more s h (x ∷ rs) may [] now then r o b n = absurd b
 
-counted_more : (c : Restoration) (os : List Restored) (o : Restored) → all_counted c (os ++ o ∷ []) ≡ counted (all_counted c os) o
+counted_more : (c : Restoration) (os : List Restored) (o : Restored) → all_counted c (os ++ o ∷ []) ≡ counted_with (all_counted c os) o
 counted_more c [] o = refl
-counted_more c (y ∷ os) o = counted_more (counted c y) os o
+counted_more c (y ∷ os) o = counted_more (counted_with c y) os o
 
 -- none yet
 pub none_taken : {A : Type 0} (s : Settings) (h : List (Entry A)) (may : Bool) (c : Restoration) → c ≡ record { entered = 0; left_out = 0 } → AreTaken s h [] may c h
@@ -27,12 +27,12 @@ none_taken s h may c is = ([], refl, is)
 
 -- one record more
 pub taken_more : {A : Type 0} (s t : Settings) (h : List (Entry A)) (rs : List (Record A)) (may : Bool) (i : ℕ) (r : Record A) (now then : List (Entry A)) (c d : Restoration) (o : Restored)
-    → i < length rs → r ≡ get_or rs i r → t ≡ s → AreTaken s h (take i rs) may c now → Becomes t now r may o then → d ≡ counted c o → AreTaken s h (take (i + 1) rs) may d then
+    → i < length rs → r ≡ get_or rs i r → t ≡ s → AreTaken s h (take i rs) may c now → Becomes t now r may o then → d ≡ counted_with c o → AreTaken s h (take (i + 1) rs) may d then
 taken_more {A} s t h rs may i r now then c d o low is same taken b more = (
   taken.0 ++ o ∷ [],
   subst (λ (l : List (Record A)). BecomeAll s h l may (taken.0 ++ o ∷ []) then) (ap (λ (x : Record A). take i rs ++ x ∷ []) is ∙ sym (take_more rs i r low))
       (become_more s h (take i rs) may taken.0 now then r o taken.1 (subst (λ (x : Settings). Becomes x now r may o then) same b)),
-  more ∙ (ap (λ (x : Restoration). counted x o) taken.2 ∙ sym (counted_more (record { entered = 0; left_out = 0 }) taken.0 o)),
+  more ∙ (ap (λ (x : Restoration). counted_with x o) taken.2 ∙ sym (counted_more (record { entered = 0; left_out = 0 }) taken.0 o)),
 )
 
 -- of the record at a place nothing becomes

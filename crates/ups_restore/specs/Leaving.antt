@@ -24,18 +24,18 @@ pub record IsNone {A : Type 0} (s : Settings) (history : List (Entry A)) (stored
   pub kept : may ≡ true → refusal ≢ OfEntry Refused
 
 -- one more, up to the greatest number of 64 bits
-abbrev pub one_more : ℕ → ℕ
-one_more n = min (n + 1) (2 ^ 64 - 1)
+abbrev pub one_more_counted : ℕ → ℕ
+one_more_counted n = min (n + 1) (2 ^ 64 - 1)
 
 -- the counts after one record more
-abbrev pub counted : Restoration → Restored → Restoration
-counted counts Entered = record { entered = one_more counts.entered; left_out = counts.left_out }
-counted counts LeftOut = record { entered = counts.entered; left_out = one_more counts.left_out }
+abbrev pub counted_with : Restoration → Restored → Restoration
+counted_with counts Entered = record { entered = one_more_counted counts.entered; left_out = counts.left_out }
+counted_with counts LeftOut = record { entered = counts.entered; left_out = one_more_counted counts.left_out }
 
 -- the counts after several more
 abbrev pub all_counted : Restoration → List Restored → Restoration
 all_counted counts [] = counts
-all_counted counts (o ∷ os) = all_counted (counted counts o) os
+all_counted counts (o ∷ os) = all_counted (counted_with counts o) os
 
 -- what becomes of records, one after the other, from a history to the one after them
 abbrev pub BecomeAll : {A : Type 0} → Settings → List (Entry A) → List (Record A) → Bool → List Restored → List (Entry A) → Type 0

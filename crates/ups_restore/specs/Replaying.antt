@@ -16,7 +16,7 @@ use Rattle.ups_restore.specs.declared.fault.RestoreRefusal.TheVariants as restor
 use Rattle.ups_journal.specs.declared.fault.RecordFault.TheVariants as records
 use Rattle.ups_journal.specs.declared.record.Record.{Record}
 use Rattle.ups_journal.specs.Columns.{recorded}
-use Rattle.ups_journal.specs.Writable.{IsWritable}
+use Rattle.ups_journal.specs.Writable.{IsWritableEntry}
 use Rattle.ups_service.specs.Law.{is_legal, OrLacking}
 
 -- why an entry is not entered after a history: its moment is too late; it is not accepted there, and that not for want of
@@ -27,7 +27,7 @@ IsRefusal s history e Refused = (accepts (reply s (past history) e) ≡ false) �
 IsRefusal s history e NoRoom = OrLacking ResourceLimitation (reply s (past history) e) (Answered ResourceLimitation)
 
 -- the entries before this place were entered, and the one at it was not
-pub record StopsAt {A : Type 0} (s : Settings) (history entries : List (Entry A)) (fault : ReplayFault) (after : List (Entry A)) : Type 0 where
+pub record StopsReplayAt {A : Type 0} (s : Settings) (history entries : List (Entry A)) (fault : ReplayFault) (after : List (Entry A)) : Type 0 where
   pub front : List (Entry A)
   pub entry : Entry A
   pub rest : List (Entry A)
@@ -43,23 +43,23 @@ IsWant (restoring.Entry refusal) = refusal ≡ NoRoom
 
 -- the record of an entry that is refused after a history
 abbrev pub IsRefusedFor : {A : Type 0} → Settings → List (Entry A) → Record A → Refusal → Type 0
-IsRefusedFor {A} s history stored refusal = (e : Entry A) × IsWritable e × (recorded e ≡ stored) × IsRefusal s history e refusal
+IsRefusedFor {A} s history stored refusal = (e : Entry A) × IsWritableEntry e × (recorded e ≡ stored) × IsRefusal s history e refusal
 
 -- why a record is not entered after a history: it is that of no entry, or memory ran out; or its entry is refused there
 abbrev pub IsFailure : {A : Type 0} → Settings → List (Entry A) → Record A → RestoreRefusal → Type 0
-IsFailure {A} s history stored (restoring.Record fault) = fault ≢ records.Memory → (e : Entry A) → IsWritable e → recorded e ≡ stored → ⊥
+IsFailure {A} s history stored (restoring.Record fault) = fault ≢ records.Memory → (e : Entry A) → IsWritableEntry e → recorded e ≡ stored → ⊥
 IsFailure s history stored (restoring.Entry refusal) = IsRefusedFor s history stored refusal
 
 -- a record of an entry that is accepted after a history
-pub record IsOf {A : Type 0} (s : Settings) (history : List (Entry A)) (stored : Record A) (e : Entry A) : Type 0 where
-  pub writable : IsWritable e
+pub record IsRecordOf {A : Type 0} (s : Settings) (history : List (Entry A)) (stored : Record A) (e : Entry A) : Type 0 where
+  pub writable : IsWritableEntry e
   pub is : recorded e ≡ stored
   pub moment : IsMoment e.moment
   pub legal : is_legal s (history ++ e ∷ [])
 
 -- records of entries that go on legally from a history
 pub record AreOf {A : Type 0} (s : Settings) (history : List (Entry A)) (stored : List (Record A)) (es : List (Entry A)) : Type 0 where
-  pub writable : All (λ (e : Entry A). IsWritable e) es
+  pub writable : All (λ (e : Entry A). IsWritableEntry e) es
   pub are : map recorded es ≡ stored
   pub moments : All (λ (e : Entry A). IsMoment e.moment) es
   pub legal : is_legal s (history ++ es)

@@ -4,8 +4,8 @@ ghost use Rattle.std.specs.Prelude.{◌≡◌, [], ◌∷◌, ◌++◌, List, On
 ghost use Rattle.ups_life.specs.declared.entry.Entry.{Entry};
 ghost use Rattle.ups_service.specs.Law.{is_legal};
 ghost use Rattle.ups_restore.specs.declared.leaving.Restored.TheVariants.{Entered};
-ghost use Rattle.ups_restore.specs.Replaying.{IsOf, AreOf, IsWant};
-ghost use Rattle.ups_restore.specs.Leaving.{Becomes, IsNone, counted, AreTaken, StopsTaking};
+ghost use Rattle.ups_restore.specs.Replaying.{IsRecordOf, AreOf, IsWant};
+ghost use Rattle.ups_restore.specs.Leaving.{Becomes, IsNone, counted_with, AreTaken, StopsTaking};
 
 use crate::fault::{Refusal, RestoreFault, RestoreRefusal};
 use crate::restoring::restore_one;
@@ -58,8 +58,8 @@ impl Restoration {
         may_be_left_out: bool,
     ) -> Result<Restored, RestoreRefusal>
         ensures became { IfOk result (λ r. Becomes manager.old.settings manager.old.history stored.now may_be_left_out r manager.new.history) }
-        ensures counts { IfOk result (λ r. self.new ≡ counted self.old r) }
-        ensures only { (e : Entry A) → IsOf manager.old.settings manager.old.history stored.now e → MatchResult result (λ r. (r ≡ Entered) × (manager.new.history ≡ manager.old.history ++ e ∷ [])) IsWant }
+        ensures counts { IfOk result (λ r. self.new ≡ counted_with self.old r) }
+        ensures only { (e : Entry A) → IsRecordOf manager.old.settings manager.old.history stored.now e → MatchResult result (λ r. (r ≡ Entered) × (manager.new.history ≡ manager.old.history ++ e ∷ [])) IsWant }
         ensures why { IfErr result (IsNone manager.old.settings manager.old.history stored.now may_be_left_out) }
         ensures stays { OnErr result (manager.new.history ≡ manager.old.history) }
         ensures same { OnErr result (self.new ≡ self.old) }

@@ -7,7 +7,7 @@ ghost use Rattle.ups_life.specs.Settings.{IsMoment};
 ghost use Rattle.ups_life.specs.History.{accepts};
 ghost use Rattle.ups_service.specs.Law.{is_legal};
 ghost use Rattle.ups_restore.specs.declared.fault.Refusal.TheVariants.{NoRoom};
-ghost use Rattle.ups_restore.specs.Replaying.{IsRefusal, StopsAt};
+ghost use Rattle.ups_restore.specs.Replaying.{IsRefusal, StopsReplayAt};
 
 use crate::fault::{Refusal, ReplayFault};
 use std::alloc::Allocator;
@@ -78,7 +78,7 @@ pub fn replay<A: Allocator + Copy>(
     entries: Vec<Entry<A>, A>,
 ) -> Result<(), ReplayFault>
     ensures entered { OnOk result (manager.new.history ≡ manager.old.history ++ entries.items) }
-    ensures stops { IfErr result (λ f. StopsAt manager.old.settings manager.old.history entries.items f manager.new.history) }
+    ensures stops { IfErr result (λ f. StopsReplayAt manager.old.settings manager.old.history entries.items f manager.new.history) }
     ensures legally { is_legal manager.old.settings (manager.old.history ++ entries.items) → All (λ e. IsMoment e.moment) entries.items → IfErr result (λ f. f.refusal ≡ NoRoom) }
     ensures settings { manager.new.settings ≡ manager.old.settings }
     ensures legal { is_legal manager.new.settings manager.new.history }

@@ -75,9 +75,9 @@ abbrev pub IsCount : List (List ℕ) → ℕ → Type 0
 IsCount words count = (word : List ℕ) × (words ≡ word ∷ []) × IsNumeral 10 word × (count ≡ digits_value 10 word)
 
 -- a question is a message that asks for such an operation
-abbrev pub IsMessage : {A : Type 0} → (Operation A → Type 0) → Question A → Type 0
-IsMessage Is (questions.Message operation data_set) = Is operation
-IsMessage Is question = ⊥
+abbrev pub IsMessageOf : {A : Type 0} → (Operation A → Type 0) → Question A → Type 0
+IsMessageOf Is (questions.Message operation data_set) = Is operation
+IsMessageOf Is question = ⊥
 
 -- N-CREATE, N-GET and N-SET of the instance that the first word names (PS3.7 sections 10.3.5, 10.3.2 and 10.3.3)
 abbrev pub IsCreate : {A : Type 0} → List (List ℕ) → Operation A → Type 0
@@ -105,15 +105,15 @@ IsFind operation = ⊥
 -- What a verb asks with the words behind it: what only the service can be asked, as it is; and else the operation of a
 -- message, with its instance, and the type of an N-ACTION (PS3.4 table CC.2.1-1 and CC.2.2 to CC.2.8).
 abbrev pub IsOf : {A : Type 0} → Verb → List (List ℕ) → Question A → Type 0
-IsOf Create words question = IsMessage (IsCreate words) question
-IsOf Get words question = IsMessage (IsGet words) question
-IsOf Set words question = IsMessage (IsSet words) question × (2 ≤ length words)
-IsOf Change words question = IsMessage (IsAction 1 words) question × (length words ≡ 3)
-IsOf Cancel words question = IsMessage (IsAction 2 words) question
-IsOf Subscribe words question = IsMessage (IsAction 3 words) question × (3 ≤ length words)
-IsOf Unsubscribe words question = IsMessage (IsAction 4 words) question × (length words ≡ 2)
-IsOf Suspend words question = IsMessage (IsAction 5 words) question × (length words ≡ 2)
-IsOf Find words question = IsMessage IsFind question
+IsOf Create words question = IsMessageOf (IsCreate words) question
+IsOf Get words question = IsMessageOf (IsGet words) question
+IsOf Set words question = IsMessageOf (IsSet words) question × (2 ≤ length words)
+IsOf Change words question = IsMessageOf (IsAction 1 words) question × (length words ≡ 3)
+IsOf Cancel words question = IsMessageOf (IsAction 2 words) question
+IsOf Subscribe words question = IsMessageOf (IsAction 3 words) question × (3 ≤ length words)
+IsOf Unsubscribe words question = IsMessageOf (IsAction 4 words) question × (length words ≡ 2)
+IsOf Suspend words question = IsMessageOf (IsAction 5 words) question × (length words ≡ 2)
+IsOf Find words question = IsMessageOf IsFind question
 IsOf Pending words (questions.Pending max) = IsCount words max
 IsOf Ack words (questions.Acknowledge upto) = IsCount words upto
 IsOf Watches words questions.Watches = words ≡ []

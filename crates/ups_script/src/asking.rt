@@ -6,7 +6,7 @@ ghost use Rattle.std.specs.Str.Parse.{IsNumeral, digits_value};
 ghost use Rattle.ups_life.specs.Settings.{IsMoment};
 ghost use Rattle.ups_lines.specs.Escapes.{IsText};
 ghost use Rattle.ups_lines.specs.Words.{words_of, words_left};
-ghost use Rattle.ups_script.specs.Questions.{AsksAt, FailsArguments, IsAction, IsBad, IsCount, IsMessage, IsOf, Names, NamesInstance, OnBad};
+ghost use Rattle.ups_script.specs.Questions.{AsksAt, FailsArguments, IsAction, IsBad, IsCount, IsMessageOf, IsOf, Names, NamesInstance, OnBad};
 
 use crate::limits::MAX_LINE;
 use crate::line::{Heading, Verb};
@@ -134,7 +134,7 @@ fn message<'a, A: Allocator + Copy>(
     arguments: &[Option<Attribute<'a>>],
     words: Words<'a>,
 ) -> Result<Question<A>, LineFault>
-    ensures { IfOk result (IsMessage (λ asked. asked ≡ operation)) }
+    ensures { IfOk result (IsMessageOf (λ asked. asked ≡ operation)) }
 {
     let attributes = attributes_of(alloc, arguments, words)?;
     let data_set = spelled(alloc, &attributes)?;
@@ -216,7 +216,7 @@ fn ending<A: Allocator + Copy>(
     action: u16,
     mut words: Words<'_>,
 ) -> Result<Question<A>, LineFault>
-    ensures action { IfOk result (IsMessage (IsAction action (words_left (option_copied words.entry.rest)))) }
+    ensures action { IfOk result (IsMessageOf (IsAction action (words_left (option_copied words.entry.rest)))) }
     ensures two { OnOk result (length (words_left (option_copied words.entry.rest)) ≡ 2) }
 {
     let operation = Operation::Action {

@@ -17,7 +17,7 @@ use Rattle.ups_net.specs.Working.{Ran}
 use Rattle.ups_net.specs.declared.options.ServerOptions.{ServerOptions}
 use Rattle.ups_pdu.specs.Title.{SpellsAe}
 use Rattle.ups_service.specs.State.{State}
-use Rattle.ups_turn.specs.Pass.{Standing, passes_from}
+use Rattle.ups_turn.specs.Pass.{PassView, passes_from}
 use Rattle.ups_server.specs.Limits.{turns_limit}
 
 -- how many deliver event reports beside so many workers: one for each watcher, eight at most; no more than the desk has
@@ -54,7 +54,7 @@ HasBegun g None history = history ≡ []
 HasBegun g (Some keeper) history = IsKept g keeper history × (keeper.committed ≡ length history)
 
 -- what becomes of the passes of the server: its threads have all done what is asked, or none has begun
-abbrev pub RanAsAsked : {A : Type 0} → ServeArguments → ℕ → ℕ → Bool → List (Standing A) → List (Standing A) → Type 0
+abbrev pub RanAsAsked : {A : Type 0} → ServeArguments → ℕ → ℕ → Bool → List (PassView A) → List (PassView A) → Type 0
 RanAsAsked asked associations rounds begun olds news = (options : ServerOptions) × AreAsked options asked associations rounds × Ran options (is_some asked.store) begun olds news
 
 -- what the words of a command line ask of `serve`, by what the parser found in them
@@ -74,7 +74,7 @@ pub record AreWords (found : Found) (asked : ServeArguments) : Type 0 where
 
 -- What becomes of a server by the words of a command line: its manager opened with the settings that they ask for, and without
 -- history where they name no store; and its passes have done what they ask for, or none has begun.
-pub record RanAsWords {A : Type 0} (found : Found) (associations rounds : ℕ) (begun : Bool) (table : TableId) (opening : State A) (news : List (Standing A)) : Type 0 where
+pub record RanAsWords {A : Type 0} (found : Found) (associations rounds : ℕ) (begun : Bool) (table : TableId) (opening : State A) (news : List (PassView A)) : Type 0 where
   pub asked : ServeArguments
   pub words : AreWords found asked
   pub settings : opening.settings ≡ settings_asked asked

@@ -15,7 +15,7 @@ use Rattle.ups_life.proofs.Accepted.{legal_tail}
 use Rattle.ups_life.proofs.OneHolder.{claimed_first, no_claim, claim_stays}
 use Rattle.ups_life.proofs.Past.{past-push}
 use Rattle.ups_life.proofs.Texts.{text_is_itself}
-use Rattle.ups_service.specs.Law.{Others, Seen, is_legal, BeginsHistory, is_left, entry, Grants, Refuses}
+use Rattle.ups_service.specs.Law.{Others, Seen, is_legal, BeginsHistory, has_call_left, entry, Grants, Refuses}
 use Rattle.ups_service.specs.Claiming.{claiming, HasClaimed}
 use Rattle.ups_service.proofs.Legality.{beginning_legal}
 
@@ -88,7 +88,7 @@ module _ {A : Type 0} (s : Settings) (u : List ℕ) where
 
   -- what was told to be claimed is entered
   entered_claim : (others : Others) (caller : ℕ) (ae : List ℕ) (moment : ℕ) (after : Seen A) (c : HasClaimed s others caller ae moment u after) → (b : List (Entry A)) × (after.history ≡ b ++ entry caller ae moment (claiming u c.uid) ∷ [])
-  entered_claim others caller ae moment after c = at (is_left c.seen.calls) c.call
+  entered_claim others caller ae moment after c = at (has_call_left c.seen.calls) c.call
     where
       at : (b : Bool) → MatchBool b (Grants s others caller c.seen ae moment (Do (claiming u c.uid)) (Answered Success) after) (Refuses c.seen (Do (claiming u c.uid)) (Answered Success) after)
           → (b : List (Entry A)) × (after.history ≡ b ++ entry caller ae moment (claiming u c.uid) ∷ [])

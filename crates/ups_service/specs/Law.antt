@@ -83,9 +83,9 @@ pub data Allowance : Type 0 where
   bounded : ℕ → ℕ → Allowance
 
 -- a call is left
-abbrev pub is_left : Allowance → Bool
-is_left unbounded = true
-is_left (bounded made most) = nat_lt made most
+abbrev pub has_call_left : Allowance → Bool
+has_call_left unbounded = true
+has_call_left (bounded made most) = nat_lt made most
 
 -- one call more was made
 abbrev pub one_made : Allowance → Allowance
@@ -125,7 +125,7 @@ Refuses seen ask reply after = (reply ≡ Answered (lacking ask)) × (after ≡ 
 -- one call of a service
 abbrev pub Serves : {A : Type 0} → Settings → Others → ℕ → Seen A → List ℕ → ℕ → Ask A → Reply A → Seen A → Type 0
 Serves settings others caller seen ae moment ask reply after =
-    MatchBool (is_left seen.calls) (Grants settings others caller seen ae moment ask reply after) (Refuses seen ask reply after)
+    MatchBool (has_call_left seen.calls) (Grants settings others caller seen ae moment ask reply after) (Refuses seen ask reply after)
 
 -- calls of one application entity, one after another: each ask at its moment has its reply
 abbrev pub Calls : {A : Type 0} → Settings → Others → ℕ → Seen A → List ℕ → List (Ask A) → List ℕ → List (Reply A) → Seen A → Type 0

@@ -15,9 +15,9 @@ use Rattle.ups_life.specs.Events.{pending}
 abbrev pub information_of : {A : Type 0} → List (Entry A) → Event → List El
 information_of history x = unwrap_or (option_map (payload x) (slice_get history x.entry)) []
 
-abbrev pub reported : {A : Type 0} → List (Entry A) → Event → EventReport A
-reported history x = record { event = x; information = information_of history x }
+abbrev pub report_of_event : {A : Type 0} → List (Entry A) → Event → EventReport A
+report_of_event history x = record { event = x; information = information_of history x }
 
 -- at most so many of those that w has not acknowledged, oldest first
 abbrev pub reports_to : {A : Type 0} → Settings → List (Entry A) → ℕ → List ℕ → List (EventReport A)
-reports_to settings history max w = map (reported history) (take max (pending settings (past history) w))
+reports_to settings history max w = map (report_of_event history) (take max (pending settings (past history) w))

@@ -16,7 +16,7 @@ use Rattle.ups_session.specs.Turn.{IsTurn}
 use Rattle.ups_session.proofs.Chains.{chain_one}
 use Rattle.ups_session.specs.declared.pdu_io.PduRead.{PduRead}
 use Rattle.ups_session.specs.declared.pdu_io.PduRead.TheVariants as reads
-use Rattle.ups_session.specs.Broken.{IsBad}
+use Rattle.ups_session.specs.Broken.{IsBadPdu}
 use Rattle.ups_session.specs.Reading as reading
 use Rattle.ups_session.proofs.Going.{goes_on, goes_nowhere, goes_short}
 
@@ -160,7 +160,7 @@ turned side association after now input a u v (Err fault) s end g = turned_part 
 pub got_pdu : (A : Type 0) (now : Input) (input : List ℕ) (x : PduRead A) (p : Pdu A) → x ≡ reads.Pdu p → reading.IsRead now input (got A x) → SpellsPdu input p
 got_pdu A now input x p is t = subst (λ (y : PduRead A). reading.IsRead now input (got A y)) is t
 
-pub got_bad : (A : Type 0) (now : Input) (input : List ℕ) (x : PduRead A) (f : PduFault) → x ≡ reads.Bad f → reading.IsRead now input (got A x) → IsBad A input f
+pub got_bad : (A : Type 0) (now : Input) (input : List ℕ) (x : PduRead A) (f : PduFault) → x ≡ reads.Bad f → reading.IsRead now input (got A x) → IsBadPdu A input f
 got_bad A now input x f is t = subst (λ (y : PduRead A). reading.IsRead now input (got A y)) is t
 
 pub got_closed : (A : Type 0) (now : Input) (input : List ℕ) (x : PduRead A) → x ≡ reads.Closed → reading.IsRead now input (got A x) → (input ≡ []) × HasEnded now

@@ -17,7 +17,7 @@ use Rattle.ups_session.specs.declared.fault.SessionFault.{SessionFault}
 use Rattle.ups_session.specs.declared.fault.SessionFault.TheVariants.{Memory}
 use Rattle.ups_session.specs.declared.pdu_io.PduRead.{PduRead}
 use Rattle.ups_session.specs.declared.pdu_io.PduRead.TheVariants as reads
-use Rattle.ups_session.specs.Broken.{IsBad}
+use Rattle.ups_session.specs.Broken.{IsBadPdu}
 use Rattle.ups_session.specs.Reading.{IsRead}
 
 header_more : (bytes more : List ℕ) (byte n : ℕ) (rest : List ℕ) → IsHeader bytes byte n rest → IsHeader (bytes ++ more) byte n (rest ++ more)
@@ -67,7 +67,7 @@ whole_pdu {A} input body bytes kind n rest m pdu six h len is within s =
     subst (λ (l : List ℕ). SpellsPdu l pdu) (take_all m whole all) t
 
 pub bad_body : (A : Type 0) (input body bytes : List ℕ) (kind : PduKind) (n : ℕ) (rest : List ℕ) (fault : PduFault) → length input ≡ 6 → IsHeader input (type_code kind) n rest → n ≤ limit kind → length body ≡ n
-    → bytes ≡ input ++ body → fault ≢ faults.Memory → IsFault A bytes fault → IsBad A (input ++ body) fault
+    → bytes ≡ input ++ body → fault ≢ faults.Memory → IsFault A bytes fault → IsBadPdu A (input ++ body) fault
 bad_body A input body bytes kind n rest fault six h within len is other f = inr (record {
   kind = kind;
   body = body;

@@ -16,7 +16,7 @@ use Rattle.ups_session.specs.Session.{okay}
 use Rattle.ups_session.specs.Tells.{Told, Tells}
 use Rattle.ups_session.specs.WatchedIo.{Output}
 use Rattle.ups_session.specs.Wire.{IsPrefix, Sent, pdu_bytes}
-use Rattle.ups_session.specs.Visits.{Visit, wrote, calls_for, moment_of, pdu_of, calls_of, moments_of, pdus_of, FallsShort, Sends, SendsPdus}
+use Rattle.ups_session.specs.Visits.{Visit, wrote, calls_for, visit_moment, pdu_of, calls_of, moments_of, pdus_of, FallsShort, Sends, SendsPdus}
 use Rattle.ups_session.proofs.Telling.{Tells-nil, Tells-trans}
 
 pub prefix_after : {X : Type 0} (front part all : List X) → IsPrefix part all → IsPrefix (front ++ part) (front ++ all)
@@ -32,7 +32,7 @@ pub calls-append : {A : Type 0} (front rest : List (Visit A)) → calls_of (fron
 calls-append front rest = flat_map-append calls_for front rest
 
 pub moments-append : {A : Type 0} (front rest : List (Visit A)) → moments_of (front ++ rest) ≡ moments_of front ++ moments_of rest
-moments-append front rest = flat_map-append moment_of front rest
+moments-append front rest = flat_map-append visit_moment front rest
 
 pub pdus-append : {A : Type 0} (front rest : List (Visit A)) → pdus_of (front ++ rest) ≡ pdus_of front ++ pdus_of rest
 pdus-append front rest = flat_map-append pdu_of front rest

@@ -6,7 +6,7 @@ use Rattle.ups_pdu.specs.declared.fault.PduFault.TheVariants as faults
 use Rattle.ups_pdu.specs.Spelling.{SpellsPdu, IsFault}
 use Rattle.ups_session.specs.declared.fault.SessionFault.{SessionFault}
 use Rattle.ups_session.specs.declared.fault.SessionFault.TheVariants.{Memory}
-use Rattle.ups_session.specs.Broken.{IsBad, IsLost}
+use Rattle.ups_session.specs.Broken.{IsBadPdu, IsLost}
 use Rattle.ups_session.specs.declared.pdu_io.PduRead.{PduRead}
 use Rattle.ups_session.specs.declared.pdu_io.PduRead.TheVariants as reads
 
@@ -14,7 +14,7 @@ use Rattle.ups_session.specs.declared.pdu_io.PduRead.TheVariants as reads
 -- read failed before its end; or memory ran out within one. `now` is what the reader has become then.
 abbrev pub IsRead : {A : Type 0} → Input → List ℕ → Result (PduRead A) SessionFault → Type 0
 IsRead now input (Ok (reads.Pdu pdu)) = SpellsPdu input pdu
-IsRead {A} now input (Ok (reads.Bad fault)) = IsBad A input fault
+IsRead {A} now input (Ok (reads.Bad fault)) = IsBadPdu A input fault
 IsRead now input (Ok reads.Closed) = (input ≡ []) × HasEnded now
 IsRead {A} now input (Ok reads.Cut) = (input ≢ []) × IsFault A input faults.Short × HasEnded now
 IsRead {A} now input (Ok reads.Failed) = IsFault A input faults.Short × (now.last ≡ Failed)

@@ -204,8 +204,8 @@ Delivers config ae d (confirmation ac) reaction = reaction ≡ on_answer ae d ac
 Delivers config ae d (presentation_data pdv) reaction = OnFragment d pdv (next_of true true events.Data d.association.state) reaction
 Delivers config ae d (invalid f) reaction = reaction ≡ along d (on_event true (reason_of f) d.association events.Invalid (next_of true true events.Invalid d.association.state))
 
-abbrev pub GoesOnBy : {A : Type 0} → DeliveryView A → DeliveryCall → Reply A → DeliveryReaction A → Type 0
-GoesOnBy d call reply reaction = reaction ≡ on_reply d call reply
+abbrev pub GoesOnByReply : {A : Type 0} → DeliveryView A → DeliveryCall → Reply A → DeliveryReaction A → Type 0
+GoesOnByReply d call reply reaction = reaction ≡ on_reply d call reply
 
 -- the side that asks for an association with a peer: it connects, and sends the A-ASSOCIATE-RQ
 abbrev pub requestor : {A : Type 0} → Config → List ℕ → Side A (DeliveryView A) DeliveryCall
@@ -214,7 +214,7 @@ requestor config ae = record {
   first = event events.AssociateRequest ∷ event events.TransportConfirmed ∷ [];
   Reacts = Delivers config ae;
   asked = λ call. record { ae = ae; ask = ask_of call };
-  OnReply = GoesOnBy;
+  OnReply = GoesOnByReply;
 }
 
 -- there is no transport connection yet

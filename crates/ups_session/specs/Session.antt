@@ -7,14 +7,14 @@ use Rattle.ups_pdu.specs.Spelling.{SpellsPdu, IsFault}
 use Rattle.ups_session.specs.declared.fault.End.{End}
 use Rattle.ups_session.specs.declared.fault.SessionFault.{SessionFault}
 use Rattle.ups_session.specs.declared.fault.SessionFault.TheVariants.{Read, Write, Turns, Memory}
-use Rattle.ups_session.specs.Broken.{IsBad, IsLost}
+use Rattle.ups_session.specs.Broken.{IsBadPdu, IsLost}
 use Rattle.ups_session.specs.Fold.{Side, Indication, Arrival, pdu, bad, closed, brings, Happens, Processes, IsOpen}
 use Rattle.ups_session.specs.World.{World, Performed}
 
 -- these bytes are what comes
 abbrev pub Spells : {A : Type 0} → List ℕ → Arrival A → Type 0
 Spells bytes (pdu p) = SpellsPdu bytes p
-Spells {A} bytes (bad fault) = IsBad A bytes fault
+Spells {A} bytes (bad fault) = IsBadPdu A bytes fault
 Spells bytes closed = bytes ≡ []
 
 -- one after the other

@@ -21,9 +21,9 @@ abbrev pub calls_for : {A : Type 0} → Visit A → List GateCall
 calls_for (timed moment) = Moment moment ∷ []
 calls_for (wrote pdu) = Before ∷ After ∷ []
 
-abbrev pub moment_of : {A : Type 0} → Visit A → List ℕ
-moment_of (timed moment) = moment ∷ []
-moment_of (wrote pdu) = []
+abbrev pub visit_moment : {A : Type 0} → Visit A → List ℕ
+visit_moment (timed moment) = moment ∷ []
+visit_moment (wrote pdu) = []
 
 abbrev pub pdu_of : {A : Type 0} → Visit A → List (Pdu A)
 pdu_of (timed moment) = []
@@ -33,7 +33,7 @@ abbrev pub calls_of : {A : Type 0} → List (Visit A) → List GateCall
 calls_of visits = flat_map calls_for visits
 
 abbrev pub moments_of : {A : Type 0} → List (Visit A) → List ℕ
-moments_of visits = flat_map moment_of visits
+moments_of visits = flat_map visit_moment visits
 
 abbrev pub pdus_of : {A : Type 0} → List (Visit A) → List (Pdu A)
 pdus_of visits = flat_map pdu_of visits

@@ -8,10 +8,10 @@ ghost use Rattle.ups_assoc.specs.Contexts.{known_syntax};
 ghost use Rattle.ups_session.specs.Proposing.{proposed_id, padded_title, event_context, proposed_information, association_request, syntax_answered, syntax_at, agreement};
 
 use std::alloc::{AllocError, Allocator};
+use ups_assoc::version_name;
 use ups_pdu::{
-    Ae, AnsweredContext, AssociateAc, AssociateRq, Bytes, ContextAnswer, MAX_DATA_LENGTH,
-    ProposedContext, ProposedContexts, RegisteredUid, Role, Roles, TransferSyntax, Uid, Uids,
-    UserInformation,
+    Ae, AnsweredContext, AssociateAc, AssociateRq, ContextAnswer, MAX_DATA_LENGTH, ProposedContext,
+    ProposedContexts, RegisteredUid, Role, Roles, TransferSyntax, Uid, Uids, UserInformation,
 };
 
 /// The id of the one presentation context that is proposed.
@@ -59,7 +59,7 @@ fn event_context<A: Allocator + Copy>(alloc: A) -> Result<ProposedContext<A>, Al
 fn proposed_information<A: Allocator + Copy>(alloc: A) -> Result<UserInformation<A>, AllocError>
     ensures { IfOk result (λ u. u ≡ proposed_information this_server) }
 {
-    let version_name = Bytes::copy_of(alloc, b"UPSD_1")?;
+    let implementation_version = version_name(alloc)?;
     let mut roles = Vec::new(alloc);
     roles.push(Role {
         sop_class: RegisteredUid::UpsEvent.uid(),
@@ -71,7 +71,7 @@ fn proposed_information<A: Allocator + Copy>(alloc: A) -> Result<UserInformation
         implementation_class: Some(RegisteredUid::Implementation.uid()),
         asynchronous_window: None,
         roles: Roles::from_vec(roles),
-        implementation_version: Some(version_name),
+        implementation_version: Some(implementation_version),
     })
 }
 

@@ -8,7 +8,7 @@ use Rattle.ups_journal.specs.Columns.{recorded}
 use Rattle.ups_restore.specs.declared.leaving.Restored.{Restored}
 use Rattle.ups_restore.specs.declared.leaving.Restored.TheVariants.{Entered, LeftOut}
 use Rattle.ups_restore.specs.declared.leaving.Restoration.{Restoration}
-use Rattle.ups_restore.specs.Leaving.{Becomes, counted, all_counted, BecomeAll, AreTaken}
+use Rattle.ups_restore.specs.Leaving.{Becomes, counted_with, all_counted, BecomeAll, AreTaken}
 use Rattle.ups_restore.specs.Replaying.{GoesOnBy}
 
 become_more : {A : Type 0} (s : Settings) (h : List (Entry A)) (rs : List (Record A)) (may : Bool) (os : List Restored) (now then : List (Entry A)) (r : Record A) (o : Restored)
@@ -18,9 +18,9 @@ become_more s h (x ∷ rs) may (y ∷ os) now then r o b n = (b.0, b.1, become_m
 become_more s h [] may (y ∷ os) now then r o b n = absurd b
 become_more s h (x ∷ rs) may [] now then r o b n = absurd b
 
-counted_more : (c : Restoration) (os : List Restored) (o : Restored) → all_counted c (os ++ o ∷ []) ≡ counted (all_counted c os) o
+counted_more : (c : Restoration) (os : List Restored) (o : Restored) → all_counted c (os ++ o ∷ []) ≡ counted_with (all_counted c os) o
 counted_more c [] o = refl
-counted_more c (y ∷ os) o = counted_more (counted c y) os o
+counted_more c (y ∷ os) o = counted_more (counted_with c y) os o
 
 -- none yet
 pub none_taken : {A : Type 0} (s : Settings) (h : List (Entry A)) (may : Bool) (c : Restoration) → c ≡ record { entered = 0; left_out = 0 } → AreTaken s h [] may c h
@@ -28,17 +28,17 @@ none_taken s h may c is = ([], refl, is)
 
 -- one record more
 pub taken_more : {A : Type 0} (s t : Settings) (h : List (Entry A)) (rs : List (Record A)) (may : Bool) (r : Record A) (now then : List (Entry A)) (c d : Restoration) (o : Restored)
-    → t ≡ s → AreTaken s h rs may c now → Becomes t now r may o then → d ≡ counted c o → AreTaken s h (rs ++ r ∷ []) may d then
+    → t ≡ s → AreTaken s h rs may c now → Becomes t now r may o then → d ≡ counted_with c o → AreTaken s h (rs ++ r ∷ []) may d then
 taken_more s t h rs may r now then c d o same taken b more = (
   taken.0 ++ o ∷ [],
   become_more s h rs may taken.0 now then r o taken.1 (subst (λ (x : Settings). Becomes x now r may o then) same b),
-  more ∙ (ap (λ (x : Restoration). counted x o) taken.2 ∙ sym (counted_more (record { entered = 0; left_out = 0 }) taken.0 o)),
+  more ∙ (ap (λ (x : Restoration). counted_with x o) taken.2 ∙ sym (counted_more (record { entered = 0; left_out = 0 }) taken.0 o)),
 )
 
 none_before : (c : Restoration) (os : List Restored) → (all_counted c os).left_out ≡ 0 → c.left_out ≡ 0
 none_before c [] e = e
-none_before c (Entered ∷ os) e = none_before (counted c Entered) os e
-none_before c (LeftOut ∷ os) e = let w = none_before (counted c LeftOut) os e in grind arith
+none_before c (Entered ∷ os) e = none_before (counted_with c Entered) os e
+none_before c (LeftOut ∷ os) e = let w = none_before (counted_with c LeftOut) os e in grind arith
 
 -- one entered, and then others
 on_by : {A : Type 0} (h then after : List (Entry A)) (r : Record A) (rs : List (Record A)) → GoesOnBy h (r ∷ []) then → map recorded after ≡ map recorded then ++ rs → map recorded after ≡ map recorded h ++ r ∷ rs
@@ -50,8 +50,8 @@ on_by {A} h then after r rs goes rest =
 entered_all : {A : Type 0} (s : Settings) (h : List (Entry A)) (rs : List (Record A)) (may : Bool) (c : Restoration) (os : List Restored) (after : List (Entry A)) → BecomeAll s h rs may os after → (all_counted c os).left_out ≡ 0
     → map recorded after ≡ map recorded h ++ rs
 entered_all s h [] may c [] after b none = ap (map recorded) b ∙ sym (append-nil (map recorded h))
-entered_all s h (r ∷ rs) may c (Entered ∷ os) after b none = on_by h b.0 after r rs b.1 (entered_all s b.0 rs may (counted c Entered) os after b.2 none)
-entered_all s h (r ∷ rs) may c (LeftOut ∷ os) after b none = let w = none_before (counted c LeftOut) os none in absurd (grind arith)
+entered_all s h (r ∷ rs) may c (Entered ∷ os) after b none = on_by h b.0 after r rs b.1 (entered_all s b.0 rs may (counted_with c Entered) os after b.2 none)
+entered_all s h (r ∷ rs) may c (LeftOut ∷ os) after b none = let w = none_before (counted_with c LeftOut) os none in absurd (grind arith)
 entered_all s h [] may c (o ∷ os) after b none = absurd b
 entered_all s h (r ∷ rs) may c [] after b none = absurd b
 

@@ -4,7 +4,7 @@ use Rattle.std.specs.declared.alloc.Global.{Global}
 use Rattle.sqlite_trees.specs.declared.store.Store.{Ghosts}
 use Rattle.ups_journal.specs.declared.record.Record.{Record}
 use Rattle.ups_store.specs.declared.reading.Replay.{Replay}
-use Rattle.ups_store.specs.Shown.{all_of, given}
+use Rattle.ups_store.specs.Shown.{all_of, given_out}
 use Rattle.ups_start.specs.Started.{said}
 
 -- as many requests as were committed, and behind them the first so many of these records
@@ -16,5 +16,5 @@ pub record HasBehind (all : List (Record Global)) (committed : ℕ) (records : L
 module _ {S : Type 0} {g : Ghosts S} where
   -- the next request is this record, or there is none
   abbrev pub ComesNext : Replay S g → Replay S g → Record Global → Bool → Type 0
-  ComesNext old new expected true = said (given new) ≡ said (given old) ++ expected ∷ []
-  ComesNext old new expected false = (given new ≡ given old) × (given new ≡ all_of new)
+  ComesNext old new expected true = said (given_out new) ≡ said (given_out old) ++ expected ∷ []
+  ComesNext old new expected false = (given_out new ≡ given_out old) × (given_out new ≡ all_of new)

@@ -3,7 +3,7 @@ use Rattle.std.specs.Prelude.{List, [], IsTrue}
 use Rattle.std.specs.declared.alloc.Global.{Global}
 use Rattle.sqlite_trees.specs.declared.store.Store.{Ghosts}
 use Rattle.ups_journal.specs.declared.record.Record.{Record}
-use Rattle.ups_store.specs.Shown.{shown, requests}
+use Rattle.ups_store.specs.Shown.{requests_shown, requests}
 use Rattle.ups_start.specs.declared.shelf.Held.{Held}
 use Rattle.ups_start.specs.declared.shelf.Held.TheVariants.{Open, Shut, Lost}
 use Rattle.ups_start.specs.declared.shelf.Shelf.{Shelf}
@@ -16,14 +16,14 @@ module _ {S : Type 0} {g : Ghosts S} where
   records_in (Shut count) = []
   records_in Lost = []
 
-  abbrev pub IsOpen : Held S g → Type 0
-  IsOpen (Open store) = IsTrue (shown store).is_open
-  IsOpen (Shut count) = ⊥
-  IsOpen Lost = ⊥
+  abbrev pub IsOpenStore : Held S g → Type 0
+  IsOpenStore (Open store) = IsTrue (requests_shown store).is_open
+  IsOpenStore (Shut count) = ⊥
+  IsOpenStore Lost = ⊥
 
   abbrev pub kept_in : Shelf S g → List (Record Global)
   kept_in shelf = records_in shelf.held
 
   -- it is open, and never had to be opened anew
   abbrev pub IsSound : Shelf S g → Type 0
-  IsSound shelf = IsTrue shelf.is_first × IsOpen shelf.held
+  IsSound shelf = IsTrue shelf.is_first × IsOpenStore shelf.held

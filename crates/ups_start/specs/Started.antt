@@ -6,12 +6,12 @@ use Rattle.ups_journal.specs.declared.record.Record.{Record}
 use Rattle.ups_service.specs.State.{State}
 use Rattle.ups_restore.specs.declared.leaving.Restored.{Restored}
 use Rattle.ups_restore.specs.declared.leaving.Restoration.{Restoration}
-use Rattle.ups_restore.specs.Leaving.{Becomes, counted}
+use Rattle.ups_restore.specs.Leaving.{Becomes, counted_with}
 use Rattle.ups_store.specs.declared.request.StoredRequest.{StoredRequest}
 use Rattle.ups_life.specs.Limits.{last_moment}
 use Rattle.ups_store.specs.declared.reading.Replay.{Replay}
 use Rattle.ups_store.specs.declared.runs.Run.{Run}
-use Rattle.ups_store.specs.Shown.{all_of, given}
+use Rattle.ups_store.specs.Shown.{all_of, given_out}
 
 -- the moment at which a run began, or the last one that has a date
 abbrev pub moment_in : Run → ℕ
@@ -23,8 +23,8 @@ said requests = map (λ r. r.asked) requests
 
 module _ {S : Type 0} {g : Ghosts S} where
   -- the next request was taken, or all have been
-  abbrev pub Takes : Replay S g → Replay S g → State Global → State Global → Restoration → Restoration → Bool → Option Restored → Type 0
-  Takes old new before after was is may None = (all_of new ≡ all_of old) × (given new ≡ given old) × (given new ≡ all_of new) × (after ≡ before) × (is ≡ was)
-  Takes old new before after was is may (Some became) = (all_of new ≡ all_of old)
-      × ((request : StoredRequest) × (given new ≡ given old ++ request ∷ []) × Becomes before.settings before.history request.asked may became after.history)
-      × (is ≡ counted was became)
+  abbrev pub TakesRecord : Replay S g → Replay S g → State Global → State Global → Restoration → Restoration → Bool → Option Restored → Type 0
+  TakesRecord old new before after was is may None = (all_of new ≡ all_of old) × (given_out new ≡ given_out old) × (given_out new ≡ all_of new) × (after ≡ before) × (is ≡ was)
+  TakesRecord old new before after was is may (Some became) = (all_of new ≡ all_of old)
+      × ((request : StoredRequest) × (given_out new ≡ given_out old ++ request ∷ []) × Becomes before.settings before.history request.asked may became after.history)
+      × (is ≡ counted_with was became)

@@ -4,24 +4,23 @@ ghost use Rattle.std.specs.Prelude.{◌≡◌, [], map, length, IfOk};
 ghost use Rattle.sqlite_trees.specs.View.{IsClean};
 ghost use Rattle.ups_journal.specs.Columns.{recorded};
 ghost use Rattle.ups_ledger.specs.Keeping.{IsKept};
-ghost use Rattle.ups_store.specs.Shown.{shown, requests, shown_by, all_of, given};
+ghost use Rattle.ups_store.specs.Shown.{requests_shown, requests, shown_by, all_of, given_out};
 ghost use Rattle.ups_start.specs.Started.{said};
 
 use crate::compacting::compacted;
 use crate::fault::StartFault;
 use crate::ledger::StoreLedger;
+use crate::place::StorePlace;
 use crate::rewriting::rewritten;
 use crate::taking::take_all;
 use log::{Log, info};
-use sqlite_std_file::{File, Unknown};
-use sqlite_store::FileStore;
 use sqlite_trees::store::Store;
 use std::alloc::Global;
 use std::time::Clock;
 use ups_ledger::{Keeper, Ledger};
 use ups_manager::Manager;
 use ups_restore::compaction_pays;
-use ups_store::{Replay, RequestStore, Run, StoreFault, open};
+use ups_store::{Replay, RequestStore, Run, StoreFault};
 
 /// A store in which a run has begun.
 #[derive(Drop)]
@@ -39,8 +38,8 @@ pub(crate) fn begin_run<S: Store + Drop>(
     replay: Replay<S>,
     about: &Run<'_>,
 ) -> Result<Begun<S>, StartFault>
-    ensures clean { IfOk result (λ b. IsClean (shown b.store) → IsClean (shown_by replay)) }
-    ensures same { IfOk result (λ b. IsClean (shown b.store) → requests b.store ≡ all_of replay) }
+    ensures clean { IfOk result (λ b. IsClean (requests_shown b.store) → IsClean (shown_by replay)) }
+    ensures same { IfOk result (λ b. IsClean (requests_shown b.store) → requests b.store ≡ all_of replay) }
 {
     let Some(mut store) = replay.finish() else {
         return Err(StartFault::Read(StoreFault::Shut));
@@ -68,8 +67,8 @@ fn settled<S: Store + Drop, R: Log>(
     manager: &mut Manager<Global>,
     left_out: u64,
 ) -> Result<Begun<S>, StartFault>
-    requires whole { left_out ≡ 0 → IsClean (shown begun.store) → said (requests begun.store) ≡ map recorded manager.old.history }
-    ensures kept { IfOk result (λ b. IsClean (shown b.store) → said (requests b.store) ≡ map recorded manager.new.history) }
+    requires whole { left_out ≡ 0 → IsClean (requests_shown begun.store) → said (requests begun.store) ≡ map recorded manager.old.history }
+    ensures kept { IfOk result (λ b. IsClean (requests_shown b.store) → said (requests b.store) ≡ map recorded manager.new.history) }
     ensures settings { manager.new.settings ≡ manager.old.settings }
 {
     let Ok(pays) = compaction_pays(alloc, manager) else {
@@ -98,8 +97,8 @@ fn begin_over<S: Store + Drop, R: Clock + Log>(
     manager: &mut Manager<Global>,
 ) -> Result<Begun<S>, StartFault>
     requires new { manager.old.history ≡ [] }
-    requires first { given replay ≡ [] }
-    ensures kept { IfOk result (λ b. IsClean (shown b.store) → said (requests b.store) ≡ map recorded manager.new.history) }
+    requires first { given_out replay ≡ [] }
+    ensures kept { IfOk result (λ b. IsClean (requests_shown b.store) → said (requests b.store) ≡ map recorded manager.new.history) }
     ensures settings { manager.new.settings ≡ manager.old.settings }
 {
     let counts = take_all(telling, alloc, &mut replay, manager, may_leave_out)?;
@@ -110,35 +109,35 @@ fn begin_over<S: Store + Drop, R: Clock + Log>(
     settled(alloc, telling, begun, about, manager, counts.left_out)
 }
 
-/// Opens the file.
-pub(crate) fn opened(rt: &HostRuntime, path: &str) -> Result<Replay<FileStore<File>>, StartFault>
-    ensures { IfOk result (λ r. given r ≡ []) }
+/// Opens the store at a place.
+pub(crate) fn opened<P: StorePlace>(place: &P) -> Result<Replay<P::Store>, StartFault>
+    ensures { IfOk result (λ r. given_out r ≡ []) }
 {
-    match open(rt, path, Unknown) {
+    match place.open() {
         Ok(replay) => Ok(replay),
         Err(fault) => Err(StartFault::Open(fault)),
     }
 }
 
-/// Opens the file at a path, or makes it; enters its requests into a manager, in their order, and begins a run in it.
-pub fn begin<'a, R: Clock + Log>(
-    rt: &'a HostRuntime,
+/// Opens the store at a place, or makes it; enters its requests into a manager, in their order, and begins a run in it.
+pub fn begin<'a, P: StorePlace, R: Clock + Log>(
+    alloc: Global,
     telling: &R,
-    path: &'a str,
+    place: P,
     may_leave_out: bool,
     about: Run<'a>,
     manager: &mut Manager<Global>,
-) -> Result<Keeper<StoreLedger<'a>>, StartFault>
+) -> Result<Keeper<StoreLedger<'a, P>>, StartFault>
     requires new { manager.old.history ≡ [] }
     ensures settings { manager.new.settings ≡ manager.old.settings }
-    ensures kept { IfOk result (λ k. IsKept ⟦<StoreLedger<'a> as Ledger>⟧ k manager.new.history) }
+    ensures kept { IfOk result (λ k. IsKept ⟦<StoreLedger<'a, P> as Ledger>⟧ k manager.new.history) }
     ensures all { IfOk result (λ k. k.committed ≡ length manager.new.history) }
 {
-    let replay = opened(rt, path)?;
-    let begun = begin_over(rt.alloc(), telling, replay, may_leave_out, &about, manager)?;
+    let replay = opened(&place)?;
+    let begun = begin_over(alloc, telling, replay, may_leave_out, &about, manager)?;
     let committed = manager.history().len();
     Ok(Keeper {
-        ledger: StoreLedger::of(rt, path, about, begun),
+        ledger: StoreLedger::of(place, about, begun),
         committed,
     })
 }

@@ -7,7 +7,7 @@ ghost use Rattle.ups_life.specs.Steps.{past};
 ghost use Rattle.ups_compact.specs.Compacting.{compacted};
 ghost use Rattle.ups_journal.specs.Columns.{recorded};
 ghost use Rattle.ups_restore.specs.declared.acknowledging.TheConstants.{COMPACTOR};
-ghost use Rattle.ups_store.specs.Shown.{shown, requests};
+ghost use Rattle.ups_store.specs.Shown.{requests_shown, requests};
 ghost use Rattle.ups_start.specs.Started.{said, moment_in};
 
 use crate::beginning::Begun;
@@ -65,7 +65,7 @@ pub(crate) fn compacted_to<S: Store + Drop>(
     requires settings { fresh.old.settings ≡ manager.now.settings }
     requires new { fresh.old.history ≡ [] }
     ensures compacted { OnOk result (past fresh.new.history ≡ compacted COMPACTOR (moment_in about.now) manager.now.settings (past manager.now.history)) }
-    ensures kept { IfOk result (λ b. IsClean (shown b.store) → said (requests b.store) ≡ map recorded fresh.new.history) }
+    ensures kept { IfOk result (λ b. IsClean (requests_shown b.store) → said (requests b.store) ≡ map recorded fresh.new.history) }
     ensures settings { fresh.new.settings ≡ fresh.old.settings }
 {
     let mut anew = match Anew::begin(begun) {
@@ -94,7 +94,7 @@ pub(crate) fn compacted<S: Store + Drop, R: Log>(
     manager: &mut Manager<Global>,
 ) -> Result<Begun<S>, StartFault>
     ensures compacted { OnOk result (past manager.new.history ≡ compacted COMPACTOR (moment_in about.now) manager.old.settings (past manager.old.history)) }
-    ensures kept { IfOk result (λ b. IsClean (shown b.store) → said (requests b.store) ≡ map recorded manager.new.history) }
+    ensures kept { IfOk result (λ b. IsClean (requests_shown b.store) → said (requests b.store) ≡ map recorded manager.new.history) }
     ensures settings { manager.new.settings ≡ manager.old.settings }
 {
     let mut fresh = match emptied(alloc, manager) {

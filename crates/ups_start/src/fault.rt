@@ -1,7 +1,7 @@
 //! Why a server is not started on a store.
 
 ghost use Rattle.std.specs.Prelude.{◌≡◌};
-ghost use Rattle.ups_start.specs.Faults.{fault_of};
+ghost use Rattle.ups_start.specs.Faults.{ledger_fault_of};
 
 use thiserror::Error;
 use ups_ledger::LedgerFault;
@@ -33,7 +33,7 @@ pub enum StartFault {
 
 /// What a ledger tells of a fault of its store.
 pub(crate) fn fault_of(fault: StoreFault) -> LedgerFault
-    ensures { result ≡ fault_of fault }
+    ensures { result ≡ ledger_fault_of fault }
 {
     match fault {
         StoreFault::Memory | StoreFault::Full | StoreFault::TooLarge | StoreFault::TooMany => {

@@ -1,55 +1,47 @@
-//! A ledger in a file.
+//! A ledger in a store.
 
 ghost use Rattle.std.specs.Prelude.{◌≡◌, ◌≤◌, false, length, IfOk};
 ghost use Rattle.sqlite_trees.specs.View.{IsClean};
-ghost use Rattle.ups_store.specs.Shown.{shown, requests};
+ghost use Rattle.ups_store.specs.Shown.{requests_shown, requests};
 ghost use Rattle.ups_start.specs.Started.{said};
 ghost use Rattle.ups_start.specs.Shelved.{kept_in, IsSound};
 
 use crate::beginning::Begun;
+use crate::place::StorePlace;
 use crate::reopening::{fault_of_open, go_through};
-use crate::shelf::Shelf;
-use sqlite_std_file::{File, Unknown};
-use sqlite_store::FileStore;
+use crate::shelf::{Shelf, tidy};
 use std::alloc::Global;
 use ups_journal::Record;
 use ups_ledger::{Ledger, LedgerFault};
-use ups_store::{Run, open};
+use ups_store::Run;
 
-/// A ledger in a store that lies in a file. Where a failed sync has shut the store, the next append opens it anew: it has to
-/// have as many requests as were committed, and behind them none but those that the failed append wanted to put.
+/// A ledger in the store at a place. Where a failed sync has shut the store, the next append opens it anew: it has to have
+/// as many requests as were committed, and behind them none but those that the failed append wanted to put.
 #[derive(Drop)]
-pub struct StoreLedger<'a> {
-    rt: &'a HostRuntime,
-    path: &'a str,
+pub struct StoreLedger<'a, P: StorePlace> {
+    place: P,
     about: Run<'a>,
     /// The number of the run.
     run: u64,
-    shelf: Shelf<FileStore<File>>,
+    shelf: Shelf<P::Store>,
 }
 
-impl<'a> StoreLedger<'a> {
+impl<'a, P: StorePlace> StoreLedger<'a, P> {
     /// The ledger that goes on from a start.
-    pub(crate) fn of(
-        rt: &'a HostRuntime,
-        path: &'a str,
-        about: Run<'a>,
-        begun: Begun<FileStore<File>>,
-    ) -> StoreLedger<'a>
-        ensures clean { IsSound result.shelf → IsClean (shown begun.store) }
+    pub(crate) fn of(place: P, about: Run<'a>, begun: Begun<P::Store>) -> StoreLedger<'a, P>
+        ensures clean { IsSound result.shelf → IsClean (requests_shown begun.store) }
         ensures kept { kept_in result.shelf ≡ said (requests begun.store) }
     {
         let Begun { store, run } = begun;
         StoreLedger {
-            rt,
-            path,
+            place,
             about,
             run,
             shelf: Shelf::first(store),
         }
     }
 
-    /// Opens the file anew, and gives how many of these records it has already.
+    /// Opens the store anew, and gives how many of these records it has already.
     ///
     /// Errors: Shut where it can't be opened now; Lost where it has other requests than were committed.
     fn reopen(&mut self, records: &[Record<Global>]) -> Result<usize, LedgerFault>
@@ -57,7 +49,7 @@ impl<'a> StoreLedger<'a> {
         ensures doubtful { self.new.shelf.is_first ≡ false }
     {
         let committed = self.shelf.let_go()?;
-        let replay = match open(self.rt, self.path, Unknown) {
+        let replay = match self.place.open() {
             Ok(replay) => replay,
             Err(fault) => return Err(self.missed(fault_of_open(fault))),
         };
@@ -80,7 +72,7 @@ impl<'a> StoreLedger<'a> {
         fault
     }
 
-    /// Opens the file anew, and puts those of these records that it has not.
+    /// Opens the store anew, and puts those of these records that it has not.
     fn append_anew(&mut self, records: &[Record<Global>]) -> Result<(), LedgerFault>
         ensures doubtful { ¬ IsSound self.new.shelf }
     {
@@ -89,7 +81,7 @@ impl<'a> StoreLedger<'a> {
     }
 }
 
-impl Ledger for StoreLedger<'_> {
+impl<P: StorePlace> Ledger for StoreLedger<'_, P> {
     ghost kept = { λ l. kept_in l.shelf };
 
     ghost is_sound = { λ l. IsSound l.shelf };
@@ -102,6 +94,6 @@ impl Ledger for StoreLedger<'_> {
     }
 
     fn tidy(&mut self) {
-        self.shelf.tidy(self.run, &self.about);
+        tidy::<P>(&mut self.shelf, self.run, &self.about);
     }
 }

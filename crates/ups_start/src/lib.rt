@@ -1,12 +1,14 @@
-//! The start of a server on a store of accepted requests, and the ledger that goes on from it. This crate alone names the
-//! type of a store that lies in a file.
+//! The start of a server on a store of accepted requests, and the ledger that goes on from it. All of it is over any
+//! place where a store may lie; one module names the type of a store in a file.
 #![tactic(auto)]
 
 mod beginning;
 mod compacting;
 mod comparing;
 mod fault;
+mod file;
 mod ledger;
+mod place;
 mod progress;
 mod reopening;
 mod rewriting;
@@ -16,6 +18,8 @@ mod taking;
 
 pub use beginning::begin;
 pub use fault::StartFault;
+pub use file::{FileLedger, FilePlace};
 pub use ledger::StoreLedger;
+pub use place::StorePlace;
 pub use shrinking::{Compacted, compact};
 pub use ups_store::Run;

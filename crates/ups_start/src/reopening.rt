@@ -2,7 +2,7 @@
 
 ghost use Rattle.std.specs.Prelude.{◌≡◌, ◌+◌, ◌≤◌, ◌++◌, ◌∷◌, [], false, true, None, length, take, IfOk, IfSome, OnOk, IsTrue};
 ghost use Rattle.sqlite_trees.specs.View.{IsClean};
-ghost use Rattle.ups_store.specs.Shown.{shown, requests, shown_by, all_of, given, has_ended, Gives};
+ghost use Rattle.ups_store.specs.Shown.{requests_shown, requests, shown_by, all_of, given_out, has_ended, GivesRequest};
 ghost use Rattle.ups_start.specs.Started.{said};
 ghost use Rattle.ups_start.specs.Reopened.{ComesNext, HasBehind};
 
@@ -49,7 +49,7 @@ fn fault_of_reading(fault: StoreFault) -> LedgerFault {
 ///
 /// Errors: Shut; Lost where the store is not what was written.
 fn next_of<S: Store>(replay: &mut Replay<S>) -> Result<Option<StoredRequest>, LedgerFault>
-    ensures given { IfOk result (λ found. IsClean (shown_by replay.new) → Gives (all_of replay.new) (given replay.old) (given replay.new) found) }
+    ensures given { IfOk result (λ found. IsClean (shown_by replay.new) → GivesRequest (all_of replay.new) (given_out replay.old) (given_out replay.new) found) }
     ensures ended { IfOk result (λ found. found ≡ None → IsTrue (has_ended replay.new)) }
     ensures clean { IsClean (shown_by replay.new) → IsClean (shown_by replay.old) }
 {
@@ -63,7 +63,7 @@ fn next_of<S: Store>(replay: &mut Replay<S>) -> Result<Option<StoredRequest>, Le
 ///
 /// Errors: Lost where there are fewer; those of the reading.
 fn pass_over<S: Store>(replay: &mut Replay<S>, committed: u64) -> Result<(), LedgerFault>
-    ensures passed { OnOk result (IsClean (shown_by replay.new) → length (said (given replay.new)) ≡ length (said (given replay.old)) + committed) }
+    ensures passed { OnOk result (IsClean (shown_by replay.new) → length (said (given_out replay.new)) ≡ length (said (given_out replay.old)) + committed) }
     ensures clean { IsClean (shown_by replay.new) → IsClean (shown_by replay.old) }
 {
     for _passed in 0..committed {
@@ -97,7 +97,7 @@ fn is_next<S: Store>(replay: &mut Replay<S>, expected: &Record<Global>) -> Resul
 ///
 /// Errors: Lost where there is one more; those of the reading.
 fn is_end<S: Store>(replay: &mut Replay<S>) -> Result<(), LedgerFault>
-    ensures end { OnOk result (IsClean (shown_by replay.new) → (given replay.new ≡ given replay.old) × (given replay.new ≡ all_of replay.new)) }
+    ensures end { OnOk result (IsClean (shown_by replay.new) → (given_out replay.new ≡ given_out replay.old) × (given_out replay.new ≡ all_of replay.new)) }
     ensures ended { OnOk result (IsTrue (has_ended replay.new)) }
     ensures clean { IsClean (shown_by replay.new) → IsClean (shown_by replay.old) }
 {
@@ -115,7 +115,7 @@ fn count_there<S: Store>(
     records: &[Record<Global>],
 ) -> Result<usize, LedgerFault>
     ensures within { IfOk result (λ there. there ≤ length records.now) }
-    ensures there { IfOk result (λ there. IsClean (shown_by replay.new) → said (all_of replay.new) ≡ said (given replay.old) ++ take there records.now) }
+    ensures there { IfOk result (λ there. IsClean (shown_by replay.new) → said (all_of replay.new) ≡ said (given_out replay.old) ++ take there records.now) }
     ensures ended { OnOk result (IsTrue (has_ended replay.new)) }
     ensures clean { IsClean (shown_by replay.new) → IsClean (shown_by replay.old) }
 {
@@ -137,9 +137,9 @@ pub(crate) fn go_through<S: Store + Drop>(
     committed: u64,
     records: &[Record<Global>],
 ) -> Result<Reopened<S>, LedgerFault>
-    requires first { given replay ≡ [] }
+    requires first { given_out replay ≡ [] }
     ensures within { IfOk result (λ r. r.there ≤ length records.now) }
-    ensures behind { IfOk result (λ r. IsClean (shown r.store) → HasBehind (said (requests r.store)) committed records.now r.there) }
+    ensures behind { IfOk result (λ r. IsClean (requests_shown r.store) → HasBehind (said (requests r.store)) committed records.now r.there) }
 {
     pass_over(&mut replay, committed)?;
     let there = count_there(&mut replay, records)?;

@@ -3,7 +3,7 @@
 ghost use Rattle.std.specs.Prelude.{◌≡◌, [], map, IfOk};
 ghost use Rattle.sqlite_trees.specs.View.{IsClean};
 ghost use Rattle.ups_journal.specs.Columns.{recorded};
-ghost use Rattle.ups_store.specs.Shown.{shown, requests};
+ghost use Rattle.ups_store.specs.Shown.{requests_shown, requests};
 ghost use Rattle.ups_start.specs.Started.{said};
 ghost use Rattle.ups_start.specs.Anew.{put_so_far, IsPutting};
 
@@ -49,8 +49,8 @@ impl<S: Store + Drop> Anew<S> {
     ///
     /// Errors: Write.
     pub(crate) fn commit(self, about: &Run<'_>) -> Result<Begun<S>, StartFault>
-        ensures replaced { IfOk result (λ b. IsClean (shown b.store) → said (requests b.store) ≡ put_so_far self) }
-        ensures sound { IfOk result (λ b. IsClean (shown b.store) → IsPutting self) }
+        ensures replaced { IfOk result (λ b. IsClean (requests_shown b.store) → said (requests b.store) ≡ put_so_far self) }
+        ensures sound { IfOk result (λ b. IsClean (requests_shown b.store) → IsPutting self) }
     {
         if !self.is_whole {
             return Err(StartFault::Write(StoreFault::Shut));
@@ -100,7 +100,7 @@ pub(crate) fn rewritten<S: Store + Drop>(
     about: &Run<'_>,
     manager: &Manager<Global>,
 ) -> Result<Begun<S>, StartFault>
-    ensures { IfOk result (λ b. IsClean (shown b.store) → said (requests b.store) ≡ map recorded manager.now.history) }
+    ensures { IfOk result (λ b. IsClean (requests_shown b.store) → said (requests b.store) ≡ map recorded manager.now.history) }
 {
     let mut anew = Anew::begin(begun)?;
     match put_history(alloc, manager.history(), &mut anew) {

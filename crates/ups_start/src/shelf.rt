@@ -2,14 +2,13 @@
 
 ghost use Rattle.std.specs.Prelude.{◌≡◌, ◌++◌, false, OnOk, OnErr};
 ghost use Rattle.sqlite_trees.specs.View.{IsClean};
-ghost use Rattle.ups_store.specs.Shown.{shown, requests};
+ghost use Rattle.ups_store.specs.Shown.{requests_shown, requests};
 ghost use Rattle.ups_start.specs.Started.{said};
-ghost use Rattle.ups_start.specs.Shelved.{records_in, IsOpen, kept_in, IsSound};
+ghost use Rattle.ups_start.specs.Shelved.{records_in, IsOpenStore, kept_in, IsSound};
 ghost use Rattle.ups_start.specs.declared.shelf.Held.TheVariants.{Open, Lost};
 
 use crate::fault::fault_of;
-use sqlite_disk::Disk;
-use sqlite_store::FileStore;
+use crate::place::StorePlace;
 use sqlite_trees::store::Store;
 use std::alloc::Global;
 use ups_journal::Record;
@@ -41,9 +40,9 @@ fn append_to<S: Store>(
     run: u64,
     records: &[Record<Global>],
 ) -> Result<(), LedgerFault>
-    ensures put { OnOk result (IsOpen held.new → records_in held.new ≡ records_in held.old ++ records.now) }
-    ensures same { OnErr result (IsOpen held.new → records_in held.new ≡ records_in held.old) }
-    ensures sound { IsOpen held.new → IsOpen held.old }
+    ensures put { OnOk result (IsOpenStore held.new → records_in held.new ≡ records_in held.old ++ records.now) }
+    ensures same { OnErr result (IsOpenStore held.new → records_in held.new ≡ records_in held.old) }
+    ensures sound { IsOpenStore held.new → IsOpenStore held.old }
 {
     match held {
         Held::Open(store) => match store.append(run, records) {
@@ -57,8 +56,8 @@ fn append_to<S: Store>(
 
 /// Writes into an open store how many requests there are, and says whether it did.
 fn note_in<S: Store>(held: &mut Held<S>, run: u64, about: &Run<'_>) -> bool
-    ensures same { IsOpen held.new → records_in held.new ≡ records_in held.old }
-    ensures sound { IsOpen held.new → IsOpen held.old }
+    ensures same { IsOpenStore held.new → records_in held.new ≡ records_in held.old }
+    ensures sound { IsOpenStore held.new → IsOpenStore held.old }
 {
     match held {
         Held::Open(store) => match store.note_requests(run, about) {
@@ -69,20 +68,20 @@ fn note_in<S: Store>(held: &mut Held<S>, run: u64, about: &Run<'_>) -> bool
     }
 }
 
-/// Copies what lies beside the file of an open store into it.
-fn copy_in<D: Disk>(held: &mut Held<FileStore<D>>)
-    ensures same { IsOpen held.new → records_in held.new ≡ records_in held.old }
-    ensures sound { IsOpen held.new → IsOpen held.old }
+/// Copies what lies beside an open store into it.
+fn copy_in<P: StorePlace>(held: &mut Held<P::Store>)
+    ensures same { IsOpenStore held.new → records_in held.new ≡ records_in held.old }
+    ensures sound { IsOpenStore held.new → IsOpenStore held.old }
 {
     if let Held::Open(store) = held {
-        let _ = store.checkpoint();
+        let _ = P::checkpoint(store);
     }
 }
 
 impl<S: Store> Shelf<S> {
     /// A store that was just opened, for the first time.
     pub(crate) fn first(store: RequestStore<S>) -> Shelf<S>
-        ensures clean { IsSound result → IsClean (shown store) }
+        ensures clean { IsSound result → IsClean (requests_shown store) }
         ensures kept { kept_in result ≡ said (requests store) }
     {
         Shelf {
@@ -141,15 +140,13 @@ impl<S: Store> Shelf<S> {
     }
 }
 
-impl<D: Disk> Shelf<FileStore<D>> {
-    /// Tidies up: writes how many requests there are, and copies what lies beside the file into it. What fails is met by
-    /// the next call.
-    pub(crate) fn tidy(&mut self, run: u64, about: &Run<'_>)
-        ensures same { IsSound self.new → kept_in self.new ≡ kept_in self.old }
-        ensures sound { IsSound self.new → IsSound self.old }
-    {
-        if note_in(&mut self.held, run, about) {
-            copy_in(&mut self.held);
-        }
+/// Tidies up: writes how many requests there are, and copies what lies beside the store into it. What fails is met by the
+/// next call.
+pub(crate) fn tidy<P: StorePlace>(shelf: &mut Shelf<P::Store>, run: u64, about: &Run<'_>)
+    ensures same { IsSound shelf.new → kept_in shelf.new ≡ kept_in shelf.old }
+    ensures sound { IsSound shelf.new → IsSound shelf.old }
+{
+    if note_in(&mut shelf.held, run, about) {
+        copy_in::<P>(&mut shelf.held);
     }
 }

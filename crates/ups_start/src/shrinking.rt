@@ -6,12 +6,13 @@ ghost use Rattle.ups_life.specs.Steps.{past};
 ghost use Rattle.ups_compact.specs.Compacting.{compacted};
 ghost use Rattle.ups_journal.specs.Columns.{recorded};
 ghost use Rattle.ups_restore.specs.declared.acknowledging.TheConstants.{COMPACTOR};
-ghost use Rattle.ups_store.specs.Shown.{shown, requests, given};
+ghost use Rattle.ups_store.specs.Shown.{requests_shown, requests, given_out};
 ghost use Rattle.ups_start.specs.Started.{said, moment_in};
 
 use crate::beginning::{begin_run, opened};
 use crate::compacting::compacted_to;
 use crate::fault::StartFault;
+use crate::place::StorePlace;
 use crate::taking::take_all;
 use log::Log;
 use sqlite_trees::store::Store;
@@ -49,11 +50,11 @@ fn compact_over<S: Store + Drop, R: Clock + Log>(
     manager: &mut Manager<Global>,
     fresh: &mut Manager<Global>,
 ) -> Result<Shrunk<S>, StartFault>
-    requires first { given replay ≡ [] }
+    requires first { given_out replay ≡ [] }
     requires settings { fresh.old.settings ≡ manager.old.settings }
     requires new { fresh.old.history ≡ [] }
     ensures compacted { OnOk result (past fresh.new.history ≡ compacted COMPACTOR (moment_in about.now) manager.new.settings (past manager.new.history)) }
-    ensures kept { IfOk result (λ s. IsClean (shown s.store) → said (requests s.store) ≡ map recorded fresh.new.history) }
+    ensures kept { IfOk result (λ s. IsClean (requests_shown s.store) → said (requests s.store) ≡ map recorded fresh.new.history) }
     ensures settings { manager.new.settings ≡ manager.old.settings }
 {
     match take_all(telling, alloc, &mut replay, manager, may_leave_out) {
@@ -74,39 +75,40 @@ fn compact_over<S: Store + Drop, R: Clock + Log>(
     }
 }
 
-/// Compacts the store in the file at a path: enters its requests into a manager, in their order, as [`begin`](crate::begin)
-/// does, and has it the requests of the compacted history in their place, in one transaction; then it closes the file. The
-/// two managers are new, and have the same settings.
+/// Copies what lies beside a store into it, and lets it go.
+///
+/// Errors: Write.
+fn closed<P: StorePlace>(shrunk: Shrunk<P::Store>) -> Result<Compacted, StartFault> {
+    let Shrunk { mut store, before } = shrunk;
+    let after = store.len();
+    match P::checkpoint(&mut store) {
+        Ok(()) => Ok(Compacted { before, after }),
+        Err(fault) => Err(StartFault::Write(fault)),
+    }
+}
+
+/// Compacts the store at a place: enters its requests into a manager, in their order, as [`begin`](crate::begin) does, and
+/// has it the requests of the compacted history in their place, in one transaction; then it lets the store go. The two
+/// managers are new, and have the same settings; the second is left with the compacted history.
 ///
 /// # Errors
 ///
-/// Those of [`begin`](crate::begin). The requests in the file are those that were there.
-pub fn compact<R: Clock + Log>(
-    rt: &HostRuntime,
+/// Those of [`begin`](crate::begin). The requests of the store are those that were there.
+pub fn compact<P: StorePlace, R: Clock + Log>(
+    alloc: Global,
     telling: &R,
-    path: &str,
+    place: &P,
     may_leave_out: bool,
-    about: Run<'_>,
-    mut manager: Manager<Global>,
-    mut fresh: Manager<Global>,
+    about: &Run<'_>,
+    manager: &mut Manager<Global>,
+    fresh: &mut Manager<Global>,
 ) -> Result<Compacted, StartFault>
-    requires settings { fresh.settings ≡ manager.settings }
-    requires new { fresh.history ≡ [] }
+    requires settings { fresh.old.settings ≡ manager.old.settings }
+    requires new { fresh.old.history ≡ [] }
+    ensures compacted { OnOk result (past fresh.new.history ≡ compacted COMPACTOR (moment_in about.now) manager.new.settings (past manager.new.history)) }
+    ensures settings { manager.new.settings ≡ manager.old.settings }
 {
-    let replay = opened(rt, path)?;
-    let shrunk = compact_over(
-        rt.alloc(),
-        telling,
-        replay,
-        may_leave_out,
-        &about,
-        &mut manager,
-        &mut fresh,
-    )?;
-    let Shrunk { store, before } = shrunk;
-    let after = store.len();
-    match store.close() {
-        Ok(_) => Ok(Compacted { before, after }),
-        Err(fault) => Err(StartFault::Write(fault)),
-    }
+    let replay = opened(place)?;
+    let shrunk = compact_over(alloc, telling, replay, may_leave_out, about, manager, fresh)?;
+    closed::<P>(shrunk)
 }

@@ -3,8 +3,8 @@
 ghost use Rattle.std.specs.Prelude.{◌≡◌, [], map, false, None, OnOk, IfOk, IsTrue};
 ghost use Rattle.sqlite_trees.specs.View.{IsClean};
 ghost use Rattle.ups_restore.specs.Leaving.{AreTaken};
-ghost use Rattle.ups_store.specs.Shown.{shown_by, all_of, given, has_ended};
-ghost use Rattle.ups_start.specs.Started.{said, Takes};
+ghost use Rattle.ups_store.specs.Shown.{shown_by, all_of, given_out, has_ended};
+ghost use Rattle.ups_start.specs.Started.{said, TakesRecord};
 
 use crate::fault::StartFault;
 use crate::progress::Progress;
@@ -29,7 +29,7 @@ fn take_next<S: Store, R: Log>(
     counts: &mut Restoration,
     may_leave_out: bool,
 ) -> Result<Option<Restored>, StartFault>
-    ensures taken { IfOk result (λ found. IsClean (shown_by replay.new) → Takes replay.old replay.new manager.old manager.new counts.old counts.new may_leave_out found) }
+    ensures taken { IfOk result (λ found. IsClean (shown_by replay.new) → TakesRecord replay.old replay.new manager.old manager.new counts.old counts.new may_leave_out found) }
     ensures ended { IfOk result (λ found. found ≡ None → IsTrue (has_ended replay.new)) }
     ensures clean { IsClean (shown_by replay.new) → IsClean (shown_by replay.old) }
     ensures settings { manager.new.settings ≡ manager.old.settings }
@@ -65,7 +65,7 @@ pub(crate) fn take_all<S: Store, R: Clock + Log>(
     manager: &mut Manager<Global>,
     may_leave_out: bool,
 ) -> Result<Restoration, StartFault>
-    requires first { given replay.old ≡ [] }
+    requires first { given_out replay.old ≡ [] }
     ensures taken { IfOk result (λ counts. IsClean (shown_by replay.new) → AreTaken manager.old.settings manager.old.history (said (all_of replay.new)) may_leave_out counts manager.new.history) }
     ensures same { OnOk result (IsClean (shown_by replay.new) → all_of replay.new ≡ all_of replay.old) }
     ensures ended { OnOk result (IsTrue (has_ended replay.new)) }

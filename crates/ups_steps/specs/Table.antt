@@ -4,11 +4,11 @@ use Rattle.ups_steps.specs.declared.held.Held.{Held}
 use Rattle.ups_steps.specs.Places.{held_in}
 
 -- the steps held, in order of creation, each under its UID, and how many more there is room for
-pub record Standing (A : Type 0) : Type 0 where
+pub record StepsView (A : Type 0) : Type 0 where
   pub entries : List (List ℕ × Held A)
   pub spare : ℕ
 
 -- what the table keeps: so many places hold a step, and no more than half of the places are free
-pub record Keeps {A : Type 0} (places : List (List ℕ × Option (Held A))) (count : ℕ) : Type 0 where
+pub record KeepsSteps {A : Type 0} (places : List (List ℕ × Option (Held A))) (count : ℕ) : Type 0 where
   pub exact : count ≡ length (held_in places)
   pub dense : length places ≤ 2 * count

@@ -34,9 +34,9 @@ pub struct Steps<A: Allocator + Copy> {
 impl<A: Allocator + Copy> Model for Steps<A> {
     ghost use Rattle.indexmap.specs.IndexMap.{spare};
     ghost use Rattle.ups_steps.specs.Places.{held_in};
-    ghost use Rattle.ups_steps.specs.Table.{Standing, Keeps};
+    ghost use Rattle.ups_steps.specs.Table.{StepsView, KeepsSteps};
 
-    ghost Value = { Standing A };
+    ghost Value = { StepsView A };
 
     ghost use Rattle.std.specs.Coded.{codes};
     ghost use Rattle.ups_dataset.specs.Code.{set_code};
@@ -45,7 +45,7 @@ impl<A: Allocator + Copy> Model for Steps<A> {
 
     ghost view = { λ s. record { entries = held_in s.places.entries; spare = spare s.places } };
 
-    ghost invariant = { λ s. Keeps s.places.entries s.count };
+    ghost invariant = { λ s. KeepsSteps s.places.entries s.count };
 }
 
 impl<A: Allocator + Copy> Steps<A> {

@@ -8,7 +8,7 @@ use Rattle.sqlite_trees.specs.declared.store.Shape.TheVariants.{Table}
 use Rattle.sqlite_trees.specs.View.{View, IsClean, SetsTree, KeepsSchema, KeepsCommitted, IsRolledBack, Commits, IsOrdered, IsShaped}
 use Rattle.ups_store.specs.declared.runs.Run.{Run}
 use Rattle.ups_store.specs.Rows.{request_in, requests_in, IsNumbered}
-use Rattle.ups_store.specs.Held.{IsAdding, Holds, IsHeld}
+use Rattle.ups_store.specs.Held.{IsAdding, Holds, HoldsIfOpen}
 use Rattle.ups_store.specs.declared.fault.StoreFault.{StoreFault}
 use Rattle.ups_store.specs.declared.fault.StoreFault.TheVariants.{Memory, Disk, Damaged, Full, Shut, TooLarge, TooMany, NotRequest, Short}
 use Rattle.ups_store.specs.Faults.{Reasons, HasRunReason}
@@ -58,7 +58,7 @@ is_behind old mid number count run holds enters = record {
 }
 
 -- what a transaction that is sound would commit
-pub would_keep : (old mid : View) (count : ℕ) → IsHeld old count → (mid.is_clean ≡ false → mid.is_open ≡ false) → (mid.is_open ≡ false → IsTrue mid.is_broken) → KeepsCommitted old mid → (IsClean mid → mid.trees 0 ≡ old.trees 0) → mid.is_broken ≡ false
+pub would_keep : (old mid : View) (count : ℕ) → HoldsIfOpen old count → (mid.is_clean ≡ false → mid.is_open ≡ false) → (mid.is_open ≡ false → IsTrue mid.is_broken) → KeepsCommitted old mid → (IsClean mid → mid.trees 0 ≡ old.trees 0) → mid.is_broken ≡ false
     → (requests_in mid.trees ≡ requests_in old.committed) × IsNumbered (mid.trees 0)
 would_keep old mid count held shut broken kept same sound =
     let up = sound_open mid broken sound in
@@ -76,7 +76,7 @@ either (Ok x) f a g b = f a
 either (Err e) f a g b = g b
 
 -- a store whose run was committed, or not, has the requests
-pub held_run : {T E : Type 0} (r : Result T E) (old mid new : View) (count : ℕ) → IsHeld old count → IsClean new → (mid.is_open ≡ false → IsTrue mid.is_broken) → KeepsCommitted old mid → KeepsSchema old mid → (IsTrue old.is_open → IsAdding mid count)
+pub held_run : {T E : Type 0} (r : Result T E) (old mid new : View) (count : ℕ) → HoldsIfOpen old count → IsClean new → (mid.is_open ≡ false → IsTrue mid.is_broken) → KeepsCommitted old mid → KeepsSchema old mid → (IsTrue old.is_open → IsAdding mid count)
     → OnOk r (IsClean new → Commits mid new) → OnErr r (IsRolledBack mid new) → IsTrue new.is_open → Holds new count
 held_run r old mid new count held clean broken kept schema adding ok err up =
     either r

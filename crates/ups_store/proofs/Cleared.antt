@@ -13,14 +13,14 @@ use Rattle.std.specs.declared.alloc.Global.{Global}
 use Rattle.ups_journal.specs.declared.record.Record.{Record}
 use Rattle.ups_store.specs.Rewriting.{records_of}
 use Rattle.ups_store.specs.declared.request.StoredRequest.{StoredRequest}
-use Rattle.ups_store.specs.Rows.{entered, row_of, rows_from, request_in, IsNumbered}
+use Rattle.ups_store.specs.Rows.{stored_in_run, request_row, rows_from, request_in, IsNumbered}
 use Rattle.ups_store.specs.Held.{HasTables, IsAdding, Holds}
 use Rattle.ups_store.proofs.Steps.{sound_open, open_clean}
 
 rows_take : (n number : ℕ) (rs : List StoredRequest) → take n (rows_from number rs) ≡ rows_from number (take n rs)
 rows_take zero number rs = refl
 rows_take (suc n) number [] = refl
-rows_take (suc n) number (r ∷ rs) = ap (λ (rows : List Row). row_of (pos number) r ∷ rows) (rows_take n (suc number) rs)
+rows_take (suc n) number (r ∷ rs) = ap (λ (rows : List Row). request_row (pos number) r ∷ rows) (rows_take n (suc number) rs)
 
 -- without the row with the last number all others are left
 without_last : (n number : ℕ) (rs : List StoredRequest) → length rs ≡ n + 1 → without_rowid (pos (number + n)) (rows_from number rs) ≡ rows_from number (take n rs)
@@ -32,7 +32,7 @@ without_last zero number (r ∷ s ∷ rs) h = absurd (omega (arith, h))
 without_last (suc n) number (r ∷ rs) h =
     let below : value_cmp (Int (pos number)) (Int (pos (number + suc n))) ≡ Less = value_cmp-Int _ _ ∙ grind (arith, nat_tests) in
     let at : number + suc n ≡ suc number + n = omega arith in
-    rw below (ap (λ (k : ℕ). row_of (pos number) r ∷ without_rowid (pos k) (rows_from (suc number) rs)) at ∙ ap (λ (rows : List Row). row_of (pos number) r ∷ rows) (without_last n (suc number) rs (omega (arith, h))))
+    rw below (ap (λ (k : ℕ). request_row (pos number) r ∷ without_rowid (pos k) (rows_from (suc number) rs)) at ∙ ap (λ (rows : List Row). request_row (pos number) r ∷ rows) (without_last n (suc number) rs (omega (arith, h))))
 
 -- and these are the first rows
 first_rows : (n : ℕ) (rows : List Row) → IsNumbered rows → length rows ≡ n + 1 → without_rowid (pos (n + 1)) rows ≡ take n rows
@@ -147,5 +147,5 @@ map-append f [] ys = refl
 map-append f (x ∷ xs) ys = ap (λ zs. f x ∷ zs) (map-append f xs ys)
 
 pub entered_more : (run n : ℕ) (groups : List (Vec (Record Global) Global)) (x : Vec (Record Global) Global) → n < length groups → x ≡ get_or groups n x
-    → map (entered run) (records_of (take (n + 1) groups)) ≡ map (entered run) (records_of (take n groups)) ++ map (entered run) x.items
-entered_more run n groups x within is = ap (map (entered run)) (records_more n groups x within is) ∙ map-append (entered run) (records_of (take n groups)) x.items
+    → map (stored_in_run run) (records_of (take (n + 1) groups)) ≡ map (stored_in_run run) (records_of (take n groups)) ++ map (stored_in_run run) x.items
+entered_more run n groups x within is = ap (map (stored_in_run run)) (records_more n groups x within is) ∙ map-append (stored_in_run run) (records_of (take n groups)) x.items

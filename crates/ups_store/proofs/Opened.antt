@@ -41,7 +41,7 @@ use Rattle.ups_store.specs.declared.fault.OpenFault.{OpenFault}
 use Rattle.ups_store.specs.declared.fault.OpenFault.TheVariants as faults
 use Rattle.ups_store.specs.Held.{IsFresh}
 use Rattle.ups_store.specs.Found.{used_page, the_schema, image_of, HoldsTables, ListsNothing, StandAlike, ReadAs}
-use Rattle.ups_store.specs.Refused.{faults_in, AreCleanFiles, MeetsLimit, OpenReasons, HasOpenReason, open_fault, IsKind}
+use Rattle.ups_store.specs.Refused.{faults_in, AreCleanFiles, MeetsLimit, OpenReasons, HasOpenReason, fault_of_opening, IsKind}
 
 shape_first : (schema : List Wanted) → shape_at schema 0 ≡ Table → all_shapes schema 0 ≡ Table
 unfolding all_shapes
@@ -174,7 +174,7 @@ module _ {D : Type 0} {g : Ghosts D} where
   clean_from it files is clean = clean_files it files.log files.db is clean
 
 -- why an open fails, in the words of the faults
-pub reason_of : (old new : ℕ) (AtLimit Wanted : Type 0) (e : OpenError) (name : StoreError) → FailsToOpen old new AtLimit Wanted e → HasOpenReason (record { Failed = MoreFaults old new; AtLimit = AtLimit; Refused = ¬ Wanted }) (open_fault e name)
+pub reason_of : (old new : ℕ) (AtLimit Wanted : Type 0) (e : OpenError) (name : StoreError) → FailsToOpen old new AtLimit Wanted e → HasOpenReason (record { Failed = MoreFaults old new; AtLimit = AtLimit; Refused = ¬ Wanted }) (fault_of_opening e name)
 reason_of old new L W kit.OutOfMemory name h = tt
 reason_of old new L W kit.Io names.OutOfMemory h = h
 reason_of old new L W kit.Io names.Io h = h
@@ -199,12 +199,12 @@ reason_as r s faults.OtherFormat f l w h = w h
 
 module _ {D : Type 0} {g : Ghosts D} where
   -- the same of the files that were given back
-  pub reason_back : (old : ℕ) (left : Unopened D g) (r : Files D) (Limit Wanted : Type 0) (e : OpenError) (name : StoreError) (fault : OpenFault) → (r.log, r.db) ≡ files_of left → fault ≡ open_fault e name → (Limit → IsFullFile left ⊎ StopsCreating left)
+  pub reason_back : (old : ℕ) (left : Unopened D g) (r : Files D) (Limit Wanted : Type 0) (e : OpenError) (name : StoreError) (fault : OpenFault) → (r.log, r.db) ≡ files_of left → fault ≡ fault_of_opening e name → (Limit → IsFullFile left ⊎ StopsCreating left)
       → FailsToOpen old (state_of left).faults Limit Wanted e → HasOpenReason (record { Failed = MoreFaults old (faults_in g r); AtLimit = MeetsLimit g r; Refused = ¬ Wanted }) fault
   reason_back old left r Limit Wanted e name fault files is limit fails =
       let there = reason_of old (state_of left).faults Limit Wanted e name fails in
       subst (HasOpenReason (record { Failed = MoreFaults old (faults_in g r); AtLimit = MeetsLimit g r; Refused = ¬ Wanted })) (sym is) (
-      reason_as (record { Failed = MoreFaults old (state_of left).faults; AtLimit = Limit; Refused = ¬ Wanted }) (record { Failed = MoreFaults old (faults_in g r); AtLimit = MeetsLimit g r; Refused = ¬ Wanted }) (open_fault e name)
+      reason_as (record { Failed = MoreFaults old (state_of left).faults; AtLimit = Limit; Refused = ¬ Wanted }) (record { Failed = MoreFaults old (faults_in g r); AtLimit = MeetsLimit g r; Refused = ¬ Wanted }) (fault_of_opening e name)
       (λ f. subst (MoreFaults old) (faults_back left r files) f) (λ l. (left, sym files, limit l)) (λ w. w) there
       )
 

@@ -11,7 +11,7 @@ use Rattle.ups_journal.specs.declared.record.Columns.{Columns}
 use Rattle.ups_store.specs.declared.request.StoredRequest.{StoredRequest}
 use Rattle.ups_store.specs.Words.{operation_named, state_named}
 use Rattle.ups_store.specs.Cells.{text_cell, blob_cell, bytes_in, state_cell, state_in, operation_in}
-use Rattle.ups_store.specs.Rows.{row_of, columns_in, request_in, IsCallerAgain, IsWatcherAgain}
+use Rattle.ups_store.specs.Rows.{request_row, columns_in, request_in, IsCallerAgain, IsWatcherAgain}
 
 operation_again : (o : Operation) → operation_in (Text (name_of o)) ≡ o
 unfolding operation_named
@@ -41,19 +41,19 @@ blob_again : (blob : Option (List ℕ)) → bytes_in (blob_cell blob) ≡ blob
 blob_again None = refl
 blob_again (Some blob) = refl
 
-columns_again : (number : ℤ) (r : StoredRequest) → IsWatcherAgain r.asked.request → columns_in (row_of number r) ≡ r.asked.request
+columns_again : (number : ℤ) (r : StoredRequest) → IsWatcherAgain r.asked.request → columns_in (request_row number r) ≡ r.asked.request
 columns_again number r again =
     let c = r.asked.request in
-    ap (λ (x : Operation). record (columns_in (row_of number r)) { operation = x }) (operation_again c.operation)
-    ∙ ap (λ (x : Option (List ℕ)). record (columns_in (row_of number r)) { operation = c.operation; instance = x }) (text_again c.instance)
-    ∙ ap (λ (x : Option (List ℕ)). record (columns_in (row_of number r)) { operation = c.operation; instance = c.instance; transaction = x }) (text_again c.transaction)
-    ∙ ap (λ (x : Option StepState). record (columns_in (row_of number r)) { operation = c.operation; instance = c.instance; transaction = c.transaction; state = x }) (state_again c.state)
-    ∙ ap (λ (x : Option (List ℕ)). record (columns_in (row_of number r)) { operation = c.operation; instance = c.instance; transaction = c.transaction; state = c.state; receiver = x }) (text_again c.receiver)
+    ap (λ (x : Operation). record (columns_in (request_row number r)) { operation = x }) (operation_again c.operation)
+    ∙ ap (λ (x : Option (List ℕ)). record (columns_in (request_row number r)) { operation = c.operation; instance = x }) (text_again c.instance)
+    ∙ ap (λ (x : Option (List ℕ)). record (columns_in (request_row number r)) { operation = c.operation; instance = c.instance; transaction = x }) (text_again c.transaction)
+    ∙ ap (λ (x : Option StepState). record (columns_in (request_row number r)) { operation = c.operation; instance = c.instance; transaction = c.transaction; state = x }) (state_again c.state)
+    ∙ ap (λ (x : Option (List ℕ)). record (columns_in (request_row number r)) { operation = c.operation; instance = c.instance; transaction = c.transaction; state = c.state; receiver = x }) (text_again c.receiver)
     ∙ ap (λ (x : Columns Global). record x { attributes = bytes_in (blob_cell c.attributes) }) (watcher again)
     ∙ ap (λ (x : Option (List ℕ)). record c { attributes = x }) (blob_again c.attributes)
   where
-    watcher : IsWatcherAgain r.asked.request → record r.asked.request { lock = (columns_in (row_of number r)).lock; number = (columns_in (row_of number r)).number; offset = (columns_in (row_of number r)).offset } ≡ r.asked.request
+    watcher : IsWatcherAgain r.asked.request → record r.asked.request { lock = (columns_in (request_row number r)).lock; number = (columns_in (request_row number r)).number; offset = (columns_in (request_row number r)).offset } ≡ r.asked.request
     watcher h = rw (h.lock, h.event, h.offset) refl
 
-pub says : (number : ℤ) (r : StoredRequest) → IsCallerAgain r → IsWatcherAgain r.asked.request → request_in (row_of number r) ≡ r
+pub says : (number : ℤ) (r : StoredRequest) → IsCallerAgain r → IsWatcherAgain r.asked.request → request_in (request_row number r) ≡ r
 says number r caller watcher = rw (caller.run, caller.caller, caller.moment, columns_again number r watcher) refl

@@ -8,12 +8,12 @@ use Rattle.sqlite_trees.specs.declared.store.Direction.TheVariants.{Forward}
 use Rattle.sqlite_trees.specs.View.{View, with_cursor}
 use Rattle.ups_store.specs.declared.request.StoredRequest.{StoredRequest}
 use Rattle.ups_store.specs.declared.reading.Taken.TheVariants.{End, Other, One}
-use Rattle.ups_store.specs.Rows.{row_of, rows_from, request_in, requests_in, IsNumbered}
+use Rattle.ups_store.specs.Rows.{request_row, rows_from, request_in, requests_in, IsNumbered}
 use Rattle.ups_store.specs.Held.{IsFresh, HasTables, HasGiven, Holds}
 use Rattle.ups_store.specs.declared.reading.Phase.{Phase}
 use Rattle.ups_store.specs.declared.reading.Phase.TheVariants.{Fresh, Reading, Ended, Failed}
 use Rattle.ups_store.specs.Shown.{is_ended}
-use Rattle.ups_store.specs.Taken.{Takes, Steps}
+use Rattle.ups_store.specs.Taken.{TakesNext, Steps}
 use Rattle.ups_store.proofs.Rows.{rows_push, rows_drop}
 
 from_start : (o : Order) (rows : List Row) → from_key o [] rows ≡ rows
@@ -81,7 +81,7 @@ given_as old new count is has =
 
 -- the next row is the request behind those that were given
 given_next : (rows : List Row) (count : ℕ) (row : Row) (left : List Row) (request : StoredRequest) → take count rows ≡ rows_from 1 (take count (map request_in rows)) → count ≤ length rows → drop count rows ≡ row ∷ left
-    → row ≡ row_of (pos (count + 1)) request → request_in row ≡ request
+    → row ≡ request_row (pos (count + 1)) request → request_in row ≡ request
     → (take (count + 1) (map request_in rows) ≡ take count (map request_in rows) ++ request ∷ []) × (take (count + 1) rows ≡ rows_from 1 (take (count + 1) (map request_in rows)))
 given_next rows count row left request has within at is says =
     let all = map request_in rows in
@@ -91,7 +91,7 @@ given_next rows count row left request has within at is says =
     let many : length (take count all) ≡ count = length-take-le count all (omega (arith, within, length-map rows request_in)) in
     let number : count + 1 ≡ 1 + length (take count all) = omega (arith, many) in (
       requests,
-      next.taken ∙ ap (λ (r : List Row). r ++ row ∷ []) has ∙ ap (λ (r : Row). rows_from 1 (take count all) ++ r ∷ []) is ∙ ap (λ (n : ℕ). rows_from 1 (take count all) ++ row_of (pos n) request ∷ []) number
+      next.taken ∙ ap (λ (r : List Row). r ++ row ∷ []) has ∙ ap (λ (r : Row). rows_from 1 (take count all) ++ r ∷ []) is ∙ ap (λ (n : ℕ). rows_from 1 (take count all) ++ request_row (pos n) request ∷ []) number
           ∙ rows_push 1 (take count all) request ∙ ap (rows_from 1) (sym requests),
     )
 
@@ -100,7 +100,7 @@ pub record GivesNext (old new : View) (count : ℕ) (request : StoredRequest) : 
   pub left : new.cursors 0 ≡ Some (drop (count + 1) (new.trees 0))
   pub more : take (count + 1) (requests_in new.committed) ≡ take count (requests_in old.committed) ++ request ∷ []
 
-pub gives_next : (old new : View) (count : ℕ) (request : StoredRequest) → HasGiven old count → old.cursors 0 ≡ Some (drop count (old.trees 0)) → Takes old new count (One request) → GivesNext old new count request
+pub gives_next : (old new : View) (count : ℕ) (request : StoredRequest) → HasGiven old count → old.cursors 0 ≡ Some (drop count (old.trees 0)) → TakesNext old new count (One request) → GivesNext old new count request
 gives_next old new count request has left (row, is, says, steps) =
     let rows = old.trees 0 in
     let at : drop count rows ≡ row ∷ steps.left = some_same (sym left ∙ steps.before) in
@@ -122,7 +122,7 @@ gives_next old new count request has left (row, is, says, steps) =
 dropped_all : {X : Type 0} (n : ℕ) (xs : List X) → drop n xs ≡ [] → length xs ≤ n
 dropped_all n xs h = omega (arith, length-drop n xs, ap length h)
 
-pub ends : (old new : View) (count : ℕ) → HasGiven old count → old.cursors 0 ≡ Some (drop count (old.trees 0)) → Takes old new count End → HasGiven new count × (length (new.trees 0) ≡ count)
+pub ends : (old new : View) (count : ℕ) → HasGiven old count → old.cursors 0 ≡ Some (drop count (old.trees 0)) → TakesNext old new count End → HasGiven new count × (length (new.trees 0) ≡ count)
 ends old new count has left (none, is) =
     let at : drop count (old.trees 0) ≡ [] = some_same (sym left ∙ none) in
     let trees : new.trees ≡ old.trees = ap (λ (v : View). v.trees) is in
@@ -133,14 +133,14 @@ all_given v count has all =
     take_all count (requests_in v.committed) (omega (arith, length-map (v.committed 0) request_in, ap (λ (db : Trees). length (db 0)) has.fresh.same, all))
 
 -- a row that is not the request with its place as its number
-pub not_numbered : (old new : View) (count : ℕ) → HasGiven old count → old.cursors 0 ≡ Some (drop count (old.trees 0)) → Takes old new count Other → IsNumbered (old.committed 0) → ⊥
+pub not_numbered : (old new : View) (count : ℕ) → HasGiven old count → old.cursors 0 ≡ Some (drop count (old.trees 0)) → TakesNext old new count Other → IsNumbered (old.committed 0) → ⊥
 not_numbered old new count has left (row, other, steps) numbered =
     let rows = old.committed 0 in
     let at : drop count rows ≡ row ∷ steps.left = ap (λ (db : Trees). drop count (db 0)) (sym has.fresh.same) ∙ some_same (sym left ∙ steps.before) in
     let said : drop count (map request_in rows) ≡ request_in row ∷ map request_in steps.left = drop-map request_in count rows ∙ ap (map request_in) at in
     let all : row ∷ steps.left ≡ rows_from (1 + count) (request_in row ∷ map request_in steps.left) = sym at ∙ ap (drop count) numbered ∙ rows_drop count 1 (map request_in rows) ∙ ap (rows_from (1 + count)) said in
-    let first : row ≡ row_of (pos (1 + count)) (request_in row) = cc in
-    other (first ∙ ap (λ (n : ℕ). row_of (pos n) (request_in row)) (omega arith))
+    let first : row ≡ request_row (pos (1 + count)) (request_in row) = cc in
+    other (first ∙ ap (λ (n : ℕ). request_row (pos n) (request_in row)) (omega arith))
 
 -- once all have been given, they are requests, numbered from 1
 pub held_ended : (v : View) (count : ℕ) → HasGiven v count → length (v.trees 0) ≡ count → Holds v count

@@ -9,9 +9,9 @@ use Rattle.sqlite_disk.specs.Disk.{MoreFaults}
 use Rattle.sqlite_trees.specs.declared.error.StoreError.{StoreError}
 use Rattle.sqlite_trees.specs.declared.error.StoreError.TheVariants.{OutOfMemory, Io, Corrupt, Full, Broken, Unstorable}
 use Rattle.sqlite_trees.specs.View.{View, doubt, IsClean, SetsTree, OnlyWrites, KeepsSchema, KeepsCommitted, IsFailure, HasCause, IsRolledBack, Commits}
-use Rattle.ups_store.specs.Rows.{row_of, rows_from, request_in, requests_in, IsNumbered}
+use Rattle.ups_store.specs.Rows.{request_row, rows_from, request_in, requests_in, IsNumbered}
 use Rattle.ups_store.specs.declared.request.StoredRequest.{StoredRequest}
-use Rattle.ups_store.specs.Held.{HasTables, IsAdding, Adds, Holds, IsHeld}
+use Rattle.ups_store.specs.Held.{HasTables, IsAdding, Adds, Holds, HoldsIfOpen}
 use Rattle.ups_store.proofs.Rows.{put_last, rows_length, rows_push}
 
 pub on_either : {T E P : Type 0} (r : Result T E) → OnOk r P → IfErr r (λ _. P) → P
@@ -19,25 +19,25 @@ on_either (Ok x) ok err = ok
 on_either (Err e) ok err = err
 
 -- the rows with one more behind them
-grown : (rows : List Row) (k : StoredRequest) (count : ℕ) → rows ≡ rows_from 1 (map request_in rows) → length rows ≡ count → put_row (row_of (pos (count + 1)) k) rows ≡ rows_from 1 (map request_in rows ++ k ∷ [])
+grown : (rows : List Row) (k : StoredRequest) (count : ℕ) → rows ≡ rows_from 1 (map request_in rows) → length rows ≡ count → put_row (request_row (pos (count + 1)) k) rows ≡ rows_from 1 (map request_in rows ++ k ∷ [])
 grown rows k count numbered counted =
     let ks = map request_in rows in
     let at : count + 1 ≡ 1 + length ks = omega (arith, length-map rows request_in, counted) in
-    ap (λ (n : ℕ). put_row (row_of (pos n) k) rows) at ∙ ap (put_row (row_of (pos (1 + length ks)) k)) numbered ∙ put_last 1 ks k
+    ap (λ (n : ℕ). put_row (request_row (pos n) k) rows) at ∙ ap (put_row (request_row (pos (1 + length ks)) k)) numbered ∙ put_last 1 ks k
 
 -- what the rows say with one more behind them
-said_more : (rows : List Row) (k : StoredRequest) (count : ℕ) → IsNumbered rows → length rows ≡ count → request_in (row_of (pos (count + 1)) k) ≡ k → map request_in (rows_from 1 (map request_in rows ++ k ∷ [])) ≡ map request_in rows ++ k ∷ []
+said_more : (rows : List Row) (k : StoredRequest) (count : ℕ) → IsNumbered rows → length rows ≡ count → request_in (request_row (pos (count + 1)) k) ≡ k → map request_in (rows_from 1 (map request_in rows ++ k ∷ [])) ≡ map request_in rows ++ k ∷ []
 said_more rows k count numbered counted says =
     let ks = map request_in rows in
     let number : 1 + length ks ≡ count + 1 = omega (arith, length-map rows request_in, counted) in
-    ap (map request_in) (sym (rows_push 1 ks k) ∙ ap (λ (r : List Row). r ++ row_of (pos (1 + length ks)) k ∷ []) (sym numbered)) ∙ map-push rows (row_of (pos (1 + length ks)) k) ∙ ap (λ (n : ℕ). ks ++ request_in (row_of (pos n) k) ∷ []) number
+    ap (map request_in) (sym (rows_push 1 ks k) ∙ ap (λ (r : List Row). r ++ request_row (pos (1 + length ks)) k ∷ []) (sym numbered)) ∙ map-push rows (request_row (pos (1 + length ks)) k) ∙ ap (λ (n : ℕ). ks ++ request_in (request_row (pos n) k) ∷ []) number
     ∙ ap (λ (r : StoredRequest). ks ++ r ∷ []) says
   where
     map-push : (xs : List Row) (x : Row) → map request_in (xs ++ x ∷ []) ≡ map request_in xs ++ request_in x ∷ []
     map-push [] x = refl
     map-push (y ∷ xs) x = ap (λ (r : List StoredRequest). request_in y ∷ r) (map-push xs x)
 
-pub adds : (old new : View) (k : StoredRequest) (count : ℕ) → IsAdding old count → request_in (row_of (pos (count + 1)) k) ≡ k → SetsTree old new 0 (put_row (row_of (pos (count + 1)) k)) → Adds old new (k ∷ []) count
+pub adds : (old new : View) (k : StoredRequest) (count : ℕ) → IsAdding old count → request_in (request_row (pos (count + 1)) k) ≡ k → SetsTree old new 0 (put_row (request_row (pos (count + 1)) k)) → Adds old new (k ∷ []) count
 adds old new k count was again sets =
     let ks = requests_in old.trees in
     let rows : new.trees 0 ≡ rows_from 1 (ks ++ k ∷ []) = ap (λ (v : View). v.trees 0) sets.is ∙ grown (old.trees 0) k count was.numbered was.counted in
@@ -141,7 +141,7 @@ undoes old mid new clean kept back up =
     let was = k.was_open up in
     (kept.was_open was, k.committed up ∙ kept.committed was)
 
-pub held_undone : (old mid new : View) (count : ℕ) → IsHeld old count → IsClean new → KeepsCommitted old mid → KeepsSchema old mid → IsRolledBack mid new → IsTrue new.is_open → Holds new count
+pub held_undone : (old mid new : View) (count : ℕ) → HoldsIfOpen old count → IsClean new → KeepsCommitted old mid → KeepsSchema old mid → IsRolledBack mid new → IsTrue new.is_open → Holds new count
 held_undone old mid new count held clean kept schema back up =
     let both = undoes old mid new clean kept back up in
     let h = held both.0 in
@@ -158,7 +158,7 @@ held_undone old mid new count held clean kept schema back up =
       same = trees ∙ h.same ∙ sym both.1;
     }
 
-pub held_committed : (old mid new : View) (was count : ℕ) → IsHeld old was → IsTrue old.is_open → KeepsSchema old mid → IsAdding mid count → Commits mid new → Holds new count
+pub held_committed : (old mid new : View) (was count : ℕ) → HoldsIfOpen old was → IsTrue old.is_open → KeepsSchema old mid → IsAdding mid count → Commits mid new → Holds new count
 held_committed old mid new was count held up schema adding done =
     let h = held up in
     let is = done.is in
@@ -196,7 +196,7 @@ pub was_open : (old mid : View) → (mid.is_open ≡ false → IsTrue mid.is_bro
 was_open old mid broken kept sound = kept.was_open (sound_open mid broken sound)
 
 -- what a transaction that is sound would commit
-pub would_say : (old mid : View) (count : ℕ) (more : List StoredRequest) → IsHeld old count → (mid.is_clean ≡ false → mid.is_open ≡ false) → (mid.is_open ≡ false → IsTrue mid.is_broken) → KeepsCommitted old mid
+pub would_say : (old mid : View) (count : ℕ) (more : List StoredRequest) → HoldsIfOpen old count → (mid.is_clean ≡ false → mid.is_open ≡ false) → (mid.is_open ≡ false → IsTrue mid.is_broken) → KeepsCommitted old mid
     → (IsClean mid → Adds old mid more count) → mid.is_broken ≡ false → (requests_in mid.trees ≡ requests_in old.committed ++ more) × IsNumbered (mid.trees 0)
 would_say old mid count more held shut broken kept adds sound =
     let up = sound_open mid broken sound in

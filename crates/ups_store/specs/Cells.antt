@@ -35,9 +35,9 @@ lock_cell None = Null
 lock_cell (Some false) = Int (pos 0)
 lock_cell (Some true) = Int (pos 1)
 
-abbrev pub lock_in : Value → Option Bool
-lock_in (Int n) = Some (cast_unsigned w64 n == 1)
-lock_in _ = None
+abbrev pub lock_in_cell : Value → Option Bool
+lock_in_cell (Int n) = Some (cast_unsigned w64 n == 1)
+lock_in_cell _ = None
 
 -- minutes east of UTC, in 16 bits
 abbrev pub offset_cell : Option ℤ → Value

@@ -5,13 +5,13 @@ use Rattle.sqlite_trees.specs.declared.error.StoreError.TheVariants as kit
 use Rattle.ups_store.specs.declared.fault.StoreFault.{StoreFault}
 use Rattle.ups_store.specs.declared.fault.StoreFault.TheVariants.{Memory, Disk, Damaged, Full, Shut, TooLarge, TooMany, NotRequest, Short}
 
-abbrev pub fault_of : StoreError → StoreFault
-fault_of kit.OutOfMemory = Memory
-fault_of kit.Io = Disk
-fault_of kit.Corrupt = Damaged
-fault_of kit.Full = Full
-fault_of kit.Broken = Shut
-fault_of kit.Unstorable = TooLarge
+abbrev pub store_fault_of : StoreError → StoreFault
+store_fault_of kit.OutOfMemory = Memory
+store_fault_of kit.Io = Disk
+store_fault_of kit.Corrupt = Damaged
+store_fault_of kit.Full = Full
+store_fault_of kit.Broken = Shut
+store_fault_of kit.Unstorable = TooLarge
 
 -- what has to hold for a call to answer each fault
 pub record Reasons : Type 1 where

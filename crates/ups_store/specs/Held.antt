@@ -24,8 +24,8 @@ pub record Holds (v : View) (count : ℕ) : Type 0 where
   pub same : v.trees ≡ v.committed
 
 -- so many requests are committed, unless a fault has shut the store
-abbrev pub IsHeld : View → ℕ → Type 0
-IsHeld v count = IsTrue v.is_open → Holds v count
+abbrev pub HoldsIfOpen : View → ℕ → Type 0
+HoldsIfOpen v count = IsTrue v.is_open → Holds v count
 
 -- A store that was just opened has the tables, and nothing is written.
 pub record IsFresh (v : View) : Type 0 where

@@ -44,13 +44,13 @@ IsLongLog g files = IsLogFor 4096 (g.seen files.log) × IsHuge 4096 (image_of g 
 abbrev pub MeetsLimit : {D : Type 0} (g : disk.Ghosts D) → Files D → Type 0
 MeetsLimit {D} g files = (it : Unopened D g) × (files_of it ≡ (files.log, files.db)) × (IsFullFile it ⊎ StopsCreating it)
 
-abbrev pub open_fault : OpenError → StoreError → OpenFault
-open_fault kit.OutOfMemory name = Memory
-open_fault kit.Io names.Corrupt = Damaged
-open_fault kit.Io names.Full = Full
-open_fault kit.Io name = Disk
-open_fault kit.Full name = AtLimit
-open_fault kit.Refused name = NotStore
+abbrev pub fault_of_opening : OpenError → StoreError → OpenFault
+fault_of_opening kit.OutOfMemory name = Memory
+fault_of_opening kit.Io names.Corrupt = Damaged
+fault_of_opening kit.Io names.Full = Full
+fault_of_opening kit.Io name = Disk
+fault_of_opening kit.Full name = AtLimit
+fault_of_opening kit.Refused name = NotStore
 
 -- what has to hold for an open to answer each fault
 pub record OpenReasons : Type 1 where

@@ -19,19 +19,19 @@ module _ {S : Type 0} {g : Ghosts S} where
   seen it = g.view it.store
 
   -- the requests that were put, which are not committed
-  abbrev pub written : Rewrite S g → List StoredRequest
-  written it = requests_in (seen it).trees
+  abbrev pub written_anew : Rewrite S g → List StoredRequest
+  written_anew it = requests_in (seen it).trees
 
   -- how many there are, also once a call has failed
   abbrev pub written_count : Rewrite S g → ℕ
   written_count it = it.count
 
   -- no call has failed
-  abbrev pub GoesOn : Rewrite S g → Type 0
-  GoesOn it = IsTrue it.is_whole × ((seen it).is_broken ≡ false)
+  abbrev pub GoesOnRewriting : Rewrite S g → Type 0
+  GoesOnRewriting it = IsTrue it.is_whole × ((seen it).is_broken ≡ false)
 
   -- the requests of the database are those that were put, and no call had failed
   pub record IsReplaced (it : Rewrite S g) (db : Trees) : Type 0 where
-    pub sound : GoesOn it
-    pub requests : requests_in db ≡ written it
+    pub sound : GoesOnRewriting it
+    pub requests : requests_in db ≡ written_anew it
     pub numbered : IsNumbered (db 0)

@@ -9,11 +9,11 @@ use Rattle.ups_journal.specs.Operations.{name_of}
 use Rattle.ups_journal.specs.declared.record.Columns.{Columns}
 use Rattle.ups_journal.specs.declared.record.Record.{Record}
 use Rattle.ups_store.specs.declared.request.StoredRequest.{StoredRequest}
-use Rattle.ups_store.specs.Cells.{number_cell, number_in, short_in, event_cell, event_in, lock_cell, lock_in, offset_cell, offset_in, text_cell, blob_cell, bytes_in, state_cell, state_in, operation_in}
+use Rattle.ups_store.specs.Cells.{number_cell, number_in, short_in, event_cell, event_in, lock_cell, lock_in_cell, offset_cell, offset_in, text_cell, blob_cell, bytes_in, state_cell, state_in, operation_in}
 
 -- a record that was entered in this run
-abbrev pub entered : ℕ → Record Global → StoredRequest
-entered run r = record { run = run; asked = r }
+abbrev pub stored_in_run : ℕ → Record Global → StoredRequest
+stored_in_run run r = record { run = run; asked = r }
 
 -- in which run, who asked and when
 abbrev pub caller_cells : StoredRequest → List Value
@@ -28,8 +28,8 @@ abbrev pub watcher_cells : Columns Global → List Value
 watcher_cells c = text_cell c.receiver ∷ lock_cell c.lock ∷ event_cell c.number ∷ offset_cell c.offset ∷ blob_cell c.attributes ∷ []
 
 -- the row with this number: its rowid, NULL in place of the number, and the other columns
-abbrev pub row_of : ℤ → StoredRequest → Row
-row_of number r = Int number ∷ Null ∷ (caller_cells r ++ (step_cells r.asked.request ++ watcher_cells r.asked.request))
+abbrev pub request_row : ℤ → StoredRequest → Row
+request_row number r = Int number ∷ Null ∷ (caller_cells r ++ (step_cells r.asked.request ++ watcher_cells r.asked.request))
 
 abbrev pub columns_in : Row → Columns Global
 columns_in row = record {
@@ -38,7 +38,7 @@ columns_in row = record {
   transaction = bytes_in (column row 8);
   state = state_in (column row 9);
   receiver = bytes_in (column row 10);
-  lock = lock_in (column row 11);
+  lock = lock_in_cell (column row 11);
   number = event_in (column row 12);
   offset = offset_in (column row 13);
   attributes = bytes_in (column row 14);
@@ -59,14 +59,14 @@ pub record IsCallerAgain (r : StoredRequest) : Type 0 where
 
 -- and so are those of a watcher
 pub record IsWatcherAgain (c : Columns Global) : Type 0 where
-  pub lock : lock_in (lock_cell c.lock) ≡ c.lock
+  pub lock : lock_in_cell (lock_cell c.lock) ≡ c.lock
   pub event : event_in (event_cell c.number) ≡ c.number
   pub offset : offset_in (offset_cell c.offset) ≡ c.offset
 
 -- the rows of these, numbered from this number on
 abbrev pub rows_from : ℕ → List StoredRequest → List Row
 rows_from number [] = []
-rows_from number (r ∷ rs) = row_of (pos number) r ∷ rows_from (suc number) rs
+rows_from number (r ∷ rs) = request_row (pos number) r ∷ rows_from (suc number) rs
 
 -- what the first table of a database says
 abbrev pub requests_in : Trees → List StoredRequest

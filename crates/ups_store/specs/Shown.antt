@@ -11,9 +11,9 @@ use Rattle.ups_store.specs.declared.store.RequestStore.{RequestStore}
 use Rattle.ups_store.specs.Rows.{requests_in}
 
 -- with the next request behind them, or they are all
-abbrev pub Gives : List StoredRequest → List StoredRequest → List StoredRequest → Option StoredRequest → Type 0
-Gives all old new None = (new ≡ old) × (new ≡ all)
-Gives all old new (Some request) = new ≡ old ++ request ∷ []
+abbrev pub GivesRequest : List StoredRequest → List StoredRequest → List StoredRequest → Option StoredRequest → Type 0
+GivesRequest all old new None = (new ≡ old) × (new ≡ all)
+GivesRequest all old new (Some request) = new ≡ old ++ request ∷ []
 
 abbrev pub is_ended : Phase → Bool
 is_ended Fresh = false
@@ -22,16 +22,16 @@ is_ended Ended = true
 is_ended Failed = false
 
 module _ {S : Type 0} {g : Ghosts S} where
-  abbrev pub shown : RequestStore S g → View
-  shown it = g.view it.store
+  abbrev pub requests_shown : RequestStore S g → View
+  requests_shown it = g.view it.store
 
   -- the requests that are committed
   abbrev pub requests : RequestStore S g → List StoredRequest
-  requests it = requests_in (shown it).committed
+  requests it = requests_in (requests_shown it).committed
 
   -- the rows of the runs that are committed
   abbrev pub runs : RequestStore S g → List Row
-  runs it = (shown it).committed 1
+  runs it = (requests_shown it).committed 1
 
   -- how many there are, also once the store is shut
   abbrev pub count_of : RequestStore S g → ℕ
@@ -45,12 +45,12 @@ module _ {S : Type 0} {g : Ghosts S} where
   all_of it = requests_in (shown_by it).committed
 
   -- those that were given
-  abbrev pub given : Replay S g → List StoredRequest
-  given it = take it.count (all_of it)
+  abbrev pub given_out : Replay S g → List StoredRequest
+  given_out it = take it.count (all_of it)
 
   -- an earlier call failed
-  abbrev pub HasFailed : Replay S g → Type 0
-  HasFailed it = it.phase ≡ Failed
+  abbrev pub HasFailedToShow : Replay S g → Type 0
+  HasFailedToShow it = it.phase ≡ Failed
 
   -- all have been given
   abbrev pub has_ended : Replay S g → Bool

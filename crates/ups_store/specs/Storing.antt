@@ -4,8 +4,8 @@ use Rattle.std.specs.List.{Any}
 use Rattle.std.specs.declared.alloc.Global.{Global}
 use Rattle.sqlite_trees.specs.View.{View, IsStorableRow}
 use Rattle.ups_journal.specs.declared.record.Record.{Record}
-use Rattle.ups_store.specs.Rows.{entered, row_of}
+use Rattle.ups_store.specs.Rows.{stored_in_run, request_row}
 
 -- the row of one of the records has a billion bytes or more
 abbrev pub HasTooLarge : View → ℕ → List (Record Global) → Type 0
-HasTooLarge v run = Any (λ r. (number : ℕ) × (¬ IsStorableRow (v.reals 0) (row_of (pos number) (entered run r))))
+HasTooLarge v run = Any (λ r. (number : ℕ) × (¬ IsStorableRow (v.reals 0) (request_row (pos number) (stored_in_run run r))))

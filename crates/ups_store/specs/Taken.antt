@@ -5,7 +5,7 @@ use Rattle.sqlite_trees.specs.View.{View}
 use Rattle.ups_store.specs.declared.request.StoredRequest.{StoredRequest}
 use Rattle.ups_store.specs.declared.reading.Taken.{Taken}
 use Rattle.ups_store.specs.declared.reading.Taken.TheVariants.{End, Other, Beyond, One}
-use Rattle.ups_store.specs.Rows.{row_of, request_in}
+use Rattle.ups_store.specs.Rows.{request_row, request_in}
 
 -- the row is the next of the cursor, and only the cursor has moved
 pub record Steps (old new : View) (row : Row) : Type 0 where
@@ -15,11 +15,11 @@ pub record Steps (old new : View) (row : Row) : Type 0 where
   pub same : new ≡ record old { cursors = new.cursors }
 
 -- the next row is the request behind so many, or is no such request, or there is none
-abbrev pub Takes : View → View → ℕ → Taken → Type 0
-Takes old new count End = (old.cursors 0 ≡ Some []) × (new ≡ record old { cursors = new.cursors })
-Takes old new count Other = (row : Row) × (row ≢ row_of (pos (count + 1)) (request_in row)) × Steps old new row
-Takes old new count Beyond = 2 ^ 63 ≤ count + 1
-Takes old new count (One request) = (row : Row) × (row ≡ row_of (pos (count + 1)) request) × (request_in row ≡ request) × Steps old new row
+abbrev pub TakesNext : View → View → ℕ → Taken → Type 0
+TakesNext old new count End = (old.cursors 0 ≡ Some []) × (new ≡ record old { cursors = new.cursors })
+TakesNext old new count Other = (row : Row) × (row ≢ request_row (pos (count + 1)) (request_in row)) × Steps old new row
+TakesNext old new count Beyond = 2 ^ 63 ≤ count + 1
+TakesNext old new count (One request) = (row : Row) × (row ≡ request_row (pos (count + 1)) request) × (request_in row ≡ request) × Steps old new row
 
 -- there is a number behind so many
 abbrev pub IsLow : ℕ → Taken → Type 0

@@ -4,7 +4,7 @@
 ghost use Rattle.std.specs.Prelude.{◌≡◌, ◌++◌, ◌∷◌, [], IfOk, OnOk, Some};
 ghost use Rattle.sqlite_value.specs.Value.{owned};
 ghost use Rattle.sqlite_value.specs.Order.{bytes};
-ghost use Rattle.ups_store.specs.Cells.{number_cell, number_in, short_in, event_cell, event_in, lock_cell, lock_in, offset_cell, offset_in, text_cell, blob_cell, bytes_in, state_cell, state_in, operation_in};
+ghost use Rattle.ups_store.specs.Cells.{number_cell, number_in, short_in, event_cell, event_in, lock_cell, lock_in_cell, offset_cell, offset_in, text_cell, blob_cell, bytes_in, state_cell, state_in, operation_in};
 
 use crate::words::{operation_named, state_named};
 use sqlite_value::row::Row;
@@ -44,7 +44,7 @@ pub(crate) fn lay_event(row: &mut Row, event: Option<u64>) -> Result<(), AllocEr
 /// Lays a deletion lock.
 pub(crate) fn lay_lock(row: &mut Row, lock: Option<bool>) -> Result<(), AllocError>
     ensures laid { OnOk result (row.new ≡ row.old ++ lock_cell lock ∷ []) }
-    ensures again { lock_in (lock_cell lock) ≡ lock }
+    ensures again { lock_in_cell (lock_cell lock) ≡ lock }
 {
     match lock {
         Some(true) => row.push(ValueRef::Int(1)),
@@ -120,7 +120,7 @@ pub(crate) fn event_in(cell: ValueRef<'_>) -> Option<u64>
 }
 
 pub(crate) fn lock_in(cell: ValueRef<'_>) -> Option<bool>
-    ensures { result ≡ lock_in (owned cell.entry) }
+    ensures { result ≡ lock_in_cell (owned cell.entry) }
 {
     match cell {
         ValueRef::Int(number) => Some(number.cast_unsigned() == 1),

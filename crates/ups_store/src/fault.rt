@@ -38,9 +38,9 @@ pub enum StoreFault {
 
 impl From<StoreError> for StoreFault {
     ghost use Rattle.std.specs.Prelude.{◌≡◌};
-    ghost use Rattle.ups_store.specs.Faults.{fault_of};
+    ghost use Rattle.ups_store.specs.Faults.{store_fault_of};
 
-    ghost from_gives = { λ error fault. fault ≡ fault_of error };
+    ghost from_gives = { λ error fault. fault ≡ store_fault_of error };
 
     fn from(error: StoreError) -> StoreFault {
         match error {

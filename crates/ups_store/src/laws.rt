@@ -2,9 +2,9 @@
 
 ghost use Rattle.std.specs.Prelude.{◌≡◌, ◌⊎◌, ◌++◌, [], false, map, IsTrue, IfOk};
 ghost use Rattle.sqlite_trees.specs.View.{IsClean};
-ghost use Rattle.ups_store.specs.Rows.{entered, IsNumbered};
+ghost use Rattle.ups_store.specs.Rows.{stored_in_run, IsNumbered};
 ghost use Rattle.ups_store.specs.Held.{HasTables};
-ghost use Rattle.ups_store.specs.Shown.{shown, requests, shown_by, all_of, given};
+ghost use Rattle.ups_store.specs.Shown.{requests_shown, requests, shown_by, all_of, given_out};
 
 use crate::fault::StoreFault;
 use crate::reading::Replay;
@@ -18,9 +18,9 @@ fn crash_and_reopen<S: Reopen + Drop>(
     alloc: Global,
     store: RequestStore<S>,
 ) -> Result<Replay<S>, StoreFault>
-    requires { IsClean (shown store) → HasTables (shown store) }
-    ensures first { IfOk result (λ r. given r ≡ []) }
-    ensures clean { IfOk result (λ r. IsClean (shown_by r) → IsClean (shown store)) }
+    requires { IsClean (requests_shown store) → HasTables (requests_shown store) }
+    ensures first { IfOk result (λ r. given_out r ≡ []) }
+    ensures clean { IfOk result (λ r. IsClean (shown_by r) → IsClean (requests_shown store)) }
     ensures outcome { IfOk result (λ r. IsClean (shown_by r) → S.Store.recovers store.store (shown_by r).committed) }
 {
     let mut inner = store.into_store();
@@ -37,9 +37,9 @@ pub fn append_then_crash<S: Reopen + Drop>(
     run: u64,
     records: &[Record<Global>],
 ) -> Result<(bool, Replay<S>), StoreFault>
-    requires { IsTrue (shown store).is_open }
-    ensures first { IfOk result (λ r. given r.1 ≡ []) }
-    ensures outcome { IfOk result (λ r. IsClean (shown_by r.1) → (all_of r.1 ≡ requests store ++ map (entered run) records.now) ⊎ ((r.0 ≡ false) × (all_of r.1 ≡ requests store))) }
+    requires { IsTrue (requests_shown store).is_open }
+    ensures first { IfOk result (λ r. given_out r.1 ≡ []) }
+    ensures outcome { IfOk result (λ r. IsClean (shown_by r.1) → (all_of r.1 ≡ requests store ++ map (stored_in_run run) records.now) ⊎ ((r.0 ≡ false) × (all_of r.1 ≡ requests store))) }
     ensures numbered { IfOk result (λ r. IsClean (shown_by r.1) → IsNumbered ((shown_by r.1).committed 0)) }
 {
     let done = store.append(run, records).is_ok();

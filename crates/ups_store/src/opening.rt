@@ -11,8 +11,8 @@ ghost use Rattle.sqlite_store.specs.Catalog.{wanted_of};
 ghost use Rattle.sqlite_trees.specs.View.{IsClean};
 ghost use Rattle.ups_store.specs.Held.{IsFresh};
 ghost use Rattle.ups_store.specs.Found.{used_page, table_of, the_schema, image_of, HasNone, HoldsTables, HoldsNone, ListsNothing, StandAlike, ReadAs, FindsIn};
-ghost use Rattle.ups_store.specs.Refused.{faults_in, AreCleanFiles, IsUnusable, HasFailed, MeetsLimit, HasOpenReason, open_fault, reasons, IsKind, IsLongLog, pair};
-ghost use Rattle.ups_store.specs.Shown.{shown_by, given};
+ghost use Rattle.ups_store.specs.Refused.{faults_in, AreCleanFiles, IsUnusable, HasFailed, MeetsLimit, HasOpenReason, fault_of_opening, reasons, IsKind, IsLongLog, pair};
+ghost use Rattle.ups_store.specs.Shown.{shown_by, given_out};
 ghost use Rattle.ups_store.specs.declared.fault.OpenFault.TheVariants as faults;
 
 use crate::fault::OpenFault;
@@ -63,7 +63,7 @@ fn fault_of_path(error: PathError) -> OpenFault {
 
 /// The fault with the name that the disk's failure has.
 fn fault_of_open(error: StoreOpenError, named: StoreError) -> OpenFault
-    ensures { result ≡ open_fault error named }
+    ensures { result ≡ fault_of_opening error named }
 {
     match (error, named) {
         (StoreOpenError::OutOfMemory, _) => OpenFault::Memory,
@@ -141,7 +141,7 @@ fn is_blank<D: Disk>(alloc: Global, files: &mut Files<D>) -> Result<bool, OpenFa
 
 /// The files with the fault that their failure to open has.
 fn refused<D: Disk>(error: StoreOpenError, named: StoreError, left: Unopened<D>) -> Refusal<D>
-    ensures fault { result.fault ≡ open_fault error named }
+    ensures fault { result.fault ≡ fault_of_opening error named }
     ensures files { pair result.files ≡ files_of left }
 {
     Refusal {
@@ -381,7 +381,7 @@ pub fn open_files<D: Disk + Drop>(
 ) -> Result<Replay<FileStore<D>>, Refusal<D>>
     requires log { IsTrue (D.Disk.is_usable files.log) }
     requires db { IsTrue (D.Disk.is_usable files.db) }
-    ensures first { IfOk result (λ r. given r ≡ []) }
+    ensures first { IfOk result (λ r. given_out r ≡ []) }
     ensures found { IfOk result (λ r. IsClean (shown_by r) → FindsIn (image_of D.Disk files) (shown_by r).committed) }
     ensures cause { IfErr result (λ r. AreCleanFiles D.Disk r.files → HasOpenReason (reasons D.Disk files r.files) r.fault) }
 {
@@ -401,7 +401,7 @@ pub fn open<S: Start>(
     path: &str,
     start: S,
 ) -> Result<Replay<FileStore<FileFrom<S>>>, OpenFault>
-    ensures first { IfOk result (λ r. given r ≡ []) }
+    ensures first { IfOk result (λ r. given_out r ≡ []) }
     ensures found { IfOk result (λ r. IsClean (shown_by r) → FindsIn (image_at S.Start) (shown_by r).committed) }
 {
     let files = match sqlite_std_file::open(rt, path, start) {

@@ -5,7 +5,7 @@ ghost use Rattle.sqlite_disk.specs.Disk.{MoreFaults};
 ghost use Rattle.sqlite_trees.specs.View.{IsClean, IsQuiet, HasCause};
 ghost use Rattle.ups_store.specs.Held.{IsFresh, HasGiven};
 ghost use Rattle.ups_store.specs.declared.reading.Phase.TheVariants.{Fresh, Reading, Ended, Failed};
-ghost use Rattle.ups_store.specs.Taken.{Takes, IsLow};
+ghost use Rattle.ups_store.specs.Taken.{TakesNext, IsLow};
 ghost use Rattle.ups_store.specs.Faults.{HasReason};
 ghost use Rattle.ups_store.specs.Rows.{requests_in, IsNumbered};
 
@@ -58,7 +58,7 @@ fn take_next<S: Store>(
 ) -> Result<Taken, StoreError>
     requires live { IsSome ((S.Store.view store.old).cursors 0) }
     ensures live { IfOk result (λ taken. IsSome ((S.Store.view store.new).cursors 0)) }
-    ensures taken { IfOk result (λ taken. IsClean (S.Store.view store.new) → Takes (S.Store.view store.old) (S.Store.view store.new) count taken) }
+    ensures taken { IfOk result (λ taken. IsClean (S.Store.view store.new) → TakesNext (S.Store.view store.old) (S.Store.view store.new) count taken) }
     ensures low { IfOk result (IsLow count) }
     ensures sound { OnOk result (IsClean (S.Store.view store.new) → (S.Store.view store.old).is_broken ≡ false) }
     ensures cause { IsClean (S.Store.view store.new) → IfErr result (HasCause (S.Store.view store.old) (MoreFaults (S.Store.faults store.old) (S.Store.faults store.new)) ⊥) }
@@ -108,12 +108,12 @@ pub struct Replay<S: Store> {
 }
 
 impl<S: Store> Replay<S> {
-    ghost use Rattle.ups_store.specs.Shown.{shown_by, all_of, given, Gives, HasFailed, has_ended, shown};
+    ghost use Rattle.ups_store.specs.Shown.{shown_by, all_of, given_out, GivesRequest, HasFailedToShow, has_ended, requests_shown};
 
     /// The requests of a store that was just opened, of which none is given yet.
     pub(crate) fn over(alloc: Global, store: S) -> Replay<S>
         requires fresh { IsClean (S.Store.view store) → IsFresh (S.Store.view store) }
-        ensures first { given result ≡ [] }
+        ensures first { given_out result ≡ [] }
         ensures store { result.store ≡ store }
     {
         Replay {
@@ -130,7 +130,7 @@ impl<S: Store> Replay<S> {
     fn begin(&mut self) -> Result<(), StoreFault>
         requires fresh { self.old.phase ≡ Fresh }
         ensures reading { OnOk result (self.new.phase ≡ Reading) }
-        ensures same { OnOk result (IsClean (shown_by self.new) → (all_of self.new ≡ all_of self.old) × (given self.new ≡ given self.old)) }
+        ensures same { OnOk result (IsClean (shown_by self.new) → (all_of self.new ≡ all_of self.old) × (given_out self.new ≡ given_out self.old)) }
         ensures rows { OnOk result (IsClean (shown_by self.new) → (shown_by self.new).committed ≡ (shown_by self.old).committed) }
         ensures cause { IsClean (shown_by self.new) → IfErr result (HasReason (record {
           Failed = MoreFaults (S.Store.faults self.old.store) (S.Store.faults self.new.store);
@@ -150,14 +150,14 @@ impl<S: Store> Replay<S> {
     /// Takes the row at the cursor.
     fn take(&mut self) -> Result<Option<StoredRequest>, StoreFault>
         requires reading { self.old.phase ≡ Reading }
-        ensures given { IfOk result (λ found. IsClean (shown_by self.new) → Gives (all_of self.new) (given self.old) (given self.new) found) }
+        ensures given { IfOk result (λ found. IsClean (shown_by self.new) → GivesRequest (all_of self.new) (given_out self.old) (given_out self.new) found) }
         ensures same { OnOk result (IsClean (shown_by self.new) → all_of self.new ≡ all_of self.old) }
         ensures ended { IfOk result (λ found. found ≡ None → IsTrue (has_ended self.new)) }
         ensures cause { IsClean (shown_by self.new) → IfErr result (HasReason (record {
           Failed = MoreFaults (S.Store.faults self.old.store) (S.Store.faults self.new.store);
           WasShut = ⊥;
           IsTooLarge = ⊥;
-          AreTooMany = 2 ^ 63 ≤ length (given self.old) + 1;
+          AreTooMany = 2 ^ 63 ≤ length (given_out self.old) + 1;
           IsNotRequest = ¬ IsNumbered ((shown_by self.old).committed 0);
         })) }
         ensures quiet { IsQuiet S.Store.view S.Store.faults S.Store.recovers S.Store.is_shielded self.old.store self.new.store }
@@ -190,14 +190,14 @@ impl<S: Store> Replay<S> {
     /// Errors: Memory, Disk, Damaged, Full; NotRequest where the rows are not those of requests, numbered from 1;
     /// TooMany; Shut after an error.
     pub fn next_request(&mut self) -> Result<Option<StoredRequest>, StoreFault>
-        ensures given { IfOk result (λ found. IsClean (shown_by self.new) → Gives (all_of self.new) (given self.old) (given self.new) found) }
+        ensures given { IfOk result (λ found. IsClean (shown_by self.new) → GivesRequest (all_of self.new) (given_out self.old) (given_out self.new) found) }
         ensures same { OnOk result (IsClean (shown_by self.new) → all_of self.new ≡ all_of self.old) }
         ensures ended { IfOk result (λ found. found ≡ None → IsTrue (has_ended self.new)) }
         ensures cause { IsClean (shown_by self.new) → IfErr result (HasReason (record {
           Failed = MoreFaults (S.Store.faults self.old.store) (S.Store.faults self.new.store);
-          WasShut = HasFailed self.old;
+          WasShut = HasFailedToShow self.old;
           IsTooLarge = ⊥;
-          AreTooMany = 2 ^ 63 ≤ length (given self.old) + 1;
+          AreTooMany = 2 ^ 63 ≤ length (given_out self.old) + 1;
           IsNotRequest = ¬ IsNumbered ((shown_by self.old).committed 0);
         })) }
         ensures quiet { IsQuiet S.Store.view S.Store.faults S.Store.recovers S.Store.is_shielded self.old.store self.new.store }
@@ -216,7 +216,7 @@ impl<S: Store> Replay<S> {
     where
         S: Drop,
         ensures when { is_some result ≡ has_ended self }
-        ensures same { IfSome result (λ it. shown it ≡ shown_by self) }
+        ensures same { IfSome result (λ it. requests_shown it ≡ shown_by self) }
     {
         match self.phase {
             Phase::Ended => Some(self.into_store()),
@@ -226,7 +226,7 @@ impl<S: Store> Replay<S> {
 
     fn into_store(self) -> RequestStore<S>
         requires { IsTrue (has_ended self) }
-        ensures { shown result ≡ shown_by self }
+        ensures { requests_shown result ≡ shown_by self }
     {
         let Replay {
             alloc: _,

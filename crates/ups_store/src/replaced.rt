@@ -2,9 +2,9 @@
 
 ghost use Rattle.std.specs.Prelude.{◌≡◌, ◌⊎◌, [], false, map, IsTrue, IfOk};
 ghost use Rattle.sqlite_trees.specs.View.{IsClean};
-ghost use Rattle.ups_store.specs.Rows.{entered, IsNumbered};
+ghost use Rattle.ups_store.specs.Rows.{stored_in_run, IsNumbered};
 ghost use Rattle.ups_store.specs.Held.{HasTables};
-ghost use Rattle.ups_store.specs.Shown.{shown, requests, shown_by, all_of, given};
+ghost use Rattle.ups_store.specs.Shown.{requests_shown, requests, shown_by, all_of, given_out};
 ghost use Rattle.ups_store.specs.Rewriting.{seen, records_of};
 
 use crate::fault::StoreFault;
@@ -22,7 +22,7 @@ fn crash_and_reopen<S: Reopen + Drop>(
     rewrite: Rewrite<S>,
 ) -> Result<Replay<S>, StoreFault>
     requires { IsClean (seen rewrite) → HasTables (seen rewrite) }
-    ensures first { IfOk result (λ r. given r ≡ []) }
+    ensures first { IfOk result (λ r. given_out r ≡ []) }
     ensures clean { IfOk result (λ r. IsClean (shown_by r) → IsClean (seen rewrite)) }
     ensures outcome { IfOk result (λ r. IsClean (shown_by r) → S.Store.recovers rewrite.store (shown_by r).committed) }
 {
@@ -42,9 +42,9 @@ pub fn rewrite_then_crash<S: Reopen + Drop>(
     number: u64,
     run: &Run<'_>,
 ) -> Result<(bool, Replay<S>), StoreFault>
-    requires { IsTrue (shown store).is_open }
-    ensures first { IfOk result (λ r. given r.1 ≡ []) }
-    ensures outcome { IfOk result (λ r. IsClean (shown_by r.1) → (all_of r.1 ≡ map (entered entered_in) (records_of groups.now)) ⊎ ((r.0 ≡ false) × (all_of r.1 ≡ requests store))) }
+    requires { IsTrue (requests_shown store).is_open }
+    ensures first { IfOk result (λ r. given_out r.1 ≡ []) }
+    ensures outcome { IfOk result (λ r. IsClean (shown_by r.1) → (all_of r.1 ≡ map (stored_in_run entered_in) (records_of groups.now)) ⊎ ((r.0 ≡ false) × (all_of r.1 ≡ requests store))) }
     ensures numbered { IfOk result (λ r. IsClean (shown_by r.1) → IsNumbered ((shown_by r.1).committed 0)) }
 {
     let mut rewrite = Rewrite::over(store);

@@ -1,7 +1,7 @@
 //! A request as a row of the table.
 
 ghost use Rattle.std.specs.Prelude.{◌≡◌, ◌≢◌, ◌++◌, Ok, None, IfOk, IfSome, OnOk};
-ghost use Rattle.ups_store.specs.Rows.{entered, caller_cells, step_cells, watcher_cells, row_of, columns_in, record_in, request_in, IsCallerAgain, IsWatcherAgain};
+ghost use Rattle.ups_store.specs.Rows.{stored_in_run, caller_cells, step_cells, watcher_cells, request_row, columns_in, record_in, request_in, IsCallerAgain, IsWatcherAgain};
 
 use crate::cells;
 use sqlite_value::row::Row;
@@ -20,8 +20,8 @@ pub struct StoredRequest {
 
 /// Lays in which run, who asked and when.
 fn lay_caller(row: &mut Row, run: u64, asked: &Record<Global>) -> Result<(), AllocError>
-    ensures laid { OnOk result (row.new ≡ row.old ++ caller_cells (entered run asked.now)) }
-    ensures again { OnOk result (IsCallerAgain (entered run asked.now)) }
+    ensures laid { OnOk result (row.new ≡ row.old ++ caller_cells (stored_in_run run asked.now)) }
+    ensures again { OnOk result (IsCallerAgain (stored_in_run run asked.now)) }
 {
     cells::lay_number(row, run)?;
     cells::lay_short(row, asked.caller)?;
@@ -58,8 +58,8 @@ pub(crate) fn lay(
     run: u64,
     asked: &Record<Global>,
 ) -> Result<(), AllocError>
-    ensures laid { OnOk result (row.new ≡ row_of number (entered run asked.now)) }
-    ensures says { OnOk result (request_in row.new ≡ entered run asked.now) }
+    ensures laid { OnOk result (row.new ≡ request_row number (stored_in_run run asked.now)) }
+    ensures says { OnOk result (request_in row.new ≡ stored_in_run run asked.now) }
 {
     row.clear();
     row.push(ValueRef::Int(number))?;
@@ -113,8 +113,8 @@ pub(crate) fn read(
     row: &Row,
     again: &mut Row,
 ) -> Result<Option<StoredRequest>, AllocError>
-    ensures some { IfOk result (λ found. IfSome found (λ r. (row.now ≡ row_of number r) × (request_in row.now ≡ r))) }
-    ensures none { result ≡ Ok None → row.now ≢ row_of number (request_in row.now) }
+    ensures some { IfOk result (λ found. IfSome found (λ r. (row.now ≡ request_row number r) × (request_in row.now ≡ r))) }
+    ensures none { result ≡ Ok None → row.now ≢ request_row number (request_in row.now) }
 {
     let request = request_in(alloc, row)?;
     lay(again, number, request.run, &request.asked)?;

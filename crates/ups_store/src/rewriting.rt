@@ -5,8 +5,8 @@ ghost use Rattle.sqlite_disk.specs.Disk.{MoreFaults};
 ghost use Rattle.sqlite_trees.specs.declared.store.Shape.TheVariants.{Table};
 ghost use Rattle.sqlite_trees.specs.Tree.{Trees, put_row};
 ghost use Rattle.sqlite_trees.specs.View.{doubt, IsClean, IsQuiet, KeepsSchema, KeepsCommitted, HasCause, IsStorableRow};
-ghost use Rattle.ups_store.specs.Rows.{entered, requests_in, IsNumbered};
-ghost use Rattle.ups_store.specs.Held.{HasTables, IsHeld, IsAdding};
+ghost use Rattle.ups_store.specs.Rows.{stored_in_run, requests_in, IsNumbered};
+ghost use Rattle.ups_store.specs.Held.{HasTables, HoldsIfOpen, IsAdding};
 ghost use Rattle.ups_store.specs.Storing.{HasTooLarge};
 ghost use Rattle.ups_store.specs.Faults.{HasReason};
 ghost use Rattle.ups_store.specs.Runs.{row_of_run};
@@ -76,8 +76,8 @@ fn delete_all<S: Store>(store: &mut S, count: u64) -> Result<(), StoreError>
 }
 
 impl<S: Store> RequestStore<S> {
-    ghost use Rattle.ups_store.specs.Shown.{shown, count_of};
-    ghost use Rattle.ups_store.specs.Rewriting.{seen, written, GoesOn};
+    ghost use Rattle.ups_store.specs.Shown.{requests_shown, count_of};
+    ghost use Rattle.ups_store.specs.Rewriting.{seen, written_anew, GoesOnRewriting};
 
     /// Begins to replace all requests: takes them out, in a transaction. What is committed stays until `Rewrite::commit`,
     /// and after a crash before it the store has the requests that it had.
@@ -87,14 +87,14 @@ impl<S: Store> RequestStore<S> {
     pub fn rewrite(self) -> Result<Rewrite<S>, StoreFault>
     where
         S: Drop,
-        ensures empty { IfOk result (λ it. IsClean (seen it) → written it ≡ []) }
-        ensures goes_on { IfOk result (λ it. IsClean (seen it) → GoesOn it) }
-        ensures runs { IfOk result (λ it. IsClean (seen it) → (seen it).trees 1 ≡ (shown self).committed 1) }
-        ensures kept { IfOk result (λ it. KeepsCommitted (shown self) (seen it)) }
+        ensures empty { IfOk result (λ it. IsClean (seen it) → written_anew it ≡ []) }
+        ensures goes_on { IfOk result (λ it. IsClean (seen it) → GoesOnRewriting it) }
+        ensures runs { IfOk result (λ it. IsClean (seen it) → (seen it).trees 1 ≡ (requests_shown self).committed 1) }
+        ensures kept { IfOk result (λ it. KeepsCommitted (requests_shown self) (seen it)) }
         ensures quiet { IfOk result (λ it. IsQuiet S.Store.view S.Store.faults S.Store.recovers S.Store.is_shielded self.store it.store) }
         ensures failure { IfErr result (λ fault. (last : S) × IsQuiet S.Store.view S.Store.faults S.Store.recovers S.Store.is_shielded self.store last × (IsClean (S.Store.view last) → HasReason (record {
           Failed = MoreFaults (S.Store.faults self.store) (S.Store.faults last);
-          WasShut = IsTrue (shown self).is_broken;
+          WasShut = IsTrue (requests_shown self).is_broken;
           IsTooLarge = ⊥;
           AreTooMany = 2 ^ 63 ≤ count_of self;
           IsNotRequest = ⊥;
@@ -109,8 +109,8 @@ impl<S: Store> RequestStore<S> {
 }
 
 impl<S: Store> Rewrite<S> {
-    ghost use Rattle.ups_store.specs.Shown.{shown, requests};
-    ghost use Rattle.ups_store.specs.Rewriting.{seen, written, written_count, records_of, GoesOn, IsReplaced};
+    ghost use Rattle.ups_store.specs.Shown.{requests_shown, requests};
+    ghost use Rattle.ups_store.specs.Rewriting.{seen, written_anew, written_count, records_of, GoesOnRewriting, IsReplaced};
 
     /// Gives the store back.
     pub(crate) fn into_store(self) -> S
@@ -142,10 +142,10 @@ impl<S: Store> Rewrite<S> {
 
     /// Takes all requests out.
     fn clear(&mut self) -> Result<(), StoreFault>
-        requires held { IsHeld (seen self.old) self.old.count }
+        requires held { HoldsIfOpen (seen self.old) self.old.count }
         requires waits { self.old.is_whole ≡ false }
-        ensures empty { OnOk result (IsClean (seen self.new) → written self.new ≡ []) }
-        ensures goes_on { OnOk result (IsClean (seen self.new) → GoesOn self.new) }
+        ensures empty { OnOk result (IsClean (seen self.new) → written_anew self.new ≡ []) }
+        ensures goes_on { OnOk result (IsClean (seen self.new) → GoesOnRewriting self.new) }
         ensures runs { OnOk result (IsClean (seen self.new) → (seen self.new).trees 1 ≡ (seen self.old).committed 1) }
         ensures kept { KeepsCommitted (seen self.old) (seen self.new) }
         ensures schema { KeepsSchema (seen self.old) (seen self.new) }
@@ -169,7 +169,7 @@ impl<S: Store> Rewrite<S> {
 
     /// How many requests were put.
     pub fn len(&self) -> u64
-        ensures { GoesOn self.now → result ≡ length (written self.now) }
+        ensures { GoesOnRewriting self.now → result ≡ length (written_anew self.now) }
     {
         self.count
     }
@@ -179,14 +179,14 @@ impl<S: Store> Rewrite<S> {
     /// Errors: Memory, Disk, Damaged, Full; TooLarge where the row of a record has a billion bytes or more; TooMany; Shut
     /// after an error.
     pub fn put(&mut self, run: u64, records: &[Record<Global>]) -> Result<(), StoreFault>
-        ensures added { OnOk result (IsClean (seen self.new) → written self.new ≡ written self.old ++ map (entered run) records.now) }
-        ensures goes_on { OnOk result (IsClean (seen self.new) → GoesOn self.new) }
+        ensures added { OnOk result (IsClean (seen self.new) → written_anew self.new ≡ written_anew self.old ++ map (stored_in_run run) records.now) }
+        ensures goes_on { OnOk result (IsClean (seen self.new) → GoesOnRewriting self.new) }
         ensures runs { OnOk result (IsClean (seen self.new) → (seen self.new).trees 1 ≡ (seen self.old).trees 1) }
         ensures kept { KeepsCommitted (seen self.old) (seen self.new) }
         ensures schema { KeepsSchema (seen self.old) (seen self.new) }
         ensures cause { IsClean (seen self.new) → IfErr result (HasReason (record {
           Failed = MoreFaults (S.Store.faults self.old.store) (S.Store.faults self.new.store);
-          WasShut = ¬ GoesOn self.old;
+          WasShut = ¬ GoesOnRewriting self.old;
           IsTooLarge = HasTooLarge (seen self.old) run records.now;
           AreTooMany = 2 ^ 63 ≤ written_count self.old + length records.now;
           IsNotRequest = ⊥;
@@ -208,7 +208,7 @@ impl<S: Store> Rewrite<S> {
 
     /// Puts groups of records, one after the other.
     fn put_groups(&mut self, run: u64, groups: &[Vec<Record<Global>>]) -> Result<(), StoreFault>
-        ensures added { OnOk result (IsClean (seen self.new) → written self.new ≡ written self.old ++ map (entered run) (records_of groups.now)) }
+        ensures added { OnOk result (IsClean (seen self.new) → written_anew self.new ≡ written_anew self.old ++ map (stored_in_run run) (records_of groups.now)) }
         ensures schema { KeepsSchema (seen self.old) (seen self.new) }
         ensures quiet { IsQuiet S.Store.view S.Store.faults S.Store.recovers S.Store.is_shielded self.old.store self.new.store }
     {
@@ -220,16 +220,16 @@ impl<S: Store> Rewrite<S> {
 
     /// Writes the run's row, and commits.
     fn settle(&mut self, number: u64, run: &Run<'_>) -> Result<(), StoreFault>
-        ensures held { OnOk result (IsHeld (seen self.new) self.new.count) }
-        ensures replaced { OnOk result (IsClean (seen self.new) → requests_in (seen self.new).committed ≡ written self.old) }
+        ensures held { OnOk result (HoldsIfOpen (seen self.new) self.new.count) }
+        ensures replaced { OnOk result (IsClean (seen self.new) → requests_in (seen self.new).committed ≡ written_anew self.old) }
         ensures is_open { OnOk result (IsClean (seen self.new) → IsTrue (seen self.new).is_open) }
-        ensures runs { OnOk result (IsClean (seen self.new) → (seen self.new).committed 1 ≡ put_row (row_of_run number run.now (length (written self.old))) ((seen self.old).trees 1)) }
+        ensures runs { OnOk result (IsClean (seen self.new) → (seen self.new).committed 1 ≡ put_row (row_of_run number run.now (length (written_anew self.old))) ((seen self.old).trees 1)) }
         ensures tables { HasTables (seen self.old) → IsClean (seen self.new) → HasTables (seen self.new) }
         ensures clean { doubt (seen self.old).is_clean ≤ doubt (seen self.new).is_clean }
         ensures crash { (db : Trees) → S.Store.recovers self.new.store db → S.Store.recovers self.old.store db ⊎ IsReplaced self.old db }
         ensures cause { IsClean (seen self.new) → IfErr result (HasReason (record {
           Failed = MoreFaults (S.Store.faults self.old.store) (S.Store.faults self.new.store);
-          WasShut = ¬ GoesOn self.old;
+          WasShut = ¬ GoesOnRewriting self.old;
           IsTooLarge = ¬ IsStorableRow ((seen self.old).reals 1) (row_of_run number run.now (written_count self.old));
           AreTooMany = ⊥;
           IsNotRequest = ⊥;
@@ -252,15 +252,15 @@ impl<S: Store> Rewrite<S> {
     pub fn commit(mut self, number: u64, run: &Run<'_>) -> Result<RequestStore<S>, StoreFault>
     where
         S: Drop,
-        ensures clean { IfOk result (λ it. IsClean (shown it) → IsClean (seen self)) }
-        ensures replaced { IfOk result (λ it. IsClean (shown it) → requests it ≡ written self) }
-        ensures is_open { IfOk result (λ it. IsClean (shown it) → IsTrue (shown it).is_open) }
-        ensures runs { IfOk result (λ it. IsClean (shown it) → (shown it).committed 1 ≡ put_row (row_of_run number run.now (length (written self))) ((seen self).trees 1)) }
-        ensures tables { IfOk result (λ it. HasTables (seen self) → IsClean (shown it) → HasTables (shown it)) }
+        ensures clean { IfOk result (λ it. IsClean (requests_shown it) → IsClean (seen self)) }
+        ensures replaced { IfOk result (λ it. IsClean (requests_shown it) → requests it ≡ written_anew self) }
+        ensures is_open { IfOk result (λ it. IsClean (requests_shown it) → IsTrue (requests_shown it).is_open) }
+        ensures runs { IfOk result (λ it. IsClean (requests_shown it) → (requests_shown it).committed 1 ≡ put_row (row_of_run number run.now (length (written_anew self))) ((seen self).trees 1)) }
+        ensures tables { IfOk result (λ it. HasTables (seen self) → IsClean (requests_shown it) → HasTables (requests_shown it)) }
         ensures crash { IfOk result (λ it. (db : Trees) → S.Store.recovers it.store db → S.Store.recovers self.store db ⊎ IsReplaced self db) }
         ensures failure { IfErr result (λ fault. (last : S) × ((db : Trees) → S.Store.recovers last db → S.Store.recovers self.store db ⊎ IsReplaced self db) × (IsClean (S.Store.view last) → HasReason (record {
           Failed = MoreFaults (S.Store.faults self.store) (S.Store.faults last);
-          WasShut = ¬ GoesOn self;
+          WasShut = ¬ GoesOnRewriting self;
           IsTooLarge = ¬ IsStorableRow ((seen self).reals 1) (row_of_run number run.now (written_count self));
           AreTooMany = ⊥;
           IsNotRequest = ⊥;
@@ -287,13 +287,13 @@ impl<S: Store> Rewrite<S> {
         number: u64,
         run: &Run<'_>,
     ) -> Result<(), StoreFault>
-        requires held { IsHeld (seen self.old) self.old.count }
+        requires held { HoldsIfOpen (seen self.old) self.old.count }
         requires waits { self.old.is_whole ≡ false }
-        ensures replaced { OnOk result (IsClean (seen self.new) → requests_in (seen self.new).committed ≡ map (entered entered_in) (records_of groups.now)) }
+        ensures replaced { OnOk result (IsClean (seen self.new) → requests_in (seen self.new).committed ≡ map (stored_in_run entered_in) (records_of groups.now)) }
         ensures is_open { OnOk result (IsClean (seen self.new) → IsTrue (seen self.new).is_open) }
         ensures tables { HasTables (seen self.old) → IsClean (seen self.new) → HasTables (seen self.new) }
         ensures crash { (db : Trees) → S.Store.recovers self.new.store db
-            → S.Store.recovers self.old.store db ⊎ ((requests_in db ≡ map (entered entered_in) (records_of groups.now)) × IsNumbered (db 0)) }
+            → S.Store.recovers self.old.store db ⊎ ((requests_in db ≡ map (stored_in_run entered_in) (records_of groups.now)) × IsNumbered (db 0)) }
     {
         self.clear()?;
         self.put_groups(entered_in, groups)?;

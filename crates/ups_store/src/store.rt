@@ -5,8 +5,8 @@ ghost use Rattle.sqlite_disk.specs.Disk.{MoreFaults};
 ghost use Rattle.sqlite_trees.specs.declared.store.Shape.TheVariants.{Table};
 ghost use Rattle.sqlite_trees.specs.Tree.{Trees};
 ghost use Rattle.sqlite_trees.specs.View.{IsClean, IsQuiet, KeepsSchema, KeepsCommitted, HasCause, IsStorableRow};
-ghost use Rattle.ups_store.specs.Rows.{entered, row_of, requests_in, IsNumbered};
-ghost use Rattle.ups_store.specs.Held.{HasTables, IsHeld, IsAdding, Adds};
+ghost use Rattle.ups_store.specs.Rows.{stored_in_run, request_row, requests_in, IsNumbered};
+ghost use Rattle.ups_store.specs.Held.{HasTables, HoldsIfOpen, IsAdding, Adds};
 ghost use Rattle.ups_store.specs.Storing.{HasTooLarge};
 ghost use Rattle.ups_store.specs.Faults.{HasReason};
 ghost use Rattle.sqlite_store.specs.FileStore.{faults, HasSpilled, log_frames};
@@ -34,7 +34,7 @@ pub struct RequestStore<S: Store> {
     /// How many requests there are.
     pub(crate) count: u64,
     pub(crate) row: Row,
-    ghost held: { IsHeld (S.Store.view store) count },
+    ghost held: { HoldsIfOpen (S.Store.view store) count },
 }
 
 /// Puts the row of a record behind those of a transaction.
@@ -48,12 +48,12 @@ fn put_one<S: Store>(
     requires table { IsClean (S.Store.view store.old) → (S.Store.view store.old).shape 0 ≡ Table }
     requires adding { IsClean (S.Store.view store.old) → IsAdding (S.Store.view store.old) count }
     requires few { count + 1 < 2 ^ 63 }
-    ensures added { OnOk result (IsClean (S.Store.view store.new) → Adds (S.Store.view store.old) (S.Store.view store.new) (entered run asked.now ∷ []) count) }
+    ensures added { OnOk result (IsClean (S.Store.view store.new) → Adds (S.Store.view store.old) (S.Store.view store.new) (stored_in_run run asked.now ∷ []) count) }
     ensures runs { OnOk result (IsClean (S.Store.view store.new) → (S.Store.view store.new).trees 1 ≡ (S.Store.view store.old).trees 1) }
     ensures kept { KeepsCommitted (S.Store.view store.old) (S.Store.view store.new) }
     ensures schema { KeepsSchema (S.Store.view store.old) (S.Store.view store.new) }
     ensures cause { IsClean (S.Store.view store.new) → IfErr result (HasCause (S.Store.view store.old) (MoreFaults (S.Store.faults store.old) (S.Store.faults store.new))
-        (¬ IsStorableRow ((S.Store.view store.old).reals 0) (row_of (pos (count + 1)) (entered run asked.now)))) }
+        (¬ IsStorableRow ((S.Store.view store.old).reals 0) (request_row (pos (count + 1)) (stored_in_run run asked.now)))) }
     ensures quiet { IsQuiet S.Store.view S.Store.faults S.Store.recovers S.Store.is_shielded store.old store.new }
 {
     request::lay(row, (count + 1) as i64, run, asked)?;
@@ -71,7 +71,7 @@ pub(crate) fn put_all<S: Store>(
     requires table { IsClean (S.Store.view store.old) → (S.Store.view store.old).is_broken ≡ false → (S.Store.view store.old).shape 0 ≡ Table }
     requires adding { IsClean (S.Store.view store.old) → (S.Store.view store.old).is_broken ≡ false → IsAdding (S.Store.view store.old) count }
     requires few { count + length records.now < 2 ^ 63 }
-    ensures added { OnOk result (IsClean (S.Store.view store.new) → Adds (S.Store.view store.old) (S.Store.view store.new) (map (entered run) records.now) count) }
+    ensures added { OnOk result (IsClean (S.Store.view store.new) → Adds (S.Store.view store.old) (S.Store.view store.new) (map (stored_in_run run) records.now) count) }
     ensures runs { OnOk result (IsClean (S.Store.view store.new) → (S.Store.view store.new).trees 1 ≡ (S.Store.view store.old).trees 1) }
     ensures kept { KeepsCommitted (S.Store.view store.old) (S.Store.view store.new) }
     ensures schema { KeepsSchema (S.Store.view store.old) (S.Store.view store.new) }
@@ -102,12 +102,12 @@ pub(crate) fn count_with(count: u64, more: usize) -> Option<u64>
 }
 
 impl<S: Store> RequestStore<S> {
-    ghost use Rattle.ups_store.specs.Shown.{shown, requests, count_of};
+    ghost use Rattle.ups_store.specs.Shown.{requests_shown, requests, count_of};
 
     /// A store of so many requests.
     pub(crate) fn of(store: S, count: u64, row: Row) -> RequestStore<S>
-        requires { IsHeld (S.Store.view store) count }
-        ensures { shown result ≡ S.Store.view store }
+        requires { HoldsIfOpen (S.Store.view store) count }
+        ensures { requests_shown result ≡ S.Store.view store }
     {
         RequestStore { store, count, row }
     }
@@ -126,7 +126,7 @@ impl<S: Store> RequestStore<S> {
 
     /// How many requests there are.
     pub fn len(&self) -> u64
-        ensures { IsTrue (shown self.now).is_open → result ≡ length (requests self.now) }
+        ensures { IsTrue (requests_shown self.now).is_open → result ≡ length (requests self.now) }
     {
         self.count
     }
@@ -138,18 +138,18 @@ impl<S: Store> RequestStore<S> {
     /// Errors: Memory, Disk, Damaged, Full; Shut after an error that only another open mends; TooLarge where the row of a
     /// record has a billion bytes or more; TooMany.
     pub fn append(&mut self, run: u64, records: &[Record<Global>]) -> Result<(), StoreFault>
-        ensures added { OnOk result (IsClean (shown self.new) → requests self.new ≡ requests self.old ++ map (entered run) records.now) }
-        ensures is_open { OnOk result (IsClean (shown self.new) → IsTrue (shown self.new).is_open) }
-        ensures runs { OnOk result (IsClean (shown self.new) → (shown self.new).committed 1 ≡ (shown self.old).committed 1) }
-        ensures was_open { IsTrue (shown self.new).is_open → IsTrue (shown self.old).is_open }
-        ensures unchanged { OnErr result (IsTrue (shown self.new).is_open → (shown self.new).committed ≡ (shown self.old).committed) }
-        ensures tables { IsTrue (shown self.old).is_open → IsClean (shown self.new) → HasTables (shown self.new) }
+        ensures added { OnOk result (IsClean (requests_shown self.new) → requests self.new ≡ requests self.old ++ map (stored_in_run run) records.now) }
+        ensures is_open { OnOk result (IsClean (requests_shown self.new) → IsTrue (requests_shown self.new).is_open) }
+        ensures runs { OnOk result (IsClean (requests_shown self.new) → (requests_shown self.new).committed 1 ≡ (requests_shown self.old).committed 1) }
+        ensures was_open { IsTrue (requests_shown self.new).is_open → IsTrue (requests_shown self.old).is_open }
+        ensures unchanged { OnErr result (IsTrue (requests_shown self.new).is_open → (requests_shown self.new).committed ≡ (requests_shown self.old).committed) }
+        ensures tables { IsTrue (requests_shown self.old).is_open → IsClean (requests_shown self.new) → HasTables (requests_shown self.new) }
         ensures crash { (db : Trees) → S.Store.recovers self.new.store db
-            → S.Store.recovers self.old.store db ⊎ ((requests_in db ≡ requests self.old ++ map (entered run) records.now) × IsNumbered (db 0)) }
-        ensures cause { IsClean (shown self.new) → IfErr result (HasReason (record {
+            → S.Store.recovers self.old.store db ⊎ ((requests_in db ≡ requests self.old ++ map (stored_in_run run) records.now) × IsNumbered (db 0)) }
+        ensures cause { IsClean (requests_shown self.new) → IfErr result (HasReason (record {
           Failed = MoreFaults (S.Store.faults self.old.store) (S.Store.faults self.new.store);
-          WasShut = IsTrue (shown self.old).is_broken;
-          IsTooLarge = HasTooLarge (shown self.old) run records.now;
+          WasShut = IsTrue (requests_shown self.old).is_broken;
+          IsTooLarge = HasTooLarge (requests_shown self.old) run records.now;
           AreTooMany = 2 ^ 63 ≤ count_of self.old + length records.now;
           IsNotRequest = ⊥;
         })) }
@@ -175,7 +175,7 @@ impl<S: Store> RequestStore<S> {
     ghost use Rattle.sqlite_trees.specs.Tree.{put_row};
     ghost use Rattle.ups_store.specs.Faults.{HasRunReason};
     ghost use Rattle.ups_store.specs.Runs.{row_of_run, last_number, last_requests};
-    ghost use Rattle.ups_store.specs.Shown.{shown, requests, runs, count_of};
+    ghost use Rattle.ups_store.specs.Shown.{requests_shown, requests, runs, count_of};
 
     /// Enters a run of the program behind the earlier ones, with the number of requests that there are, and gives its
     /// number: the first is 1. The requests stay as they are, also after a crash.
@@ -183,20 +183,20 @@ impl<S: Store> RequestStore<S> {
     /// Errors: Short where the row of the last run counts more requests than there are; those of `append`, TooLarge and
     /// TooMany of the row of the run. An error that leaves the store open changes nothing.
     pub fn begin_run(&mut self, run: &Run<'_>) -> Result<u64, StoreFault>
-        ensures number { IfOk result (λ number. IsClean (shown self.new) → (number ≡ last_number (runs self.old) + 1) × (number < 2 ^ 63)) }
-        ensures enough { OnOk result (IsClean (shown self.new) → last_requests (runs self.old) ≤ length (requests self.old)) }
-        ensures begun { IfOk result (λ number. IsClean (shown self.new) → runs self.new ≡ runs self.old ++ row_of_run number run.now (length (requests self.old)) ∷ []) }
-        ensures requests { OnOk result (IsClean (shown self.new) → requests self.new ≡ requests self.old) }
-        ensures is_open { OnOk result (IsClean (shown self.new) → IsTrue (shown self.new).is_open) }
-        ensures was_open { IsTrue (shown self.new).is_open → IsTrue (shown self.old).is_open }
-        ensures unchanged { OnErr result (IsTrue (shown self.new).is_open → (shown self.new).committed ≡ (shown self.old).committed) }
-        ensures tables { IsTrue (shown self.old).is_open → IsClean (shown self.new) → HasTables (shown self.new) }
+        ensures number { IfOk result (λ number. IsClean (requests_shown self.new) → (number ≡ last_number (runs self.old) + 1) × (number < 2 ^ 63)) }
+        ensures enough { OnOk result (IsClean (requests_shown self.new) → last_requests (runs self.old) ≤ length (requests self.old)) }
+        ensures begun { IfOk result (λ number. IsClean (requests_shown self.new) → runs self.new ≡ runs self.old ++ row_of_run number run.now (length (requests self.old)) ∷ []) }
+        ensures requests { OnOk result (IsClean (requests_shown self.new) → requests self.new ≡ requests self.old) }
+        ensures is_open { OnOk result (IsClean (requests_shown self.new) → IsTrue (requests_shown self.new).is_open) }
+        ensures was_open { IsTrue (requests_shown self.new).is_open → IsTrue (requests_shown self.old).is_open }
+        ensures unchanged { OnErr result (IsTrue (requests_shown self.new).is_open → (requests_shown self.new).committed ≡ (requests_shown self.old).committed) }
+        ensures tables { IsTrue (requests_shown self.old).is_open → IsClean (requests_shown self.new) → HasTables (requests_shown self.new) }
         ensures crash { (db : Trees) → S.Store.recovers self.new.store db
             → S.Store.recovers self.old.store db ⊎ ((requests_in db ≡ requests self.old) × IsNumbered (db 0)) }
-        ensures cause { IsClean (shown self.new) → IfErr result (HasRunReason (record {
+        ensures cause { IsClean (requests_shown self.new) → IfErr result (HasRunReason (record {
           Failed = MoreFaults (S.Store.faults self.old.store) (S.Store.faults self.new.store);
-          WasShut = IsTrue (shown self.old).is_broken;
-          IsTooLarge = ¬ IsStorableRow ((shown self.old).reals 1) (row_of_run (last_number (runs self.old) + 1) run.now (count_of self.old));
+          WasShut = IsTrue (requests_shown self.old).is_broken;
+          IsTooLarge = ¬ IsStorableRow ((requests_shown self.old).reals 1) (row_of_run (last_number (runs self.old) + 1) run.now (count_of self.old));
           AreTooMany = 2 ^ 63 ≤ last_number (runs self.old) + 1;
           IsNotRequest = ⊥;
         }) (count_of self.old < last_requests (runs self.old))) }
@@ -217,18 +217,18 @@ impl<S: Store> RequestStore<S> {
     ///
     /// Errors: as for `begin_run`, but Short. An error that leaves the store open changes nothing.
     pub fn note_requests(&mut self, number: u64, run: &Run<'_>) -> Result<(), StoreFault>
-        ensures noted { OnOk result (IsClean (shown self.new) → runs self.new ≡ put_row (row_of_run number run.now (length (requests self.old))) (runs self.old)) }
-        ensures requests { OnOk result (IsClean (shown self.new) → requests self.new ≡ requests self.old) }
-        ensures is_open { OnOk result (IsClean (shown self.new) → IsTrue (shown self.new).is_open) }
-        ensures was_open { IsTrue (shown self.new).is_open → IsTrue (shown self.old).is_open }
-        ensures unchanged { OnErr result (IsTrue (shown self.new).is_open → (shown self.new).committed ≡ (shown self.old).committed) }
-        ensures tables { IsTrue (shown self.old).is_open → IsClean (shown self.new) → HasTables (shown self.new) }
+        ensures noted { OnOk result (IsClean (requests_shown self.new) → runs self.new ≡ put_row (row_of_run number run.now (length (requests self.old))) (runs self.old)) }
+        ensures requests { OnOk result (IsClean (requests_shown self.new) → requests self.new ≡ requests self.old) }
+        ensures is_open { OnOk result (IsClean (requests_shown self.new) → IsTrue (requests_shown self.new).is_open) }
+        ensures was_open { IsTrue (requests_shown self.new).is_open → IsTrue (requests_shown self.old).is_open }
+        ensures unchanged { OnErr result (IsTrue (requests_shown self.new).is_open → (requests_shown self.new).committed ≡ (requests_shown self.old).committed) }
+        ensures tables { IsTrue (requests_shown self.old).is_open → IsClean (requests_shown self.new) → HasTables (requests_shown self.new) }
         ensures crash { (db : Trees) → S.Store.recovers self.new.store db
             → S.Store.recovers self.old.store db ⊎ ((requests_in db ≡ requests self.old) × IsNumbered (db 0)) }
-        ensures cause { IsClean (shown self.new) → IfErr result (HasReason (record {
+        ensures cause { IsClean (requests_shown self.new) → IfErr result (HasReason (record {
           Failed = MoreFaults (S.Store.faults self.old.store) (S.Store.faults self.new.store);
-          WasShut = IsTrue (shown self.old).is_broken;
-          IsTooLarge = ¬ IsStorableRow ((shown self.old).reals 1) (row_of_run number run.now (count_of self.old));
+          WasShut = IsTrue (requests_shown self.old).is_broken;
+          IsTooLarge = ¬ IsStorableRow ((requests_shown self.old).reals 1) (row_of_run number run.now (count_of self.old));
           AreTooMany = ⊥;
           IsNotRequest = ⊥;
         })) }
@@ -247,19 +247,19 @@ impl<S: Store> RequestStore<S> {
 }
 
 impl<D: Disk> RequestStore<FileStore<D>> {
-    ghost use Rattle.ups_store.specs.Shown.{shown};
+    ghost use Rattle.ups_store.specs.Shown.{requests_shown};
 
     /// Copies the log into the file, so that the file alone has the requests. To be called when nobody asks anything.
     ///
     /// Errors: Memory, Disk, Damaged, Full; Shut after an error that only another open mends. An error that leaves the
     /// store open changes nothing.
     pub fn checkpoint(&mut self) -> Result<(), StoreFault>
-        ensures same { IsTrue (shown self.new).is_open → shown self.new ≡ shown self.old }
+        ensures same { IsTrue (requests_shown self.new).is_open → requests_shown self.new ≡ requests_shown self.old }
         ensures copied { OnOk result (¬ HasSpilled self.old.store → log_frames self.new.store ≡ 0) }
-        ensures is_open { OnOk result (IsClean (shown self.new) → IsTrue (shown self.new).is_open) }
-        ensures cause { IsClean (shown self.new) → IfErr result (HasReason (record {
+        ensures is_open { OnOk result (IsClean (requests_shown self.new) → IsTrue (requests_shown self.new).is_open) }
+        ensures cause { IsClean (requests_shown self.new) → IfErr result (HasReason (record {
           Failed = MoreFaults (faults self.old.store) (faults self.new.store);
-          WasShut = IsTrue (shown self.old).is_broken;
+          WasShut = IsTrue (requests_shown self.old).is_broken;
           IsTooLarge = ⊥;
           AreTooMany = ⊥;
           IsNotRequest = ⊥;

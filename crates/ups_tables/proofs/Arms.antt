@@ -14,9 +14,9 @@ use Rattle.ups_life.specs.History.{legal}
 use Rattle.ups_life.proofs.Texts.{text_is_itself}
 use Rattle.ups_life.proofs.Accepted.{said, succeeded, legal_tail, created_fresh, on_held}
 use Rattle.ups_keep.specs.declared.due.Final.{Final}
-use Rattle.ups_live.specs.Live.{newly_by, is_of_watch}
-use Rattle.ups_live.proofs.Among.{among_push, among_filter}
-use Rattle.ups_live.proofs.Finals.{not_held, final_create}
+use Rattle.ups_tables.specs.Live.{newly_by, is_of_watch}
+use Rattle.ups_tables.proofs.Among.{among_push, among_filter}
+use Rattle.ups_tables.proofs.Finals.{not_held, final_create}
 use Rattle.ups_events.specs.Queue as lists
 use Rattle.ups_watch.specs.declared.cover.Cover.{Cover}
 use Rattle.ups_steps.specs.declared.held.Held.{Held}
@@ -24,7 +24,7 @@ use Rattle.ups_tables.specs.declared.tables.Tables.{Tables}
 use Rattle.ups_tables.specs.Held.{held_at}
 use Rattle.ups_tables.specs.Effects.{RoomFor}
 use Rattle.ups_tables.specs.Fit.{how, holds, AreFreed}
-use Rattle.ups_tables.specs.Places.{place_in}
+use Rattle.ups_tables.specs.Places.{place_of_title}
 use Rattle.ups_tables.specs.Stands.{Stands}
 use Rattle.ups_tables.specs.Planned.{PlansCreate, PlansSet, PlansGlobal}
 use Rattle.ups_tables.proofs.Titled.{place_within}
@@ -80,10 +80,10 @@ module _ {A : Type 0} (s : Settings) (history : List (Entry A)) (e : Entry A) (t
       first_true true b e = refl
       first_true false b e = absurd (true≢false (sym e))
 
-  pub within : (peer : ℕ) (receiver : List ℕ) → place_in s.peers receiver ≡ Some peer → peer < length t.watchers.covers
+  pub within : (peer : ℕ) (receiver : List ℕ) → place_of_title s.peers receiver ≡ Some peer → peer < length t.watchers.covers
   within peer receiver here = let n = place_within s.peers receiver peer here in let m = st.peers in omega (arith, n, m)
 
-pub lent_room : (has : ℕ → Bool) (xs ys : List Report) (qs : List lists.Standing) → ys ≡ xs → RoomFor has (length xs) qs → RoomFor has (length ys) qs
+pub lent_room : (has : ℕ → Bool) (xs ys : List Report) (qs : List lists.QueueView) → ys ≡ xs → RoomFor has (length xs) qs → RoomFor has (length ys) qs
 lent_room has xs ys qs same room = subst (λ n. RoomFor has n qs) (sym (ap length same)) room
 
 pub lent_freed : {A : Type 0} (t : Tables A) (peer : ℕ) (subscription : Option Subscription) (steps lent : List (List ℕ)) (freed given : List Final) → AreFreed t peer subscription (λ u. is_among u steps) freed → lent ≡ steps → given ≡ freed

@@ -1,8 +1,7 @@
 -- The tables fit after each change.
 use Rattle.std.proofs.lemmas.Bool.Decides.{nat_tests}
-use Rattle.std.proofs.Common.{◌≡◌, ◌≢◌, ◌<◌, ◌≤◌, ◌+◌, ℕ, zero, suc, Bool, true, false, not, ◌&&◌, ◌||◌, cond, eqb, List, [], ◌∷◌, ◌++◌, filter, length, get_or, set, Option, None, Some, refl, sym, ap, ◌∙◌, subst, arith, true≢false, leb, ◌⊎◌, inl, inr}
+use Rattle.std.proofs.Common.{◌≡◌, ◌≢◌, ◌<◌, ◌≤◌, ℕ, zero, suc, Bool, true, false, not, ◌&&◌, ◌||◌, cond, eqb, List, [], ◌∷◌, ◌++◌, filter, length, get_or, set, Option, None, Some, refl, sym, ap, ◌∙◌, subst, arith, true≢false, leb, ◌⊎◌, inl, inr}
 use Rattle.std.specs.Prelude.{is_some}
-use Rattle.std.specs.Map.{lookup}
 use Rattle.std.specs.Option.{option_or, unwrap_or}
 use Rattle.std.specs.Str.{bytes_eq}
 use Rattle.std.proofs.lemmas.List.{get_or_past}
@@ -12,12 +11,12 @@ use Rattle.ups_life.specs.Distinct.{Distinct}
 use Rattle.ups_life.specs.Watching.{is_among}
 use Rattle.ups_life.proofs.Texts.{same_text, text_is_itself}
 use Rattle.ups_keep.specs.declared.due.Final.{Final}
-use Rattle.ups_keep.specs.Due.{up_to, later_than}
+use Rattle.ups_keep.specs.Due.{due_until, later_than}
 use Rattle.ups_keep.specs.Waits.{steps_of, waits, unless_kept, only_where}
 use Rattle.ups_keep.proofs.Waiting.{is_false, other_text, among_waits, waits_kept, distinct_kept}
 use Rattle.ups_watch.specs.Rows.{Cells, cell}
 use Rattle.ups_watch.specs.Rows as rows
-use Rattle.ups_watch.specs.Table.{Standing, watching, knows, cells_of, is_kept, is_locked}
+use Rattle.ups_watch.specs.Table.{WatchersView, watching, knows, cells_of, is_locked_by_any, is_locked}
 use Rattle.ups_watch.proofs.Cells.{cell_set}
 use Rattle.ups_watch.proofs.Keeping.{kept_same}
 use Rattle.ups_dataset.specs.Data.{El}
@@ -28,11 +27,11 @@ use Rattle.ups_events.proofs.Tellings.{line_new}
 use Rattle.std.proofs.lemmas.Bool.{cases_lt}
 use Rattle.ups_watch.specs.declared.cover.Cover.{Cover}
 use Rattle.ups_watch.specs.Covers.{covered}
-use Rattle.ups_tables.specs.Effects.{Reserved, RoomFor}
+use Rattle.ups_tables.specs.Effects.{Reserved}
 use Rattle.ups_steps.specs.declared.held.Held.{Held}
 use Rattle.ups_tables.specs.declared.tables.Tables.{Tables}
 use Rattle.ups_tables.specs.Held.{held_at, final_of, put_held}
-use Rattle.ups_tables.specs.Fit.{how, cells, kept, kept_if, final_at, holds, Fits, AreFreed}
+use Rattle.ups_tables.specs.Fit.{how, cells_at, has_lock, kept_if, final_in, holds, TablesFit, AreFreed}
 
 -- WHAT IS HELD
 
@@ -65,34 +64,34 @@ held_put {A} step u h (x ∷ xs) = by (bytes_eq step x.0) refl (held_put step u 
 
 -- WHO KEEPS IT
 
-pub cells_watching : {A : Type 0} (t : Standing A) (p : ℕ) (u : List ℕ) → get_or (cells_of t u) p None ≡ watching t p u
-cells_watching t p u = by (rows.cells t.rows u)
+pub cells_watching : {A : Type 0} (t : WatchersView A) (p : ℕ) (u : List ℕ) → get_or (cells_of t u) p None ≡ watching t p u
+cells_watching t p u = by (rows.cells_in t.rows u)
   where
     by : (o : Option Cells) → get_or (unwrap_or o []) p None ≡ cell p o
     by None = refl
     by (Some row) = refl
 
-pub kept_unless : {A : Type 0} (t t' : Standing A) (u : List ℕ) → ((p : ℕ) → watching t' p u ≡ watching t p u) → is_kept (cells_of t' u) ≡ is_kept (cells_of t u)
+pub kept_unless : {A : Type 0} (t t' : WatchersView A) (u : List ℕ) → ((p : ℕ) → watching t' p u ≡ watching t p u) → is_locked_by_any (cells_of t' u) ≡ is_locked_by_any (cells_of t u)
 kept_unless t t' u same = kept_same (cells_of t' u) (cells_of t u) (λ p. cells_watching t' p u ∙ same p ∙ sym (cells_watching t p u))
 
-none_kept : {A : Type 0} (t : Standing A) (u : List ℕ) → ((p : ℕ) → watching t p u ≡ None) → is_kept (cells_of t u) ≡ false
+none_kept : {A : Type 0} (t : WatchersView A) (u : List ℕ) → ((p : ℕ) → watching t p u ≡ None) → is_locked_by_any (cells_of t u) ≡ false
 none_kept t u none = kept_same (cells_of t u) [] (λ p. cells_watching t p u ∙ none p)
 
 -- the peer at a place is subscribed otherwise
-pub kept_set : {A : Type 0} (t t' : Standing A) (u : List ℕ) (peer : ℕ) (s : Option Subscription) → peer < length (cells_of t u) → ((p : ℕ) → watching t' p u ≡ cond (eqb peer p) s (watching t p u)) → is_kept (cells_of t' u) ≡ is_kept (set (cells_of t u) peer s)
+pub kept_set : {A : Type 0} (t t' : WatchersView A) (u : List ℕ) (peer : ℕ) (s : Option Subscription) → peer < length (cells_of t u) → ((p : ℕ) → watching t' p u ≡ cond (eqb peer p) s (watching t p u)) → is_locked_by_any (cells_of t' u) ≡ is_locked_by_any (set (cells_of t u) peer s)
 kept_set t t' u peer s within step = kept_same (cells_of t' u) (set (cells_of t u) peer s) (λ p. cells_watching t' p u ∙ step p ∙ ap (cond (eqb peer p) s) (sym (cells_watching t p u)) ∙ sym (cell_set (cells_of t u) peer s p within))
 
 -- a peer without a lock keeps nothing more
-pub still_free : (row : Cells) (peer : ℕ) (s : Option Subscription) → is_locked s ≡ false → is_kept row ≡ false → is_kept (set row peer s) ≡ false
+pub still_free : (row : Cells) (peer : ℕ) (s : Option Subscription) → is_locked s ≡ false → is_locked_by_any row ≡ false → is_locked_by_any (set row peer s) ≡ false
 still_free [] peer s free none = refl
 still_free (x ∷ xs) zero s free none = by (is_locked x) none
   where
-    by : (b : Bool) → (b || is_kept xs) ≡ false → (is_locked s || is_kept xs) ≡ false
+    by : (b : Bool) → (b || is_locked_by_any xs) ≡ false → (is_locked s || is_locked_by_any xs) ≡ false
     by true n = absurd (true≢false n)
-    by false n = ap (λ b. b || is_kept xs) free ∙ n
+    by false n = ap (λ b. b || is_locked_by_any xs) free ∙ n
 still_free (x ∷ xs) (suc peer) s free none = by (is_locked x) none (still_free xs peer s free)
   where
-    by : (b : Bool) → (b || is_kept xs) ≡ false → (is_kept xs ≡ false → is_kept (set xs peer s) ≡ false) → (b || is_kept (set xs peer s)) ≡ false
+    by : (b : Bool) → (b || is_locked_by_any xs) ≡ false → (is_locked_by_any xs ≡ false → is_locked_by_any (set xs peer s) ≡ false) → (b || is_locked_by_any (set xs peer s)) ≡ false
     by true n rest = absurd (true≢false n)
     by false n rest = rest n
 
@@ -102,14 +101,14 @@ never_waits false = refl
 
 -- each step that is known has a cell for each peer
 abbrev Wide : {A : Type 0} → Tables A → Type 0
-Wide t = (u : List ℕ) → knows t.watchers u ≡ true → length (cells t u) ≡ length t.watchers.covers
+Wide t = (u : List ℕ) → knows t.watchers u ≡ true → length (cells_at t u) ≡ length t.watchers.covers
 
 -- A STEP IS CREATED
 
-module _ {A : Type 0} (t t' : Tables A) (step : List ℕ) (h : Held A) (old : Fits t) (fresh : held_at step t.steps.entries ≡ None) (open_yet : h.row.final_at ≡ None)
+module _ {A : Type 0} (t t' : Tables A) (step : List ℕ) (h : Held A) (old : TablesFit t) (fresh : held_at step t.steps.entries ≡ None) (open_yet : h.row.final_at ≡ None)
     (steps : t'.steps.entries ≡ t.steps.entries ++ (step, h) ∷ []) (new_hows : (p : ℕ) (u : List ℕ) → bytes_eq step u ≡ false → how t' p u ≡ how t p u)
     (new_known : (u : List ℕ) → knows t'.watchers u ≡ (bytes_eq step u || knows t.watchers u)) (queues : length t'.queues ≡ length t'.watchers.covers) (wide : Wide t') (due : t'.due.steps ≡ t.due.steps) where
-  pub fits_created : Fits t'
+  pub fits_created : TablesFit t'
   fits_created = record {
     queues = queues;
     known = λ u. new_known u ∙ ap (λ b. bytes_eq step u || b) (old.known u) ∙ sym (ap is_some (now u) ∙ either (bytes_eq step u) (held_at u t.steps.entries));
@@ -125,21 +124,21 @@ module _ {A : Type 0} (t t' : Tables A) (step : List ℕ) (h : Held A) (old : Fi
       either true o = refl
       either false o = refl
 
-      by : (u : List ℕ) (b : Bool) → bytes_eq step u ≡ b → unless_kept (kept t u) (final_at t u) ≡ unless_kept (kept t' u) (final_at t' u)
+      by : (u : List ℕ) (b : Bool) → bytes_eq step u ≡ b → unless_kept (has_lock t u) (final_in t u) ≡ unless_kept (has_lock t' u) (final_in t' u)
       by u true e =
-          ap (λ o. unless_kept (kept t u) (final_of o)) (ap (λ v. held_at v t.steps.entries) (sym (same_text step u e)) ∙ fresh) ∙ never_waits (kept t u)
-          ∙ sym (ap (λ o. unless_kept (kept t' u) (final_of o)) (now u ∙ ap (λ b. cond b (Some h) (held_at u t.steps.entries)) e) ∙ ap (unless_kept (kept t' u)) open_yet ∙ never_waits (kept t' u))
+          ap (λ o. unless_kept (has_lock t u) (final_of o)) (ap (λ v. held_at v t.steps.entries) (sym (same_text step u e)) ∙ fresh) ∙ never_waits (has_lock t u)
+          ∙ sym (ap (λ o. unless_kept (has_lock t' u) (final_of o)) (now u ∙ ap (λ b. cond b (Some h) (held_at u t.steps.entries)) e) ∙ ap (unless_kept (has_lock t' u)) open_yet ∙ never_waits (has_lock t' u))
       by u false e =
-          ap (λ b. unless_kept b (final_at t u)) (sym (kept_unless t.watchers t'.watchers u (λ p. new_hows p u e)))
-          ∙ ap (λ o. unless_kept (kept t' u) (final_of o)) (sym (now u ∙ ap (λ b. cond b (Some h) (held_at u t.steps.entries)) e))
+          ap (λ b. unless_kept b (final_in t u)) (sym (kept_unless t.watchers t'.watchers u (λ p. new_hows p u e)))
+          ∙ ap (λ o. unless_kept (has_lock t' u) (final_of o)) (sym (now u ∙ ap (λ b. cond b (Some h) (held_at u t.steps.entries)) e))
 
 -- ONE STEP IS SETTLED: what is held of it or who keeps it may change, and of no other
 
-module _ {A : Type 0} (t t' : Tables A) (step : List ℕ) (old : Fits t) (queues : length t'.queues ≡ length t'.watchers.covers) (wide : Wide t')
+module _ {A : Type 0} (t t' : Tables A) (step : List ℕ) (old : TablesFit t) (queues : length t'.queues ≡ length t'.watchers.covers) (wide : Wide t')
     (new_hows : (p : ℕ) (u : List ℕ) → bytes_eq step u ≡ false → how t' p u ≡ how t p u) (new_known : (u : List ℕ) → knows t'.watchers u ≡ knows t.watchers u)
-    (new_holds : (u : List ℕ) → holds t' u ≡ holds t u) (new_final : (u : List ℕ) → bytes_eq step u ≡ false → final_at t' u ≡ final_at t u)
-    (once : Distinct (steps_of t'.due.steps)) (settled : (u : List ℕ) → waits u t'.due.steps ≡ cond (bytes_eq step u) (unless_kept (kept t' step) (final_at t' step)) (waits u t.due.steps)) where
-  pub fits_settled : Fits t'
+    (new_holds : (u : List ℕ) → holds t' u ≡ holds t u) (new_final : (u : List ℕ) → bytes_eq step u ≡ false → final_in t' u ≡ final_in t u)
+    (once : Distinct (steps_of t'.due.steps)) (settled : (u : List ℕ) → waits u t'.due.steps ≡ cond (bytes_eq step u) (unless_kept (has_lock t' step) (final_in t' step)) (waits u t.due.steps)) where
+  pub fits_settled : TablesFit t'
   fits_settled = record {
     queues = queues;
     known = λ u. new_known u ∙ old.known u ∙ sym (new_holds u);
@@ -148,39 +147,35 @@ module _ {A : Type 0} (t t' : Tables A) (step : List ℕ) (old : Fits t) (queues
     waiting = λ u. settled u ∙ by u (bytes_eq step u) refl;
   }
     where
-      by : (u : List ℕ) (b : Bool) → bytes_eq step u ≡ b → cond b (unless_kept (kept t' step) (final_at t' step)) (waits u t.due.steps) ≡ unless_kept (kept t' u) (final_at t' u)
-      by u true e = ap (λ v. unless_kept (kept t' v) (final_at t' v)) (same_text step u e)
-      by u false e = old.waiting u ∙ ap (λ b. unless_kept b (final_at t u)) (sym (kept_unless t.watchers t'.watchers u (λ p. new_hows p u e))) ∙ ap (unless_kept (kept t' u)) (sym (new_final u e))
+      by : (u : List ℕ) (b : Bool) → bytes_eq step u ≡ b → cond b (unless_kept (has_lock t' step) (final_in t' step)) (waits u t.due.steps) ≡ unless_kept (has_lock t' u) (final_in t' u)
+      by u true e = ap (λ v. unless_kept (has_lock t' v) (final_in t' v)) (same_text step u e)
+      by u false e = old.waiting u ∙ ap (λ b. unless_kept b (final_in t u)) (sym (kept_unless t.watchers t'.watchers u (λ p. new_hows p u e))) ∙ ap (unless_kept (has_lock t' u)) (sym (new_final u e))
 
 -- nothing that matters to it changes
-module _ {A : Type 0} (t t' : Tables A) (old : Fits t) (steps : t'.steps.entries ≡ t.steps.entries) (covers : length t'.watchers.covers ≡ length t.watchers.covers) (new_queues : length t'.queues ≡ length t.queues)
+module _ {A : Type 0} (t t' : Tables A) (old : TablesFit t) (steps : t'.steps.entries ≡ t.steps.entries) (covers : length t'.watchers.covers ≡ length t.watchers.covers) (new_queues : length t'.queues ≡ length t.queues)
     (wide : Wide t') (new_hows : (p : ℕ) (u : List ℕ) → how t' p u ≡ how t p u) (new_known : (u : List ℕ) → knows t'.watchers u ≡ knows t.watchers u) (due : t'.due.steps ≡ t.due.steps) where
-  pub fits_same : Fits t'
+  pub fits_same : TablesFit t'
   fits_same = record {
     queues = new_queues ∙ old.queues ∙ sym covers;
     known = λ u. new_known u ∙ old.known u ∙ sym (ap (λ hs. is_some (held_at u hs)) steps);
     width = wide;
     once = subst (λ (xs : List Final). Distinct (steps_of xs)) (sym due) old.once;
-    waiting = λ u. ap (waits u) due ∙ old.waiting u ∙ ap (λ b. unless_kept b (final_at t u)) (sym (kept_unless t.watchers t'.watchers u (λ p. new_hows p u))) ∙ ap (λ hs. unless_kept (kept t' u) (final_of (held_at u hs))) (sym steps);
+    waiting = λ u. ap (waits u) due ∙ old.waiting u ∙ ap (λ b. unless_kept b (final_in t u)) (sym (kept_unless t.watchers t'.watchers u (λ p. new_hows p u))) ∙ ap (λ hs. unless_kept (has_lock t' u) (final_of (held_at u hs))) (sym steps);
   }
 
 -- MANY STEPS: a peer is subscribed otherwise to those for which a test says so
 
 -- where a step is not known, nobody has a cell
-unknown : {A : Type 0} (t : Standing A) (u : List ℕ) → knows t u ≡ false → cells_of t u ≡ []
-unknown t u none = by (rows.cells t.rows u) none
+unknown : {A : Type 0} (t : WatchersView A) (u : List ℕ) → knows t u ≡ false → cells_of t u ≡ []
+unknown t u none = by (rows.cells_in t.rows u) none
   where
     by : (o : Option Cells) → is_some o ≡ false → unwrap_or o [] ≡ []
     by None n = refl
     by (Some row) n = absurd (true≢false n)
 
 -- nobody is subscribed to a step that is not held
-pub nobody : {A : Type 0} (t : Tables A) → Fits t → (u : List ℕ) → holds t u ≡ false → (p : ℕ) → how t p u ≡ None
+pub nobody : {A : Type 0} (t : Tables A) → TablesFit t → (u : List ℕ) → holds t u ≡ false → (p : ℕ) → how t p u ≡ None
 nobody t fits u out p = sym (cells_watching t.watchers p u) ∙ ap (λ (row : Cells). get_or row p None) (unknown t.watchers u (fits.known u ∙ out))
-
-no_holding : {A : Type 0} (o : Option (Held A)) → is_some o ≡ false → final_of o ≡ None
-no_holding None e = refl
-no_holding (Some h) e = absurd (true≢false e)
 
 or_none : (x : Option ℕ) → option_or x None ≡ x
 or_none None = refl
@@ -197,8 +192,8 @@ freed_rule false after true o false e = ap (λ b. option_or (unless_kept b o) No
 freed_rule false after false o kept_then e = ap (λ b. option_or (unless_kept b o) None) e ∙ or_none o ∙ sym (ap (λ b. unless_kept b o) e)
 
 -- whether a step is kept then
-pub kept_then : {A : Type 0} (t t' : Tables A) (old : Fits t) (peer : ℕ) (s : Option Subscription) (chosen : List ℕ → Bool) → peer < length t.watchers.covers
-    → ((p : ℕ) (u : List ℕ) → how t' p u ≡ cond (eqb peer p && chosen u) s (how t p u)) → ((u : List ℕ) → holds t u ≡ false → (p : ℕ) → how t' p u ≡ None) → (u : List ℕ) → kept t' u ≡ cond (chosen u) (kept_if t peer s u) (kept t u)
+pub kept_then : {A : Type 0} (t t' : Tables A) (old : TablesFit t) (peer : ℕ) (s : Option Subscription) (chosen : List ℕ → Bool) → peer < length t.watchers.covers
+    → ((p : ℕ) (u : List ℕ) → how t' p u ≡ cond (eqb peer p && chosen u) s (how t p u)) → ((u : List ℕ) → holds t u ≡ false → (p : ℕ) → how t' p u ≡ None) → (u : List ℕ) → has_lock t' u ≡ cond (chosen u) (kept_if t peer s u) (has_lock t u)
 kept_then t t' old peer s chosen within new_hows quiet u = by (chosen u) refl (holds t u) refl
   where
     never : (b : Bool) → (b && false) ≡ false
@@ -209,47 +204,47 @@ kept_then t t' old peer s chosen within new_hows quiet u = by (chosen u) refl (h
     always true = refl
     always false = refl
 
-    by : (b : Bool) → chosen u ≡ b → (k : Bool) → holds t u ≡ k → kept t' u ≡ cond b (kept_if t peer s u) (kept t u)
+    by : (b : Bool) → chosen u ≡ b → (k : Bool) → holds t u ≡ k → has_lock t' u ≡ cond b (kept_if t peer s u) (has_lock t u)
     by false c k h = kept_unless t.watchers t'.watchers u (λ p. new_hows p u ∙ ap (λ b. cond (eqb peer p && b) s (how t p u)) c ∙ ap (λ b. cond b s (how t p u)) (never (eqb peer p)))
     by true c true h =
         let w = old.width u (old.known u ∙ h) in
         kept_set t.watchers t'.watchers u peer s (omega (arith, w, within)) (λ p. new_hows p u ∙ ap (λ b. cond (eqb peer p && b) s (how t p u)) c ∙ ap (λ b. cond b s (how t p u)) (always (eqb peer p)))
-    by true c false h = none_kept t'.watchers u (quiet u h) ∙ sym (ap (λ (row : Cells). is_kept (set row peer s)) (unknown t.watchers u (old.known u ∙ h)))
+    by true c false h = none_kept t'.watchers u (quiet u h) ∙ sym (ap (λ (row : Cells). is_locked_by_any (set row peer s)) (unknown t.watchers u (old.known u ∙ h)))
 
-module _ {A : Type 0} (t t' : Tables A) (old : Fits t) (peer : ℕ) (s : Option Subscription) (chosen : List ℕ → Bool) (freed : List Final) (are : AreFreed t peer s chosen freed) (within : peer < length t.watchers.covers)
+module _ {A : Type 0} (t t' : Tables A) (old : TablesFit t) (peer : ℕ) (s : Option Subscription) (chosen : List ℕ → Bool) (freed : List Final) (are : AreFreed t peer s chosen freed) (within : peer < length t.watchers.covers)
     (steps : t'.steps.entries ≡ t.steps.entries) (queues : length t'.queues ≡ length t'.watchers.covers) (wide : Wide t')
     (new_hows : (p : ℕ) (u : List ℕ) → how t' p u ≡ cond (eqb peer p && chosen u) s (how t p u)) (quiet : (u : List ℕ) → holds t u ≡ false → (p : ℕ) → how t' p u ≡ None)
     (new_known : (u : List ℕ) → knows t'.watchers u ≡ knows t.watchers u) (once : Distinct (steps_of t'.due.steps))
-    (settled : (u : List ℕ) → waits u t'.due.steps ≡ option_or (unless_kept (kept t' u) (waits u t.due.steps)) (waits u freed)) where
-  pub fits_many : Fits t'
+    (settled : (u : List ℕ) → waits u t'.due.steps ≡ option_or (unless_kept (has_lock t' u) (waits u t.due.steps)) (waits u freed)) where
+  pub fits_many : TablesFit t'
   fits_many = record {
     queues = queues;
     known = λ u. new_known u ∙ old.known u ∙ sym (ap (λ hs. is_some (held_at u hs)) steps);
     width = wide;
     once = once;
     waiting = λ u.
-        settled u ∙ ap (λ o. option_or (unless_kept (kept t' u) o) (waits u freed)) (old.waiting u) ∙ ap (option_or (unless_kept (kept t' u) (unless_kept (kept t u) (final_at t u)))) (are.waiting u)
-        ∙ freed_rule (kept t u) (kept t' u) (chosen u) (final_at t u) (kept_if t peer s u) (kept_then t t' old peer s chosen within new_hows quiet u)
-        ∙ ap (λ hs. unless_kept (kept t' u) (final_of (held_at u hs))) (sym steps);
+        settled u ∙ ap (λ o. option_or (unless_kept (has_lock t' u) o) (waits u freed)) (old.waiting u) ∙ ap (option_or (unless_kept (has_lock t' u) (unless_kept (has_lock t u) (final_in t u)))) (are.waiting u)
+        ∙ freed_rule (has_lock t u) (has_lock t' u) (chosen u) (final_in t u) (kept_if t peer s u) (kept_then t t' old peer s chosen within new_hows quiet u)
+        ∙ ap (λ hs. unless_kept (has_lock t' u) (final_of (held_at u hs))) (sym steps);
   }
 
 -- what is freed did not wait
-pub freed_apart : {A : Type 0} (t : Tables A) (old : Fits t) (peer : ℕ) (s : Option Subscription) (chosen : List ℕ → Bool) (freed : List Final) → AreFreed t peer s chosen freed → (u : List ℕ) → is_some (waits u freed) ≡ true → waits u t.due.steps ≡ None
-freed_apart t old peer s chosen freed are u here = old.waiting u ∙ by (chosen u) (kept t u) (sym (ap is_some (are.waiting u)) ∙ here)
+pub freed_apart : {A : Type 0} (t : Tables A) (old : TablesFit t) (peer : ℕ) (s : Option Subscription) (chosen : List ℕ → Bool) (freed : List Final) → AreFreed t peer s chosen freed → (u : List ℕ) → is_some (waits u freed) ≡ true → waits u t.due.steps ≡ None
+freed_apart t old peer s chosen freed are u here = old.waiting u ∙ by (chosen u) (has_lock t u) (sym (ap is_some (are.waiting u)) ∙ here)
   where
-    by : (c k : Bool) → is_some (cond c (cond (k && not (kept_if t peer s u)) (final_at t u) None) None) ≡ true → unless_kept k (final_at t u) ≡ None
+    by : (c k : Bool) → is_some (cond c (cond (k && not (kept_if t peer s u)) (final_in t u) None) None) ≡ true → unless_kept k (final_in t u) ≡ None
     by true true h = refl
     by true false h = absurd (true≢false (sym h))
     by false k h = absurd (true≢false (sym h))
 
 -- where the peer gets no lock, what is kept then was kept before, and did not wait
-pub kept_before : {A : Type 0} (t t' : Tables A) (old : Fits t) (peer : ℕ) (s : Option Subscription) (chosen : List ℕ → Bool) → is_locked s ≡ false → ((u : List ℕ) → kept t' u ≡ cond (chosen u) (kept_if t peer s u) (kept t u))
-    → (u : List ℕ) → kept t' u ≡ true → waits u t.due.steps ≡ None
-kept_before t t' old peer s chosen free then u h = old.waiting u ∙ by (kept t u) refl (chosen u) (sym (then u) ∙ h)
+pub kept_before : {A : Type 0} (t t' : Tables A) (old : TablesFit t) (peer : ℕ) (s : Option Subscription) (chosen : List ℕ → Bool) → is_locked s ≡ false → ((u : List ℕ) → has_lock t' u ≡ cond (chosen u) (kept_if t peer s u) (has_lock t u))
+    → (u : List ℕ) → has_lock t' u ≡ true → waits u t.due.steps ≡ None
+kept_before t t' old peer s chosen free then u h = old.waiting u ∙ by (has_lock t u) refl (chosen u) (sym (then u) ∙ h)
   where
-    by : (k : Bool) → kept t u ≡ k → (c : Bool) → cond c (kept_if t peer s u) (kept t u) ≡ true → unless_kept k (final_at t u) ≡ None
+    by : (k : Bool) → has_lock t u ≡ k → (c : Bool) → cond c (kept_if t peer s u) (has_lock t u) ≡ true → unless_kept k (final_in t u) ≡ None
     by true e c g = refl
-    by false e true g = absurd (true≢false (sym g ∙ still_free (cells t u) peer s free e))
+    by false e true g = absurd (true≢false (sym g ∙ still_free (cells_at t u) peer s free e))
     by false e false g = absurd (true≢false (sym g ∙ e))
 
 -- A SWEEP
@@ -263,7 +258,7 @@ passed (Some k) m b e = by (leb k m) e
     by true f = ap (λ x. cond x None (Some k)) f
     by false f = ap (λ x. cond x None (Some k)) f
 
-module _ {A : Type 0} (t t' : Tables A) (old : Fits t) (due : List Final) (m : ℕ) (due_is : due ≡ up_to m t.due.steps)
+module _ {A : Type 0} (t t' : Tables A) (old : TablesFit t) (due : List Final) (m : ℕ) (due_is : due ≡ due_until m t.due.steps)
     (steps : t'.steps.entries ≡ filter (λ (e : List ℕ × Held A). not (is_among e.0 (steps_of due))) t.steps.entries) (new_hows : (p : ℕ) (u : List ℕ) → how t' p u ≡ cond (is_among u (steps_of due)) None (how t p u))
     (new_known : (u : List ℕ) → knows t'.watchers u ≡ (not (is_among u (steps_of due)) && knows t.watchers u)) (queues : length t'.queues ≡ length t'.watchers.covers) (wide : Wide t') (left : t'.due.steps ≡ later_than m t.due.steps) where
   among_due : (u : List ℕ) → is_among u (steps_of due) ≡ is_some (only_where (λ k. leb k m) (waits u t.due.steps))
@@ -272,7 +267,7 @@ module _ {A : Type 0} (t t' : Tables A) (old : Fits t) (due : List Final) (m : �
   held_left : (u : List ℕ) → held_at u t'.steps.entries ≡ cond (not (is_among u (steps_of due))) (held_at u t.steps.entries) None
   held_left u = ap (held_at u) steps ∙ lookup-filter-keys (bytes_eq u) (λ v. not (is_among v (steps_of due))) (not (is_among u (steps_of due))) (λ k same. ap (λ v. not (is_among v (steps_of due))) (sym (same_text u k same))) t.steps.entries
 
-  pub fits_swept : Fits t'
+  pub fits_swept : TablesFit t'
   fits_swept = record {
     queues = queues;
     known = λ u. new_known u ∙ ap (λ b. not (is_among u (steps_of due)) && b) (old.known u) ∙ sym (ap is_some (held_left u) ∙ either (not (is_among u (steps_of due))) (held_at u t.steps.entries));
@@ -286,18 +281,18 @@ module _ {A : Type 0} (t t' : Tables A) (old : Fits t) (due : List Final) (m : �
       either true o = refl
       either false o = refl
 
-      by : (u : List ℕ) (b : Bool) → is_among u (steps_of due) ≡ b → cond b None (waits u t.due.steps) ≡ unless_kept (kept t' u) (final_at t' u)
-      by u true e = sym (ap (λ o. unless_kept (kept t' u) (final_of o)) (held_left u ∙ ap (λ b. cond (not b) (held_at u t.steps.entries) None) e) ∙ never_waits (kept t' u))
+      by : (u : List ℕ) (b : Bool) → is_among u (steps_of due) ≡ b → cond b None (waits u t.due.steps) ≡ unless_kept (has_lock t' u) (final_in t' u)
+      by u true e = sym (ap (λ o. unless_kept (has_lock t' u) (final_of o)) (held_left u ∙ ap (λ b. cond (not b) (held_at u t.steps.entries) None) e) ∙ never_waits (has_lock t' u))
       by u false e =
-          old.waiting u ∙ ap (λ b. unless_kept b (final_at t u)) (sym (kept_unless t.watchers t'.watchers u (λ p. new_hows p u ∙ ap (λ b. cond b None (how t p u)) e)))
-          ∙ ap (λ o. unless_kept (kept t' u) (final_of o)) (sym (held_left u ∙ ap (λ b. cond (not b) (held_at u t.steps.entries) None) e))
+          old.waiting u ∙ ap (λ b. unless_kept b (final_in t u)) (sym (kept_unless t.watchers t'.watchers u (λ p. new_hows p u ∙ ap (λ b. cond b None (how t p u)) e)))
+          ∙ ap (λ o. unless_kept (has_lock t' u) (final_of o)) (sym (held_left u ∙ ap (λ b. cond (not b) (held_at u t.steps.entries) None) e))
 
 pub same_none : {X : Type 0} (b : Bool) (x : X) → cond b x x ≡ x
 same_none true x = refl
 same_none false x = refl
 
 -- who is not subscribed, and does not get subscribed, is not
-pub stays_none : {A : Type 0} (t : Tables A) → Fits t → (u : List ℕ) → holds t u ≡ false → (chosen : List ℕ → Bool) → ((v : List ℕ) → chosen v ≡ true → holds t v ≡ true) → (peer p : ℕ) (s : Option Subscription) → cond (eqb peer p && chosen u) s (how t p u) ≡ None
+pub stays_none : {A : Type 0} (t : Tables A) → TablesFit t → (u : List ℕ) → holds t u ≡ false → (chosen : List ℕ → Bool) → ((v : List ℕ) → chosen v ≡ true → holds t v ≡ true) → (peer p : ℕ) (s : Option Subscription) → cond (eqb peer p && chosen u) s (how t p u) ≡ None
 stays_none t fits u out chosen here peer p s =
     ap (λ b. cond (eqb peer p && b) s (how t p u)) (is_false (chosen u) (λ c. true≢false (sym (here u c) ∙ out))) ∙ ap (λ b. cond b s (how t p u)) (never (eqb peer p)) ∙ nobody t fits u out p
   where
@@ -331,16 +326,6 @@ waits_so x y k k' o o' e f g = e ∙ ap (λ b. unless_kept b o) f ∙ ap (unless
 
 -- CHOICES
 
-pub either_first : {X : Type 0} (b : Bool) (o n : Option X) → (b ≡ true → is_some o ≡ true → n ≡ None) → cond b (option_or n o) o ≡ cond b (option_or o n) o
-either_first false o n h = refl
-either_first true None None h = refl
-either_first true None (Some x) h = refl
-either_first true (Some y) n h = ap (λ m. option_or m (Some y)) (h refl refl)
-
-pub told_both : {X : Type 0} (h n : Bool) (x q q1 q2 : X) (f : X → X) → q1 ≡ cond h x q → q2 ≡ cond n (f q1) q1 → (h ≡ true → n ≡ false) → q2 ≡ cond h x (cond n (f q) q)
-told_both true n x q q1 q2 f e g apart = g ∙ ap (λ b. cond b (f q1) q1) (apart refl) ∙ e
-told_both false n x q q1 q2 f e g apart = g ∙ ap (λ r. cond n (f r) r) e
-
 -- a change at a place
 pub at_peer : {X : Type 0} (peer p : ℕ) (new old : ℕ → X) (f : X → X) → new peer ≡ f (old peer) → ((q : ℕ) → q ≢ peer → new q ≡ old q) → new p ≡ cond (eqb peer p) (f (old p)) (old p)
 at_peer {X} peer p new old f here others = by (eqb peer p) refl
@@ -356,83 +341,32 @@ covered_by_one (Some c) attributes h = refl
 
 -- ROOM
 
-pub reserved_same : (q : queues.Standing) → IsReserved q q
-reserved_same q = record { made = refl; acked = refl; events = refl; spare = omega arith }
-
-pub reserved_twice : (q q' q2 : queues.Standing) → IsReserved q q' → IsReserved q' q2 → IsReserved q q2
-reserved_twice q q' q2 a b =
-    record { made = b.made ∙ a.made; acked = b.acked ∙ a.acked; events = b.events ∙ a.events; spare = (let x = a.spare in let y = b.spare in omega (arith, x, y)) }
-
-pub same_reserved : {A : Type 0} (t : Tables A) → Reserved t t
-same_reserved t = record {
-  steps = refl;
-  used = λ u. refl;
-  covers = refl;
-  cells_same = λ u. refl;
-  known = λ u. refl;
-  queues = λ p. reserved_same (queue_at t.queues p);
-  peers = refl;
-  due = refl;
-  room_steps = omega arith;
-  room_used = omega arith;
-  room_rows = omega arith;
-  room_due = omega arith;
-}
-
-pub twice_reserved : {A : Type 0} (t t' t2 : Tables A) → Reserved t t' → Reserved t' t2 → Reserved t t2
-twice_reserved t t' t2 a b = record {
-  steps = b.steps ∙ a.steps;
-  used = λ u. b.used u ∙ a.used u;
-  covers = b.covers ∙ a.covers;
-  cells_same = λ u. b.cells_same u ∙ a.cells_same u;
-  known = λ u. b.known u ∙ a.known u;
-  queues = λ p. reserved_twice (queue_at t.queues p) (queue_at t'.queues p) (queue_at t2.queues p) (a.queues p) (b.queues p);
-  peers = b.peers ∙ a.peers;
-  due = b.due ∙ a.due;
-  room_steps = (let x = a.room_steps in let y = b.room_steps in omega (arith, x, y));
-  room_used = (let x = a.room_used in let y = b.room_used in omega (arith, x, y));
-  room_rows = (let x = a.room_rows in let y = b.room_rows in omega (arith, x, y));
-  room_due = (let x = a.room_due in let y = b.room_due in omega (arith, x, y));
-}
-
-pub fits_reserved : {A : Type 0} (t t' : Tables A) → Reserved t t' → Fits t → Fits t'
+pub fits_reserved : {A : Type 0} (t t' : Tables A) → Reserved t t' → TablesFit t → TablesFit t'
 fits_reserved t t' r old = record {
   queues = r.peers ∙ old.queues ∙ sym (ap length r.covers);
   known = λ u. r.known u ∙ old.known u ∙ sym (ap (λ hs. is_some (held_at u hs)) r.steps);
   width = λ u here. ap length (r.cells_same u) ∙ old.width u (sym (r.known u) ∙ here) ∙ sym (ap length r.covers);
   once = subst (λ (xs : List Final). Distinct (steps_of xs)) (sym r.due) old.once;
-  waiting = λ u. ap (waits u) r.due ∙ old.waiting u ∙ ap (λ (row : Cells). unless_kept (is_kept row) (final_at t u)) (sym (r.cells_same u)) ∙ ap (λ hs. unless_kept (kept t' u) (final_of (held_at u hs))) (sym r.steps);
+  waiting = λ u. ap (waits u) r.due ∙ old.waiting u ∙ ap (λ (row : Cells). unless_kept (is_locked_by_any row) (final_in t u)) (sym (r.cells_same u)) ∙ ap (λ hs. unless_kept (has_lock t' u) (final_of (held_at u hs))) (sym r.steps);
 }
-
-pub room_more : (has : ℕ → Bool) (more : ℕ) (qs qs' : List queues.Standing) → ((p : ℕ) → IsReserved (queue_at qs p) (queue_at qs' p)) → RoomFor has more qs → RoomFor has more qs'
-room_more has more qs qs' r room p h = let x = room p h in let y = (r p).spare in omega (arith, x, y)
-
--- a loop over peers, at its next one
-pub room_next : (has : ℕ → Bool) (more i : ℕ) (wanted : Bool) (qs qs' : List queues.Standing) → ((p : ℕ) → p < i → has p ≡ true → more ≤ (queue_at qs p).spare) → ((p : ℕ) → IsReserved (queue_at qs p) (queue_at qs' p))
-    → wanted ≡ has i → (wanted ≡ true → more ≤ (queue_at qs' i).spare) → (p : ℕ) → p < i + 1 → has p ≡ true → more ≤ (queue_at qs' p).spare
-room_next has more i wanted qs qs' so_far r is here p l h = by (eqb i p) refl
-  where
-    by : (b : Bool) → eqb i p ≡ b → more ≤ (queue_at qs' p).spare
-    by true e = let s : i ≡ p = grind (arith, nat_tests, e) in subst (λ k. more ≤ (queue_at qs' k).spare) s (here (is ∙ ap has s ∙ h))
-    by false e = let n : i ≢ p = (λ s. grind (arith, nat_tests, e, s)) in let x = so_far p (omega (arith, l, n)) h in let y = (r p).spare in omega (arith, x, y)
 
 -- NOTHING YET
 
-pub lines_new : (qs : List queues.Standing) (n : ℕ) → length qs ≡ n → ((p : ℕ) → p < n → IsNew (queue_at qs p)) → (p : ℕ) → line_at qs p ≡ empty_line
+pub lines_new : (qs : List queues.QueueView) (n : ℕ) → length qs ≡ n → ((p : ℕ) → p < n → IsNew (queue_at qs p)) → (p : ℕ) → line_at qs p ≡ empty_line
 lines_new qs n len fresh p = by (cases_lt p n)
   where
     by : (p < n) ⊎ (n ≤ p) → line_at qs p ≡ empty_line
     by (inl l) = line_new (queue_at qs p) (fresh p l)
     by (inr l) = ap line (get_or_past qs p queues.empty (omega (arith, l, len)))
 
-pub fits_new : {A : Type 0} (t : Tables A) → length t.queues ≡ length t.watchers.covers → t.steps.entries ≡ [] → t.watchers.rows ≡ [] → t.due.steps ≡ [] → Fits t
+pub fits_new : {A : Type 0} (t : Tables A) → length t.queues ≡ length t.watchers.covers → t.steps.entries ≡ [] → t.watchers.rows ≡ [] → t.due.steps ≡ [] → TablesFit t
 fits_new t peers steps none due = record {
   queues = peers;
   known = λ u. unknown_all u ∙ sym (ap (λ hs. is_some (held_at u hs)) steps);
   width = λ u here. absurd (true≢false (sym here ∙ unknown_all u));
   once = subst (λ (xs : List Final). Distinct (steps_of xs)) (sym due) tt;
-  waiting = λ u. ap (waits u) due ∙ sym (ap (λ hs. unless_kept (kept t u) (final_of (held_at u hs))) steps ∙ never_waits (kept t u));
+  waiting = λ u. ap (waits u) due ∙ sym (ap (λ hs. unless_kept (has_lock t u) (final_of (held_at u hs))) steps ∙ never_waits (has_lock t u));
 }
   where
     unknown_all : (u : List ℕ) → knows t.watchers u ≡ false
-    unknown_all u = ap (λ rs. is_some (rows.cells rs u)) none
+    unknown_all u = ap (λ rs. is_some (rows.cells_in rs u)) none

@@ -17,7 +17,7 @@ use Rattle.ups_keep.proofs.Waiting.{is_false, other_text, waits_append, distinct
 use Rattle.ups_steps.specs.declared.held.Held.{Held}
 use Rattle.ups_tables.specs.declared.tables.Tables.{Tables}
 use Rattle.ups_tables.specs.Held.{held_at, final_of}
-use Rattle.ups_tables.specs.Fit.{kept, kept_if, freed_if, final_at, holds, AreFreed}
+use Rattle.ups_tables.specs.Fit.{has_lock, kept_if, freed_if, holds, AreFreed}
 
 -- of the first steps of a list those that wait as a function says
 pub record Found (since : List ℕ → Option ℕ) (us : List (List ℕ)) (xs : List Final) : Type 0 where
@@ -86,13 +86,6 @@ found_next since us i step o xs ys once l is so f step_is = record {
 pub found_none : (since : List ℕ → Option ℕ) (xs : List Final) → xs ≡ [] → Found since [] xs
 found_none since xs e = record { once = subst (λ zs. Distinct (steps_of zs)) (sym e) tt; waiting = λ u. ap (waits u) e }
 
-pub found_all : {A : Type 0} (t : Tables A) (peer : ℕ) (s : Option Subscription) (us us' : List (List ℕ)) (xs : List Final) → us' ≡ us → Found (freed_if t peer s) us' xs → AreFreed t peer s (λ u. is_among u us) xs
-found_all t peer s us us' xs e f = record { once = f.once; waiting = λ u. f.waiting u ∙ ap (λ vs. cond (is_among u vs) (freed_if t peer s u) None) e }
-
--- the rule, by its tests
-pub freed_by : {A : Type 0} (t : Tables A) (peer : ℕ) (s : Option Subscription) (u : List ℕ) (k k' : Bool) → kept t u ≡ k → kept_if t peer s u ≡ k' → freed_if t peer s u ≡ cond (k && not k') (final_at t u) None
-freed_by t peer s u k k' e f = ap (λ b. cond (b && not (kept_if t peer s u)) (final_at t u) None) e ∙ ap (λ b. cond (k && not b) (final_at t u) None) f
-
 -- EVERYWHERE: what is not held is not freed
 
 among_keys : {X : Type 0} (u : List ℕ) (es : List (List ℕ × X)) → is_among u (keys_of es) ≡ is_some (lookup (bytes_eq u) es)
@@ -104,7 +97,7 @@ among_keys {X} u (e ∷ es) = ap (λ b. b || is_among u (keys_of es)) (other_tex
     by false h = h
 
 nothing_freed : {A : Type 0} (t : Tables A) (peer : ℕ) (s : Option Subscription) (u : List ℕ) → holds t u ≡ false → freed_if t peer s u ≡ None
-nothing_freed {A} t peer s u out = by (held_at u t.steps.entries) out (kept t u && not (kept_if t peer s u))
+nothing_freed {A} t peer s u out = by (held_at u t.steps.entries) out (has_lock t u && not (kept_if t peer s u))
   where
     by : (o : Option (Held A)) → is_some o ≡ false → (b : Bool) → cond b (final_of o) None ≡ None
     by None h true = refl

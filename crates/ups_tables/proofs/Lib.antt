@@ -10,3 +10,13 @@ pub mod Arms
 pub mod Roomy
 pub mod Keyed
 pub mod Planned
+pub mod Among
+pub mod Asking
+pub mod Finals
+pub mod Holding
+pub mod Keeping
+pub mod Living
+pub mod Outside
+pub mod Queueing
+pub mod Serving
+pub mod StepFacts

@@ -28,24 +28,25 @@ use Rattle.ups_life.specs.Watching.{held, is_among, is_held, is_peer, known, tak
 use Rattle.ups_life.specs.History.{repeats, receiver_of, of_peer, of_lock, sized, row_then, status}
 use Rattle.ups_life.proofs.HeldOnce.{held_once}
 use Rattle.ups_keep.specs.declared.due.Final.{Final}
-use Rattle.ups_watch.specs.Covers.{newly_covered}
-use Rattle.ups_live.specs.declared.rows.HeldStep.{HeldStep}
-use Rattle.ups_live.specs.Held.{claims_it, held_step, held_steps, step_at, row_in, put_step}
-use Rattle.ups_live.specs.Live.{chosen, cover_to, news_by, newly_by, report_now}
-use Rattle.ups_live.proofs.Among.{among_filter, distinct_filter}
-use Rattle.ups_live.proofs.Holding.{step_at-held_steps, row_in-held_steps}
-use Rattle.ups_live.proofs.Living.{newly-met}
-use Rattle.ups_live.proofs.StepFacts.{Allowed, steps_are, row_is, was_row, news_are, set_held, not_of_watch}
+use Rattle.ups_watch.specs.Covers.{subscription_gained}
+use Rattle.ups_tables.specs.declared.rows.HeldStep.{HeldStep}
+use Rattle.ups_tables.specs.HeldSteps.{claims_it, held_step, held_steps, step_at, row_in, put_step}
+use Rattle.ups_tables.specs.Live.{chosen, cover_to, news_by, newly_by, report_now}
+use Rattle.ups_tables.proofs.Among.{among_filter, distinct_filter}
+use Rattle.ups_tables.proofs.Holding.{step_at-held_steps, row_in-held_steps}
+use Rattle.ups_tables.proofs.Living.{newly-met}
+use Rattle.ups_tables.proofs.StepFacts.{Allowed, steps_are, row_is, was_row, news_are, set_held, not_of_watch}
 use Rattle.ups_steps.specs.declared.held.Held.{Held}
 use Rattle.ups_tables.specs.declared.tables.Tables.{Tables}
 use Rattle.ups_tables.specs.Held.{held_at}
 use Rattle.ups_tables.specs.Fit.{how, holds, AreFreed}
-use Rattle.ups_tables.specs.Keyed.{whole, as_steps, row_held, holder_held}
-use Rattle.ups_tables.specs.Places.{place_in}
+use Rattle.ups_tables.specs.Keyed.{step_with_held, as_steps, row_held, holder_held}
+use Rattle.ups_tables.specs.Places.{place_of_title}
 use Rattle.ups_tables.specs.Stands.{Stands}
 use Rattle.ups_tables.specs.Planned.{PlansStep, PlansCreate, PlansChange, PlansSet}
 use Rattle.ups_tables.proofs.Keyed.{steps_kept, found_at, row_found, holder_found}
 use Rattle.ups_tables.proofs.Saying.{holds_is}
+use Rattle.ups_life.proofs.Accepted.{for_peer}
 
 -- REQUESTS ON A STEP
 
@@ -63,7 +64,7 @@ module _ {A : Type 0} (s : Settings) (history : List (Entry A)) (e : Entry A) (t
   found : row_held (held_at step t.steps.entries) ≡ row_in step (as_steps t.steps.entries)
   found = row_found step t.steps.entries
 
-  a : Allowed s (past history) e (as_steps t.steps.entries) (whole step x)
+  a : Allowed s (past history) e (as_steps t.steps.entries) (step_with_held step x)
   a = record {
     step = fresh.named;
     allowed = ap (λ (o : Option (Row A)). verdict o (repeats (past history) e.request) e.request) (sym found) ∙ fresh.allowed;
@@ -73,9 +74,9 @@ module _ {A : Type 0} (s : Settings) (history : List (Entry A)) (e : Entry A) (t
 
   on : (before : Option (Row A)) (told : List Report) → before ≡ row_held (held_at step t.steps.entries) → told ≡ news_by step (unwrap_or before nothing) x.row e.request → PlansStep s (past history) e step x told
   on before told was is = record {
-    steps = ap (put_step (whole step x)) (sym kept) ∙ steps_are s e (past history) (as_steps t.steps.entries) (whole step x) kept old.legal a;
-    row = row_is s e (past history) (as_steps t.steps.entries) (whole step x) kept old.legal a;
-    news = news_are s e (past history) (as_steps t.steps.entries) (whole step x) kept old.legal a before told (was ∙ found) is;
+    steps = ap (put_step (step_with_held step x)) (sym kept) ∙ steps_are s e (past history) (as_steps t.steps.entries) (step_with_held step x) kept old.legal a;
+    row = row_is s e (past history) (as_steps t.steps.entries) (step_with_held step x) kept old.legal a;
+    news = news_are s e (past history) (as_steps t.steps.entries) (step_with_held step x) kept old.legal a before told (was ∙ found) is;
   }
 
   pub plans_create : (before : Option (Row A)) (told : List Report) (named : List ℕ) (set : List El) → before ≡ row_held (held_at step t.steps.entries) → told ≡ news_by step (unwrap_or before nothing) x.row e.request
@@ -102,7 +103,7 @@ module _ {A : Type 0} (s : Settings) (history : List (Entry A)) (e : Entry A) (t
 
   pub plans_set : (before : Option (Row A)) (told : List Report) (named : Option (List ℕ)) (tr : Transaction) (set : List El) (newly : List (Option Subscription)) (first : List Report)
       → before ≡ row_held (held_at step t.steps.entries) → told ≡ news_by step (unwrap_or before nothing) x.row e.request → e.request ≡ Set named tr set → length newly ≡ length t.watchers.covers
-      → ((p : ℕ) → get_or newly p None ≡ newly_covered (get_or t.watchers.covers p None) (how t p step) (unwrap_or before nothing).attributes x.row.attributes) → first ≡ report_now step x.row ∷ []
+      → ((p : ℕ) → get_or newly p None ≡ subscription_gained (get_or t.watchers.covers p None) (how t p step) (unwrap_or before nothing).attributes x.row.attributes) → first ≡ report_now step x.row ∷ []
       → PlansSet s (past history) e t step x told newly first
   plans_set before told named tr set newly first was is request wide new one = record {
     transaction = tr;
@@ -112,15 +113,15 @@ module _ {A : Type 0} (s : Settings) (history : List (Entry A)) (e : Entry A) (t
     width = omega (arith, wide);
     newly_are = λ p.
         new p ∙ newly-met (get_or t.watchers.covers p None) (how t p step) (unwrap_or before nothing).attributes x.row.attributes
-        ∙ ap (λ (b : Row A). cond (is_some (how t p step)) None (newly_by (get_or t.watchers.covers p None) b.attributes x.row.attributes)) (was_row s e (past history) (as_steps t.steps.entries) (whole step x) kept old.legal a before (was ∙ found));
-    first_is = one ∙ ap (λ (r : Row A). report_now step r ∷ []) (row_is s e (past history) (as_steps t.steps.entries) (whole step x) kept old.legal a);
+        ∙ ap (λ (b : Row A). cond (is_some (how t p step)) None (newly_by (get_or t.watchers.covers p None) b.attributes x.row.attributes)) (was_row s e (past history) (as_steps t.steps.entries) (step_with_held step x) kept old.legal a before (was ∙ found));
+    first_is = one ∙ ap (λ (r : Row A). report_now step r ∷ []) (row_is s e (past history) (as_steps t.steps.entries) (step_with_held step x) kept old.legal a);
   }
 
   -- the step of an N-SET that is allowed is held
   pub set_found : (before : Option (Row A)) (named : Option (List ℕ)) (tr : Transaction) (set : List El) → before ≡ row_held (held_at step t.steps.entries) → e.request ≡ Set named tr set → is_some before ≡ true
   set_found before named tr set was request =
       ap is_some (was ∙ found ∙ ap (row_in step) kept ∙ row_in-held_steps s (past history) step)
-      ∙ ap (λ b. is_some (cond b (Some (row_of s (past history) step)) None)) (set_held s e (past history) (as_steps t.steps.entries) (whole step x) kept old.legal a tr set (named_so named tr set request))
+      ∙ ap (λ b. is_some (cond b (Some (row_of s (past history) step)) None)) (set_held s e (past history) (as_steps t.steps.entries) (step_with_held step x) kept old.legal a tr set (named_so named tr set request))
 
 -- REQUESTS OF A WATCHER
 
@@ -128,24 +129,17 @@ some_next : (o : Option ℕ) → is_some (option_map suc o) ≡ is_some o
 some_next None = refl
 some_next (Some n) = refl
 
-peer_place : (ps : List Peer) (w : List ℕ) → is_peer ps w ≡ is_some (place_in ps w)
+peer_place : (ps : List Peer) (w : List ℕ) → is_peer ps w ≡ is_some (place_of_title ps w)
 peer_place [] w = refl
 peer_place (p ∷ ps) w = at (bytes_eq p.ae w) (peer_place ps w)
   where
-    at : (b : Bool) → is_peer ps w ≡ is_some (place_in ps w) → (b || is_peer ps w) ≡ is_some (cond b (Some 0) (option_map suc (place_in ps w)))
+    at : (b : Bool) → is_peer ps w ≡ is_some (place_of_title ps w) → (b || is_peer ps w) ≡ is_some (cond b (Some 0) (option_map suc (place_of_title ps w)))
     at true ih = refl
-    at false ih = ih ∙ sym (some_next (place_in ps w))
+    at false ih = ih ∙ sym (some_next (place_of_title ps w))
 
 -- the status of an entry, if its request were this one
 abbrev status_so : {A : Type 0} → Settings → List (Entry A) → Entry A → Request A → Status
 status_so s es e r = of_peer s.peers (receiver_of r) (of_lock s.peers r (sized r (row_then s es e).attributes (verdict (known s es (named_step r)) (repeats es r) r)))
-
-for_peer : (peers : List Peer) (receiver : List ℕ) (x : Status) → is_done (of_peer peers (Some receiver) x) ≡ true → is_peer peers receiver ≡ true
-for_peer peers receiver x h = at (is_peer peers receiver) h
-  where
-    at : (b : Bool) → is_done (cond b x UnknownReceivingAe) ≡ true → b ≡ true
-    at true g = refl
-    at false g = absurd cc
 
 unknown_not_done : (p : Bool) → is_done (cond p UnknownInstance UnknownReceivingAe) ≡ true → ⊥
 unknown_not_done true h = absurd cc
@@ -153,12 +147,12 @@ unknown_not_done false h = absurd cc
 
 module _ {A : Type 0} (s : Settings) (es : List (Entry A)) (e : Entry A) (done : is_done (status s es e) ≡ true) where
   -- the receiver is a peer, and has a place
-  pub has_place : (receiver : List ℕ) (peers : List Peer) (o : Option ℕ) → receiver_of e.request ≡ Some receiver → peers ≡ s.peers → o ≡ place_in peers receiver → o ≡ None → ⊥
+  pub has_place : (receiver : List ℕ) (peers : List Peer) (o : Option ℕ) → receiver_of e.request ≡ Some receiver → peers ≡ s.peers → o ≡ place_of_title peers receiver → o ≡ None → ⊥
   has_place receiver peers o to named at none =
       let set = (row_then s es e).attributes in
       let x : Status = of_lock s.peers e.request (sized e.request set (verdict (known s es (named_step e.request)) (repeats es e.request) e.request)) in
       let d : is_peer s.peers receiver ≡ true = for_peer s.peers receiver x (ap (λ m. is_done (of_peer s.peers m x)) (sym to) ∙ done) in
-      true≢false (sym d ∙ peer_place s.peers receiver ∙ ap (λ (ps : List Peer). is_some (place_in ps receiver)) (sym named) ∙ ap is_some (sym at ∙ none))
+      true≢false (sym d ∙ peer_place s.peers receiver ∙ ap (λ (ps : List Peer). is_some (place_of_title ps receiver)) (sym named) ∙ ap is_some (sym at ∙ none))
 
   -- the step of a subscription to one step is held
   pub single_held : (u receiver : List ℕ) (lock : Bool) → e.request ≡ Subscribe (Single (Some u)) receiver lock → is_held s es u ≡ true
@@ -190,10 +184,10 @@ module _ {A : Type 0} (s : Settings) (history : List (Entry A)) (t : Tables A) (
 
   pub found_row : (u : List ℕ) (h : Held A) → Some h ≡ held_at u t.steps.entries → h.row ≡ row_of s (past history) u
   found_row u h is =
-      by (is_held s (past history) u) (ap (option_map (whole u)) is ∙ found_at u t.steps.entries ∙ ap (step_at u) (steps_kept s history t st) ∙ step_at-held_steps s (past history) u)
+      by (is_held s (past history) u) (ap (option_map (step_with_held u)) is ∙ found_at u t.steps.entries ∙ ap (step_at u) (steps_kept s history t st) ∙ step_at-held_steps s (past history) u)
     where
-      by : (b : Bool) → Some (whole u h) ≡ cond b (Some (held_step s (past history) u)) None → h.row ≡ row_of s (past history) u
-      by true e = let same : whole u h ≡ held_step s (past history) u = cc in ap (λ (k : HeldStep A). k.row) same
+      by : (b : Bool) → Some (step_with_held u h) ≡ cond b (Some (held_step s (past history) u)) None → h.row ≡ row_of s (past history) u
+      by true e = let same : step_with_held u h ≡ held_step s (past history) u = cc in ap (λ (k : HeldStep A). k.row) same
       by false e = absurd cc
 
   -- what is chosen is held, and stands there once

@@ -11,15 +11,15 @@ use Rattle.ups_life.specs.Steps.{past}
 use Rattle.ups_life.specs.Watching.{is_among, removed, has_passed}
 use Rattle.ups_life.specs.History.{accepts, decided}
 use Rattle.ups_keep.specs.declared.due.Final.{Final}
-use Rattle.ups_keep.specs.Due.{up_to, is_any}
+use Rattle.ups_keep.specs.Due.{due_until, is_any}
 use Rattle.ups_keep.specs.Waits.{steps_of, unless_kept, only_where}
 use Rattle.ups_keep.proofs.Dues.{none_before}
 use Rattle.ups_keep.proofs.Waiting.{is_false, same_test, among_waits, waits_kept, distinct_kept}
-use Rattle.ups_live.specs.Live.{final, locked}
-use Rattle.ups_live.proofs.Living.{due-live}
-use Rattle.ups_live.proofs.Asking.{sweep_by}
+use Rattle.ups_tables.specs.Live.{final, locked}
+use Rattle.ups_tables.proofs.Living.{due-live}
+use Rattle.ups_tables.proofs.Asking.{sweep_by}
 use Rattle.ups_tables.specs.declared.tables.Tables.{Tables}
-use Rattle.ups_tables.specs.Fit.{kept}
+use Rattle.ups_tables.specs.Fit.{has_lock}
 use Rattle.ups_tables.specs.Fit as fit
 use Rattle.ups_tables.specs.Planned.{PlansSweep, PlansIdle}
 use Rattle.ups_tables.specs.Stands.{Stands}
@@ -54,9 +54,9 @@ steps_many [] = refl
 steps_many (x ∷ xs) = let r = steps_many xs in omega (arith, r)
 
 -- where the first waits long enough, some do
-some_due : (m : ℕ) (xs : List Final) → is_any m xs ≡ true → nat_lt 0 (length (up_to m xs)) ≡ true
+some_due : (m : ℕ) (xs : List Final) → is_any m xs ≡ true → nat_lt 0 (length (due_until m xs)) ≡ true
 some_due m [] none = absurd (true≢false (sym none))
-some_due m (x ∷ xs) first = ap (λ b. nat_lt 0 (length (cond b (x ∷ up_to m xs) (up_to m xs)))) first ∙ positive (length (up_to m xs))
+some_due m (x ∷ xs) first = ap (λ b. nat_lt 0 (length (cond b (x ∷ due_until m xs) (due_until m xs)))) first ∙ positive (length (due_until m xs))
   where
     positive : (n : ℕ) → nat_lt 0 (suc n) ≡ true
     positive n = let h : 0 < suc n = omega arith in grind (arith, nat_tests, h)
@@ -69,21 +69,21 @@ module _ {A : Type 0} (s : Settings) (e : Entry A) (t : Tables A) where
   no_time request early = record { request = request; none = λ since le. absurd (omega (arith, early, le)) }
 
   -- no step waits since the moment looked at, and none since an earlier one
-  pub none_yet : (moment : ℕ) → e.request ≡ Sweep → moment + s.keep ≡ e.moment → up_to moment t.due.steps ≡ [] → PlansIdle s e t
+  pub none_yet : (moment : ℕ) → e.request ≡ Sweep → moment + s.keep ≡ e.moment → due_until moment t.due.steps ≡ [] → PlansIdle s e t
   none_yet moment request is none = record { request = request; none = λ since le. none_before moment since t.due.steps (omega (arith, is, le)) none }
 
 -- WHAT A SWEEP REMOVES
 
 module _ {A : Type 0} (s : Settings) (history : List (Entry A)) (t : Tables A) (st : Stands s history t) where
   -- those that became final no later than m are those that had passed the time to keep at m and that time, and no peer locks
-  pub among_up_to : (m : ℕ) (u : List ℕ) → is_among u (steps_of (up_to m t.due.steps)) ≡ (has_passed s.keep (m + s.keep) (final s (past history) u) && not (locked s (past history) u))
+  pub among_up_to : (m : ℕ) (u : List ℕ) → is_among u (steps_of (due_until m t.due.steps)) ≡ (has_passed s.keep (m + s.keep) (final s (past history) u) && not (locked s (past history) u))
   among_up_to m u =
-      among_waits u (up_to m t.due.steps) ∙ ap is_some (waits_kept (λ (x : Final). leb x.moment m) t.due.steps st.fits.once u) ∙ ap (λ o. is_some (only_where (λ n. leb n m) o)) (st.fits.waiting u)
-      ∙ passes (fit.final_at t u) (kept t u) s.keep m
-      ∙ ap (λ o. has_passed s.keep (m + s.keep) o && not (kept t u)) (final_is s history t st u) ∙ ap (λ b. has_passed s.keep (m + s.keep) (final s (past history) u) && not b) (kept_is s history t st u)
+      among_waits u (due_until m t.due.steps) ∙ ap is_some (waits_kept (λ (x : Final). leb x.moment m) t.due.steps st.fits.once u) ∙ ap (λ o. is_some (only_where (λ n. leb n m) o)) (st.fits.waiting u)
+      ∙ passes (fit.final_in t u) (has_lock t u) s.keep m
+      ∙ ap (λ o. has_passed s.keep (m + s.keep) o && not (has_lock t u)) (final_is s history t st u) ∙ ap (λ b. has_passed s.keep (m + s.keep) (final s (past history) u) && not b) (kept_is s history t st u)
 
   -- no step stands among them twice
-  pub up_to_once : (m : ℕ) → Distinct (steps_of (up_to m t.due.steps))
+  pub up_to_once : (m : ℕ) → Distinct (steps_of (due_until m t.due.steps))
   up_to_once m = distinct_kept (λ (x : Final). leb x.moment m) t.due.steps st.fits.once
 
   module _ (e : Entry A) where
@@ -110,13 +110,13 @@ module _ {A : Type 0} (s : Settings) (history : List (Entry A)) (t : Tables A) (
         by (Some n) f true g = and_false (leb (n + s.keep) e.moment)
         by (Some n) f false g = is_false (leb (n + s.keep) e.moment && true) (λ h. true≢false (sym found ∙ lost (leb-true (n + s.keep) e.moment (sym (and_true (leb (n + s.keep) e.moment)) ∙ h))))
           where
-            found : is_among u (steps_of (up_to n t.due.steps)) ≡ true
+            found : is_among u (steps_of (due_until n t.due.steps)) ≡ true
             found =
-                among_waits u (up_to n t.due.steps) ∙ ap is_some (waits_kept (λ (x : Final). leb x.moment n) t.due.steps st.fits.once u)
-                ∙ ap (λ o. is_some (only_where (λ k. leb k n) o)) (st.fits.waiting u ∙ ap (λ b. unless_kept b (fit.final_at t u)) (kept_is s history t st u ∙ g) ∙ final_is s history t st u ∙ f)
+                among_waits u (due_until n t.due.steps) ∙ ap is_some (waits_kept (λ (x : Final). leb x.moment n) t.due.steps st.fits.once u)
+                ∙ ap (λ o. is_some (only_where (λ k. leb k n) o)) (st.fits.waiting u ∙ ap (λ b. unless_kept b (fit.final_in t u)) (kept_is s history t st u ∙ g) ∙ final_is s history t st u ∙ f)
                 ∙ ap (λ b. is_some (cond b (Some n) None)) (le-leb n n (omega arith))
 
-            lost : n + s.keep ≤ e.moment → is_among u (steps_of (up_to n t.due.steps)) ≡ false
+            lost : n + s.keep ≤ e.moment → is_among u (steps_of (due_until n t.due.steps)) ≡ false
             lost h = ap (λ xs. is_among u (steps_of xs)) (p.none n h)
 
     pub none_due : PlansIdle s e t → (u : List ℕ) → is_among u (removed s (past history) e.moment) ≡ false
@@ -129,5 +129,5 @@ module _ {A : Type 0} (s : Settings) (history : List (Entry A)) (t : Tables A) (
     -- where a step waits long enough, the sweep removes some
     pub some_swept : (moment : ℕ) → e.request ≡ Sweep → moment + s.keep ≡ e.moment → is_any moment t.due.steps ≡ true → accepts (decided s (past history) e Sweep) ≡ true
     some_swept moment request is any =
-        let plan : PlansSweep s e t (up_to moment t.due.steps) moment = record { request = request; since = is; due_are = refl } in
-        ap accepts (sweep_counts (up_to moment t.due.steps) moment plan) ∙ some_due moment t.due.steps any
+        let plan : PlansSweep s e t (due_until moment t.due.steps) moment = record { request = request; since = is; due_are = refl } in
+        ap accepts (sweep_counts (due_until moment t.due.steps) moment plan) ∙ some_due moment t.due.steps any

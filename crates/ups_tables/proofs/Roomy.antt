@@ -8,24 +8,24 @@ use Rattle.ups_life.specs.declared.watching.Subscription.{Subscription}
 use Rattle.ups_life.specs.Settings.{Settings}
 use Rattle.ups_life.specs.Steps.{row}
 use Rattle.ups_keep.specs.declared.due.Final.{Final}
-use Rattle.ups_keep.specs.Due.{up_to}
-use Rattle.ups_live.specs.Live.{newly_by, empty_queue}
-use Rattle.ups_live.specs.Seen.{Once}
+use Rattle.ups_keep.specs.Due.{due_until}
+use Rattle.ups_tables.specs.Live.{newly_by}
+use Rattle.ups_tables.specs.Seen.{Once}
 use Rattle.ups_events.specs.Queue.{queue_at, ack_fault}
 use Rattle.ups_events.specs.Telling.{Line, empty_line}
 use Rattle.ups_events.proofs.Tellings.{line_reserved}
 use Rattle.ups_watch.specs.declared.cover.Cover.{Cover}
 use Rattle.ups_watch.specs.Rows.{Cells}
-use Rattle.ups_watch.specs.Table.{is_kept}
+use Rattle.ups_watch.specs.Table.{is_locked_by_any}
 use Rattle.ups_tables.specs.declared.tables.Tables.{Tables}
 use Rattle.ups_tables.specs.declared.plan.Plan.{Plan}
 use Rattle.ups_tables.specs.declared.plan.Plan.TheVariants.{Create as ToCreate, Change as ToChange, Set as ToSet, Single as ToSingle, Global as ToGlobal, End as ToEnd, EndAll as ToEndAll, Suspend as ToSuspend, Ack as ToAck, Sweep as ToSweep, Idle as ToIdle}
 use Rattle.ups_tables.specs.Held.{held_at, final_of, is_used}
 use Rattle.ups_tables.specs.Effects.{Reserved, RoomFor}
 use Rattle.std.specs.HashSet as sets
-use Rattle.ups_tables.specs.Fit.{how, queue, kept, kept_if, final_at, Fits, AreFreed}
-use Rattle.ups_tables.specs.Places.{place_in, by_place}
-use Rattle.ups_tables.specs.Stands.{as_queue, Stands}
+use Rattle.ups_tables.specs.Fit.{how, queue_line, has_lock, kept_if, final_in, TablesFit, AreFreed}
+use Rattle.ups_tables.specs.Places.{place_of_title, by_place}
+use Rattle.ups_tables.specs.Stands.{Stands}
 use Rattle.ups_tables.specs.Planned.{IsPlan, RoomToCreate, RoomToChange}
 use Rattle.ups_tables.proofs.Fitness.{cells_watching, fits_reserved}
 use Rattle.ups_tables.proofs.Saying.{covers_stay, hows_stay, queues_stay}
@@ -34,7 +34,7 @@ module _ {A : Type 0} (t t' : Tables A) (r : Reserved t t') where
   pub how_same : (p : ℕ) (u : List ℕ) → how t' p u ≡ how t p u
   how_same p u = sym (cells_watching t'.watchers p u) ∙ ap (λ (row : Cells). get_or row p None) (r.cells_same u) ∙ cells_watching t.watchers p u
 
-  line_same : (p : ℕ) → queue t' p ≡ queue t p
+  line_same : (p : ℕ) → queue_line t' p ≡ queue_line t p
   line_same p = line_reserved (queue_at t.queues p) (queue_at t'.queues p) (r.queues p)
 
   pub stands_reserved : (s : Settings) (history : List (Entry A)) → Stands s history t → Stands s history t'
@@ -58,7 +58,7 @@ module _ {A : Type 0} (t t' : Tables A) (r : Reserved t t') where
     waiting = λ u.
         are.waiting u
         ∙ ap (λ o. cond (chosen u) o None)
-        (ap (λ (row : Cells). cond (is_kept row && not (is_kept (set row peer x))) (final_at t u) None) (sym (r.cells_same u)) ∙ ap (λ hs. cond (kept t' u && not (kept_if t' peer x u)) (final_of (held_at u hs)) None) (sym r.steps));
+        (ap (λ (row : Cells). cond (is_locked_by_any row && not (is_locked_by_any (set row peer x))) (final_in t u) None) (sym (r.cells_same u)) ∙ ap (λ hs. cond (has_lock t' u && not (kept_if t' peer x u)) (final_of (held_at u hs)) None) (sym r.steps));
   }
 
   pub plan_reserved : (s : Settings) (es : List (Entry A)) (e : Entry A) (plan : Plan A) → IsPlan s es e t plan → IsPlan s es e t' plan
@@ -95,18 +95,13 @@ module _ {A : Type 0} (t t' : Tables A) (r : Reserved t t') where
     request = p.request;
     allowed = ap (λ (q : Line). ack_fault (record { made = q.made; acked = q.acked; events = q.events; spare = 0 }) upto) (line_same peer) ∙ p.allowed;
   }
-  plan_reserved s es e (ToSweep due moment) p = record { request = p.request; since = p.since; due_are = p.due_are ∙ ap (up_to moment) (sym r.due) }
-  plan_reserved s es e ToIdle p = record { request = p.request; none = λ n le. ap (up_to n) r.due ∙ p.none n le }
+  plan_reserved s es e (ToSweep due moment) p = record { request = p.request; since = p.since; due_are = p.due_are ∙ ap (due_until moment) (sym r.due) }
+  plan_reserved s es e ToIdle p = record { request = p.request; none = λ n le. ap (due_until n) r.due ∙ p.none n le }
 
 -- what is so anyhow is so where a result is right
 pub on_any : {X E : Type 0} (x : Result X E) (P : Type 0) → P → OnOk x P
 on_any (Ok v) P p = p
 on_any (Err e) P p = tt
-
--- two facts where a result is right
-pub on_both : {X E : Type 0} (x : Result X E) (P Q : Type 0) → OnOk x P → OnOk x Q → OnOk x (P × Q)
-on_both (Ok v) P Q p q = (p, q)
-on_both (Err e) P Q p q = tt
 
 pub room_create : {A X E : Type 0} (x : Result X E) (t : Tables A) (n m : ℕ) → n ≡ m → OnOk x (0 < t.steps.spare) → OnOk x (0 < sets.spare t.used) → OnOk x (0 < t.watchers.spare) → OnOk x (RoomFor (λ p. is_some (get_or t.watchers.covers p None)) n t.queues) → OnOk x (RoomToCreate t m)
 room_create (Ok v) t n m is a b c d = record { steps_room = a; used_room = b; rows_room = c; events_room = subst (λ k. RoomFor (λ p. is_some (get_or t.watchers.covers p None)) k t.queues) is d }
@@ -141,8 +136,8 @@ has_set t step n m i j lent newly is js same r = subst (λ k. RoomToChange t ste
 
 -- NOTHING YET
 
-pub stands_new : {A : Type 0} (s : Settings) (n : ℕ) (t : Tables A) → Once s.peers → n ≡ length s.peers → t.steps.entries ≡ [] → t.used.keys ≡ [] → t.watchers.covers ≡ replicate n None → ((p : ℕ) (u : List ℕ) → how t p u ≡ None) → ((p : ℕ) → queue t p ≡ empty_line)
-    → Fits t → Stands s [] t
+pub stands_new : {A : Type 0} (s : Settings) (n : ℕ) (t : Tables A) → Once s.peers → n ≡ length s.peers → t.steps.entries ≡ [] → t.used.keys ≡ [] → t.watchers.covers ≡ replicate n None → ((p : ℕ) (u : List ℕ) → how t p u ≡ None) → ((p : ℕ) → queue_line t p ≡ empty_line)
+    → TablesFit t → Stands s [] t
 stands_new {A} s n t titles count steps used covers hows queues fits = record {
   legal = refl;
   titles = titles;
@@ -150,9 +145,9 @@ stands_new {A} s n t titles count steps used covers hows queues fits = record {
   fits = fits;
   steps = steps;
   lives = record {
-    covers = λ w. nothing_at (place_in s.peers w) None (λ p. get_or t.watchers.covers p None) (λ p. ap (λ (cs : List (Option (Cover A))). get_or cs p None) covers ∙ no_cover n p);
-    pairs = λ w u. nothing_at (place_in s.peers w) None (λ p. how t p u) (λ p. hows p u);
-    queues = λ w. nothing_at (place_in s.peers w) empty_queue (λ p. as_queue (queue t p)) (λ p. ap as_queue (queues p));
+    covers = λ w. nothing_at (place_of_title s.peers w) None (λ p. get_or t.watchers.covers p None) (λ p. ap (λ (cs : List (Option (Cover A))). get_or cs p None) covers ∙ no_cover n p);
+    pairs = λ w u. nothing_at (place_of_title s.peers w) None (λ p. how t p u) (λ p. hows p u);
+    queues = λ w. nothing_at (place_of_title s.peers w) empty_line (λ p. queue_line t p) queues;
     used = λ u. ap (is_used u) used;
   };
 }

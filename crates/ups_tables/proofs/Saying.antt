@@ -10,21 +10,22 @@ use Rattle.ups_life.specs.Steps.{past, final_at}
 use Rattle.ups_life.specs.Watching.{is_held, is_locked, watch}
 use Rattle.ups_life.proofs.Texts.{same_text}
 use Rattle.ups_keep.proofs.Waiting.{other_text}
-use Rattle.ups_live.specs.declared.rows.HeldStep.{HeldStep}
-use Rattle.ups_live.specs.Held.{held_step, held_steps, step_at, put_step}
-use Rattle.ups_live.specs.Live.{live, final, locked, empty_queue}
-use Rattle.ups_live.proofs.Holding.{step_at-held_steps}
+use Rattle.ups_tables.specs.declared.rows.HeldStep.{HeldStep}
+use Rattle.ups_tables.specs.HeldSteps.{held_step, held_steps, step_at, put_step}
+use Rattle.ups_tables.specs.Live.{live, final, locked}
+use Rattle.ups_tables.proofs.Holding.{step_at-held_steps}
+use Rattle.ups_events.specs.Telling.{empty_line}
 use Rattle.ups_watch.specs.declared.cover.Cover.{Cover}
 use Rattle.ups_watch.specs.Rows.{Cells}
-use Rattle.ups_watch.specs.Table.{is_kept}
+use Rattle.ups_watch.specs.Table.{is_locked_by_any}
 use Rattle.ups_steps.specs.declared.held.Held.{Held}
 use Rattle.ups_tables.specs.declared.tables.Tables.{Tables}
 use Rattle.ups_tables.specs.Held.{held_at, final_of, put_held}
-use Rattle.ups_tables.specs.Fit.{how, cells, kept, holds, queue}
+use Rattle.ups_tables.specs.Fit.{how, cells_at, has_lock, holds, queue_line}
 use Rattle.ups_tables.specs.Fit as fit
-use Rattle.ups_tables.specs.Places.{place_in, by_place}
-use Rattle.ups_tables.specs.Stands.{as_queue, cover_of, how_of, queue_of, entry_of, entries_of, Stands}
-use Rattle.ups_tables.specs.Keyed.{whole}
+use Rattle.ups_tables.specs.Places.{place_of_title, by_place}
+use Rattle.ups_tables.specs.Stands.{cover_of, how_of, queue_of, entry_of, entries_of, Stands}
+use Rattle.ups_tables.specs.Keyed.{step_with_held}
 use Rattle.ups_tables.proofs.Fitness.{cells_watching, nobody}
 use Rattle.ups_tables.proofs.Titled.{same_at, kept_by_titles, any_same, nobody_locks}
 
@@ -41,12 +42,12 @@ held_entries {A} u (h ∷ hs) = ap (λ b. cond b (Some (bare h)) (held_at u (ent
     by true rest = refl
     by false rest = rest
 
-pub put_entries : {A : Type 0} (step : List ℕ) (x : Held A) (hs : List (HeldStep A)) → put_held step x (entries_of hs) ≡ entries_of (put_step (whole step x) hs)
+pub put_entries : {A : Type 0} (step : List ℕ) (x : Held A) (hs : List (HeldStep A)) → put_held step x (entries_of hs) ≡ entries_of (put_step (step_with_held step x) hs)
 put_entries step x [] = refl
 put_entries {A} step x (h ∷ hs) =
     ap (λ b. cond b ((h.step, x) ∷ entries_of hs) (entry_of h ∷ put_held step x (entries_of hs))) (other_text step h.step) ∙ by (bytes_eq h.step step) refl (put_entries step x hs)
   where
-    by : (b : Bool) → bytes_eq h.step step ≡ b → put_held step x (entries_of hs) ≡ entries_of (put_step (whole step x) hs) → cond b ((h.step, x) ∷ entries_of hs) (entry_of h ∷ put_held step x (entries_of hs)) ≡ entries_of (cond b (whole step x ∷ hs) (h ∷ put_step (whole step x) hs))
+    by : (b : Bool) → bytes_eq h.step step ≡ b → put_held step x (entries_of hs) ≡ entries_of (put_step (step_with_held step x) hs) → cond b ((h.step, x) ∷ entries_of hs) (entry_of h ∷ put_held step x (entries_of hs)) ≡ entries_of (cond b (step_with_held step x ∷ hs) (h ∷ put_step (step_with_held step x) hs))
     by true same rest = ap (λ v. (v, x) ∷ entries_of hs) (same_text h.step step same)
     by false other rest = ap (λ r. entry_of h ∷ r) rest
 
@@ -77,7 +78,7 @@ module _ {A : Type 0} (s : Settings) (history : List (Entry A)) (t : Tables A) (
       by false = refl
 
   -- when the state of u became final
-  pub final_is : (u : List ℕ) → fit.final_at t u ≡ final s (past history) u
+  pub final_is : (u : List ℕ) → fit.final_in t u ≡ final s (past history) u
   final_is u = ap final_of (held_is u) ∙ by (is_held s (past history) u)
     where
       by : (b : Bool) → final_of (cond b (Some (bare (held_step s (past history) u))) None) ≡ cond b (final_at (past history) u) None
@@ -85,35 +86,35 @@ module _ {A : Type 0} (s : Settings) (history : List (Entry A)) (t : Tables A) (
       by false = refl
 
   -- whether a peer keeps u
-  pub kept_is : (u : List ℕ) → kept t u ≡ locked s (past history) u
+  pub kept_is : (u : List ℕ) → has_lock t u ≡ locked s (past history) u
   kept_is u = by (holds t u) refl
     where
-      seen : (p : Peer) → how_of s.peers t p.ae u ≡ by_place None (λ i. get_or (cells t u) i None) (place_in s.peers p.ae)
-      seen p = same_at (place_in s.peers p.ae) None (λ i. get_or (cells t u) i None) (λ i. how t i u) (λ i. sym (cells_watching t.watchers i u))
+      seen : (p : Peer) → how_of s.peers t p.ae u ≡ by_place None (λ i. get_or (cells_at t u) i None) (place_of_title s.peers p.ae)
+      seen p = same_at (place_of_title s.peers p.ae) None (λ i. get_or (cells_at t u) i None) (λ i. how t i u) (λ i. sym (cells_watching t.watchers i u))
 
-      by : (b : Bool) → holds t u ≡ b → kept t u ≡ locked s (past history) u
+      by : (b : Bool) → holds t u ≡ b → has_lock t u ≡ locked s (past history) u
       by true h =
-          sym (kept_by_titles s.peers (cells t u) st.titles (st.fits.width u (st.fits.known u ∙ h) ∙ st.peers))
-          ∙ any_same (λ (p : Peer). is_locked (by_place None (λ i. get_or (cells t u) i None) (place_in s.peers p.ae))) (λ (p : Peer). is_locked (live s (past history) p.ae u)) s.peers
+          sym (kept_by_titles s.peers (cells_at t u) st.titles (st.fits.width u (st.fits.known u ∙ h) ∙ st.peers))
+          ∙ any_same (λ (p : Peer). is_locked (by_place None (λ i. get_or (cells_at t u) i None) (place_of_title s.peers p.ae))) (λ (p : Peer). is_locked (live s (past history) p.ae u)) s.peers
           (λ p. ap is_locked (sym (seen p) ∙ st.lives.pairs p.ae u))
       by false h =
           none_kept ∙ sym (nobody_locks s.peers (λ p. live s (past history) p.ae u) (λ p. ap (λ b. cond b (watch s (past history) p.ae u) None) (sym (holds_is u) ∙ h)))
         where
-          none_kept : kept t u ≡ false
-          none_kept = nothing_kept (cells t u) (λ i. cells_watching t.watchers i u ∙ nobody t st.fits u h i)
+          none_kept : has_lock t u ≡ false
+          none_kept = nothing_kept (cells_at t u) (λ i. cells_watching t.watchers i u ∙ nobody t st.fits u h i)
             where
-              nothing_kept : (row : Cells) → ((i : ℕ) → get_or row i None ≡ None) → is_kept row ≡ false
+              nothing_kept : (row : Cells) → ((i : ℕ) → get_or row i None ≡ None) → is_locked_by_any row ≡ false
               nothing_kept [] n = refl
-              nothing_kept (c ∷ cs) n = ap (λ o. is_locked o || is_kept cs) (n 0) ∙ nothing_kept cs (λ i. n (suc i))
+              nothing_kept (c ∷ cs) n = ap (λ o. is_locked o || is_locked_by_any cs) (n 0) ∙ nothing_kept cs (λ i. n (suc i))
 
 -- LOOKUPS THAT STAY
 
 module _ {A : Type 0} (peers : List Peer) (t t' : Tables A) (w : List ℕ) where
   pub covers_stay : t'.watchers.covers ≡ t.watchers.covers → cover_of peers t' w ≡ cover_of peers t w
-  covers_stay e = same_at (place_in peers w) None (λ p. get_or t.watchers.covers p None) (λ p. get_or t'.watchers.covers p None) (λ p. ap (λ (cs : List (Option (Cover A))). get_or cs p None) e)
+  covers_stay e = same_at (place_of_title peers w) None (λ p. get_or t.watchers.covers p None) (λ p. get_or t'.watchers.covers p None) (λ p. ap (λ (cs : List (Option (Cover A))). get_or cs p None) e)
 
   pub hows_stay : (u : List ℕ) → ((p : ℕ) → how t' p u ≡ how t p u) → how_of peers t' w u ≡ how_of peers t w u
-  hows_stay u h = same_at (place_in peers w) None (λ p. how t p u) (λ p. how t' p u) h
+  hows_stay u h = same_at (place_of_title peers w) None (λ p. how t p u) (λ p. how t' p u) h
 
-  pub queues_stay : ((p : ℕ) → queue t' p ≡ queue t p) → queue_of peers t' w ≡ queue_of peers t w
-  queues_stay h = same_at (place_in peers w) empty_queue (λ p. as_queue (queue t p)) (λ p. as_queue (queue t' p)) (λ p. ap as_queue (h p))
+  pub queues_stay : ((p : ℕ) → queue_line t' p ≡ queue_line t p) → queue_of peers t' w ≡ queue_of peers t w
+  queues_stay h = same_at (place_of_title peers w) empty_line (λ p. queue_line t p) (λ p. queue_line t' p) h

@@ -16,7 +16,7 @@ use Rattle.ups_watch.specs.Table.{covering, knows}
 use Rattle.ups_steps.specs.declared.held.Held.{Held}
 use Rattle.ups_tables.specs.declared.tables.Tables.{Tables}
 use Rattle.ups_tables.specs.Held.{put_held}
-use Rattle.ups_tables.specs.Fit.{how, cells, queue, uses}
+use Rattle.ups_tables.specs.Fit.{how, cells_at, queue_line, uses}
 
 -- a step is created (PS3.4 CC.2.5): each peer is subscribed to it as its global subscription says, and those that are
 -- subscribed are told the news
@@ -25,7 +25,7 @@ pub record IsCreated {A : Type 0} (entry : ℕ) (step : List ℕ) (held : Held A
   pub used : (u : List ℕ) → uses t' u ≡ (bytes_eq step u || uses t u)
   pub covers : t'.watchers.covers ≡ t.watchers.covers
   pub hows : (p : ℕ) (u : List ℕ) → how t' p u ≡ (if bytes_eq step u then covering t.watchers p held.row.attributes else how t p u)
-  pub queues : (p : ℕ) → queue t' p ≡ (if is_some (how t' p step) then told entry news (queue t p) else queue t p)
+  pub queues : (p : ℕ) → queue_line t' p ≡ (if is_some (how t' p step) then told entry news (queue_line t p) else queue_line t p)
 
 -- what is held of a step changes (PS3.4 CC.2.1, CC.2.2, CC.2.6): who watches the step is told the news; who does not, and
 -- whom `newly` subscribes to it by the way, is told `first` alone (PS3.4 CC.2.3, CC.2.4)
@@ -34,7 +34,7 @@ pub record IsChanged {A : Type 0} (entry : ℕ) (step : List ℕ) (held : Held A
   pub used : (u : List ℕ) → uses t' u ≡ uses t u
   pub covers : t'.watchers.covers ≡ t.watchers.covers
   pub hows : (p : ℕ) (u : List ℕ) → how t' p u ≡ (if bytes_eq step u then option_or (how t p u) (slice_index_or newly p None) else how t p u)
-  pub queues : (p : ℕ) → queue t' p ≡ (if is_some (how t p step) then told entry news (queue t p) else (if is_some (slice_index_or newly p None) then told entry first (queue t p) else queue t p))
+  pub queues : (p : ℕ) → queue_line t' p ≡ (if is_some (how t p step) then told entry news (queue_line t p) else (if is_some (slice_index_or newly p None) then told entry first (queue_line t p) else queue_line t p))
 
 -- the global subscriptions after the peer at a place got this one, if any
 abbrev pub covers_then : {A : Type 0} → Option (Cover A) → ℕ → List (Option (Cover A)) → List (Option (Cover A))
@@ -48,7 +48,7 @@ pub record IsSubscribed {A : Type 0} (entry peer : ℕ) (subscription : Subscrip
   pub used : (u : List ℕ) → uses t' u ≡ uses t u
   pub covers : t'.watchers.covers ≡ covers_then cover peer t.watchers.covers
   pub hows : (p : ℕ) (u : List ℕ) → how t' p u ≡ (if nat_eq peer p && is_among u chosen then Some subscription else how t p u)
-  pub queues : (p : ℕ) → queue t' p ≡ (if nat_eq peer p then told entry news (queue t p) else queue t p)
+  pub queues : (p : ℕ) → queue_line t' p ≡ (if nat_eq peer p then told entry news (queue_line t p) else queue_line t p)
 
 -- the subscriptions of a peer end, at one step or everywhere (PS3.4 CC.2.3)
 pub record IsUnsubscribed {A : Type 0} (peer : ℕ) (place : Place) (t t' : Tables A) : Type 0 where
@@ -56,7 +56,7 @@ pub record IsUnsubscribed {A : Type 0} (peer : ℕ) (place : Place) (t t' : Tabl
   pub used : (u : List ℕ) → uses t' u ≡ uses t u
   pub covers : t'.watchers.covers ≡ covers_left place peer t.watchers.covers
   pub hows : (p : ℕ) (u : List ℕ) → how t' p u ≡ (if nat_eq peer p && is_at place u then None else how t p u)
-  pub queues : (p : ℕ) → queue t' p ≡ queue t p
+  pub queues : (p : ℕ) → queue_line t' p ≡ queue_line t p
 
 -- the global subscription of a peer ends (PS3.4 CC.2.3)
 pub record IsSuspended {A : Type 0} (peer : ℕ) (t t' : Tables A) : Type 0 where
@@ -64,15 +64,15 @@ pub record IsSuspended {A : Type 0} (peer : ℕ) (t t' : Tables A) : Type 0 wher
   pub used : (u : List ℕ) → uses t' u ≡ uses t u
   pub covers : t'.watchers.covers ≡ slice_set t.watchers.covers peer None
   pub hows : (p : ℕ) (u : List ℕ) → how t' p u ≡ how t p u
-  pub queues : (p : ℕ) → queue t' p ≡ queue t p
+  pub queues : (p : ℕ) → queue_line t' p ≡ queue_line t p
 
 -- a peer has acknowledged its events up to a number (the profile's)
-pub record IsAcked {A : Type 0} (peer upto : ℕ) (t t' : Tables A) : Type 0 where
+pub record AcknowledgesUpto {A : Type 0} (peer upto : ℕ) (t t' : Tables A) : Type 0 where
   pub steps : t'.steps.entries ≡ t.steps.entries
   pub used : (u : List ℕ) → uses t' u ≡ uses t u
   pub covers : t'.watchers.covers ≡ t.watchers.covers
   pub hows : (p : ℕ) (u : List ℕ) → how t' p u ≡ how t p u
-  pub queues : (p : ℕ) → queue t' p ≡ (if nat_eq peer p then acked_to upto (queue t p) else queue t p)
+  pub queues : (p : ℕ) → queue_line t' p ≡ (if nat_eq peer p then acked_to upto (queue_line t p) else queue_line t p)
 
 -- steps are removed, and all subscriptions to them (the profile's, with PS3.4 CC.2.3)
 pub record IsSwept {A : Type 0} (due : List (List ℕ)) (t t' : Tables A) : Type 0 where
@@ -80,14 +80,14 @@ pub record IsSwept {A : Type 0} (due : List (List ℕ)) (t t' : Tables A) : Type
   pub used : (u : List ℕ) → uses t' u ≡ uses t u
   pub covers : t'.watchers.covers ≡ t.watchers.covers
   pub hows : (p : ℕ) (u : List ℕ) → how t' p u ≡ (if is_among u due then None else how t p u)
-  pub queues : (p : ℕ) → queue t' p ≡ queue t p
+  pub queues : (p : ℕ) → queue_line t' p ≡ queue_line t p
 
 -- the tables say the same as before, and have no less room
 pub record Reserved {A : Type 0} (t t' : Tables A) : Type 0 where
   pub steps : t'.steps.entries ≡ t.steps.entries
   pub used : (u : List ℕ) → uses t' u ≡ uses t u
   pub covers : t'.watchers.covers ≡ t.watchers.covers
-  pub cells_same : (u : List ℕ) → cells t' u ≡ cells t u
+  pub cells_same : (u : List ℕ) → cells_at t' u ≡ cells_at t u
   pub known : (u : List ℕ) → knows t'.watchers u ≡ knows t.watchers u
   pub queues : (p : ℕ) → IsReserved (queue_at t.queues p) (queue_at t'.queues p)
   pub peers : length t'.queues ≡ length t.queues
@@ -98,5 +98,5 @@ pub record Reserved {A : Type 0} (t t' : Tables A) : Type 0 where
   pub room_due : t.due.spare ≤ t'.due.spare
 
 -- there is room for so many more events of each peer whose place passes a test
-abbrev pub RoomFor : (ℕ → Bool) → ℕ → List lists.Standing → Type 0
+abbrev pub RoomFor : (ℕ → Bool) → ℕ → List lists.QueueView → Type 0
 RoomFor has more qs = (p : ℕ) → has p ≡ true → more ≤ (queue_at qs p).spare

@@ -17,24 +17,24 @@ abbrev pub how : {A : Type 0} → Tables A → ℕ → List ℕ → Option Subsc
 how t p u = watch.watching t.watchers p u
 
 -- how each peer is subscribed to u, at the place of the peer
-abbrev pub cells : {A : Type 0} → Tables A → List ℕ → Cells
-cells t u = watch.cells_of t.watchers u
+abbrev pub cells_at : {A : Type 0} → Tables A → List ℕ → Cells
+cells_at t u = watch.cells_of t.watchers u
 
 -- one of the peers keeps u by a deletion lock (PS3.4 CC.2.3)
-abbrev pub kept : {A : Type 0} → Tables A → List ℕ → Bool
-kept t u = watch.is_kept (cells t u)
+abbrev pub has_lock : {A : Type 0} → Tables A → List ℕ → Bool
+has_lock t u = watch.is_locked_by_any (cells_at t u)
 
 -- when the state of u became final (PS3.4 CC.1.1); None where it is not final, or u is not held
-abbrev pub final_at : {A : Type 0} → Tables A → List ℕ → Option ℕ
-final_at t u = final_of (held_at u t.steps.entries)
+abbrev pub final_in : {A : Type 0} → Tables A → List ℕ → Option ℕ
+final_in t u = final_of (held_at u t.steps.entries)
 
 -- u is held
 abbrev pub holds : {A : Type 0} → Tables A → List ℕ → Bool
 holds t u = is_some (held_at u t.steps.entries)
 
 -- the queue of the peer at a place (PS3.4 CC.2.4)
-abbrev pub queue : {A : Type 0} → Tables A → ℕ → Line
-queue t p = line_at t.queues p
+abbrev pub queue_line : {A : Type 0} → Tables A → ℕ → Line
+queue_line t p = line_at t.queues p
 
 -- the UID u was used
 abbrev pub uses : {A : Type 0} → Tables A → List ℕ → Bool
@@ -45,23 +45,23 @@ uses t u = is_used u t.used.keys
 -- there is a queue for each peer, the table of subscriptions knows the steps that are held and has a cell in each of them
 -- for each peer, and those steps wait for their removal, each once and since its state became final, that are final and that
 -- no peer keeps
-pub record Fits {A : Type 0} (t : Tables A) : Type 0 where
+pub record TablesFit {A : Type 0} (t : Tables A) : Type 0 where
   pub queues : length t.queues ≡ length t.watchers.covers
   pub known : (u : List ℕ) → watch.knows t.watchers u ≡ holds t u
-  pub width : (u : List ℕ) → watch.knows t.watchers u ≡ true → length (cells t u) ≡ length t.watchers.covers
+  pub width : (u : List ℕ) → watch.knows t.watchers u ≡ true → length (cells_at t u) ≡ length t.watchers.covers
   pub once : Distinct (steps_of t.due.steps)
-  pub waiting : (u : List ℕ) → waits u t.due.steps ≡ unless_kept (kept t u) (final_at t u)
+  pub waiting : (u : List ℕ) → waits u t.due.steps ≡ unless_kept (has_lock t u) (final_in t u)
 
 -- WHICH STEPS LOCKS THAT END WOULD FREE
 
 -- one of the peers would keep u by a deletion lock, were the peer at a place subscribed to it so
 abbrev pub kept_if : {A : Type 0} → Tables A → ℕ → Option Subscription → List ℕ → Bool
-kept_if t peer subscription u = watch.is_kept (slice_set (cells t u) peer subscription)
+kept_if t peer subscription u = watch.is_locked_by_any (slice_set (cells_at t u) peer subscription)
 
 -- since when u would wait for its removal that does not now, were the peer at a place subscribed to it so: since its state
 -- became final, where it is kept now and would not be; None else
 abbrev pub freed_if : {A : Type 0} → Tables A → ℕ → Option Subscription → List ℕ → Option ℕ
-freed_if t peer subscription u = if kept t u && not (kept_if t peer subscription u) then final_at t u else None
+freed_if t peer subscription u = if has_lock t u && not (kept_if t peer subscription u) then final_in t u else None
 
 -- of the steps that pass a test these are the ones that would wait then, each once
 pub record AreFreed {A : Type 0} (t : Tables A) (peer : ℕ) (subscription : Option Subscription) (chosen : List ℕ → Bool) (freed : List Final) : Type 0 where

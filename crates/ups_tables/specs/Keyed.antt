@@ -3,16 +3,16 @@ use Rattle.std.specs.Prelude.{ℕ, List, map, Option, None, Some}
 use Rattle.std.specs.Option.{option_map}
 use Rattle.ups_life.specs.declared.row.Row.{Row}
 use Rattle.ups_life.specs.declared.row.Holder.{Holder}
-use Rattle.ups_live.specs.declared.rows.HeldStep.{HeldStep}
+use Rattle.ups_tables.specs.declared.rows.HeldStep.{HeldStep}
 use Rattle.ups_steps.specs.declared.held.Held.{Held}
 
 -- what is held of a step, with its UID
-abbrev pub whole : {A : Type 0} → List ℕ → Held A → HeldStep A
-whole step held = record { step = step; row = held.row; holder = held.holder }
+abbrev pub step_with_held : {A : Type 0} → List ℕ → Held A → HeldStep A
+step_with_held step held = record { step = step; row = held.row; holder = held.holder }
 
 -- the step that stands in the table under its UID
 abbrev pub as_step : {A : Type 0} → List ℕ × Held A → HeldStep A
-as_step e = whole e.0 e.1
+as_step e = step_with_held e.0 e.1
 
 -- the steps of the table, in their order
 abbrev pub as_steps : {A : Type 0} → List (List ℕ × Held A) → List (HeldStep A)

@@ -5,3 +5,7 @@ pub mod Keyed
 pub mod Places
 pub mod Planned
 pub mod Stands
+pub mod HeldSteps
+pub mod Live
+pub mod Seen
+pub mod Taken

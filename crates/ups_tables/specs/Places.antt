@@ -5,9 +5,9 @@ use Rattle.std.specs.Str.{bytes_eq}
 use Rattle.ups_life.specs.declared.peer.Peer.{Peer}
 
 -- the place of the first peer with the title w; None where no peer has it
-abbrev pub place_in : List Peer → List ℕ → Option ℕ
-place_in [] w = None
-place_in (p ∷ ps) w = if bytes_eq p.ae w then Some 0 else option_map suc (place_in ps w)
+abbrev pub place_of_title : List Peer → List ℕ → Option ℕ
+place_of_title [] w = None
+place_of_title (p ∷ ps) w = if bytes_eq p.ae w then Some 0 else option_map suc (place_of_title ps w)
 
 -- what a table says of the peer at a place; `none` is said where there is no such peer
 abbrev pub by_place : {X : Type 0} → X → (ℕ → X) → Option ℕ → X

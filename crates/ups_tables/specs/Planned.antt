@@ -15,10 +15,10 @@ use Rattle.ups_life.specs.Settings.{Settings}
 use Rattle.ups_life.specs.Steps.{step_of, row_of}
 use Rattle.ups_life.specs.Watching.{granted, is_among, is_held}
 use Rattle.ups_life.specs.Events.{as_it_is}
-use Rattle.ups_live.specs.Held.{held_steps, put_step}
-use Rattle.ups_live.specs.Live.{cover_to, chosen, news, newly_by, is_of_watch}
+use Rattle.ups_tables.specs.HeldSteps.{held_steps, put_step}
+use Rattle.ups_tables.specs.Live.{cover_to, chosen, news, newly_by, is_of_watch}
 use Rattle.ups_keep.specs.declared.due.Final.{Final}
-use Rattle.ups_keep.specs.Due.{up_to}
+use Rattle.ups_keep.specs.Due.{due_until}
 use Rattle.ups_events.specs.Queue.{ack_fault, queue_at}
 use Rattle.ups_watch.specs.declared.cover.Cover.{Cover}
 use Rattle.ups_steps.specs.declared.held.Held.{Held}
@@ -27,15 +27,15 @@ use Rattle.ups_tables.specs.declared.plan.Plan.{Plan}
 use Rattle.ups_tables.specs.declared.plan.Plan.TheVariants.{Create as ToCreate, Change as ToChange, Set as ToSet, Single as ToSingle, Global as ToGlobal, End as ToEnd, EndAll as ToEndAll, Suspend as ToSuspend, Ack as ToAck, Sweep as ToSweep, Idle as ToIdle}
 use Rattle.ups_tables.specs.Effects.{RoomFor}
 use Rattle.ups_tables.specs.Fit.{how, AreFreed}
-use Rattle.ups_tables.specs.Keyed.{whole}
-use Rattle.ups_tables.specs.Places.{place_in}
+use Rattle.ups_tables.specs.Keyed.{step_with_held}
+use Rattle.ups_tables.specs.Places.{place_of_title}
 
 -- REQUESTS ON A STEP
 
 -- what is to be held of the step of an entry is what the definitions hold after it, and what is to be told of it is its news
 -- (PS3.4 CC.2.4)
 pub record PlansStep {A : Type 0} (s : Settings) (es : List (Entry A)) (e : Entry A) (step : List ℕ) (held : Held A) (told : List Report) : Type 0 where
-  pub steps : put_step (whole step held) (held_steps s es) ≡ held_steps s (e ∷ es)
+  pub steps : put_step (step_with_held step held) (held_steps s es) ≡ held_steps s (e ∷ es)
   pub row : held.row ≡ row_of s (e ∷ es) step
   pub news : told ≡ news s es e step
 
@@ -67,7 +67,7 @@ pub record PlansSet {A : Type 0} (s : Settings) (es : List (Entry A)) (e : Entry
 -- a peer is to be subscribed to one step, and told of it as it is
 pub record PlansSingle {A : Type 0} (s : Settings) (es : List (Entry A)) (e : Entry A) (peer : ℕ) (step : List ℕ) (subscription : Subscription) (told : List Report) : Type 0 where
   pub receiver : List ℕ
-  pub place : place_in s.peers receiver ≡ Some peer
+  pub place : place_of_title s.peers receiver ≡ Some peer
   pub lock : Bool
   pub request : e.request ≡ Subscribe (Single (Some step)) receiver lock
   pub how_is : subscription ≡ granted s.peers receiver lock
@@ -78,7 +78,7 @@ pub record PlansSingle {A : Type 0} (s : Settings) (es : List (Entry A)) (e : En
 -- of which it is told as it is; the steps freed are those that the peer kept so far
 pub record PlansGlobal {A : Type 0} (s : Settings) (es : List (Entry A)) (e : Entry A) (t : Tables A) (peer : ℕ) (cover : Cover A) (steps : List (List ℕ)) (freed : List Final) (told : List Report) : Type 0 where
   pub receiver : List ℕ
-  pub place : place_in s.peers receiver ≡ Some peer
+  pub place : place_of_title s.peers receiver ≡ Some peer
   pub target : Target A
   pub lock : Bool
   pub request : e.request ≡ Subscribe target receiver lock
@@ -90,27 +90,27 @@ pub record PlansGlobal {A : Type 0} (s : Settings) (es : List (Entry A)) (e : En
 -- the subscription of a peer to one step is to end
 pub record PlansEnd {A : Type 0} (s : Settings) (e : Entry A) (peer : ℕ) (step : List ℕ) : Type 0 where
   pub receiver : List ℕ
-  pub place : place_in s.peers receiver ≡ Some peer
+  pub place : place_of_title s.peers receiver ≡ Some peer
   pub request : e.request ≡ Unsubscribe (At (Some step)) receiver
 
 -- all subscriptions of a peer are to end; the steps freed are those that it kept so far
 pub record PlansEndAll {A : Type 0} (s : Settings) (e : Entry A) (t : Tables A) (peer : ℕ) (freed : List Final) : Type 0 where
   pub receiver : List ℕ
-  pub place : place_in s.peers receiver ≡ Some peer
+  pub place : place_of_title s.peers receiver ≡ Some peer
   pub request : e.request ≡ Unsubscribe Everywhere receiver
   pub freed_are : AreFreed t peer None (λ u. true) freed
 
 -- the global subscription of a peer is to end
 pub record PlansSuspend {A : Type 0} (s : Settings) (e : Entry A) (peer : ℕ) : Type 0 where
   pub receiver : List ℕ
-  pub place : place_in s.peers receiver ≡ Some peer
+  pub place : place_of_title s.peers receiver ≡ Some peer
   pub request : e.request ≡ Suspend receiver
 
 -- REQUESTS OF THE PROFILE
 
 -- a peer acknowledges its events up to a number, which it may
 pub record PlansAck {A : Type 0} (s : Settings) (e : Entry A) (t : Tables A) (peer upto : ℕ) : Type 0 where
-  pub place : place_in s.peers e.ae ≡ Some peer
+  pub place : place_of_title s.peers e.ae ≡ Some peer
   pub request : e.request ≡ Ack upto
   pub allowed : ack_fault (queue_at t.queues peer) upto ≡ None
 
@@ -118,12 +118,12 @@ pub record PlansAck {A : Type 0} (s : Settings) (e : Entry A) (t : Tables A) (pe
 pub record PlansSweep {A : Type 0} (s : Settings) (e : Entry A) (t : Tables A) (due : List Final) (moment : ℕ) : Type 0 where
   pub request : e.request ≡ Sweep
   pub since : moment + s.keep ≡ e.moment
-  pub due_are : due ≡ up_to moment t.due.steps
+  pub due_are : due ≡ due_until moment t.due.steps
 
 -- a sweep is to remove nothing: no step waits as long as final steps are kept
 pub record PlansIdle {A : Type 0} (s : Settings) (e : Entry A) (t : Tables A) : Type 0 where
   pub request : e.request ≡ Sweep
-  pub none : (since : ℕ) → since + s.keep ≤ e.moment → up_to since t.due.steps ≡ []
+  pub none : (since : ℕ) → since + s.keep ≤ e.moment → due_until since t.due.steps ≡ []
 
 -- THE PLAN of an entry, of whatever kind, is right
 abbrev pub IsPlan : {A : Type 0} → Settings → List (Entry A) → Entry A → Tables A → Plan A → Type 0

@@ -6,35 +6,30 @@ use Rattle.ups_life.specs.declared.watching.Subscription.{Subscription}
 use Rattle.ups_life.specs.Settings.{Settings}
 use Rattle.ups_life.specs.Steps.{past, used}
 use Rattle.ups_life.specs.History.{legal}
-use Rattle.ups_live.specs.declared.rows.HeldStep.{HeldStep}
-use Rattle.ups_live.specs.Held.{held_steps}
-use Rattle.ups_live.specs.Live.{global, live, Queue, empty_queue}
-use Rattle.ups_live.specs.Live as words
-use Rattle.ups_live.specs.Seen.{Once}
-use Rattle.ups_events.specs.Telling.{Line}
+use Rattle.ups_tables.specs.declared.rows.HeldStep.{HeldStep}
+use Rattle.ups_tables.specs.HeldSteps.{held_steps}
+use Rattle.ups_tables.specs.Live.{global, live, queue}
+use Rattle.ups_tables.specs.Seen.{Once}
+use Rattle.ups_events.specs.Telling.{Line, empty_line}
 use Rattle.ups_watch.specs.declared.cover.Cover.{Cover}
 use Rattle.ups_steps.specs.declared.held.Held.{Held}
 use Rattle.ups_tables.specs.declared.tables.Tables.{Tables}
-use Rattle.ups_tables.specs.Fit.{how, queue, uses, Fits}
-use Rattle.ups_tables.specs.Places.{place_in, by_place}
+use Rattle.ups_tables.specs.Fit.{how, queue_line, uses, TablesFit}
+use Rattle.ups_tables.specs.Places.{place_of_title, by_place}
 
 -- WHAT THE TABLES SAY OF A TITLE
 
--- a queue of the table, as a queue of the definitions
-abbrev pub as_queue : Line → Queue
-as_queue q = record { made = q.made; acked = q.acked; events = q.events }
-
 -- the global subscription of the peer with the title w (PS3.4 CC.2.3); who is no peer has none
 abbrev pub cover_of : {A : Type 0} → List Peer → Tables A → List ℕ → Option (Cover A)
-cover_of peers t w = by_place None (λ p. slice_index_or t.watchers.covers p None) (place_in peers w)
+cover_of peers t w = by_place None (λ p. slice_index_or t.watchers.covers p None) (place_of_title peers w)
 
 -- how the peer with the title w is subscribed to u (PS3.4 CC.2.3); who is no peer is subscribed to nothing
 abbrev pub how_of : {A : Type 0} → List Peer → Tables A → List ℕ → List ℕ → Option Subscription
-how_of peers t w u = by_place None (λ p. how t p u) (place_in peers w)
+how_of peers t w u = by_place None (λ p. how t p u) (place_of_title peers w)
 
 -- the queue of the peer with the title w (PS3.4 CC.2.4); that of who is no peer is empty
-abbrev pub queue_of : {A : Type 0} → List Peer → Tables A → List ℕ → Queue
-queue_of peers t w = by_place empty_queue (λ p. as_queue (queue t p)) (place_in peers w)
+abbrev pub queue_of : {A : Type 0} → List Peer → Tables A → List ℕ → Line
+queue_of peers t w = by_place empty_line (λ p. queue_line t p) (place_of_title peers w)
 
 -- WHAT THEY SAY OF STEPS
 
@@ -53,7 +48,7 @@ entries_of hs = map entry_of hs
 pub record Lives {A : Type 0} (s : Settings) (es : List (Entry A)) (t : Tables A) : Type 0 where
   pub covers : (w : List ℕ) → cover_of s.peers t w ≡ global s.peers es w
   pub pairs : (w u : List ℕ) → how_of s.peers t w u ≡ live s es w u
-  pub queues : (w : List ℕ) → queue_of s.peers t w ≡ words.queue s es w
+  pub queues : (w : List ℕ) → queue_of s.peers t w ≡ queue s es w
   pub used : (u : List ℕ) → uses t u ≡ used es u
 
 -- THE INVARIANT: each request of the history, whose oldest entry comes first, was accepted; no title stands among the peers
@@ -63,6 +58,6 @@ pub record Stands {A : Type 0} (s : Settings) (history : List (Entry A)) (t : Ta
   pub legal : legal s (past history) ≡ true
   pub titles : Once s.peers
   pub peers : length t.watchers.covers ≡ length s.peers
-  pub fits : Fits t
+  pub fits : TablesFit t
   pub steps : t.steps.entries ≡ entries_of (held_steps s (past history))
   pub lives : Lives s (past history) t

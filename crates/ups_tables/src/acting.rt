@@ -5,12 +5,12 @@ ghost use Rattle.std.specs.Prelude.{◌≡◌, ◌≤◌, ◌<◌, ℕ, List, No
 ghost use Rattle.std.specs.HashSet as set;
 ghost use Rattle.ups_life.specs.declared.watching.Place.TheVariants.{At, Everywhere};
 ghost use Rattle.ups_life.specs.Watching.{is_among};
-ghost use Rattle.ups_keep.specs.Due.{up_to};
+ghost use Rattle.ups_keep.specs.Due.{due_until};
 ghost use Rattle.ups_keep.specs.Waits.{steps_of};
 ghost use Rattle.ups_events.specs.Queue.{ack_fault, queue_at};
 ghost use Rattle.ups_tables.specs.Held.{held_at};
-ghost use Rattle.ups_tables.specs.Fit.{how, holds, Fits, AreFreed};
-ghost use Rattle.ups_tables.specs.Effects.{IsCreated, IsChanged, IsSubscribed, IsUnsubscribed, IsSuspended, IsAcked, IsSwept, RoomFor};
+ghost use Rattle.ups_tables.specs.Fit.{how, holds, TablesFit, AreFreed};
+ghost use Rattle.ups_tables.specs.Effects.{IsCreated, IsChanged, IsSubscribed, IsUnsubscribed, IsSuspended, AcknowledgesUpto, IsSwept, RoomFor};
 
 use crate::settling::{forget, settle, settle_many, waiting_since};
 use crate::tables::Tables;
@@ -23,14 +23,14 @@ use ups_watch::Cover;
 
 /// Creates a step (PS3.4 CC.2.5). Each peer is subscribed to it as its global subscription says, and is told the news where it
 /// is (PS3.4 CC.2.3, CC.2.4).
-pub fn create<A: Allocator + Copy>(
+pub(crate) fn create<A: Allocator + Copy>(
     tables: &mut Tables<A>,
     entry: u64,
     step: StepUid,
     held: Held<A>,
     news: &[Report],
 )
-    requires fits { Fits tables.old }
+    requires fits { TablesFit tables.old }
     requires fresh { held_at step tables.old.steps.entries ≡ None }
     requires unfinished { held.row.final_at ≡ None }
     requires room_steps { 0 < tables.old.steps.spare }
@@ -38,7 +38,7 @@ pub fn create<A: Allocator + Copy>(
     requires room_rows { 0 < tables.old.watchers.spare }
     requires room_events { RoomFor (λ p. is_some (slice_index_or tables.old.watchers.covers p None)) (length news.now) tables.old.queues }
     ensures effect { IsCreated entry step held news.now tables.old tables.new }
-    ensures fits { Fits tables.new }
+    ensures fits { TablesFit tables.new }
 {
     use_uid(&mut tables.used, step);
     tables.watchers.created(step, &held.row.attributes);
@@ -52,7 +52,7 @@ pub fn create<A: Allocator + Copy>(
 /// Puts what is held of a step in the place of what was held of it, for a change of its state, a request to cancel it, or
 /// attributes that are set (PS3.4 CC.2.1, CC.2.2, CC.2.6). Its watchers are told the news. The peers that `newly` subscribes to
 /// it by the way, at the place of each peer, are told `first` alone (PS3.4 CC.2.3, CC.2.4).
-pub fn change<A: Allocator + Copy>(
+pub(crate) fn change<A: Allocator + Copy>(
     tables: &mut Tables<A>,
     entry: u64,
     step: StepUid,
@@ -61,7 +61,7 @@ pub fn change<A: Allocator + Copy>(
     newly: &[Option<Subscription>],
     first: &[Report],
 )
-    requires fits { Fits tables.old }
+    requires fits { TablesFit tables.old }
     requires here { holds tables.old step ≡ true }
     requires width { length newly.now ≤ length tables.old.watchers.covers }
     requires apart { (p : ℕ) → is_some (how tables.old p step) ≡ true → slice_index_or newly.now p None ≡ None }
@@ -69,7 +69,7 @@ pub fn change<A: Allocator + Copy>(
     requires room_news { RoomFor (λ p. is_some (how tables.old p step)) (length news.now) tables.old.queues }
     requires room_first { RoomFor (λ p. is_some (slice_index_or newly.now p None)) (length first.now) tables.old.queues }
     ensures effect { IsChanged entry step held news.now newly.now first.now tables.old tables.new }
-    ensures fits { Fits tables.new }
+    ensures fits { TablesFit tables.new }
 {
     let kept = tables.watchers.is_kept(step);
     let before = waiting_since(kept, tables.steps.final_at(step));
@@ -87,25 +87,25 @@ pub fn change<A: Allocator + Copy>(
 
 /// Puts what is held of a step in the place of what was held of it, for a change of its state, or a request to cancel it (PS3.4
 /// CC.2.1, CC.2.2). Its watchers are told the news, and nobody is subscribed by the way.
-pub fn change_alone<A: Allocator + Copy>(
+pub(crate) fn change_alone<A: Allocator + Copy>(
     tables: &mut Tables<A>,
     entry: u64,
     step: StepUid,
     held: Held<A>,
     news: &[Report],
 )
-    requires fits { Fits tables.old }
+    requires fits { TablesFit tables.old }
     requires here { holds tables.old step ≡ true }
     requires room_due { 0 < tables.old.due.spare }
     requires room_news { RoomFor (λ p. is_some (how tables.old p step)) (length news.now) tables.old.queues }
     ensures effect { IsChanged entry step held news.now [] [] tables.old tables.new }
-    ensures fits { Fits tables.new }
+    ensures fits { TablesFit tables.new }
 {
     change(tables, entry, step, held, news, &[], &[]);
 }
 
 /// Subscribes a peer to one step, and tells it the news of it (PS3.4 CC.2.3).
-pub fn subscribe_single<A: Allocator + Copy>(
+pub(crate) fn subscribe_single<A: Allocator + Copy>(
     tables: &mut Tables<A>,
     entry: u64,
     peer: usize,
@@ -113,13 +113,13 @@ pub fn subscribe_single<A: Allocator + Copy>(
     subscription: Subscription,
     news: &[Report],
 )
-    requires fits { Fits tables.old }
+    requires fits { TablesFit tables.old }
     requires peer { peer < length tables.old.watchers.covers }
     requires here { holds tables.old step ≡ true }
     requires room_due { 0 < tables.old.due.spare }
     requires room_events { length news.now ≤ (queue_at tables.old.queues peer).spare }
     ensures effect { IsSubscribed entry peer subscription None (step ∷ []) news.now tables.old tables.new }
-    ensures fits { Fits tables.new }
+    ensures fits { TablesFit tables.new }
 {
     let since = tables.steps.final_at(step);
     let kept = tables.watchers.is_kept(step);
@@ -134,7 +134,7 @@ pub fn subscribe_single<A: Allocator + Copy>(
 
 /// Gives a peer a global subscription, subscribes it to the steps that it takes in, and tells it the news of them (PS3.4
 /// CC.2.3). The steps freed are those among them on which it alone has had a deletion lock and has none now.
-pub fn subscribe_all<A: Allocator + Copy>(
+pub(crate) fn subscribe_all<A: Allocator + Copy>(
     tables: &mut Tables<A>,
     entry: u64,
     peer: usize,
@@ -143,14 +143,14 @@ pub fn subscribe_all<A: Allocator + Copy>(
     freed: &[Final],
     news: &[Report],
 )
-    requires fits { Fits tables.old }
+    requires fits { TablesFit tables.old }
     requires peer { peer < length tables.old.watchers.covers }
     requires here { (u : List ℕ) → is_among u chosen.now ≡ true → holds tables.old u ≡ true }
     requires freed { AreFreed tables.old peer (Some cover.subscription) (λ u. is_among u chosen.now) freed.now }
     requires room_due { length freed.now ≤ tables.old.due.spare }
     requires room_events { length news.now ≤ (queue_at tables.old.queues peer).spare }
     ensures effect { IsSubscribed entry peer cover.subscription (Some cover) chosen.now news.now tables.old tables.new }
-    ensures fits { Fits tables.new }
+    ensures fits { TablesFit tables.new }
 {
     let subscription = cover.subscription;
     tables.watchers.global(peer, cover, chosen);
@@ -160,12 +160,12 @@ pub fn subscribe_all<A: Allocator + Copy>(
 }
 
 /// Ends the subscription of a peer to one step (PS3.4 CC.2.3).
-pub fn end_single<A: Allocator + Copy>(tables: &mut Tables<A>, peer: usize, step: StepUid)
-    requires fits { Fits tables.old }
+pub(crate) fn end_single<A: Allocator + Copy>(tables: &mut Tables<A>, peer: usize, step: StepUid)
+    requires fits { TablesFit tables.old }
     requires peer { peer < length tables.old.watchers.covers }
     requires room_due { 0 < tables.old.due.spare }
     ensures effect { IsUnsubscribed peer (At (Some step)) tables.old tables.new }
-    ensures fits { Fits tables.new }
+    ensures fits { TablesFit tables.new }
 {
     let since = tables.steps.final_at(step);
     let kept = tables.watchers.is_kept(step);
@@ -178,13 +178,17 @@ pub fn end_single<A: Allocator + Copy>(tables: &mut Tables<A>, peer: usize, step
 }
 
 /// Ends all subscriptions of a peer (PS3.4 CC.2.3). The steps freed are those on which it alone has had a deletion lock.
-pub fn end_everywhere<A: Allocator + Copy>(tables: &mut Tables<A>, peer: usize, freed: &[Final])
-    requires fits { Fits tables.old }
+pub(crate) fn end_everywhere<A: Allocator + Copy>(
+    tables: &mut Tables<A>,
+    peer: usize,
+    freed: &[Final],
+)
+    requires fits { TablesFit tables.old }
     requires peer { peer < length tables.old.watchers.covers }
     requires freed { AreFreed tables.old peer None (λ u. true) freed.now }
     requires room_due { length freed.now ≤ tables.old.due.spare }
     ensures effect { IsUnsubscribed peer Everywhere tables.old tables.new }
-    ensures fits { Fits tables.new }
+    ensures fits { TablesFit tables.new }
 {
     tables.watchers.unsubscribe(peer, Place::Everywhere);
     settle_many(&mut tables.due, &tables.watchers, None, freed);
@@ -192,23 +196,23 @@ pub fn end_everywhere<A: Allocator + Copy>(tables: &mut Tables<A>, peer: usize, 
 }
 
 /// Ends the global subscription of a peer. Its subscriptions to steps stay (PS3.4 CC.2.3).
-pub fn suspend<A: Allocator + Copy>(tables: &mut Tables<A>, peer: usize)
-    requires fits { Fits tables.old }
+pub(crate) fn suspend<A: Allocator + Copy>(tables: &mut Tables<A>, peer: usize)
+    requires fits { TablesFit tables.old }
     requires peer { peer < length tables.old.watchers.covers }
     ensures effect { IsSuspended peer tables.old tables.new }
-    ensures fits { Fits tables.new }
+    ensures fits { TablesFit tables.new }
 {
     tables.watchers.suspend(peer);
     tables.watchers.peers();
 }
 
 /// Takes an acknowledgement of a peer's events up to a number, which it may make: they leave its queue.
-pub fn acknowledge_upto<A: Allocator + Copy>(tables: &mut Tables<A>, peer: usize, upto: u64)
-    requires fits { Fits tables.old }
+pub(crate) fn acknowledge_upto<A: Allocator + Copy>(tables: &mut Tables<A>, peer: usize, upto: u64)
+    requires fits { TablesFit tables.old }
     requires peer { peer < length tables.old.queues }
     requires allowed { ack_fault (queue_at tables.old.queues peer) upto ≡ None }
-    ensures effect { IsAcked peer upto tables.old tables.new }
-    ensures fits { Fits tables.new }
+    ensures effect { AcknowledgesUpto peer upto tables.old tables.new }
+    ensures fits { TablesFit tables.new }
 {
     let Ok(_) = tables.queues.ack(peer, upto) else {
         unreachable!();
@@ -218,11 +222,11 @@ pub fn acknowledge_upto<A: Allocator + Copy>(tables: &mut Tables<A>, peer: usize
 
 /// Removes the steps that became final no later than a moment and that no peer has a deletion lock on, with all
 /// subscriptions to them (PS3.4 CC.2.3). Their UIDs stay used (PS3.4 CC.2.5).
-pub fn sweep<A: Allocator + Copy>(tables: &mut Tables<A>, due: &[Final], moment: u64)
-    requires fits { Fits tables.old }
-    requires due { due.now ≡ up_to moment tables.old.due.steps }
+pub(crate) fn sweep<A: Allocator + Copy>(tables: &mut Tables<A>, due: &[Final], moment: u64)
+    requires fits { TablesFit tables.old }
+    requires due { due.now ≡ due_until moment tables.old.due.steps }
     ensures effect { IsSwept (steps_of due.now) tables.old tables.new }
-    ensures fits { Fits tables.new }
+    ensures fits { TablesFit tables.new }
 {
     forget(&mut tables.watchers, due);
     tables.steps.remove(due);

@@ -3,15 +3,15 @@
 ghost use Rattle.std.specs.Prelude.{◌≡◌, ◌≢◌, ℕ, List, Some, MatchOption, ◌++◌, ◌∷◌, [], map, IfOk, OnOk, if◌then◌else◌};
 ghost use Rattle.ups_life.specs.declared.watching.Target.TheVariants.{Single};
 ghost use Rattle.ups_life.specs.Watching.{takes_in, granted};
-ghost use Rattle.ups_live.specs.Live.{cover_to, report_now};
-ghost use Rattle.ups_live.specs.Taken.{taken_in, steps_in, report_of_row};
+ghost use Rattle.ups_tables.specs.Live.{cover_to, report_now};
+ghost use Rattle.ups_tables.specs.Taken.{taken_in, steps_in, report_of_row};
 ghost use Rattle.ups_tables.specs.Keyed.{as_steps};
 
 use crate::tables::Tables;
+use crate::telling::report_now;
 use std::alloc::{AllocError, Allocator};
 use ups_dataset::DataSet;
 use ups_life::{Peer, Report, Row, StepUid, Subscription, Target, may_lock};
-use ups_live::report_now;
 use ups_match::{Matcher, Probe};
 use ups_pdu::Ae;
 use ups_watch::Cover;

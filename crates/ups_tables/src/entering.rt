@@ -3,7 +3,7 @@
 ghost use Rattle.std.specs.Prelude.{◌≡◌, ◌<◌, ◌∷◌, [], true, vec_len, vec_capacity, IfOk, IsOk, OnOk};
 ghost use Rattle.ups_life.specs.Steps.{past};
 ghost use Rattle.ups_life.specs.History.{legal};
-ghost use Rattle.ups_live.specs.Seen.{Once};
+ghost use Rattle.ups_tables.specs.Seen.{Once};
 ghost use Rattle.ups_tables.specs.Effects.{Reserved};
 ghost use Rattle.ups_tables.specs.Planned.{IsPlan, room_for};
 ghost use Rattle.ups_tables.specs.Stands.{Stands};
@@ -37,10 +37,8 @@ pub fn begin<A: Allocator + Copy>(
 
 /// Makes room for all that a plan is to make of the tables.
 ///
-/// # Errors
-///
-/// Where memory runs out, and never where there is that room already. The tables then say the same as before.
-pub fn room_for_plan<A: Allocator + Copy>(
+/// Errors: where memory runs out, and never where there is that room already. The tables then say the same as before.
+pub(crate) fn room_for_plan<A: Allocator + Copy>(
     configuration: &Configuration<A>,
     history: &[Entry<A>],
     tables: &mut Tables<A>,

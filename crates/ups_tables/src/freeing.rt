@@ -6,7 +6,7 @@ ghost use Rattle.ups_life.specs.declared.watching.Subscription.{Subscription};
 ghost use Rattle.ups_life.specs.Distinct.{Distinct};
 ghost use Rattle.ups_life.specs.Watching.{is_among};
 ghost use Rattle.ups_keep.specs.Waits.{final_since};
-ghost use Rattle.ups_tables.specs.Fit.{holds, freed_if, Fits, AreFreed};
+ghost use Rattle.ups_tables.specs.Fit.{holds, freed_if, TablesFit, AreFreed};
 
 use crate::tables::Tables;
 use std::alloc::{AllocError, Allocator};
@@ -21,7 +21,7 @@ fn freed_since<A: Allocator + Copy>(
     subscription: Option<Subscription>,
     step: StepUid,
 ) -> Option<u64>
-    requires fits { Fits tables.now }
+    requires fits { TablesFit tables.now }
     requires peer { peer < length tables.now.watchers.covers }
     requires here { holds tables.now step ≡ true }
     ensures { result ≡ freed_if tables.now peer subscription step }
@@ -54,17 +54,15 @@ fn add_since<A: Allocator + Copy>(
 /// Of the steps listed, which are held and none of which is listed twice, those that are freed where the peer is subscribed to
 /// them so, each with the moment since which it waits then.
 ///
-/// # Errors
-///
-/// Where memory runs out.
-pub fn freed_steps<A: Allocator + Copy>(
+/// Errors: where memory runs out.
+pub(crate) fn freed_steps<A: Allocator + Copy>(
     alloc: A,
     tables: &Tables<A>,
     peer: usize,
     subscription: Option<Subscription>,
     steps: &[StepUid],
 ) -> Result<Vec<Final, A>, AllocError>
-    requires fits { Fits tables.now }
+    requires fits { TablesFit tables.now }
     requires peer { peer < length tables.now.watchers.covers }
     requires here { (u : List ℕ) → is_among u steps.now ≡ true → holds tables.now u ≡ true }
     requires once { Distinct steps.now }
@@ -80,15 +78,13 @@ pub fn freed_steps<A: Allocator + Copy>(
 
 /// The steps that are freed where all subscriptions of a peer end, each with the moment since which it waits then.
 ///
-/// # Errors
-///
-/// Where memory runs out.
-pub fn freed_everywhere<A: Allocator + Copy>(
+/// Errors: where memory runs out.
+pub(crate) fn freed_everywhere<A: Allocator + Copy>(
     alloc: A,
     tables: &Tables<A>,
     peer: usize,
 ) -> Result<Vec<Final, A>, AllocError>
-    requires fits { Fits tables.now }
+    requires fits { TablesFit tables.now }
     requires peer { peer < length tables.now.watchers.covers }
     ensures { IfOk result (λ v. AreFreed tables.now peer None (λ u. true) v.items) }
 {

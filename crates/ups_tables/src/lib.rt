@@ -8,28 +8,24 @@ mod carrying;
 mod choosing;
 mod entering;
 mod freeing;
+pub mod laws;
 mod peers;
 mod plan;
 mod room;
+mod rows;
 mod settling;
 mod step_plans;
 mod sweeping;
 mod tables;
+mod telling;
 mod used;
 mod watch_plans;
 
-pub use acting::{
-    acknowledge_upto, change, change_alone, create, end_everywhere, end_single, subscribe_all,
-    subscribe_single, suspend, sweep,
-};
 pub use carrying::carry_out;
-pub use entering::{begin, make_room, room_for_plan};
-pub use freeing::{freed_everywhere, freed_steps};
+pub use entering::{begin, make_room};
 pub use peers::place_of;
 pub use plan::Plan;
-pub use room::{
-    make_room_to_change, make_room_to_create, make_room_to_free, make_room_to_subscribe,
-};
+pub use rows::HeldStep;
 pub use step_plans::plan_step;
 pub use sweeping::plan_sweep;
 pub use tables::Tables;

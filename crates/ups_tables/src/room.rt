@@ -3,7 +3,7 @@
 ghost use Rattle.std.specs.Prelude.{◌≡◌, ◌≤◌, ◌<◌, ℕ, None, is_some, true, length, slice_index_or, IsOk, OnOk};
 ghost use Rattle.std.specs.HashSet as set;
 ghost use Rattle.ups_events.specs.Queue.{queue_at, IsReserved};
-ghost use Rattle.ups_tables.specs.Fit.{how, Fits};
+ghost use Rattle.ups_tables.specs.Fit.{how, TablesFit};
 ghost use Rattle.ups_tables.specs.Effects.{Reserved, RoomFor};
 ghost use Rattle.ups_tables.specs.Planned.{RoomToCreate, RoomToChange};
 
@@ -77,21 +77,19 @@ fn reserve_covered<A: Allocator + Copy>(
 /// Makes room for one step more, and for so many more events of each peer that has a global subscription: it may be subscribed
 /// to the step (PS3.4 CC.2.3).
 ///
-/// # Errors
-///
-/// Where memory runs out, and never where there is that room already. The tables then say the same as before.
-pub fn make_room_to_create<A: Allocator + Copy>(
+/// Errors: where memory runs out, and never where there is that room already. The tables then say the same as before.
+pub(crate) fn make_room_to_create<A: Allocator + Copy>(
     tables: &mut Tables<A>,
     news: usize,
 ) -> Result<(), AllocError>
-    requires { Fits tables.old }
+    requires { TablesFit tables.old }
     ensures steps { OnOk result (0 < tables.new.steps.spare) }
     ensures used { OnOk result (0 < set.spare tables.new.used) }
     ensures rows { OnOk result (0 < tables.new.watchers.spare) }
     ensures events { OnOk result (RoomFor (λ p. is_some (slice_index_or tables.new.watchers.covers p None)) news tables.new.queues) }
     ensures succeeds { RoomToCreate tables.old news → IsOk result }
     ensures same { Reserved tables.old tables.new }
-    ensures fits { Fits tables.new }
+    ensures fits { TablesFit tables.new }
 {
     tables.steps.reserve(1)?;
     tables.used.reserve(1)?;
@@ -102,24 +100,22 @@ pub fn make_room_to_create<A: Allocator + Copy>(
 /// Makes room for `news` more events of each peer that is subscribed to a step, for `first` more of each peer that `newly`
 /// subscribes to it, at the place of the peer, and for the wait of the step.
 ///
-/// # Errors
-///
-/// Where memory runs out, and never where there is that room already. The tables then say the same as before.
-pub fn make_room_to_change<A: Allocator + Copy>(
+/// Errors: where memory runs out, and never where there is that room already. The tables then say the same as before.
+pub(crate) fn make_room_to_change<A: Allocator + Copy>(
     tables: &mut Tables<A>,
     step: StepUid,
     news: usize,
     newly: &[Option<Subscription>],
     first: usize,
 ) -> Result<(), AllocError>
-    requires fits { Fits tables.old }
+    requires fits { TablesFit tables.old }
     requires width { length newly.now ≤ length tables.old.watchers.covers }
     ensures due { OnOk result (0 < tables.new.due.spare) }
     ensures news { OnOk result (RoomFor (λ p. is_some (how tables.new p step)) news tables.new.queues) }
     ensures first { OnOk result (RoomFor (λ p. is_some (slice_index_or newly.now p None)) first tables.new.queues) }
     ensures succeeds { RoomToChange tables.old step news newly.now first → IsOk result }
     ensures same { Reserved tables.old tables.new }
-    ensures fits { Fits tables.new }
+    ensures fits { TablesFit tables.new }
 {
     tables.due.reserve(1)?;
     reserve_cells(&mut tables.queues, tables.watchers.of_step(step), news)?;
@@ -128,23 +124,21 @@ pub fn make_room_to_change<A: Allocator + Copy>(
 
 /// Makes room for `news` more events of a peer, and for the waits of `freed` steps, or of one where there are none.
 ///
-/// # Errors
-///
-/// Where memory runs out, and never where there is that room already. The tables then say the same as before.
-pub fn make_room_to_subscribe<A: Allocator + Copy>(
+/// Errors: where memory runs out, and never where there is that room already. The tables then say the same as before.
+pub(crate) fn make_room_to_subscribe<A: Allocator + Copy>(
     tables: &mut Tables<A>,
     peer: usize,
     news: usize,
     freed: usize,
 ) -> Result<(), AllocError>
-    requires fits { Fits tables.old }
+    requires fits { TablesFit tables.old }
     requires peer { peer < length tables.old.watchers.covers }
     ensures due { OnOk result (freed ≤ tables.new.due.spare) }
     ensures one { OnOk result (0 < tables.new.due.spare) }
     ensures events { OnOk result (news ≤ (queue_at tables.new.queues peer).spare) }
     ensures succeeds { freed ≤ tables.old.due.spare → 0 < tables.old.due.spare → news ≤ (queue_at tables.old.queues peer).spare → IsOk result }
     ensures same { Reserved tables.old tables.new }
-    ensures fits { Fits tables.new }
+    ensures fits { TablesFit tables.new }
 {
     make_room_to_cover(tables, peer, news, freed.max(1))
 }
@@ -158,13 +152,13 @@ pub(crate) fn make_room_to_cover<A: Allocator + Copy>(
     news: usize,
     freed: usize,
 ) -> Result<(), AllocError>
-    requires fits { Fits tables.old }
+    requires fits { TablesFit tables.old }
     requires peer { peer < length tables.old.watchers.covers }
     ensures due { OnOk result (freed ≤ tables.new.due.spare) }
     ensures events { OnOk result (news ≤ (queue_at tables.new.queues peer).spare) }
     ensures succeeds { freed ≤ tables.old.due.spare → news ≤ (queue_at tables.old.queues peer).spare → IsOk result }
     ensures same { Reserved tables.old tables.new }
-    ensures fits { Fits tables.new }
+    ensures fits { TablesFit tables.new }
 {
     tables.due.reserve(freed)?;
     reserve_if(&mut tables.queues, true, peer, news)
@@ -172,19 +166,17 @@ pub(crate) fn make_room_to_cover<A: Allocator + Copy>(
 
 /// Makes room for the waits of so many steps, or of one where there are none.
 ///
-/// # Errors
-///
-/// Where memory runs out, and never where there is that room already. The tables then say the same as before.
-pub fn make_room_to_free<A: Allocator + Copy>(
+/// Errors: where memory runs out, and never where there is that room already. The tables then say the same as before.
+pub(crate) fn make_room_to_free<A: Allocator + Copy>(
     tables: &mut Tables<A>,
     freed: usize,
 ) -> Result<(), AllocError>
-    requires { Fits tables.old }
+    requires { TablesFit tables.old }
     ensures due { OnOk result (freed ≤ tables.new.due.spare) }
     ensures one { OnOk result (0 < tables.new.due.spare) }
     ensures succeeds { freed ≤ tables.old.due.spare → 0 < tables.old.due.spare → IsOk result }
     ensures same { Reserved tables.old tables.new }
-    ensures fits { Fits tables.new }
+    ensures fits { TablesFit tables.new }
 {
     let steps = freed.max(1);
     tables.due.reserve(steps)

@@ -7,7 +7,7 @@ ghost use Rattle.std.specs.Str.{bytes_eq};
 ghost use Rattle.ups_life.specs.Distinct.{Distinct};
 ghost use Rattle.ups_life.specs.Watching.{is_among};
 ghost use Rattle.ups_keep.specs.Waits.{steps_of, waits, unless_kept};
-ghost use Rattle.ups_watch.specs.Table.{cells_of, is_kept, is_locked, knows, watching};
+ghost use Rattle.ups_watch.specs.Table.{cells_of, is_locked_by_any, is_locked, knows, watching};
 
 use std::alloc::Allocator;
 use ups_keep::{Due, Final};
@@ -83,7 +83,7 @@ pub(crate) fn settle<A: Allocator + Copy>(
 /// Takes out all steps on which a peer has a deletion lock. It goes over the list once.
 pub(crate) fn drop_kept<A: Allocator + Copy>(due: &mut Due<A>, watchers: &Watchers<A>)
     requires once { Distinct (steps_of due.old.steps) }
-    ensures waits { (u : List ℕ) → waits u due.new.steps ≡ unless_kept (is_kept (cells_of watchers.now u)) (waits u due.old.steps) }
+    ensures waits { (u : List ℕ) → waits u due.new.steps ≡ unless_kept (is_locked_by_any (cells_of watchers.now u)) (waits u due.old.steps) }
     ensures once { Distinct (steps_of due.new.steps) }
     ensures spare { due.old.spare ≤ due.new.spare }
 {
@@ -93,8 +93,8 @@ pub(crate) fn drop_kept<A: Allocator + Copy>(due: &mut Due<A>, watchers: &Watche
 /// Takes out all steps on which a peer has a deletion lock, where one was given; where none was, none of them is in the list.
 fn drop_kept_if<A: Allocator + Copy>(due: &mut Due<A>, watchers: &Watchers<A>, locks: bool)
     requires once { Distinct (steps_of due.old.steps) }
-    requires unlocked { locks ≡ false → (u : List ℕ) → is_kept (cells_of watchers.now u) ≡ true → waits u due.old.steps ≡ None }
-    ensures waits { (u : List ℕ) → waits u due.new.steps ≡ unless_kept (is_kept (cells_of watchers.now u)) (waits u due.old.steps) }
+    requires unlocked { locks ≡ false → (u : List ℕ) → is_locked_by_any (cells_of watchers.now u) ≡ true → waits u due.old.steps ≡ None }
+    ensures waits { (u : List ℕ) → waits u due.new.steps ≡ unless_kept (is_locked_by_any (cells_of watchers.now u)) (waits u due.old.steps) }
     ensures once { Distinct (steps_of due.new.steps) }
     ensures spare { due.old.spare ≤ due.new.spare }
 {
@@ -136,9 +136,9 @@ pub(crate) fn settle_many<A: Allocator + Copy>(
     requires once { Distinct (steps_of due.old.steps) }
     requires freed { Distinct (steps_of freed.now) }
     requires apart { (u : List ℕ) → is_some (waits u freed.now) ≡ true → waits u due.old.steps ≡ None }
-    requires unlocked { is_locked subscription ≡ false → (u : List ℕ) → is_kept (cells_of watchers.now u) ≡ true → waits u due.old.steps ≡ None }
+    requires unlocked { is_locked subscription ≡ false → (u : List ℕ) → is_locked_by_any (cells_of watchers.now u) ≡ true → waits u due.old.steps ≡ None }
     requires room { length freed.now ≤ due.old.spare }
-    ensures waits { (u : List ℕ) → waits u due.new.steps ≡ option_or (unless_kept (is_kept (cells_of watchers.now u)) (waits u due.old.steps)) (waits u freed.now) }
+    ensures waits { (u : List ℕ) → waits u due.new.steps ≡ option_or (unless_kept (is_locked_by_any (cells_of watchers.now u)) (waits u due.old.steps)) (waits u freed.now) }
     ensures once { Distinct (steps_of due.new.steps) }
 {
     drop_kept_if(due, watchers, is_lock(subscription));

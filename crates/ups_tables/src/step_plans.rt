@@ -1,13 +1,13 @@
 //! The plan of a request that creates or changes a step (PS3.4 CC.2.1, CC.2.2, CC.2.5, CC.2.6).
 
-ghost use Rattle.std.specs.Prelude.{◌≡◌, ◌∷◌, [], ℕ, true, is_some, None, Some, length, slice_index_or, IfOk};
+ghost use Rattle.std.specs.Prelude.{◌≡◌, ℕ, true, is_some, None, Some, length, slice_index_or, IfOk};
 ghost use Rattle.std.specs.Option.{option_copied, option_or, unwrap_or};
 ghost use Rattle.ups_cycle.specs.declared.status.Status.TheVariants.{Success};
 ghost use Rattle.ups_life.specs.Steps.{past, step_of, row_after, nothing};
 ghost use Rattle.ups_life.specs.Verdict.{verdict};
 ghost use Rattle.ups_life.specs.History.{repeats};
-ghost use Rattle.ups_live.specs.Held.{claims_it};
-ghost use Rattle.ups_watch.specs.Covers.{newly_covered};
+ghost use Rattle.ups_tables.specs.HeldSteps.{claims_it};
+ghost use Rattle.ups_watch.specs.Covers.{subscription_gained};
 ghost use Rattle.ups_tables.specs.Fit.{how};
 ghost use Rattle.ups_tables.specs.Held.{held_at};
 ghost use Rattle.ups_tables.specs.Keyed.{row_held, holder_held};
@@ -16,25 +16,11 @@ ghost use Rattle.ups_tables.specs.Stands.{Stands};
 
 use crate::plan::Plan;
 use crate::tables::Tables;
+use crate::telling::{alone, news, report_now};
 use std::alloc::{AllocError, Allocator};
 use ups_dataset::DataSet;
-use ups_life::{Configuration, Entry, Report, Request, Row, StepUid, Subscription};
-use ups_live::{news, report_now};
+use ups_life::{Configuration, Entry, Request, Row, StepUid, Subscription};
 use ups_steps::Held;
-
-/// One report.
-///
-/// Errors: where memory runs out.
-pub(crate) fn alone<A: Allocator + Copy>(
-    alloc: A,
-    report: Report,
-) -> Result<Vec<Report, A>, AllocError>
-    ensures { IfOk result (λ v. v.items ≡ report ∷ []) }
-{
-    let mut reports = Vec::new(alloc);
-    reports.push(report)?;
-    Ok(reports)
-}
 
 /// The row of a step, by what is held of it.
 fn row_of<A: Allocator + Copy>(held: Option<&Held<A>>) -> Option<&Row<A>>
@@ -56,7 +42,7 @@ fn newly_of<A: Allocator + Copy>(
     after: &DataSet<A>,
 ) -> Result<Vec<Option<Subscription>, A>, AllocError>
     requires { is_some (option_copied before) ≡ true }
-    ensures newly { IfOk result (λ v. (p : ℕ) → slice_index_or v.items p None ≡ newly_covered (slice_index_or tables.now.watchers.covers p None) (how tables.now p step) (unwrap_or (option_copied before.entry) nothing).attributes after.now) }
+    ensures newly { IfOk result (λ v. (p : ℕ) → slice_index_or v.items p None ≡ subscription_gained (slice_index_or tables.now.watchers.covers p None) (how tables.now p step) (unwrap_or (option_copied before.entry) nothing).attributes after.now) }
     ensures width { IfOk result (λ v. length v.items ≡ length tables.now.watchers.covers) }
 {
     match before {

@@ -2,7 +2,7 @@
 
 ghost use Rattle.std.specs.Prelude.{◌≡◌, [], ℕ, List, None, replicate, IfOk};
 ghost use Rattle.ups_events.specs.Telling.{empty_line};
-ghost use Rattle.ups_tables.specs.Fit.{how, queue, Fits};
+ghost use Rattle.ups_tables.specs.Fit.{how, queue_line, TablesFit};
 
 use std::alloc::{AllocError, Allocator};
 use std::collections::HashSet;
@@ -39,8 +39,8 @@ impl<A: Allocator + Copy> Tables<A> {
         ensures used { IfOk result (λ t. t.used.keys ≡ []) }
         ensures covers { IfOk result (λ t. t.watchers.covers ≡ replicate peers None) }
         ensures hows { IfOk result (λ t. (p : ℕ) → (u : List ℕ) → how t p u ≡ None) }
-        ensures queues { IfOk result (λ t. (p : ℕ) → queue t p ≡ empty_line) }
-        ensures fits { IfOk result (λ t. Fits t) }
+        ensures queues { IfOk result (λ t. (p : ℕ) → queue_line t p ≡ empty_line) }
+        ensures fits { IfOk result (λ t. TablesFit t) }
     {
         let watchers = Watchers::new(alloc, peers)?;
         let queues = Queues::new(alloc, peers)?;

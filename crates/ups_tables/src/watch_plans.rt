@@ -6,7 +6,7 @@ ghost use Rattle.ups_life.specs.declared.request.Request.TheVariants.{Subscribe,
 ghost use Rattle.ups_life.specs.declared.watching.Target.TheVariants.{Single};
 ghost use Rattle.ups_life.specs.Steps.{past};
 ghost use Rattle.ups_life.specs.History.{status};
-ghost use Rattle.ups_tables.specs.Places.{place_in};
+ghost use Rattle.ups_tables.specs.Places.{place_of_title};
 ghost use Rattle.ups_tables.specs.Planned.{IsPlan};
 ghost use Rattle.ups_tables.specs.Stands.{Stands};
 
@@ -14,11 +14,10 @@ use crate::choosing::{chosen_reports, chosen_steps, cover_to, granted, single_st
 use crate::freeing::{freed_everywhere, freed_steps};
 use crate::peers::place_of;
 use crate::plan::Plan;
-use crate::step_plans::alone;
 use crate::tables::Tables;
+use crate::telling::{alone, report_now};
 use std::alloc::{AllocError, Allocator};
 use ups_life::{Configuration, Entry, Place, StepUid, Target};
-use ups_live::report_now;
 use ups_pdu::Ae;
 
 /// The plan of a subscription of a peer to one step.
@@ -36,7 +35,7 @@ fn plan_single<A: Allocator + Copy>(
     lock: bool,
 ) -> Result<Plan<A>, AllocError>
     requires stands { Stands configuration.now history.now tables.now }
-    requires place { place_in configuration.now.peers receiver ≡ Some peer }
+    requires place { place_of_title configuration.now.peers receiver ≡ Some peer }
     requires request { entry.now.request ≡ Subscribe (Single (Some step)) receiver lock }
     requires accepted { is_done (status configuration.now (past history.now) entry.now) ≡ true }
     ensures { IfOk result (λ p. IsPlan configuration.now (past history.now) entry.now tables.now p) }
@@ -69,7 +68,7 @@ fn plan_global<A: Allocator + Copy>(
     lock: bool,
 ) -> Result<Plan<A>, AllocError>
     requires stands { Stands configuration.now history.now tables.now }
-    requires place { place_in configuration.now.peers receiver ≡ Some peer }
+    requires place { place_of_title configuration.now.peers receiver ≡ Some peer }
     requires request { entry.now.request ≡ Subscribe target.now receiver lock }
     requires global { (step : List ℕ) → target.now ≢ Single (Some step) }
     requires accepted { is_done (status configuration.now (past history.now) entry.now) ≡ true }

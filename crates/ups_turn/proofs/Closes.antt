@@ -16,7 +16,7 @@ use Rattle.ups_turn.specs.declared.view.Part.{Part}
 use Rattle.ups_turn.specs.declared.view.View.{View}
 use Rattle.ups_turn.specs.Opening.{Opening}
 use Rattle.ups_turn.specs.Rule.{Kept, Behind, EnteredByPasses, IsPassNumber, settings_of, manager_state, turns, passes, count_numbered}
-use Rattle.ups_turn.specs.Pass.{Standing, part_of, EndsFor, HaveNumbers}
+use Rattle.ups_turn.specs.Pass.{PassView, part_of, EndsFor, HaveNumbers}
 use Rattle.ups_turn.proofs.Sums.{total_least, total_two, total_some}
 use Rattle.ups_turn.proofs.Steps.{on_turn}
 
@@ -58,19 +58,19 @@ module _ {A : Type 0} where
         manager_is = f.4 0 (Some (manager_state (settings_of o) k.log)) (ap (λ hs. get_elem? hs 0) home);
       }
 
-  all_parts : (P : Part A → Type 0) (ps : List (Standing A)) → All P (map part_of ps) → All (λ p. P (part_of p)) ps
+  all_parts : (P : Part A → Type 0) (ps : List (PassView A)) → All P (map part_of ps) → All (λ p. P (part_of p)) ps
   all_parts P [] h = All-nil (λ p. P (part_of p))
   all_parts P (p ∷ ps) h = All-cons (λ q. P (part_of q)) p ps (All-head P (part_of p) (map part_of ps) h) (all_parts P ps (All-tail P (part_of p) (map part_of ps) h))
 
-  length-parts : (ps : List (Standing A)) → length (map part_of ps) ≡ length ps
+  length-parts : (ps : List (PassView A)) → length (map part_of ps) ≡ length ps
   length-parts [] = refl
   length-parts (p ∷ ps) = ap suc (length-parts ps)
 
-  count-parts : (x : ℕ) (ps : List (Standing A)) → count_by (λ (p : Part A). p.number == x) (map part_of ps) ≡ count_by (λ p. p.number == x) ps
+  count-parts : (x : ℕ) (ps : List (PassView A)) → count_by (λ (p : Part A). p.number == x) (map part_of ps) ≡ count_by (λ p. p.number == x) ps
   count-parts x ps = fold-map (λ (n : ℕ) (p : Part A). n + cond (p.number == x) 1 0) part_of 0 ps
 
   -- the manager that is found in the slot, and what each pass has seen of its history
-  module _ (o : Opening A) (id : ℕ) (v : View A) (ps : List (Standing A)) (words : List ℕ) (slots : List (Option (State A))) (found : Option (State A)) (f : Final (Seen (Kept o) id v) words slots) (off : v.turn ≡ false) (parts : v.parts ≡ map part_of ps) (all : length ps ≡ o.seats)
+  module _ (o : Opening A) (id : ℕ) (v : View A) (ps : List (PassView A)) (words : List ℕ) (slots : List (Option (State A))) (found : Option (State A)) (f : Final (Seen (Kept o) id v) words slots) (off : v.turn ≡ false) (parts : v.parts ≡ map part_of ps) (all : length ps ≡ o.seats)
       (found_is : get_elem? slots 0 ≡ some found) where
     pub ended : Ended o v.parts slots
     ended = ends o id v words slots f off (ap length parts ∙ (length-parts ps ∙ all))

@@ -16,7 +16,7 @@ use Rattle.ups_service.specs.Law.{is_legal, BeginsHistory}
 use Rattle.ups_turn.specs.declared.view.Part.{Part}
 use Rattle.ups_turn.specs.declared.view.View.{View}
 use Rattle.ups_turn.specs.Opening.{Opening}
-use Rattle.ups_turn.specs.Rule.{Kept, FitsView, Behind, IsPassNumber, settings_of, one_if, tickets, turns, draws, passes, count_numbered, between, parts_from, opening_view, first_view}
+use Rattle.ups_turn.specs.Rule.{Kept, FitsView, Behind, IsPassNumber, settings_of, one_if, tickets, turns, draws, passes, count_numbered, between, parts_from, opening_view, first_seat_view}
 use Rattle.ups_turn.specs.Plays.{kept_back, dealt}
 use Rattle.ups_turn.specs.Pass.{are_seats, most_seats, fresh, passes_from, resting}
 
@@ -64,9 +64,9 @@ module _ {A : Type 0} where
       All-cons (λ (p : Part A). IsPassNumber seats p.number) record { number = k; seen = log } (parts_from log (suc k) n) (low, omega arith) (numbers_from seats log (suc k) n (omega arith) (omega arith))
 
   pub begins : (o : Opening A) (words : List ℕ) (slots : List (Option (State A))) → is_legal (settings_of o) o.manager.history → (settings_of o).limit < 2 ^ 64 → o.seats ≤ 1024 → words ≡ length o.manager.history ∷ 0 ∷ 0 ∷ [] → slots ≡ Some o.manager ∷ []
-      → Kept o (opening words slots (first_view o))
+      → Kept o (opening words slots (first_seat_view o))
   begins o words slots legal small few words_is slots_is =
-      let v = first_view o in
+      let v = first_seat_view o in
       let log = o.manager.history in record {
         log = log;
         ticket = 0;

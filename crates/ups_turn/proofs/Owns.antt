@@ -10,7 +10,7 @@ use Rattle.ups_life.specs.declared.request.Reply.{Reply}
 use Rattle.ups_service.specs.Law.{entered}
 use Rattle.ups_service.proofs.Legality.{entered_numbered, lacking_enters_nothing}
 use Rattle.ups_turn.specs.Own.{own, AddsOwn, HasOwn}
-use Rattle.ups_turn.specs.Pass.{Standing, most_calls, part_of, IsServed, IsSpent, IsCall, HasObserved, Learns, EndsFor}
+use Rattle.ups_turn.specs.Pass.{PassView, most_calls, part_of, IsServed, IsSpent, IsCall, HasObserved, Learns, EndsFor}
 use Rattle.ups_turn.specs.Rule.{Behind}
 
 other_number : (x n : ℕ) → x ≢ n → eqb x n ≡ false
@@ -46,7 +46,7 @@ module _ {A : Type 0} where
   own_after number before added by =
       filter-append (λ (e : Entry A). eqb e.caller number) before added ∙ ap (λ (l : List (Entry A)). own number before ++ l) (all_own number added by)
 
-  module _ (old new : Standing A) (ae : List ℕ) (moment : ℕ) (ask : Ask A) (reply : Reply A) where
+  module _ (old new : PassView A) (ae : List ℕ) (moment : ℕ) (ask : Ask A) (reply : Reply A) where
     served_adds : IsServed old ae moment ask reply new → AddsOwn old ae moment ask reply new
     served_adds s =
         let added = entered old.number ae moment ask reply in
@@ -56,7 +56,7 @@ module _ {A : Type 0} where
     spent_adds : IsSpent old ask reply new → AddsOwn old ae moment ask reply new
     spent_adds s =
         let nothing : entered old.number ae moment ask reply ≡ [] = ap (entered old.number ae moment ask) s.0 ∙ lacking_enters_nothing old.number ae moment ask in
-        ap (λ (p : Standing A). own old.number p.seen) s.1 ∙ sym (ap (λ (l : List (Entry A)). own old.number old.seen ++ l) nothing ∙ append-nil (own old.number old.seen))
+        ap (λ (p : PassView A). own old.number p.seen) s.1 ∙ sym (ap (λ (l : List (Entry A)). own old.number old.seen ++ l) nothing ∙ append-nil (own old.number old.seen))
 
     pub call_adds : IsCall old ae moment ask reply new → AddsOwn old ae moment ask reply new
     call_adds = at (nat_lt old.calls most_calls)
@@ -65,16 +65,16 @@ module _ {A : Type 0} where
         at true s = served_adds s
         at false s = spent_adds s
 
-  pub observing_adds_none : (old new : Standing A) → HasObserved old new → own old.number new.seen ≡ own old.number old.seen
+  pub observing_adds_none : (old new : PassView A) → HasObserved old new → own old.number new.seen ≡ own old.number old.seen
   observing_adds_none old new o = own_before old.number old.seen o.between new.seen (sym o.seen) o.others
 
-  pub learning_adds_none : (old from new : Standing A) → Learns old from new → own old.number new.seen ≡ own old.number old.seen
+  pub learning_adds_none : (old from new : PassView A) → Learns old from new → own old.number new.seen ≡ own old.number old.seen
   learning_adds_none old from new l = own_before old.number old.seen l.behind.0 new.seen l.behind.1 l.behind.2
 
-  has_own : (opening history : List (Entry A)) (p : Standing A) → Behind history (part_of p) → HasOwn opening history p
+  has_own : (opening history : List (Entry A)) (p : PassView A) → Behind history (part_of p) → HasOwn opening history p
   has_own opening history p b since seen whole part =
       let split : seen ++ b.0 ≡ since = append_cancel_left opening (seen ++ b.0) since (sym (append_assoc opening seen b.0) ∙ (ap (λ (l : List (Entry A)). l ++ b.0) part ∙ (b.1 ∙ sym whole))) in
       own_before p.number seen b.0 since split b.2
 
-  pub all_have_own : (opening history : List (Entry A)) (passes : List (Standing A)) → EndsFor history passes → All (HasOwn opening history) passes
+  pub all_have_own : (opening history : List (Entry A)) (passes : List (PassView A)) → EndsFor history passes → All (HasOwn opening history) passes
   all_have_own opening history passes h k d lt = has_own opening history (slice_index_or passes k d) (h k d lt)

@@ -16,7 +16,7 @@ use Rattle.ups_turn.specs.Rule.{Behind, IsPassNumber}
 use Rattle.ups_turn.specs.Plays.{Knows, longer}
 
 -- how a pass stands: at which desk, with which number, how many calls it has made, and the history that it has seen
-pub record Standing (A : Type 0) : Type 0 where
+pub record PassView (A : Type 0) : Type 0 where
   pub table : TableId
   pub settings : Settings
   pub number : ℕ
@@ -37,7 +37,7 @@ abbrev pub most_calls : ℕ
 most_calls = 2 ^ 40
 
 -- what a pass has of its service: the history that it has seen, and the calls that it has made
-abbrev pub seen_by : {A : Type 0} → Standing A → Seen A
+abbrev pub seen_by : {A : Type 0} → PassView A → Seen A
 seen_by p = seen_so p.seen (bounded p.calls most_calls)
 
 -- so many passes a desk may have
@@ -68,22 +68,22 @@ abbrev pub IsAtRest : {A : Type 0} → ℕ → Knows A → Type 0
 IsAtRest number me = me ≡ (resting me.0.settings number me.0.draws (seen_in me.0.parts), [])
 
 -- how the pass with this number stands, by its seat's view
-abbrev pub standing : {A : Type 0} → TableId → ℕ → View A → Standing A
+abbrev pub standing : {A : Type 0} → TableId → ℕ → View A → PassView A
 standing table number v = record { table = table; settings = v.settings; number = number; calls = v.draws; seen = seen_in v.parts }
 
 abbrev pub IsShelf : TableId → TableId → Type 0
 IsShelf place table = (place ≡ table) × (table.words ≡ 3) × (table.slots ≡ 1)
 
-abbrev pub part_of : {A : Type 0} → Standing A → Part A
+abbrev pub part_of : {A : Type 0} → PassView A → Part A
 part_of p = record { number = p.number; seen = p.seen }
 
 -- the pass is at its desk, with its number, as before
-abbrev pub SamePass : {A : Type 0} → Standing A → Standing A → Type 0
+abbrev pub SamePass : {A : Type 0} → PassView A → PassView A → Type 0
 SamePass old new = (new.table ≡ old.table) × (new.settings ≡ old.settings) × (new.number ≡ old.number)
 
 -- A call in its turn: others made a legal history of what the pass had seen. The reply is the one by that history, which the
 -- pass has seen afterwards, with the call's own request at its end where that was accepted.
-pub record IsServed {A : Type 0} (old : Standing A) (ae : List ℕ) (moment : ℕ) (ask : Ask A) (reply : Reply A) (new : Standing A) : Type 0 where
+pub record IsServed {A : Type 0} (old : PassView A) (ae : List ℕ) (moment : ℕ) (ask : Ask A) (reply : Reply A) (new : PassView A) : Type 0 where
   pub same : SamePass old new
   pub calls : new.calls ≡ old.calls + 1
   pub between : List (Entry A)
@@ -93,14 +93,14 @@ pub record IsServed {A : Type 0} (old : Standing A) (ae : List ℕ) (moment : �
   pub seen : new.seen ≡ (old.seen ++ between) ++ entered old.number ae moment ask reply
 
 -- A pass that has made as many calls as it may refuses each later one, and has seen no more.
-abbrev pub IsSpent : {A : Type 0} → Standing A → Ask A → Reply A → Standing A → Type 0
+abbrev pub IsSpent : {A : Type 0} → PassView A → Ask A → Reply A → PassView A → Type 0
 IsSpent old ask reply new = (reply ≡ Answered (lacking ask)) × (new ≡ old)
 
-abbrev pub IsCall : {A : Type 0} → Standing A → List ℕ → ℕ → Ask A → Reply A → Standing A → Type 0
+abbrev pub IsCall : {A : Type 0} → PassView A → List ℕ → ℕ → Ask A → Reply A → PassView A → Type 0
 IsCall old ae moment ask reply new = MatchBool (nat_lt old.calls most_calls) (IsServed old ae moment ask reply new) (IsSpent old ask reply new)
 
 -- A look at the history in a turn: others made a legal history of what the pass had seen, which it has seen afterwards.
-pub record HasObserved {A : Type 0} (old new : Standing A) : Type 0 where
+pub record HasObserved {A : Type 0} (old new : PassView A) : Type 0 where
   pub same : SamePass old new
   pub calls : new.calls ≡ old.calls + 1
   pub between : List (Entry A)
@@ -110,7 +110,7 @@ pub record HasObserved {A : Type 0} (old new : Standing A) : Type 0 where
 
 -- a pass has learned what another has seen: where that is longer, it has seen it too, to which its own goes on by others'
 -- requests alone
-pub record Learns {A : Type 0} (old from new : Standing A) : Type 0 where
+pub record Learns {A : Type 0} (old from new : PassView A) : Type 0 where
   pub same : SamePass old new
   pub calls : new.calls ≡ old.calls
   pub seen : new.seen ≡ longer old.seen from.seen
@@ -119,20 +119,20 @@ pub record Learns {A : Type 0} (old from new : Standing A) : Type 0 where
   pub legal : is_legal new.settings new.seen
 
 -- a pass that has made no call
-abbrev pub fresh : {A : Type 0} → TableId → State A → ℕ → Standing A
+abbrev pub fresh : {A : Type 0} → TableId → State A → ℕ → PassView A
 fresh table m k = record { table = table; settings = m.settings; number = k; calls = 0; seen = m.history }
 
 -- n passes from the number k on that have made no call
-abbrev pub passes_from : {A : Type 0} → TableId → State A → ℕ → ℕ → List (Standing A)
+abbrev pub passes_from : {A : Type 0} → TableId → State A → ℕ → ℕ → List (PassView A)
 passes_from table m k zero = []
 passes_from table m k (suc n) = fresh table m k ∷ passes_from table m (suc k) n
 
 -- what each pass has seen goes on to the history by requests of others alone: so its own are all there
-abbrev pub EndsFor : {A : Type 0} → List (Entry A) → List (Standing A) → Type 0
+abbrev pub EndsFor : {A : Type 0} → List (Entry A) → List (PassView A) → Type 0
 EndsFor history passes = All (λ p. Behind history (part_of p)) passes
 
 -- the numbers of passes go from 1 to that of the seats, and no two passes have the same
-abbrev pub HaveNumbers : {A : Type 0} → ℕ → List (Standing A) → Type 0
+abbrev pub HaveNumbers : {A : Type 0} → ℕ → List (PassView A) → Type 0
 HaveNumbers seats passes = All (λ p. IsPassNumber seats p.number) passes × ((k : ℕ) → count_by (λ p. p.number == k) passes ≤ 1)
 
 -- what stands for a desk, for its settings and for a number where none is picked

@@ -106,8 +106,8 @@ abbrev pub opening_view : {A : Type 0} → State A → ℕ → ℕ → View A
 opening_view m k n = record { settings = m.settings; draws = 0; ticket = None; turn = false; parts = parts_from m.history k n; notes = [] }
 
 -- the first seat stands for all passes
-abbrev pub first_view : {A : Type 0} → Opening A → View A
-first_view o = opening_view o.manager 1 o.seats
+abbrev pub first_seat_view : {A : Type 0} → Opening A → View A
+first_seat_view o = opening_view o.manager 1 o.seats
 
 abbrev pub KeepsRule : {A : Type 0} → Opening A → Table (Option (State A)) (View A) → Type 0
 KeepsRule o s = Kept o s

@@ -21,9 +21,9 @@ pub struct Pass<M: SharedService<A>, A: Allocator + Copy> {
 impl<M: SharedService<A>, A: Allocator + Copy> Model for Pass<M, A> {
     ghost use Rattle.std.specs.Prelude.{◌≡◌, ◌≤◌, [], length};
     ghost use Rattle.ups_service.specs.Law.{is_legal};
-    ghost use Rattle.ups_turn.specs.Pass.{Standing, resting, seen_in, most_calls};
+    ghost use Rattle.ups_turn.specs.Pass.{PassView, resting, seen_in, most_calls};
 
-    ghost Value = { Standing A };
+    ghost Value = { PassView A };
 
     ghost use Rattle.std.specs.Coded.{codes};
     ghost use Rattle.ups_dataset.specs.Code.{set_code};

@@ -11,11 +11,11 @@ pub struct InTurn;
 
 impl<M: SharedService<A>, A: Allocator + Copy> TableRule<Option<Held<M, A>>, View<A>, Opening<M, A>>
     for InTurn {
-    ghost use Rattle.ups_turn.specs.Rule.{KeepsRule, first_view};
+    ghost use Rattle.ups_turn.specs.Rule.{KeepsRule, first_seat_view};
 
     ghost holds = { KeepsRule };
 
-    ghost first = { first_view };
+    ghost first = { first_seat_view };
 }
 
 /// Draws a ticket.

@@ -11,7 +11,7 @@ use Rattle.std.proofs.lemmas.List.{get_or-set_other, get_or_past, set_past, leng
 use Rattle.std.proofs.lemmas.Map.Made.{lookup-map_values}
 use Rattle.ups_life.specs.declared.watching.Subscription.{Subscription}
 use Rattle.std.proofs.Common.{arith}
-use Rattle.ups_watch.specs.Rows.{Cells, cells, cell, watching_in, knows_in, HasWidth}
+use Rattle.ups_watch.specs.Rows.{Cells, cells_in, cell, watching_in, knows_in, HasWidth}
 use Rattle.ups_watch.specs.Table.{AreBlank}
 
 pub same_text : (a b : List ℕ) → bytes_eq a b ≡ true → a ≡ b
@@ -63,11 +63,11 @@ cleared_row row place p = elim (cases_lt place (length row)) [
 
 -- the cell of one peer is cleared in each row
 module _ (rows new : List (List ℕ × Cells)) (place : ℕ) (cleared : new ≡ map (λ (e : List ℕ × Cells). (e.0, set e.1 place None)) rows) where
-  cells_cleared : (u : List ℕ) → cells new u ≡ option_map (λ (row : Cells). set row place None) (cells rows u)
+  cells_cleared : (u : List ℕ) → cells_in new u ≡ option_map (λ (row : Cells). set row place None) (cells_in rows u)
   cells_cleared u = ap (λ (es : List (List ℕ × Cells)). lookup (bytes_eq u) es) cleared ∙ lookup-map_values (λ (row : Cells). set row place None) (bytes_eq u) rows
 
   pub watching_cleared : (p : ℕ) (u : List ℕ) → watching_in new p u ≡ cond (eqb place p) None (watching_in rows p u)
-  watching_cleared p u = ap (cell p) (cells_cleared u) ∙ by (cells rows u)
+  watching_cleared p u = ap (cell p) (cells_cleared u) ∙ by (cells_in rows u)
     where
       nothing : (b : Bool) → cell p None ≡ cond b (cell p None) (cell p None)
       nothing true = refl
@@ -78,14 +78,14 @@ module _ (rows new : List (List ℕ × Cells)) (place : ℕ) (cleared : new ≡ 
       by (Some row) = cleared_row row place p
 
   pub known_cleared : (u : List ℕ) → knows_in new u ≡ knows_in rows u
-  known_cleared u = ap is_some (cells_cleared u) ∙ by (cells rows u)
+  known_cleared u = ap is_some (cells_cleared u) ∙ by (cells_in rows u)
     where
       by : (o : Option Cells) → is_some (option_map (λ (row : Cells). set row place None) o) ≡ is_some o
       by None = refl
       by (Some row) = refl
 
   pub width_cleared : (n : ℕ) → HasWidth n rows → HasWidth n new
-  width_cleared n wide u = subst (λ (o : Option Cells). IfSome o (λ row. length row ≡ n)) (sym (cells_cleared u)) (by (cells rows u) (wide u))
+  width_cleared n wide u = subst (λ (o : Option Cells). IfSome o (λ row. length row ≡ n)) (sym (cells_cleared u)) (by (cells_in rows u) (wide u))
     where
       by : (o : Option Cells) → IfSome o (λ row. length row ≡ n) → IfSome (option_map (λ (row : Cells). set row place None) o) (λ row. length row ≡ n)
       by None h = tt

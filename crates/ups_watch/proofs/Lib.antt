@@ -4,5 +4,4 @@ pub mod Filling
 pub mod Seen
 pub mod Newly
 pub mod Peers
-pub mod Agreement
 pub mod Keeping

@@ -6,12 +6,12 @@ use Rattle.ups_dataset.specs.Data.{El}
 use Rattle.ups_match.specs.Matching.{KeySet, is_match}
 use Rattle.ups_life.specs.declared.watching.Subscription.{Subscription}
 use Rattle.ups_watch.specs.declared.cover.Cover.{Cover}
-use Rattle.ups_watch.specs.Covers.{are_met, covered, is_newly_met, newly_covered}
+use Rattle.ups_watch.specs.Covers.{are_met, covered, is_newly_met, subscription_gained}
 
 -- a peer that is not subscribed to the step is subscribed where its global subscription takes in the step after the change
 -- and did not take it in before
 pub newly_is : {A : Type 0} (c : Option (Cover A)) (current : Option Subscription) (before after : List El)
-    → option_or (newly_covered c current before after) current ≡ option_or current (cond (is_some (covered c before)) None (covered c after))
+    → option_or (subscription_gained c current before after) current ≡ option_or current (cond (is_some (covered c before)) None (covered c after))
 newly_is None None before after = refl
 newly_is None (Some how) before after = refl
 newly_is (Some c) (Some how) before after = refl

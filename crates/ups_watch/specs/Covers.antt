@@ -29,10 +29,10 @@ is_newly_met (Some keys) before after = is_match keys after && not (is_match key
 -- how a change of a step's attributes subscribes a peer with this global subscription, which is subscribed to the step so, or
 -- isn't: it does only where the peer isn't subscribed, and its filter takes in the step only after the change (PS3.4 CC.2.3
 -- leaves open when keys are tried; this is the profile's)
-abbrev pub newly_covered : {A : Type 0} → Option (Cover A) → Option Subscription → List El → List El → Option Subscription
-newly_covered None current before after = None
-newly_covered (Some cover) (Some how) before after = None
-newly_covered (Some cover) None before after = if is_newly_met cover.keys before after then Some cover.subscription else None
+abbrev pub subscription_gained : {A : Type 0} → Option (Cover A) → Option Subscription → List El → List El → Option Subscription
+subscription_gained None current before after = None
+subscription_gained (Some cover) (Some how) before after = None
+subscription_gained (Some cover) None before after = if is_newly_met cover.keys before after then Some cover.subscription else None
 
 -- the global subscriptions that are left where subscriptions of the peer at a place end: those at one step, or all of them
 abbrev pub covers_left : {A : Type 0} → Place → ℕ → List (Option (Cover A)) → List (Option (Cover A))

@@ -9,8 +9,8 @@ abbrev pub Cells : Type 0
 Cells = List (Option Subscription)
 
 -- how each peer is subscribed to the step u; None where u is not known
-abbrev pub cells : List (List ℕ × Cells) → List ℕ → Option Cells
-cells rows u = lookup (bytes_eq u) rows
+abbrev pub cells_in : List (List ℕ × Cells) → List ℕ → Option Cells
+cells_in rows u = lookup (bytes_eq u) rows
 
 -- how the peer at a place is subscribed to a step, of which these are the cells; it is not where the step is not known
 abbrev pub cell : ℕ → Option Cells → Option Subscription
@@ -19,12 +19,12 @@ cell p (Some row) = slice_index_or row p None
 
 -- how the peer at a place is subscribed to the step u
 abbrev pub watching_in : List (List ℕ × Cells) → ℕ → List ℕ → Option Subscription
-watching_in rows p u = cell p (cells rows u)
+watching_in rows p u = cell p (cells_in rows u)
 
 -- the step u is known
 abbrev pub knows_in : List (List ℕ × Cells) → List ℕ → Bool
-knows_in rows u = is_some (cells rows u)
+knows_in rows u = is_some (cells_in rows u)
 
 -- each step that is known has a cell for each of n peers
 abbrev pub HasWidth : ℕ → List (List ℕ × Cells) → Type 0
-HasWidth n rows = (u : List ℕ) → IfSome (cells rows u) (λ row. length row ≡ n)
+HasWidth n rows = (u : List ℕ) → IfSome (cells_in rows u) (λ row. length row ≡ n)

@@ -1,7 +1,7 @@
 //! Global subscriptions, and the steps that they take in.
 
 ghost use Rattle.std.specs.Prelude.{◌≡◌, ◌<◌, ℕ, None, IfOk, length, slice_index_or};
-ghost use Rattle.ups_watch.specs.Covers.{are_met, covered, covering_in, is_newly_met, newly_covered, covers_left};
+ghost use Rattle.ups_watch.specs.Covers.{are_met, covered, covering_in, is_newly_met, subscription_gained, covers_left};
 
 use crate::row::{Row, cell_at};
 use std::alloc::{AllocError, Allocator};
@@ -93,7 +93,7 @@ fn newly_covered<A: Allocator + Copy>(
     before: &DataSet<A>,
     after: &DataSet<A>,
 ) -> Option<Subscription>
-    ensures { result ≡ newly_covered cover.now current before.now after.now }
+    ensures { result ≡ subscription_gained cover.now current before.now after.now }
 {
     match (cover, current) {
         (Some(cover), None) if is_newly_met(&cover.keys, before, after) => Some(cover.subscription),
@@ -111,7 +111,7 @@ pub(crate) fn newly_all<A: Allocator + Copy>(
     before: &DataSet<A>,
     after: &DataSet<A>,
 ) -> Result<Vec<Option<Subscription>, A>, AllocError>
-    ensures newly { IfOk result (λ v. (p : ℕ) → slice_index_or v.items p None ≡ newly_covered (slice_index_or covers.now p None) (slice_index_or cells.now p None) before.now after.now) }
+    ensures newly { IfOk result (λ v. (p : ℕ) → slice_index_or v.items p None ≡ subscription_gained (slice_index_or covers.now p None) (slice_index_or cells.now p None) before.now after.now) }
     ensures width { IfOk result (λ v. length v.items ≡ length covers.now) }
 {
     let mut found = Vec::with_capacity(alloc, covers.len())?;

@@ -1,7 +1,7 @@
 //! The subscriptions of all peers to one step.
 
 ghost use Rattle.std.specs.Prelude.{◌≡◌, ◌<◌, None, IfOk, length, nat_eq, replicate, slice_index_or, slice_set, if◌then◌else◌};
-ghost use Rattle.ups_watch.specs.Table.{is_locked, is_kept};
+ghost use Rattle.ups_watch.specs.Table.{is_locked, is_locked_by_any};
 
 use std::alloc::{AllocError, Allocator};
 use std::marker::Model;
@@ -82,7 +82,7 @@ pub(crate) fn is_locked(cell: Option<Subscription>) -> bool
 
 /// Whether one of the peers has a deletion lock.
 pub(crate) fn is_kept(cells: &[Option<Subscription>]) -> bool
-    ensures { result ≡ is_kept cells.now }
+    ensures { result ≡ is_locked_by_any cells.now }
 {
     cells.iter().any(|cell| is_locked(*cell))
 }
@@ -106,7 +106,7 @@ pub(crate) fn is_kept_with(
     subscription: Option<Subscription>,
 ) -> bool
     requires { peer < length cells.now }
-    ensures { result ≡ is_kept (slice_set cells.now peer subscription) }
+    ensures { result ≡ is_locked_by_any (slice_set cells.now peer subscription) }
 {
     for (place, cell) in cells.iter().enumerate() {
         if is_locked(cell_with(place, *cell, peer, subscription)) {

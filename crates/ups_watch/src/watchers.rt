@@ -4,8 +4,8 @@ ghost use Rattle.std.specs.Prelude.{◌≡◌, ◌<◌, ◌≤◌, ◌+◌, ◌&
 ghost use Rattle.std.specs.Option.{option_or};
 ghost use Rattle.std.specs.Str.{bytes_eq};
 ghost use Rattle.ups_life.specs.Watching.{is_among, is_at};
-ghost use Rattle.ups_watch.specs.Covers.{covers_left, newly_covered};
-ghost use Rattle.ups_watch.specs.Table.{watching, knows, covering, cells_of, is_kept, locks};
+ghost use Rattle.ups_watch.specs.Covers.{covers_left, subscription_gained};
+ghost use Rattle.ups_watch.specs.Table.{watching, knows, covering, cells_of, is_locked_by_any, locks};
 
 use crate::cover::{Cover, end_cover, fill, newly_all};
 use crate::row::{Row, cell_at, is_kept, is_kept_with, is_locked};
@@ -31,9 +31,9 @@ impl<A: Allocator + Copy> Model for Watchers<A> {
     ghost use Rattle.std.specs.Prelude.{min};
     ghost use Rattle.std.specs.HashMap.{spare};
     ghost use Rattle.std.specs.Vec.{vec_len};
-    ghost use Rattle.ups_watch.specs.Table.{Standing, Keeps};
+    ghost use Rattle.ups_watch.specs.Table.{WatchersView, KeepsWatchers};
 
-    ghost Value = { Standing A };
+    ghost Value = { WatchersView A };
 
     ghost use Rattle.std.specs.Coded.{codes};
     ghost use Rattle.ups_dataset.specs.Code.{set_code};
@@ -43,7 +43,7 @@ impl<A: Allocator + Copy> Model for Watchers<A> {
 
     ghost view = { λ w. record { covers = w.covers.items; rows = w.rows.entries; spare = min (spare w.rows) (vec_len w.blanks) } };
 
-    ghost invariant = { λ w. Keeps w.covers.items w.rows.entries w.blanks.items };
+    ghost invariant = { λ w. KeepsWatchers w.covers.items w.rows.entries w.blanks.items };
 }
 
 impl<A: Allocator + Copy> Watchers<A> {
@@ -217,7 +217,7 @@ impl<A: Allocator + Copy> Watchers<A> {
 
     /// Whether one of the peers has a deletion lock on a step: such a step is not removed (PS3.4 CC.2.3).
     pub fn is_kept(&self, step: StepUid) -> bool
-        ensures { result ≡ is_kept (cells_of self.now step) }
+        ensures { result ≡ is_locked_by_any (cells_of self.now step) }
     {
         is_kept(self.of_step(step))
     }
@@ -231,7 +231,7 @@ impl<A: Allocator + Copy> Watchers<A> {
     ) -> bool
         requires known { knows self.now step ≡ true }
         requires peer { peer < length self.now.covers }
-        ensures { result ≡ is_kept (slice_set (cells_of self.now step) peer subscription) }
+        ensures { result ≡ is_locked_by_any (slice_set (cells_of self.now step) peer subscription) }
     {
         is_kept_with(self.of_step(step), peer, subscription)
     }
@@ -266,7 +266,7 @@ impl<A: Allocator + Copy> Watchers<A> {
         before: &DataSet<A>,
         after: &DataSet<A>,
     ) -> Result<Vec<Option<Subscription>, A>, AllocError>
-        ensures newly { IfOk result (λ v. (p : ℕ) → slice_index_or v.items p None ≡ newly_covered (slice_index_or self.now.covers p None) (watching self.now p step) before.now after.now) }
+        ensures newly { IfOk result (λ v. (p : ℕ) → slice_index_or v.items p None ≡ subscription_gained (slice_index_or self.now.covers p None) (watching self.now p step) before.now after.now) }
         ensures width { IfOk result (λ v. length v.items ≡ length self.now.covers) }
     {
         newly_all(

@@ -4,5 +4,5 @@ use Rattle.ups_life.specs.Limits.{history_limit}
 use Rattle.ups_life.specs.Settings.{Settings}
 
 -- those of the command line, with the limit of a history
-abbrev pub settings_of : CompactArguments → Settings
-settings_of asked = record { peers = asked.peers.items; keep = asked.keep; offset = asked.offset; limit = history_limit }
+abbrev pub compact_settings : CompactArguments → Settings
+compact_settings asked = record { peers = asked.peers.items; keep = asked.keep; offset = asked.offset; limit = history_limit }

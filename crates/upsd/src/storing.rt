@@ -1,9 +1,10 @@
 //! Stores: opened for a server, and compacted.
 
 ghost use Rattle.std.specs.Prelude.{◌≡◌, ◌≤◌, [], length, None, IfOk};
+ghost use Rattle.ups_ledger.specs.Keeping.{IsKept};
 ghost use Rattle.ups_settings.specs.Refusal.{refusal};
 ghost use Rattle.ups_life.specs.Limits.{history_limit, peer_limit};
-ghost use Rattle.upsd.specs.Storing.{settings_of};
+ghost use Rattle.upsd.specs.Storing.{compact_settings};
 
 use crate::ending::{Status, refuse};
 use clap::ArgMatches;
@@ -12,12 +13,34 @@ use std::alloc::{AllocError, Global};
 use std::fs::{self, Files};
 use std::time::Clock;
 use ups_args::{CompactArguments, VERSION, compact_arguments};
-use ups_ledger::Keeper;
+use ups_journal::Record;
+use ups_ledger::{Keeper, Ledger, LedgerFault};
 use ups_life::MAX_HISTORY;
 use ups_manager::Manager;
 use ups_net::moment_of;
 use ups_server::{StoreOpener, Unopened};
-use ups_start::{Run, StartFault, StoreLedger, begin, compact};
+use ups_start::{FileLedger, FilePlace, Run, StartFault, StoreLedger, StorePlace, begin, compact};
+
+/// The ledger of a server of this program, in a store that lies in a file. It is a type of its own: over one that names its
+/// place as a type parameter, the proof of a server meets the prover's limit of steps.
+#[derive(Drop)]
+pub(crate) struct ServerLedger<'a> {
+    ledger: FileLedger<'a>,
+}
+
+impl<'a> Ledger for ServerLedger<'a> {
+    ghost kept = { λ l. ⟦<FileLedger<'a> as Ledger>⟧.kept l.ledger };
+
+    ghost is_sound = { λ l. ⟦<FileLedger<'a> as Ledger>⟧.is_sound l.ledger };
+
+    fn append(&mut self, records: &[Record<Global>]) -> Result<(), LedgerFault> {
+        self.ledger.append(records)
+    }
+
+    fn tidy(&mut self) {
+        self.ledger.tidy();
+    }
+}
 
 /// What opens the stores that this program's command line names. No other part of the program names how these are kept.
 #[derive(Drop)]
@@ -56,27 +79,52 @@ fn tell_unopened<R: Eprint>(rt: &R, file: &str, fault: &StartFault) -> Unopened 
     Unopened::Told
 }
 
-impl<'a, R: Clock + Log> StoreOpener<'a, StoreLedger<'a>> for Stores<'a, R> {
+/// Opens the store at a place, enters its requests into a manager, and tells with how many a server begins; or tells why the
+/// store is not opened.
+///
+/// Errors: Memory; Told.
+fn open_at<'a, P: StorePlace, R: Clock + Log>(
+    stores: &Stores<'a, R>,
+    place: P,
+    file: &str,
+    may_leave_out: bool,
+    manager: &mut Manager<Global>,
+) -> Result<Keeper<StoreLedger<'a, P>>, Unopened>
+    requires new { manager.old.history ≡ [] }
+    ensures settings { manager.new.settings ≡ manager.old.settings }
+    ensures kept { IfOk result (λ keeper. IsKept ⟦<StoreLedger<'a, P> as Ledger>⟧ keeper manager.new.history) }
+    ensures all { IfOk result (λ keeper. keeper.committed ≡ length manager.new.history) }
+{
+    match begin(
+        stores.rt.alloc(),
+        stores.telling,
+        place,
+        may_leave_out,
+        stores.run,
+        manager,
+    ) {
+        Ok(keeper) => {
+            tell_opened(stores.telling, keeper.count());
+            Ok(keeper)
+        }
+        Err(fault) => Err(tell_unopened(stores.rt, file, &fault)),
+    }
+}
+
+impl<'a, R: Clock + Log> StoreOpener<'a, ServerLedger<'a>> for Stores<'a, R> {
     fn open(
         &self,
         file: &'a str,
         may_leave_out: bool,
         manager: &mut Manager<Global>,
-    ) -> Result<Keeper<StoreLedger<'a>>, Unopened> {
-        match begin(
-            self.rt,
-            self.telling,
-            file,
-            may_leave_out,
-            self.run,
-            manager,
-        ) {
-            Ok(keeper) => {
-                tell_opened(self.telling, keeper.count());
-                Ok(keeper)
-            }
-            Err(fault) => Err(tell_unopened(self.rt, file, &fault)),
-        }
+    ) -> Result<Keeper<ServerLedger<'a>>, Unopened> {
+        let place = FilePlace::new(self.rt, file);
+        let keeper = open_at(self, place, file, may_leave_out, manager)?;
+        let Keeper { ledger, committed } = keeper;
+        Ok(Keeper {
+            ledger: ServerLedger { ledger },
+            committed,
+        })
     }
 }
 
@@ -86,7 +134,7 @@ impl<'a, R: Clock + Log> StoreOpener<'a, StoreLedger<'a>> for Stores<'a, R> {
 fn new_manager(alloc: Global, asked: &CompactArguments<'_>) -> Result<Manager<Global>, AllocError>
     requires few { length asked.now.peers.items ≤ peer_limit }
     requires allowed { refusal asked.now.peers.items asked.now.offset history_limit ≡ None }
-    ensures settings { IfOk result (λ manager. manager.settings ≡ settings_of asked.now) }
+    ensures settings { IfOk result (λ manager. manager.settings ≡ compact_settings asked.now) }
     ensures empty { IfOk result (λ manager. manager.history ≡ []) }
 {
     match Manager::new(alloc, &asked.peers, asked.keep, asked.offset, MAX_HISTORY) {
@@ -104,29 +152,27 @@ fn is_there<R: Eprint + Files>(rt: &R, file: &str) -> bool {
     false
 }
 
-/// Compacts the store that a command line names, prints what it came to, and gives how the program ends.
+/// Compacts the store at a place by two managers without requests, prints what it came to, and gives how the program ends.
 ///
-/// Errors: lack of memory before the store is opened, or while its requests are read.
-fn compacted<R: Clock + Log>(
+/// Errors: lack of memory while its requests are read.
+fn compacted_at<P: StorePlace, R: Clock + Log>(
     stores: &Stores<'_, R>,
     asked: &CompactArguments<'_>,
+    place: &P,
+    manager: &mut Manager<Global>,
+    fresh: &mut Manager<Global>,
 ) -> Result<Status, AllocError>
-    requires few { length asked.now.peers.items ≤ peer_limit }
-    requires allowed { refusal asked.now.peers.items asked.now.offset history_limit ≡ None }
+    requires settings { fresh.old.settings ≡ manager.old.settings }
+    requires new { fresh.old.history ≡ [] }
 {
-    let alloc = stores.rt.alloc();
     let (file, run) = (asked.store, stores.run);
-    if !is_there(stores.rt, file) {
-        return Ok(Status::Stopped);
-    }
-    let manager = new_manager(alloc, asked)?;
-    let fresh = new_manager(alloc, asked)?;
+    let alloc = stores.rt.alloc();
     match compact(
-        stores.rt,
+        alloc,
         stores.telling,
-        file,
+        place,
         asked.leave_out,
-        run,
+        &run,
         manager,
         fresh,
     ) {
@@ -142,6 +188,39 @@ fn compacted<R: Clock + Log>(
     }
 }
 
+/// Makes the two managers of a compaction, and has it done.
+///
+/// Errors: lack of memory before the store is opened, or while its requests are read.
+fn compacted<R: Clock + Log>(
+    stores: &Stores<'_, R>,
+    asked: &CompactArguments<'_>,
+) -> Result<Status, AllocError>
+    requires few { length asked.now.peers.items ≤ peer_limit }
+    requires allowed { refusal asked.now.peers.items asked.now.offset history_limit ≡ None }
+{
+    let alloc = stores.rt.alloc();
+    let mut manager = new_manager(alloc, asked)?;
+    let mut fresh = new_manager(alloc, asked)?;
+    let place = FilePlace::new(stores.rt, asked.store);
+    compacted_at(stores, asked, &place, &mut manager, &mut fresh)
+}
+
+/// Compacts the store that a command line names, where there is one.
+///
+/// Errors: lack of memory before the store is opened, or while its requests are read.
+fn compacted_if_there<R: Clock + Log>(
+    stores: &Stores<'_, R>,
+    asked: &CompactArguments<'_>,
+) -> Result<Status, AllocError>
+    requires few { length asked.now.peers.items ≤ peer_limit }
+    requires allowed { refusal asked.now.peers.items asked.now.offset history_limit ≡ None }
+{
+    if is_there(stores.rt, asked.store) {
+        return compacted(stores, asked);
+    }
+    Ok(Status::Stopped)
+}
+
 /// Does what a command line asks of `compact`, and gives how the program ends.
 ///
 /// Errors: lack of memory.
@@ -150,7 +229,7 @@ pub(crate) fn perform_compact<R: Clock + Log>(
     matches: &ArgMatches<'_>,
 ) -> Result<Status, AllocError> {
     match compact_arguments(stores.rt.alloc(), matches) {
-        Ok(asked) => compacted(stores, &asked),
+        Ok(asked) => compacted_if_there(stores, &asked),
         Err(fault) => refuse(stores.rt, fault),
     }
 }

@@ -1,5 +1,5 @@
 use Rattle.std.proofs.Common.{rules, ◌≡◌, ◌∷◌, cond, Bool, sym, ap, ◌∙◌, subst, drop}
-use Rattle.ups_events.specs.Kept.{dropped, Keeps}
+use Rattle.ups_events.specs.Kept.{dropped, KeepsQueue}
 use Rattle.ups_events.proofs.SlotLists.{pop_keeps}
 use Rattle.ups_events.proofs.slots.drop_front.Goals as goal
 
@@ -11,8 +11,8 @@ loop-slot-preserved g c =
     let left : c.pop_front.new.self.items ≡ rest = c.pop_front.ensures.rest ∙ ap (drop 1) items in
     let inv = c.loop-slot.invariant in (
       ap (dropped c.args.upto) left ∙ sym (ap (dropped c.args.upto) items ∙ ap (λ (b : Bool). cond b (dropped c.args.upto rest) (s ∷ rest)) c.in-Some.ensures.0) ∙ inv.0,
-      λ made acked k. subst (Keeps made acked c.forget.new.index.entries) (sym left)
-          (pop_keeps made acked c.loop-slot.index.entries c.forget.new.index.entries s c.forget.ensures.index rest (subst (Keeps made acked c.loop-slot.index.entries) items (inv.1 made acked k))),
+      λ made acked k. subst (KeepsQueue made acked c.forget.new.index.entries) (sym left)
+          (pop_keeps made acked c.loop-slot.index.entries c.forget.new.index.entries s c.forget.ensures.index rest (subst (KeepsQueue made acked c.loop-slot.index.entries) items (inv.1 made acked k))),
       search rules,
       search rules,
       search rules,

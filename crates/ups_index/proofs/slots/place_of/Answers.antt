@@ -1,4 +1,4 @@
-use Rattle.std.proofs.Common.{◌∙◌, ap, arith}
+use Rattle.std.proofs.Common.{◌∙◌, ap}
 use Rattle.ups_index.specs.Numbers.{step_number}
 use Rattle.ups_index.proofs.Placed.{place_either}
 use Rattle.ups_index.proofs.slots.place_of.Goals as goal

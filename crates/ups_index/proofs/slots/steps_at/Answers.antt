@@ -4,7 +4,7 @@ use Rattle.ups_index.proofs.Placed.{Ahead, none_before, ahead_more, ahead_first,
 use Rattle.ups_index.proofs.slots.steps_at.Goals as goal
 
 pub loop-place-init : goal.loop-place-init
-loop-place-init g c = record { found = c.new-steps.ensures.items; ahead = ahead_first (first_view c.args.first.now) c.args.slots.now c.args.places.now c.requires.has }
+loop-place-init g c = record { found = c.in_ok-steps.ensures.items; ahead = ahead_first (first_view c.args.first.now) c.args.slots.now c.args.places.now c.requires.has }
 
 pub visit-requires-clause-none : goal.visit-requires-clause-none
 visit-requires-clause-none g c =

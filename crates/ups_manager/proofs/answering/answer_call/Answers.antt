@@ -4,8 +4,8 @@ use Rattle.ups_life.specs.declared.entry.Entry.{Entry}
 use Rattle.ups_life.specs.declared.request.Ask.TheVariants.{Do}
 use Rattle.ups_life.specs.Steps.{past}
 use Rattle.ups_life.proofs.Past.{past-push}
-use Rattle.ups_live.specs.declared.rows.HeldStep.{HeldStep}
-use Rattle.ups_live.specs.Held.{held_steps}
+use Rattle.ups_tables.specs.declared.rows.HeldStep.{HeldStep}
+use Rattle.ups_tables.specs.HeldSteps.{held_steps}
 use Rattle.ups_service.specs.Law.{Answers}
 use Rattle.ups_manager.specs.Held.{IsSmallStep}
 use Rattle.ups_manager.proofs.Entering.{of_slice, room_of_slice, answers_full, succeeds, legal_with, moments_after}

@@ -7,9 +7,9 @@ use Rattle.ups_cycle.specs.Statuses.{is_done}
 use Rattle.ups_life.specs.Settings.{IsOffset}
 use Rattle.ups_life.specs.Steps.{past, row_after, nothing}
 use Rattle.ups_life.specs.History.{repeats}
-use Rattle.ups_live.specs.declared.rows.HeldStep.{HeldStep}
+use Rattle.ups_tables.specs.declared.rows.HeldStep.{HeldStep}
 use Rattle.ups_tables.specs.Held.{held_at}
-use Rattle.ups_tables.specs.Keyed.{whole, as_steps, row_held}
+use Rattle.ups_tables.specs.Keyed.{step_with_held, as_steps, row_held}
 use Rattle.ups_tables.proofs.Keyed.{steps_kept}
 use Rattle.ups_manager.specs.declared.submitting.SubmitFault.TheVariants.{Refused}
 use Rattle.ups_manager.specs.Held.{IsSmallStep}
@@ -26,7 +26,7 @@ returns-in_default-of g c =
     let a = accepted s history entries call c.in-Some.step c.in-Ok.held (to_z w16 (of_z w16 c.offset-offset.result)) (to_z-of_z w16 c.offset-offset.result (search rules) ∙ c.offset-offset.ensures)
     (sym c.step.ensures ∙ c.in-Some.is) c.in-Ok.ensures.allowed c.in-Ok.ensures.row c.in-Ok.ensures.holder c.in-Ok.ensures.fits in
     record {
-      answer = lacks s history call _ (step_succeeds s history (as_steps entries) call (whole c.in-Some.step c.in-Ok.held) c.requires.kind (steps_kept s history c.args.tables.now c.requires.stands.tables) a) refl;
+      answer = lacks s history call _ (step_succeeds s history (as_steps entries) call (step_with_held c.in-Some.step c.in-Ok.held) c.requires.kind (steps_kept s history c.args.tables.now c.requires.stands.tables) a) refl;
       nothing = refl;
       small = tt;
     }
@@ -75,7 +75,7 @@ returns-in-Ok-plan_step g c =
     let history = c.args.history.now in
     let entries = c.args.tables.now.steps.entries in
     let call = c.args.call.now in
-    let x = whole c.in-Some.step c.in-Ok.held in
+    let x = step_with_held c.in-Some.step c.in-Ok.held in
     let kept = steps_kept s history c.args.tables.now c.requires.stands.tables in
     let a = accepted s history entries call c.in-Some.step c.in-Ok.held (to_z w16 (of_z w16 c.offset-offset.result)) (to_z-of_z w16 c.offset-offset.result (search rules) ∙ c.offset-offset.ensures)
     (sym c.step.ensures ∙ c.in-Some.is) c.in-Ok.ensures.allowed c.in-Ok.ensures.row c.in-Ok.ensures.holder c.in-Ok.ensures.fits in
@@ -98,7 +98,7 @@ returns-in-Err-plan_step g c =
     let a = accepted s history entries call c.in-Some.step c.in-Ok.held (to_z w16 (of_z w16 c.offset-offset.result)) (to_z-of_z w16 c.offset-offset.result (search rules) ∙ c.offset-offset.ensures)
     (sym c.step.ensures ∙ c.in-Some.is) c.in-Ok.ensures.allowed c.in-Ok.ensures.row c.in-Ok.ensures.holder c.in-Ok.ensures.fits in
     record {
-      answer = lacks s history call _ (step_succeeds s history (as_steps entries) call (whole c.in-Some.step c.in-Ok.held) c.requires.kind (steps_kept s history c.args.tables.now c.requires.stands.tables) a) refl;
+      answer = lacks s history call _ (step_succeeds s history (as_steps entries) call (step_with_held c.in-Some.step c.in-Ok.held) c.requires.kind (steps_kept s history c.args.tables.now c.requires.stands.tables) a) refl;
       nothing = refl;
       small = tt;
     }

@@ -4,7 +4,7 @@ use Rattle.std.proofs.lemmas.List.{take_all}
 use Rattle.ups_life.specs.declared.watching.Subscription.{Subscription}
 use Rattle.ups_life.specs.declared.watching.Watched.{Watched}
 use Rattle.ups_life.specs.Watching.{watched_step}
-use Rattle.ups_live.proofs.Serving.{map_step}
+use Rattle.ups_tables.proofs.Serving.{map_step}
 use Rattle.ups_tables.specs.Fit.{how}
 use Rattle.ups_tables.specs.Places.{by_place}
 use Rattle.ups_manager.proofs.peers.watched_in.Goals as goal

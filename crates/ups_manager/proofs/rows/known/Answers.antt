@@ -1,5 +1,5 @@
 use Rattle.std.proofs.Common.{◌∙◌, ap, sym}
-use Rattle.ups_live.specs.Held.{row_of_step}
+use Rattle.ups_tables.specs.HeldSteps.{row_of_step}
 use Rattle.ups_tables.specs.Keyed.{as_steps, row_held}
 use Rattle.ups_tables.proofs.Keyed.{row_found}
 use Rattle.ups_manager.proofs.rows.known.Goals as goal

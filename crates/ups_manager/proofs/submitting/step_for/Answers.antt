@@ -7,7 +7,7 @@ use Rattle.ups_life.specs.declared.row.Row.{Row}
 use Rattle.ups_life.specs.Steps.{past, row_after, nothing}
 use Rattle.ups_life.specs.Verdict.{verdict}
 use Rattle.ups_life.specs.History.{repeats}
-use Rattle.ups_live.specs.Held.{claims_it}
+use Rattle.ups_tables.specs.HeldSteps.{claims_it}
 use Rattle.ups_tables.specs.Held.{held_at}
 use Rattle.ups_tables.specs.Keyed.{row_held, holder_held}
 use Rattle.ups_manager.specs.declared.submitting.SubmitFault.TheVariants.{Refused}

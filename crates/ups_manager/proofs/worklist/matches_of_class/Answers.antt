@@ -2,10 +2,10 @@ use Rattle.std.proofs.Common.{◌≡◌, ◌+◌, ◌≤◌, ℕ, List, length, 
 use Rattle.std.specs.Prelude.{IfOk, OnOk}
 use Rattle.std.specs.List.{filter_map}
 use Rattle.ups_dataset.specs.Data.{El}
-use Rattle.ups_live.specs.Held.{attributes_in}
+use Rattle.ups_tables.specs.HeldSteps.{attributes_in}
 use Rattle.ups_match.specs.Class.{class}
 use Rattle.ups_tables.specs.Keyed.{as_steps}
-use Rattle.ups_manager.specs.Finding.{answered, attributes_at}
+use Rattle.ups_manager.specs.Finding.{answers_among, attributes_at}
 use Rattle.ups_manager.proofs.Classes.{asked_are, class_of_all, not_looked_up, as_many_rows}
 use Rattle.ups_manager.proofs.Keyed.{steps_many}
 use Rattle.ups_manager.proofs.worklist.matches_of_class.Given as given
@@ -20,7 +20,7 @@ many_are g c = sym (steps_many c.args.tables.now.steps.entries) ∙ sym (as_many
 
 pub returns-then-not-looks_up-clause-found : goal.returns-then-not-looks_up-clause-found
 returns-then-not-looks_up-clause-found g c =
-    subst (λ (rows : List (List El)). IfOk c.matches_of_all.result (λ sets. sets ≡ answered (g.M.Matcher.says c.args.keys.now) c.args.keys.now.attributes rows)) (all_are g c) c.matches_of_all.ensures.found
+    subst (λ (rows : List (List El)). IfOk c.matches_of_all.result (λ sets. sets ≡ answers_among (g.M.Matcher.says c.args.keys.now) c.args.keys.now.attributes rows)) (all_are g c) c.matches_of_all.ensures.found
 
 pub returns-then-not-looks_up-clause-each : goal.returns-then-not-looks_up-clause-each
 returns-then-not-looks_up-clause-each g c =
@@ -37,7 +37,7 @@ rows_are g c =
 
 pub returns-clause-found : goal.returns-clause-found
 returns-clause-found g c =
-    subst (λ (rows : List (List El)). IfOk c.matches_among.result (λ sets. sets ≡ answered (g.M.Matcher.says c.args.keys.now) c.args.keys.now.attributes rows)) (rows_are g c) c.matches_among.ensures.found
+    subst (λ (rows : List (List El)). IfOk c.matches_among.result (λ sets. sets ≡ answers_among (g.M.Matcher.says c.args.keys.now) c.args.keys.now.attributes rows)) (rows_are g c) c.matches_among.ensures.found
 
 pub returns-clause-each : goal.returns-clause-each
 returns-clause-each g c =

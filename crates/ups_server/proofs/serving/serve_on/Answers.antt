@@ -1,7 +1,7 @@
 use denote.Param.Send.{sendable}
 use Rattle.std.proofs.Common.{◌≡◌, ◌+◌, ◌≤◌, ◌∙◌, ap, arith, is_some, length, subst, sym}
 use Rattle.std.specs.Prelude.{All}
-use Rattle.ups_turn.specs.Pass.{Standing, passes_from}
+use Rattle.ups_turn.specs.Pass.{PassView, passes_from}
 use Rattle.ups_manager.proofs.Crosses.{manager_send}
 use Rattle.ups_ledger.specs.Keeping.{AreKept}
 use Rattle.ups_net.specs.Working.{Ran, seen_last}
@@ -19,7 +19,7 @@ pub run-begun-requires-clause-here : goal.run-begun-requires-clause-here
 run-begun-requires-clause-here g c κs within =
     let table = c.in-Ok-open.desk.table in
     let seats = c.args.asked.workers + c.deliverers_of-deliverers.result + 1 in
-    subst (All (λ (p : Standing _). p.table ≡ table)) (sym c.in-Ok-open.ensures.passes) (all_here c.in-Ok-open.desk c.args.begun.manager 1 seats)
+    subst (All (λ (p : PassView _). p.table ≡ table)) (sym c.in-Ok-open.ensures.passes) (all_here c.in-Ok-open.desk c.args.begun.manager 1 seats)
 
 pub returns-clause-ran : goal.returns-clause-ran
 returns-clause-ran g c =

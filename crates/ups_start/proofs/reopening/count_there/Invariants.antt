@@ -1,11 +1,11 @@
 use Rattle.std.proofs.Common.{◌≡◌, ◌++◌, take}
 use Rattle.sqlite_trees.specs.View.{IsClean}
-use Rattle.ups_store.specs.Shown.{shown_by, given}
+use Rattle.ups_store.specs.Shown.{shown_by, given_out}
 use Rattle.ups_start.specs.Started.{said}
 use Rattle.ups_start.proofs.reopening.count_there.Given as goal
 
 abbrev pub invariant-loop-place : goal.invariant-loop-place
 invariant-loop-place g l = record {
-  there : IsClean (shown_by l.replay) → said (given l.replay) ≡ said (given l.initial.replay) ++ take l.place l.records;
+  there : IsClean (shown_by l.replay) → said (given_out l.replay) ≡ said (given_out l.initial.replay) ++ take l.place l.records;
   clean : IsClean (shown_by l.replay) → IsClean (shown_by l.initial.replay);
 }

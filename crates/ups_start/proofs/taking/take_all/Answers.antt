@@ -4,8 +4,8 @@ use Rattle.std.specs.declared.alloc.Global.{Global}
 use Rattle.ups_journal.specs.declared.record.Record.{Record}
 use Rattle.ups_restore.specs.Leaving.{AreTaken}
 use Rattle.sqlite_trees.specs.View.{IsClean}
-use Rattle.ups_store.specs.Shown.{shown_by, given}
-use Rattle.ups_start.specs.Started.{said, Takes}
+use Rattle.ups_store.specs.Shown.{shown_by, given_out}
+use Rattle.ups_start.specs.Started.{said, TakesRecord}
 use Rattle.ups_start.proofs.Taken.{taken_more}
 use Rattle.ups_start.proofs.taking.take_all.Goals as goal
 
@@ -16,13 +16,13 @@ loop-before-preserved g c =
     let old = c.loop-before.replay in
     let new = c.take_next.new.replay in
     let before = c.take_next.ensures.clean in
-    let step = λ (clean : IsClean (shown_by new)). subst (λ f. Takes old new c.loop-before.manager c.take_next.new.manager c.loop-before.counts c.take_next.new.counts c.args.may_leave_out f) c.in-Some.is (c.in_ok-found.ensures.taken clean) in
+    let step = λ (clean : IsClean (shown_by new)). subst (λ f. TakesRecord old new c.loop-before.manager c.take_next.new.manager c.loop-before.counts c.take_next.new.counts c.args.may_leave_out f) c.in-Some.is (c.in_ok-found.ensures.taken clean) in
     record {
       taken = λ clean.
           let s = step clean in
-          let more : said (given new) ≡ said (given old) ++ s.1.0.asked ∷ [] = ap said s.1.1 ∙ map-append (λ r. r.asked) (given old) (s.1.0 ∷ []) in
+          let more : said (given_out new) ≡ said (given_out old) ++ s.1.0.asked ∷ [] = ap said s.1.1 ∙ map-append (λ r. r.asked) (given_out old) (s.1.0 ∷ []) in
           subst (λ (rs : List (Record Global)). AreTaken first.settings first.history rs c.args.may_leave_out c.take_next.new.counts c.take_next.new.manager.history) (sym more)
-          (taken_more first.settings c.loop-before.manager.settings first.history (said (given old)) c.args.may_leave_out s.1.0.asked c.loop-before.manager.history c.take_next.new.manager.history c.loop-before.counts c.take_next.new.counts c.in-Some.field-0
+          (taken_more first.settings c.loop-before.manager.settings first.history (said (given_out old)) c.args.may_leave_out s.1.0.asked c.loop-before.manager.history c.take_next.new.manager.history c.loop-before.counts c.take_next.new.counts c.in-Some.field-0
           inv.settings (inv.taken (before clean)) s.1.2 s.2);
       same = λ clean. (step clean).0 ∙ inv.same (before clean);
       clean = λ clean. inv.clean (before clean);

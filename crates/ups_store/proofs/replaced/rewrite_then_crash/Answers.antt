@@ -1,14 +1,14 @@
 use Rattle.std.proofs.Common.{◌≡◌, map, sym, subst, ap, ◌∙◌}
 use Rattle.sqlite_trees.specs.View.{IsClean}
-use Rattle.ups_store.specs.Rows.{entered, requests_in}
+use Rattle.ups_store.specs.Rows.{stored_in_run, requests_in}
 use Rattle.ups_store.specs.Rewriting.{records_of}
-use Rattle.ups_store.specs.Held.{HasTables, IsHeld}
+use Rattle.ups_store.specs.Held.{HasTables, HoldsIfOpen}
 use Rattle.ups_store.proofs.Cleared.{both_ways, both_ok, told}
 use Rattle.ups_store.proofs.replaced.rewrite_then_crash.Goals as goal
 
 pub replace-requires-clause-held : goal.replace-requires-clause-held
 replace-requires-clause-held g c =
-    subst (λ s. IsHeld (g.S.Store.view s) c.over-rewrite.result.count) (sym c.over-rewrite.ensures.store) (subst (IsHeld (g.S.Store.view c.args.store.store)) (sym c.over-rewrite.ensures.count) c.args.store.held)
+    subst (λ s. HoldsIfOpen (g.S.Store.view s) c.over-rewrite.result.count) (sym c.over-rewrite.ensures.store) (subst (HoldsIfOpen (g.S.Store.view c.args.store.store)) (sym c.over-rewrite.ensures.count) c.args.store.held)
 
 pub crash_and_reopen-requires : goal.crash_and_reopen-requires
 crash_and_reopen-requires g c clean = c.replace.ensures.tables (subst (λ s. HasTables (g.S.Store.view s)) (sym c.over-rewrite.ensures.store) (c.args.store.held c.requires).tables) clean
@@ -18,7 +18,7 @@ returns-clause-outcome g c clean =
     let old = g.S.Store.view c.args.store.store in
     let new = g.S.Store.view c.replace.new.self.store in
     let found = (g.S.Store.view c.in_ok-again.again.store).committed in
-    let all = map (entered c.args.entered_in) (records_of c.args.groups.now) in
+    let all = map (stored_in_run c.args.entered_in) (records_of c.args.groups.now) in
     let after : g.S.Store.recovers c.replace.new.self.store found = c.in_ok-again.ensures.outcome clean in
     let mine : IsClean new = c.in_ok-again.ensures.clean clean in
     let was = λ (before : g.S.Store.recovers c.over-rewrite.result.store found).

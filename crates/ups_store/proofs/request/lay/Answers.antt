@@ -1,5 +1,5 @@
 use Rattle.std.proofs.Common.{rules, ◌≡◌, ◌∙◌, ap, OnOk, Result, Ok, Err}
-use Rattle.ups_store.specs.Rows.{entered, row_of, request_in}
+use Rattle.ups_store.specs.Rows.{stored_in_run, request_row, request_in}
 use Rattle.ups_store.proofs.Says.{says}
 use Rattle.ups_store.proofs.request.lay.Goals as goal
 
@@ -9,6 +9,6 @@ on_both (Err e) f p q = tt
 
 pub returns-clause-says : goal.returns-clause-says
 returns-clause-says c =
-    let r = entered c.args.run c.args.asked.now in
-    let laid : OnOk c.lay_watcher.result (c.lay_watcher.new.row ≡ row_of c.args.number r) = search rules in
+    let r = stored_in_run c.args.run c.args.asked.now in
+    let laid : OnOk c.lay_watcher.result (c.lay_watcher.new.row ≡ request_row c.args.number r) = search rules in
     on_both c.lay_watcher.result (λ is again. ap request_in is ∙ says c.args.number r c.in_ok-lay_caller.ensures.again again) laid c.lay_watcher.ensures.again

@@ -5,15 +5,15 @@ use Rattle.sqlite_trees.specs.declared.store.Shape.{Shape}
 use Rattle.sqlite_trees.specs.View.{IsClean, IsStorableRow}
 use Rattle.ups_journal.specs.declared.record.Record.{Record}
 use Rattle.ups_store.specs.declared.request.StoredRequest.{StoredRequest}
-use Rattle.ups_store.specs.Rows.{entered, row_of}
+use Rattle.ups_store.specs.Rows.{stored_in_run, request_row}
 use Rattle.ups_store.specs.Held.{Adds}
 use Rattle.ups_store.specs.Storing.{HasTooLarge}
 use Rattle.ups_store.proofs.Steps.{clean_before, kept_through, schema_through, adds_more, later_cause}
 use Rattle.ups_store.proofs.store.put_all.Goals as goal
 
 -- what was recorded with one more record
-one_more : (run : ℕ) (records : List (Record Global)) (at : ℕ) (x : Record Global) → at < length records → x ≡ get_or records at x → map (entered run) (take (at + 1) records) ≡ map (entered run) (take at records) ++ entered run x ∷ []
-one_more run records at x within is = map_more (entered run) records at x within ∙ ap (λ (r : Record Global). map (entered run) (take at records) ++ entered run r ∷ []) (sym is)
+one_more : (run : ℕ) (records : List (Record Global)) (at : ℕ) (x : Record Global) → at < length records → x ≡ get_or records at x → map (stored_in_run run) (take (at + 1) records) ≡ map (stored_in_run run) (take at records) ++ stored_in_run run x ∷ []
+one_more run records at x within is = map_more (stored_in_run run) records at x within ∙ ap (λ (r : Record Global). map (stored_in_run run) (take at records) ++ stored_in_run run r ∷ []) (sym is)
 
 pub returns-in-Err-clause-cause : goal.returns-in-Err-clause-cause
 returns-in-Err-clause-cause g c clean =
@@ -23,8 +23,8 @@ returns-in-Err-clause-cause g c clean =
     let inv = c.loop-at.invariant in
     let x = c.index-records-at.result in
     let within : c.loop-at.at < length c.args.records.now = omega arith in
-    let large = λ (h : ¬ IsStorableRow (mid.reals 0) (row_of (pos (c.args.count + c.loop-at.at + 1)) (entered c.args.run x))).
-    let why : HasTooLarge old c.args.run c.args.records.now = (c.loop-at.at, x, within, sym c.index-records-at.is, (c.args.count + c.loop-at.at + 1, subst (λ (r : ℕ → ℕ). ¬ IsStorableRow (r 0) (row_of (pos (c.args.count + c.loop-at.at + 1)) (entered c.args.run x))) inv.schema.reals h)) in
+    let large = λ (h : ¬ IsStorableRow (mid.reals 0) (request_row (pos (c.args.count + c.loop-at.at + 1)) (stored_in_run c.args.run x))).
+    let why : HasTooLarge old c.args.run c.args.records.now = (c.loop-at.at, x, within, sym c.index-records-at.is, (c.args.count + c.loop-at.at + 1, subst (λ (r : ℕ → ℕ). ¬ IsStorableRow (r 0) (request_row (pos (c.args.count + c.loop-at.at + 1)) (stored_in_run c.args.run x))) inv.schema.reals h)) in
     why in
     later_cause old mid _ _ _ _ _ c.in-Err.error inv.quiet.counts (inv.added (clean_before mid new c.put_one.ensures.quiet.clean clean)).adding.sound large (c.in-Err.ensures.cause clean)
 
@@ -36,7 +36,7 @@ loop-at-preserved g c =
     let inv = c.loop-at.invariant in
     let records = c.args.records.now in
     let x = c.index-records-at.result in
-    let f = entered c.args.run in
+    let f = stored_in_run c.args.run in
     let before = λ (clean : IsClean new). clean_before mid new c.put_one.ensures.quiet.clean clean in
     let within : c.loop-at.at < length records = omega arith in
     let number : c.args.count + c.loop-at.at ≡ c.args.count + length (map f (take c.loop-at.at records)) = omega (arith, length-map (take c.loop-at.at records) f, length-take-le c.loop-at.at records (omega arith)) in

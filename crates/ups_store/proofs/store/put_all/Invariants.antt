@@ -1,7 +1,7 @@
 use Rattle.std.proofs.Common.{◌≡◌, map, take}
 use Rattle.sqlite_trees.specs.declared.store.Shape.TheVariants.{Table}
 use Rattle.sqlite_trees.specs.View.{IsClean, IsQuiet, KeepsSchema, KeepsCommitted}
-use Rattle.ups_store.specs.Rows.{entered}
+use Rattle.ups_store.specs.Rows.{stored_in_run}
 use Rattle.ups_store.specs.Held.{Adds}
 use Rattle.ups_store.proofs.store.put_all.Given as goal
 
@@ -14,6 +14,6 @@ invariant-loop-at g l =
       kept : KeepsCommitted old now;
       schema : KeepsSchema old now;
       table : IsClean now → now.shape 0 ≡ Table;
-      added : IsClean now → Adds old now (map (entered l.fn.run) (take l.at l.records)) l.fn.count;
+      added : IsClean now → Adds old now (map (stored_in_run l.fn.run) (take l.at l.records)) l.fn.count;
       runs : IsClean now → now.trees 1 ≡ old.trees 1;
     }

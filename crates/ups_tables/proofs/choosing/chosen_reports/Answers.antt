@@ -1,10 +1,10 @@
 use Rattle.std.proofs.Common.{◌++◌, ◌∷◌, [], Bool, map, cond, ap, sym, ◌∙◌}
 use Rattle.ups_life.specs.Watching.{takes_in}
-use Rattle.ups_live.specs.declared.rows.HeldStep.{HeldStep}
-use Rattle.ups_live.specs.Live.{report_now}
-use Rattle.ups_live.specs.Taken.{taken_in, report_of_row}
+use Rattle.ups_tables.specs.declared.rows.HeldStep.{HeldStep}
+use Rattle.ups_tables.specs.Live.{report_now}
+use Rattle.ups_tables.specs.Taken.{taken_in, report_of_row}
 use Rattle.ups_steps.proofs.Walking.{next_picked}
-use Rattle.ups_tables.specs.Keyed.{whole, as_steps}
+use Rattle.ups_tables.specs.Keyed.{step_with_held, as_steps}
 use Rattle.ups_tables.proofs.choosing.chosen_reports.Goals as goal
 
 pub loop-step-preserved : goal.loop-step-preserved
@@ -13,5 +13,5 @@ loop-step-preserved g c =
     let rest = as_steps c.next.new.self in
     ap (λ l. l ++ map report_of_row (taken_in target rest))
     (c.in_ok-add_report.ensures ∙ ap (λ (b : Bool). c.loop-step.found.items ++ cond b (report_now c.in-Some.step.now c.in-Some.held.now.row ∷ []) []) c.takes_in-taken.ensures)
-    ∙ next_picked (λ (h : HeldStep g.row.A.Denot). report_of_row h) (λ (h : HeldStep g.row.A.Denot). takes_in target h.step h.row.attributes) (whole c.in-Some.step.now c.in-Some.held.now) rest c.loop-step.found.items
+    ∙ next_picked (λ (h : HeldStep g.row.A.Denot). report_of_row h) (λ (h : HeldStep g.row.A.Denot). takes_in target h.step h.row.attributes) (step_with_held c.in-Some.step.now c.in-Some.held.now) rest c.loop-step.found.items
     ∙ ap (λ es. c.loop-step.found.items ++ map report_of_row (taken_in target (as_steps es))) (sym c.in-Some.ensures.steps) ∙ c.loop-step.invariant

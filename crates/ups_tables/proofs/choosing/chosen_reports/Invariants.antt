@@ -1,5 +1,5 @@
 use Rattle.std.proofs.Common.{◌≡◌, ◌++◌, map}
-use Rattle.ups_live.specs.Taken.{taken_in, report_of_row}
+use Rattle.ups_tables.specs.Taken.{taken_in, report_of_row}
 use Rattle.ups_tables.specs.Keyed.{as_steps}
 use Rattle.ups_tables.proofs.choosing.chosen_reports.Given as goal
 

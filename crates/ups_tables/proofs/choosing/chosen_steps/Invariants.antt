@@ -1,5 +1,5 @@
 use Rattle.std.proofs.Common.{◌≡◌, ◌++◌}
-use Rattle.ups_live.specs.Taken.{taken_in, steps_in}
+use Rattle.ups_tables.specs.Taken.{taken_in, steps_in}
 use Rattle.ups_tables.specs.Keyed.{as_steps}
 use Rattle.ups_tables.proofs.choosing.chosen_steps.Given as goal
 

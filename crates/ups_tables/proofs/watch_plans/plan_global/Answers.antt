@@ -2,8 +2,8 @@ use Rattle.std.proofs.Common.{◌≡◌, ◌<◌, List, sym, ap, subst, ◌∙�
 use Rattle.ups_life.specs.declared.peer.Peer.{Peer}
 use Rattle.ups_life.specs.Steps.{past}
 use Rattle.ups_life.specs.Watching.{granted}
-use Rattle.ups_live.specs.Live.{cover_to}
-use Rattle.ups_live.proofs.Asking.{chosen_by, reports_by}
+use Rattle.ups_tables.specs.Live.{cover_to}
+use Rattle.ups_tables.proofs.Asking.{chosen_by, reports_by}
 use Rattle.ups_tables.specs.Keyed.{as_steps}
 use Rattle.ups_tables.proofs.Keyed.{steps_kept}
 use Rattle.ups_tables.proofs.Titled.{place_within}

@@ -4,7 +4,7 @@ use Rattle.ups_life.specs.declared.row.Row.{Row}
 use Rattle.ups_life.specs.declared.event.Report.{Report}
 use Rattle.ups_life.specs.Steps.{past}
 use Rattle.ups_life.specs.Watching.{granted}
-use Rattle.ups_live.specs.Live.{report_now}
+use Rattle.ups_tables.specs.Live.{report_now}
 use Rattle.ups_tables.proofs.Planned.{found_held, found_row, single_held, not_missing}
 use Rattle.ups_tables.proofs.watch_plans.plan_single.Goals as goal
 

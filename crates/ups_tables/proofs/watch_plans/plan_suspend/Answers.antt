@@ -2,14 +2,14 @@ use Rattle.std.proofs.Common.{List, sym, ap, ◌∙◌}
 use Rattle.ups_life.specs.declared.peer.Peer.{Peer}
 use Rattle.ups_life.specs.Steps.{past}
 use Rattle.ups_life.specs.History.{receiver_of}
-use Rattle.ups_tables.specs.Places.{place_in}
+use Rattle.ups_tables.specs.Places.{place_of_title}
 use Rattle.ups_tables.proofs.Planned.{has_place}
 use Rattle.ups_tables.proofs.watch_plans.plan_suspend.Goals as goal
 
 pub returns : goal.returns
 returns g c = record {
   receiver = c.args.receiver;
-  place = ap (λ (ps : List Peer). place_in ps c.args.receiver) (sym c.peers.ensures) ∙ sym c.place_of.ensures ∙ c.in-Some.is;
+  place = ap (λ (ps : List Peer). place_of_title ps c.args.receiver) (sym c.peers.ensures) ∙ sym c.place_of.ensures ∙ c.in-Some.is;
   request = c.requires.request;
 }
 

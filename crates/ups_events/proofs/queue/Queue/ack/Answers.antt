@@ -1,5 +1,5 @@
 use Rattle.std.proofs.Common.{rules, arith, sym, ap, ◌∙◌, subst, refl}
-use Rattle.ups_events.specs.Queue.{Standing, above}
+use Rattle.ups_events.specs.Queue.{QueueView, above}
 use Rattle.ups_events.specs.Kept.{lives, Rising}
 use Rattle.ups_events.proofs.SlotLists.{dropped_rising, lives_dropped}
 use Rattle.ups_events.proofs.queue.Queue.ack.Goals as goal
@@ -14,8 +14,8 @@ pub returns-clause-acked : goal.returns-clause-acked
 returns-clause-acked g c =
     let inside = c.self.inside in
     record {
-      made = ap (λ (s : Standing). s.made) c.self.view_is;
+      made = ap (λ (s : QueueView). s.made) c.self.view_is;
       acked = refl;
-      events = ap lives c.drop_front.ensures.slots ∙ lives_dropped c.args.upto inside.acked inside.slots.items c.self.invariant.0.rising ∙ ap (λ (s : Standing). above c.args.upto s.events) c.self.view_is;
-      spare = let seen_spare = ap (λ (s : Standing). s.spare) c.self.view_is in omega (arith, seen_spare, c.drop_front.ensures.len, c.drop_front.ensures.capacity, c.drop_front.ensures.spare);
+      events = ap lives c.drop_front.ensures.slots ∙ lives_dropped c.args.upto inside.acked inside.slots.items c.self.invariant.0.rising ∙ ap (λ (s : QueueView). above c.args.upto s.events) c.self.view_is;
+      spare = let seen_spare = ap (λ (s : QueueView). s.spare) c.self.view_is in omega (arith, seen_spare, c.drop_front.ensures.len, c.drop_front.ensures.capacity, c.drop_front.ensures.spare);
     }

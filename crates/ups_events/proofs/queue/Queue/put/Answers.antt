@@ -1,9 +1,9 @@
 use Rattle.std.proofs.Common.{arith, ◌≡◌, ◌+◌, ◌++◌, ◌∷◌, [], true, sym, ap, ◌∙◌, subst, refl}
 use Rattle.ups_life.specs.declared.event.Event.{Event}
 use Rattle.ups_events.specs.declared.slots.Slot.{Slot}
-use Rattle.ups_events.specs.Queue.{Standing, added}
+use Rattle.ups_events.specs.Queue.{QueueView, added}
 use Rattle.ups_events.specs.Telling.{event_of}
-use Rattle.ups_events.specs.Kept.{lives, made_way, Keeps}
+use Rattle.ups_events.specs.Kept.{lives, made_way, KeepsQueue}
 use Rattle.ups_events.proofs.SlotLists.{rises_from, put_keeps, tidy_keeps, lives_dropped, all_above, lives_put, lives_tidy}
 use Rattle.ups_events.proofs.queue.Queue.put.Goals as goal
 
@@ -17,7 +17,7 @@ invariant_of-self g c =
     let slot : Slot = record { event = event; live = true } in
     let items : c.push_back_reserved.new.self.items ≡ made_way c.args.report.kind c.args.report.step inside.slots.items ++ slot ∷ [] = c.push_back_reserved.ensures.items ∙ ap (λ xs. xs ++ slot ∷ []) c.make_way-superseded.ensures.slots in
     let k = put_keeps inside.made inside.acked inside.index.entries c.make_way-superseded.new.index.entries inside.slots.items slot c.self.invariant.1 refl c.make_way-superseded.ensures.index c.self.invariant.0 in
-    let l = c.drop_front.ensures.keeps (inside.made + 1) inside.acked (subst (Keeps (inside.made + 1) inside.acked c.make_way-superseded.new.index.entries) (sym items) k) in
+    let l = c.drop_front.ensures.keeps (inside.made + 1) inside.acked (subst (KeepsQueue (inside.made + 1) inside.acked c.make_way-superseded.new.index.entries) (sym items) k) in
     (tidy_keeps c.drop_front.new.slots.items c.tidy.new.slots.items c.tidy.ensures.slots (inside.made + 1) inside.acked c.drop_front.new.index.entries l, omega (arith, c.self.invariant.1))
 
 pub returns : goal.returns
@@ -27,17 +27,17 @@ returns g c =
     let slot : Slot = record { event = event; live = true } in
     let items : c.push_back_reserved.new.self.items ≡ made_way c.args.report.kind c.args.report.step inside.slots.items ++ slot ∷ [] = c.push_back_reserved.ensures.items ∙ ap (λ xs. xs ++ slot ∷ []) c.make_way-superseded.ensures.slots in
     let k = put_keeps inside.made inside.acked inside.index.entries c.make_way-superseded.new.index.entries inside.slots.items slot c.self.invariant.1 refl c.make_way-superseded.ensures.index c.self.invariant.0 in
-    let r : Keeps (inside.made + 1) inside.acked c.make_way-superseded.new.index.entries c.push_back_reserved.new.self.items = subst (Keeps (inside.made + 1) inside.acked c.make_way-superseded.new.index.entries) (sym items) k in
-    let seen_made = ap (λ (s : Standing). s.made) c.self.view_is in
-    let seen_events = ap (λ (s : Standing). s.events) c.self.view_is in
-    let seen_spare = ap (λ (s : Standing). s.spare) c.self.view_is in
+    let r : KeepsQueue (inside.made + 1) inside.acked c.make_way-superseded.new.index.entries c.push_back_reserved.new.self.items = subst (KeepsQueue (inside.made + 1) inside.acked c.make_way-superseded.new.index.entries) (sym items) k in
+    let seen_made = ap (λ (s : QueueView). s.made) c.self.view_is in
+    let seen_events = ap (λ (s : QueueView). s.events) c.self.view_is in
+    let seen_spare = ap (λ (s : QueueView). s.spare) c.self.view_is in
     let events : lives c.tidy.new.slots.items ≡ added (lives inside.slots.items) event =
     lives_tidy c.drop_front.new.slots.items c.tidy.new.slots.items c.tidy.ensures.slots ∙ ap lives c.drop_front.ensures.slots
     ∙ lives_dropped inside.acked inside.acked c.push_back_reserved.new.self.items r.rising ∙ all_above inside.acked inside.acked c.push_back_reserved.new.self.items (omega arith) r.rising ∙ ap lives items ∙ lives_put inside.slots.items slot refl in
     record {
       made = ap (λ n. n + 1) seen_made;
       number = ap (λ n. n + 1) (sym seen_made);
-      acked = ap (λ (s : Standing). s.acked) c.self.view_is;
+      acked = ap (λ (s : QueueView). s.acked) c.self.view_is;
       events = events ∙ ap (λ xs. added xs event) seen_events ∙ ap (λ n. added c.args.self.now.events (event_of (n + 1) c.args.entry c.args.report)) seen_made;
       spare = omega (arith, seen_spare, c.push_back_reserved.ensures.len, c.push_back_reserved.ensures.capacity, c.make_way-superseded.ensures.len, c.make_way-superseded.ensures.capacity, c.make_way-superseded.ensures.spare, c.drop_front.ensures.len, c.drop_front.ensures.capacity, c.drop_front.ensures.spare, c.tidy.ensures.len, c.tidy.ensures.capacity);
     }

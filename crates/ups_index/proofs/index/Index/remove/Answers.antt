@@ -1,6 +1,6 @@
 use Rattle.std.proofs.Common.{List, sym, subst, ap, ◌∙◌}
 use Rattle.ups_index.specs.declared.slots.Slot.{Slot}
-use Rattle.ups_index.specs.Indexed.{Contents, dropped}
+use Rattle.ups_index.specs.Indexed.{Contents, without_uid}
 use Rattle.ups_index.specs.Kept.{IsSlot, StepsPosted}
 use Rattle.ups_index.proofs.Changed.{Absent, drop_keeps, dropped_slots, undropped}
 use Rattle.ups_index.proofs.index.Index.remove.Goals as goal
@@ -11,7 +11,7 @@ place_of-requires g c = subst (λ (r : List (Slot _)). StepsPosted r c.self.insi
 pub returns-in_default-clause-steps : goal.returns-in_default-clause-steps
 returns-in_default-clause-steps g c =
     undropped c.self.inside.slots.items c.args.step (subst (λ (r : List (Slot _)). Absent r c.args.step) c.deref.ensures.value c.in_default.ensures)
-    ∙ ap (λ (s : Contents). dropped c.args.step s.steps) c.self.view_is
+    ∙ ap (λ (s : Contents). without_uid c.args.step s.steps) c.self.view_is
 
 pub invariant_of-self-2 : goal.invariant_of-self-2
 invariant_of-self-2 g c =
@@ -25,4 +25,4 @@ returns-clause-steps g c =
     let (old, r) = c.in-Some.ensures in
     let is = subst (λ (slots : List (Slot _)). IsSlot slots c.in-Some.at c.args.step old) c.deref.ensures.value r in
     dropped_slots c.self.inside.slots.items c.in-Some.at c.args.step old is (λ place u q. c.self.invariant.one_slot place c.in-Some.at c.args.step u old q is)
-    ∙ ap (λ (s : Contents). dropped c.args.step s.steps) c.self.view_is
+    ∙ ap (λ (s : Contents). without_uid c.args.step s.steps) c.self.view_is

@@ -4,11 +4,11 @@ use Rattle.ups_dataset.specs.Data.{elements_of}
 use Rattle.ups_dataset.specs.declared.tag.Tag.{Tag}
 use Rattle.ups_dataset.specs.declared.dictionary.TheConstants.{PATIENT_ID, PROCEDURE_STEP_STATE, SCHEDULED_PROCEDURE_STEP_PRIORITY, SCHEDULED_STATION_NAME_CODE_SEQUENCE, SOP_INSTANCE_UID, WORKLIST_LABEL}
 use Rattle.ups_index.specs.Kept.{text_view}
-use Rattle.ups_index.specs.Stored.{values_under, codes_under, values_of}
+use Rattle.ups_index.specs.Stored.{values_under, codes_under, values_of_row}
 use Rattle.ups_index.proofs.values.Values.of.Goals as goal
 
 pub returns : goal.returns
-unfolding values_of
+unfolding values_of_row
 returns g c =
     let set = elements_of c.args.row.now in
     let texts = c.in_ok-put_stored-5.ensures

@@ -3,10 +3,10 @@ use Rattle.ups_dataset.specs.Data.{El}
 use Rattle.ups_life.specs.Distinct.{Distinct}
 use Rattle.ups_life.specs.declared.request.Reply.TheVariants.{Sets as Found}
 use Rattle.ups_life.specs.Steps.{past}
-use Rattle.ups_live.specs.declared.rows.HeldStep.{HeldStep}
+use Rattle.ups_tables.specs.declared.rows.HeldStep.{HeldStep}
 use Rattle.ups_tables.specs.Keyed.{as_steps}
 use Rattle.ups_tables.proofs.Keyed.{steps_kept}
-use Rattle.ups_manager.specs.Finding.{answered, asked_rows}
+use Rattle.ups_manager.specs.Finding.{answers_among, asked_rows}
 use Rattle.ups_manager.specs.Indexing.{uids_in}
 use Rattle.ups_manager.proofs.Classes.{index_is, class_by_history, answered_worklist}
 use Rattle.ups_manager.proofs.Reindexed.{are_once}
@@ -23,11 +23,11 @@ matches_of_class-requires-clause-once g c =
     let m = c.self.inside in
     subst (λ (hs : List (HeldStep g.row.A.Denot)). Distinct (uids_in hs)) (sym (steps_kept m.configuration m.history.items m.tables c.self.invariant.0.tables)) (are_once m.configuration (past m.history.items) c.self.invariant.0.tables.legal)
 
-sets_are : (g : given.Over) (c : goal.In-Ok g) → c.in-Ok.sets ≡ answered (g.M.Matcher.says c.args.keys.now) c.args.keys.now.attributes (asked_rows c.self.inside.configuration (past c.self.inside.history.items) c.args.keys.now)
+sets_are : (g : given.Over) (c : goal.In-Ok g) → c.in-Ok.sets ≡ answers_among (g.M.Matcher.says c.args.keys.now) c.args.keys.now.attributes (asked_rows c.self.inside.configuration (past c.self.inside.history.items) c.args.keys.now)
 sets_are g c =
     let m = c.self.inside in
     c.in-Ok.ensures.found
-    ∙ ap (answered (g.M.Matcher.says c.args.keys.now) c.args.keys.now.attributes)
+    ∙ ap (answers_among (g.M.Matcher.says c.args.keys.now) c.args.keys.now.attributes)
     (class_by_history m.configuration (past m.history.items) m.index.offset c.args.keys.now (as_steps m.tables.steps.entries) (steps_kept m.configuration m.history.items m.tables c.self.invariant.0.tables) c.self.invariant.1.offset)
 
 pub returns-in-Ok-clause-legal : goal.returns-in-Ok-clause-legal

@@ -1,7 +1,7 @@
 use Rattle.std.proofs.Common.{ap, ◌∙◌}
 use Rattle.ups_life.specs.Steps.{past}
-use Rattle.ups_live.specs.Held.{step_at, holder_in}
-use Rattle.ups_live.proofs.Holding.{holder_in-held_steps}
+use Rattle.ups_tables.specs.HeldSteps.{step_at, holder_in}
+use Rattle.ups_tables.proofs.Holding.{holder_in-held_steps}
 use Rattle.ups_tables.proofs.Keyed.{steps_kept}
 use Rattle.ups_manager.proofs.Keyed.{is_found}
 use Rattle.ups_manager.proofs.manager.Manager.holder.Goals as goal

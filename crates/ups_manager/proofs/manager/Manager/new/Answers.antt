@@ -5,8 +5,8 @@ use Rattle.ups_life.specs.declared.entry.Entry.{Entry}
 use Rattle.ups_life.specs.declared.peer.Peer.{Peer}
 use Rattle.ups_life.specs.Settings.{Settings, IsOffset}
 use Rattle.ups_life.specs.Steps.{past}
-use Rattle.ups_live.specs.Held.{held_steps}
-use Rattle.ups_live.specs.Seen.{Once}
+use Rattle.ups_tables.specs.HeldSteps.{held_steps}
+use Rattle.ups_tables.specs.Seen.{Once}
 use Rattle.ups_tables.specs.Stands.{Stands as TablesStand}
 use Rattle.ups_manager.specs.Held.{IsSmallStep}
 use Rattle.ups_settings.specs.Refusal.{refusal}

@@ -1,7 +1,7 @@
 use Rattle.std.proofs.Common.{List, take, inl, inr, refl, ap, map, ◌∙◌}
 use Rattle.ups_life.specs.declared.entry.Entry.{Entry}
 use Rattle.ups_life.specs.declared.request.Reply.TheVariants.{Reports}
-use Rattle.ups_service.specs.Reporting.{reported}
+use Rattle.ups_service.specs.Reporting.{report_of_event}
 use Rattle.ups_manager.proofs.Keyed.{queue_fits}
 use Rattle.ups_manager.proofs.Watches.{pending_is}
 use Rattle.ups_manager.proofs.manager.Manager.pending.Goals as goal
@@ -15,8 +15,8 @@ pub returns-in-Ok-reports_of-clause-answer : goal.returns-in-Ok-reports_of-claus
 returns-in-Ok-reports_of-clause-answer g c =
     let m = c.self.inside in
     rw (← c.self.view_is) (inl (ap Reports (c.in-Ok-reports_of.ensures
-    ∙ ap (λ (history : List (Entry g.row.A.Denot)). map (reported history) c.as_slice.result.now) c.as_slice-entries.ensures.value
-    ∙ ap (map (reported m.history.items)) (c.as_slice.ensures.value ∙ c.in-Ok.ensures
+    ∙ ap (λ (history : List (Entry g.row.A.Denot)). map (report_of_event history) c.as_slice.result.now) c.as_slice-entries.ensures.value
+    ∙ ap (map (report_of_event m.history.items)) (c.as_slice.ensures.value ∙ c.in-Ok.ensures
     ∙ ap (take c.args.max) (pending_is m.configuration m.history.items m.tables c.peers.result.now c.place_of-place.result c.args.ae c.self.invariant.0.tables c.peers.ensures c.place_of-place.ensures)))))
 
 pub returns-in_default-clause-answer : goal.returns-in_default-clause-answer

@@ -2,7 +2,7 @@ use Rattle.std.proofs.Common.{List, ℕ, ap, length, arith}
 use Rattle.std.proofs.iter.runs.Sources.{from_front}
 use Rattle.std.specs.Map.Iter.{TakesFirst, deref_pair}
 use Rattle.ups_steps.specs.declared.held.Held.{Held}
-use Rattle.ups_steps.specs.Table.{Standing}
+use Rattle.ups_steps.specs.Table.{StepsView}
 use Rattle.ups_steps.proofs.Placing.{distinct_held, few_held}
 use Rattle.ups_steps.proofs.steps.Steps.iter.Goals as goal
 
@@ -16,5 +16,5 @@ returns-clause-unique g c = rw (← c.self.view_is) (distinct_held c.self.inside
 pub returns-clause-fits : goal.returns-clause-fits
 returns-clause-fits g c =
     let few = few_held c.self.inside.places.entries in
-    let same = ap (λ (v : Standing g.row.A.Denot). length v.entries) c.self.view_is in
+    let same = ap (λ (v : StepsView g.row.A.Denot). length v.entries) c.self.view_is in
     omega (arith, few, same, c.over.ensures.fits)

@@ -1,6 +1,6 @@
 use Rattle.std.proofs.Common.{[], ◌∷◌, ◌++◌, length, ap, ◌∙◌, arith, length-append}
 use Rattle.ups_steps.specs.Places.{held_in}
-use Rattle.ups_steps.specs.Table.{Standing}
+use Rattle.ups_steps.specs.Table.{StepsView}
 use Rattle.ups_steps.proofs.Placing.{few_held}
 use Rattle.ups_steps.proofs.steps.Steps.push.Goals as goal
 
@@ -21,4 +21,4 @@ invariant_of-self g c =
     }
 
 pub returns-clause-entries : goal.returns-clause-entries
-returns-clause-entries g c = c.add.ensures.steps ∙ ap (λ (v : Standing g.row.A.Denot). v.entries ++ (c.args.step, c.args.held) ∷ []) c.self.view_is
+returns-clause-entries g c = c.add.ensures.steps ∙ ap (λ (v : StepsView g.row.A.Denot). v.entries ++ (c.args.step, c.args.held) ∷ []) c.self.view_is

@@ -4,7 +4,7 @@ use Rattle.ups_store.specs.declared.reading.Phase.{Phase}
 use Rattle.ups_store.specs.declared.reading.Phase.TheVariants.{Reading, Failed}
 use Rattle.ups_store.specs.declared.reading.Taken.{Taken}
 use Rattle.ups_store.specs.declared.reading.Taken.TheVariants.{End, Other, One}
-use Rattle.ups_store.specs.Taken.{Takes, IsLow}
+use Rattle.ups_store.specs.Taken.{TakesNext, IsLow}
 use Rattle.ups_store.specs.Held.{HasGiven}
 use Rattle.ups_store.proofs.Steps.{clean_before}
 use Rattle.ups_store.proofs.Scans.{GivesNext, gives_next, ends, not_numbered}
@@ -19,9 +19,9 @@ Given v phase count = phase ≢ Failed → IsClean v → HasGiven v count
 abbrev Left : View → Phase → ℕ → Type 0
 Left v phase count = phase ≡ Reading → IsClean v → v.cursors 0 ≡ Some (drop count (v.trees 0))
 
-one : (old new : View) (phase : Phase) (count : ℕ) (taken : Taken) (request : _) → phase ≡ Reading → Given old phase count → Left old phase count → (IsClean new → Takes old new count taken) → taken ≡ One request → (IsClean new → IsClean old) → IsClean new → GivesNext old new count request
+one : (old new : View) (phase : Phase) (count : ℕ) (taken : Taken) (request : _) → phase ≡ Reading → Given old phase count → Left old phase count → (IsClean new → TakesNext old new count taken) → taken ≡ One request → (IsClean new → IsClean old) → IsClean new → GivesNext old new count request
 one old new phase count taken request reading given left takes is before clean =
-    gives_next old new count request (given (not_failed phase reading) (before clean)) (left reading (before clean)) (subst (Takes old new count) is (takes clean))
+    gives_next old new count request (given (not_failed phase reading) (before clean)) (left reading (before clean)) (subst (TakesNext old new count) is (takes clean))
 
 pub invariant_of-self-in-End : goal.invariant_of-self-in-End
 invariant_of-self-in-End g c =
@@ -29,7 +29,7 @@ invariant_of-self-in-End g c =
     let old = g.S.Store.view it.store in
     let new = g.S.Store.view c.take_next.new.store in
     let end = λ (clean : IsClean new).
-    ends old new it.count (it.read (not_failed it.phase c.requires.reading) (clean_before old new c.take_next.ensures.quiet.clean clean)) (it.left c.requires.reading (clean_before old new c.take_next.ensures.quiet.clean clean)) (subst (Takes old new it.count) c.in-End.is (c.in_ok-take_next.ensures.taken clean)) in
+    ends old new it.count (it.read (not_failed it.phase c.requires.reading) (clean_before old new c.take_next.ensures.quiet.clean clean)) (it.left c.requires.reading (clean_before old new c.take_next.ensures.quiet.clean clean)) (subst (TakesNext old new it.count) c.in-End.is (c.in_ok-take_next.ensures.taken clean)) in
     record { live = λ e. absurd (cc); read = λ _ clean. (end clean).0; none = λ e. absurd (cc); left = λ e. absurd (cc); ended = λ _ clean. (end clean).1 }
 
 pub overflow_add-self : goal.overflow_add-self
@@ -51,7 +51,7 @@ returns-in-Other-clause-cause g c clean =
     let old = g.S.Store.view it.store in
     let new = g.S.Store.view c.take_next.new.store in
     let was = clean_before old new c.take_next.ensures.quiet.clean clean in
-    not_numbered old new it.count (it.read (not_failed it.phase c.requires.reading) was) (it.left c.requires.reading was) (subst (Takes old new it.count) c.in-Other.is (c.in_ok-take_next.ensures.taken clean))
+    not_numbered old new it.count (it.read (not_failed it.phase c.requires.reading) was) (it.left c.requires.reading was) (subst (TakesNext old new it.count) c.in-Other.is (c.in_ok-take_next.ensures.taken clean))
 
 pub returns-in-One-clause-given : goal.returns-in-One-clause-given
 returns-in-One-clause-given g c clean =

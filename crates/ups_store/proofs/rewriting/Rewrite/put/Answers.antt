@@ -1,6 +1,6 @@
 use Rattle.std.proofs.Common.{rules, ◌≡◌, true, subst, arith}
 use Rattle.std.proofs.lemmas.List.{length-map}
-use Rattle.ups_store.specs.Rows.{entered}
+use Rattle.ups_store.specs.Rows.{stored_in_run}
 use Rattle.ups_store.specs.Held.{IsAdding}
 use Rattle.ups_store.proofs.Steps.{open_clean, sound_open}
 use Rattle.ups_store.proofs.Cleared.{tables_as}
@@ -21,6 +21,6 @@ invariant_of-self-2 g c =
     let whole : it.is_whole ≡ true = search rules in
     record {
       tables = λ _ up. tables_as old new c.put_all.ensures.schema (it.tables whole (c.put_all.ensures.kept.was_open up));
-      adding = λ _ sound. subst (IsAdding new) (omega (arith, length-map c.args.records.now (entered c.args.run), c.in-Some.ensures.0))
+      adding = λ _ sound. subst (IsAdding new) (omega (arith, length-map c.args.records.now (stored_in_run c.args.run), c.in-Some.ensures.0))
           (c.in_ok-put_all.ensures.added (open_clean new (g.met.S.Store.shut_if_dirty c.put_all.new.store) (sound_open new (g.met.S.Store.broken_if_shut c.put_all.new.store) sound))).adding;
     }

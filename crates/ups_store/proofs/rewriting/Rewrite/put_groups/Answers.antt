@@ -3,7 +3,7 @@ use Rattle.sqlite_trees.specs.View.{IsClean}
 use Rattle.std.specs.declared.alloc.Global.{Global}
 use Rattle.ups_journal.specs.declared.record.Record.{Record}
 use Rattle.ups_store.specs.declared.request.StoredRequest.{StoredRequest}
-use Rattle.ups_store.specs.Rows.{entered, requests_in}
+use Rattle.ups_store.specs.Rows.{stored_in_run, requests_in}
 use Rattle.ups_store.specs.Rewriting.{records_of}
 use Rattle.ups_store.proofs.Steps.{clean_before, schema_through}
 use Rattle.ups_store.proofs.Cleared.{entered_more}
@@ -25,8 +25,8 @@ loop-at-preserved g c =
       quiet = search rules;
       schema = schema_through old mid new inv.schema c.put.ensures.schema;
       added = λ clean.
-          let put : requests_in new.trees ≡ requests_in mid.trees ++ map (entered run) c.deref.result.now = c.in_ok-put.ensures.added clean in
-          put ∙ ap (λ (rs : List (Record Global)). requests_in mid.trees ++ map (entered run) rs) same ∙ ap (λ (rs : List StoredRequest). rs ++ map (entered run) x.items) (inv.added (before clean))
-          ∙ append_assoc (requests_in old.trees) (map (entered run) (records_of (take c.loop-at.at groups))) (map (entered run) x.items)
+          let put : requests_in new.trees ≡ requests_in mid.trees ++ map (stored_in_run run) c.deref.result.now = c.in_ok-put.ensures.added clean in
+          put ∙ ap (λ (rs : List (Record Global)). requests_in mid.trees ++ map (stored_in_run run) rs) same ∙ ap (λ (rs : List StoredRequest). rs ++ map (stored_in_run run) x.items) (inv.added (before clean))
+          ∙ append_assoc (requests_in old.trees) (map (stored_in_run run) (records_of (take c.loop-at.at groups))) (map (stored_in_run run) x.items)
           ∙ ap (λ (rs : List StoredRequest). requests_in old.trees ++ rs) (sym (entered_more run c.loop-at.at groups x within c.index-groups-at.is));
     }

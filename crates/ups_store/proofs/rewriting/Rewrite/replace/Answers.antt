@@ -1,6 +1,6 @@
 use Rattle.std.proofs.Common.{◌≡◌, inl, List, ◌++◌, map, ap, ◌∙◌}
 use Rattle.ups_store.specs.declared.request.StoredRequest.{StoredRequest}
-use Rattle.ups_store.specs.Rows.{entered, requests_in, IsNumbered}
+use Rattle.ups_store.specs.Rows.{stored_in_run, requests_in, IsNumbered}
 use Rattle.ups_store.specs.Rewriting.{records_of, IsReplaced}
 use Rattle.ups_store.proofs.Steps.{clean_before, open_clean, sound_open, mapped}
 use Rattle.ups_store.proofs.Cleared.{tables_as, both_ways}
@@ -27,7 +27,7 @@ returns-clause-replaced g c =
     let one = g.S.Store.view c.clear.new.self.store in
     let two = g.S.Store.view c.put_groups.new.self.store in
     let last = g.S.Store.view c.settle.new.self.store in
-    let all = map (entered c.args.entered_in) (records_of c.args.groups.now) in
+    let all = map (stored_in_run c.args.entered_in) (records_of c.args.groups.now) in
     mapped c.settle.result (λ says clean.
     let before = clean_before two last c.settle.ensures.clean clean in
     says clean ∙ c.in_ok-put_groups.ensures.added before ∙ ap (λ (rs : List StoredRequest). rs ++ all) (c.in_ok-clear.ensures.empty (clean_before one two c.put_groups.ensures.quiet.clean before))) c.settle.ensures.replaced
@@ -36,7 +36,7 @@ pub returns-clause-crash : goal.returns-clause-crash
 returns-clause-crash g c db after =
     let one = g.S.Store.view c.clear.new.self.store in
     let two = g.S.Store.view c.put_groups.new.self.store in
-    let all = map (entered c.args.entered_in) (records_of c.args.groups.now) in
+    let all = map (stored_in_run c.args.entered_in) (records_of c.args.groups.now) in
     let before = λ (between : g.S.Store.recovers c.put_groups.new.self.store db). c.clear.ensures.quiet.outcomes db (c.put_groups.ensures.quiet.outcomes db between) in
     let has = λ (is : IsReplaced c.put_groups.new.self db).
     let clean = open_clean two (g.met.S.Store.shut_if_dirty c.put_groups.new.self.store) (sound_open two (g.met.S.Store.broken_if_shut c.put_groups.new.self.store) is.sound.1) in

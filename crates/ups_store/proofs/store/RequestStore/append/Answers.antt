@@ -1,7 +1,7 @@
 use Rattle.std.proofs.Common.{rules, arith, ◌≡◌, ◌+◌, false, map, length, IsTrue, subst, ap, ◌∙◌}
 use Rattle.std.proofs.lemmas.List.{length-map}
 use Rattle.sqlite_trees.specs.View.{View, IsClean, Commits}
-use Rattle.ups_store.specs.Rows.{entered}
+use Rattle.ups_store.specs.Rows.{stored_in_run}
 use Rattle.ups_store.specs.Held.{IsAdding, Adds}
 use Rattle.ups_store.proofs.Steps.{clean_before, open_clean, sound_open, was_open, undoes, held_undone, held_committed, would_say, outcomes, on_err}
 use Rattle.ups_store.proofs.store.RequestStore.append.Goals as goal
@@ -27,12 +27,12 @@ invariant_of-self-2 g c =
     let new = g.S.Store.view c.commit.new.self in
     let clean = λ (up : IsTrue new.is_open). open_clean new (g.met.S.Store.shut_if_dirty c.commit.new.self) up in
     let done : IsClean new → Commits mid new = search rules in
-    let added : IsClean mid → Adds old mid (map (entered c.args.run) c.args.records.now) c.args.self.now.count = search rules in
+    let added : IsClean mid → Adds old mid (map (stored_in_run c.args.run) c.args.records.now) c.args.self.now.count = search rules in
     record {
       held = λ up.
           let d = done (clean up) in
           let m = clean_before mid new c.commit.ensures.clean (clean up) in
-          let all : c.args.self.now.count + length (map (entered c.args.run) c.args.records.now) ≡ c.in-Some.count = omega (arith, length-map c.args.records.now (entered c.args.run), c.in-Some.ensures.0) in
+          let all : c.args.self.now.count + length (map (stored_in_run c.args.run) c.args.records.now) ≡ c.in-Some.count = omega (arith, length-map c.args.records.now (stored_in_run c.args.run), c.in-Some.ensures.0) in
           held_committed old mid new c.args.self.now.count c.in-Some.count c.args.self.now.held (was_open old mid (g.met.S.Store.broken_if_shut c.put_all.new.store) c.put_all.ensures.kept d.sound) c.put_all.ensures.schema (subst (IsAdding mid) all (added m).adding) d;
     }
 
@@ -60,7 +60,7 @@ pub returns-in_err-commit-clause-crash : goal.returns-in_err-commit-clause-crash
 returns-in_err-commit-clause-crash g c db after =
     let old = g.S.Store.view c.args.self.now.store in
     let mid = g.S.Store.view c.put_all.new.store in
-    let says = would_say old mid c.args.self.now.count (map (entered c.args.run) c.args.records.now) c.args.self.now.held (g.met.S.Store.shut_if_dirty c.put_all.new.store) (g.met.S.Store.broken_if_shut c.put_all.new.store)
+    let says = would_say old mid c.args.self.now.count (map (stored_in_run c.args.run) c.args.records.now) c.args.self.now.held (g.met.S.Store.shut_if_dirty c.put_all.new.store) (g.met.S.Store.broken_if_shut c.put_all.new.store)
     c.put_all.ensures.kept (search rules) in
     outcomes (g.S.Store.recovers c.args.self.now.store) (g.S.Store.recovers c.put_all.new.store) (mid.is_broken ≡ false) mid.trees _ says c.put_all.ensures.quiet.outcomes db (c.commit.ensures.crash db after)
 
@@ -68,7 +68,7 @@ pub returns-clause-crash : goal.returns-clause-crash
 returns-clause-crash g c db after =
     let old = g.S.Store.view c.args.self.now.store in
     let mid = g.S.Store.view c.put_all.new.store in
-    let says = would_say old mid c.args.self.now.count (map (entered c.args.run) c.args.records.now) c.args.self.now.held (g.met.S.Store.shut_if_dirty c.put_all.new.store) (g.met.S.Store.broken_if_shut c.put_all.new.store)
+    let says = would_say old mid c.args.self.now.count (map (stored_in_run c.args.run) c.args.records.now) c.args.self.now.held (g.met.S.Store.shut_if_dirty c.put_all.new.store) (g.met.S.Store.broken_if_shut c.put_all.new.store)
     c.put_all.ensures.kept (search rules) in
     outcomes (g.S.Store.recovers c.args.self.now.store) (g.S.Store.recovers c.put_all.new.store) (mid.is_broken ≡ false) mid.trees _ says c.put_all.ensures.quiet.outcomes db (c.commit.ensures.crash db after)
 

@@ -2,12 +2,12 @@ use Rattle.std.proofs.Common.{◌≤◌, ◌^◌, IsTrue, sym, subst, ap, ◌∙
 use Rattle.sqlite_disk.specs.Disk.{MoreFaults}
 use Rattle.sqlite_trees.specs.View.{IsClean, IsQuiet, KeepsCommitted}
 use Rattle.ups_store.specs.Faults.{HasReason}
-use Rattle.ups_store.specs.Held.{IsHeld}
+use Rattle.ups_store.specs.Held.{HoldsIfOpen}
 use Rattle.ups_store.proofs.store.RequestStore.rewrite.Goals as goal
 
 pub clear-requires-clause-held : goal.clear-requires-clause-held
 clear-requires-clause-held g c =
-    subst (λ s. IsHeld (g.S.Store.view s) c.over-rewrite.result.count) (sym c.over-rewrite.ensures.store) (subst (IsHeld (g.S.Store.view c.args.self.store)) (sym c.over-rewrite.ensures.count) c.args.self.held)
+    subst (λ s. HoldsIfOpen (g.S.Store.view s) c.over-rewrite.result.count) (sym c.over-rewrite.ensures.store) (subst (HoldsIfOpen (g.S.Store.view c.args.self.store)) (sym c.over-rewrite.ensures.count) c.args.self.held)
 
 pub returns-in-Ok-clause-kept : goal.returns-in-Ok-clause-kept
 returns-in-Ok-clause-kept g c = subst (λ s. KeepsCommitted (g.S.Store.view s) (g.S.Store.view c.clear.new.self.store)) c.over-rewrite.ensures.store c.clear.ensures.kept

@@ -2,7 +2,7 @@ use Rattle.std.proofs.Common.{rules, ◌≡◌, length, ap, ◌∙◌, subst, Op
 use Rattle.std.specs.Prelude.{is_some}
 use Rattle.ups_watch.specs.Rows.{Cells, cell}
 use Rattle.std.specs.Option.{unwrap_or}
-use Rattle.ups_watch.specs.Table.{Standing, AreBlank, cells_of}
+use Rattle.ups_watch.specs.Table.{WatchersView, AreBlank, cells_of}
 use Rattle.ups_watch.proofs.Seen.{seen_watching, seen_known}
 use Rattle.ups_watch.proofs.Cells.{width_same}
 use Rattle.ups_watch.proofs.watchers.Watchers.reserve.Goals as goal
@@ -22,4 +22,4 @@ pub returns-clause-known : goal.returns-clause-known
 returns-clause-known g c u = ap is_some (c.reserve.ensures.entries.2 u) ∙ seen_known _ _ c.self.view_is u
 
 pub returns-clause-cells : goal.returns-clause-cells
-returns-clause-cells g c u = ap (λ (o : Option Cells). unwrap_or o []) (c.reserve.ensures.entries.2 u) ∙ ap (λ (t : Standing g.row.A.Denot). cells_of t u) c.self.view_is
+returns-clause-cells g c u = ap (λ (o : Option Cells). unwrap_or o []) (c.reserve.ensures.entries.2 u) ∙ ap (λ (t : WatchersView g.row.A.Denot). cells_of t u) c.self.view_is

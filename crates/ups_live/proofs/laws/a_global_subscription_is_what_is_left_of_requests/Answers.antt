@@ -1,5 +1,0 @@
-use Rattle.ups_live.proofs.Living.{cover-global}
-use Rattle.ups_live.proofs.laws.a_global_subscription_is_what_is_left_of_requests.Goals as goal
-
-pub returns : goal.returns
-returns g c = cover-global

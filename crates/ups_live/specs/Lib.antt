@@ -1,4 +1,0 @@
-pub mod Held
-pub mod Live
-pub mod Seen
-pub mod Taken

@@ -1,0 +1,43 @@
+//! A store that lies in a file. This module alone names its type.
+
+ghost use Rattle.std.specs.Prelude.{◌≡◌, [], IsTrue, IfOk};
+ghost use Rattle.ups_store.specs.Shown.{requests_shown, given_out};
+
+use crate::ledger::StoreLedger;
+use crate::place::StorePlace;
+use sqlite_std_file::{File, Unknown};
+use sqlite_store::FileStore;
+use ups_store::{OpenFault, Replay, RequestStore, StoreFault, open};
+
+/// The file at a path, and its log beside it.
+#[derive(Clone, Copy)]
+pub struct FilePlace<'a> {
+    rt: &'a HostRuntime,
+    path: &'a str,
+}
+
+impl<'a> FilePlace<'a> {
+    /// The file at a path.
+    pub fn new(rt: &'a HostRuntime, path: &'a str) -> FilePlace<'a> {
+        FilePlace { rt, path }
+    }
+}
+
+/// A ledger in a store that lies in a file.
+pub type FileLedger<'a> = StoreLedger<'a, FilePlace<'a>>;
+
+impl StorePlace for FilePlace<'_> {
+    type Store = FileStore<File>;
+
+    fn open(&self) -> Result<Replay<FileStore<File>>, OpenFault>
+        ensures first { IfOk result (λ r. given_out r ≡ []) }
+    {
+        open(self.rt, self.path, Unknown)
+    }
+
+    fn checkpoint(store: &mut RequestStore<FileStore<File>>) -> Result<(), StoreFault>
+        ensures same { IsTrue (requests_shown store.new).is_open → requests_shown store.new ≡ requests_shown store.old }
+    {
+        store.checkpoint()
+    }
+}
