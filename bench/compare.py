@@ -16,7 +16,8 @@ import sys
 import tempfile
 import time
 
-sys.path.insert(0, os.path.dirname(os.path.abspath(__file__)))
+sys.path.insert(0, os.path.join(os.path.dirname(os.path.dirname(os.path.abspath(__file__))), "check/lib"))
+import dicom
 import pipe
 import script
 
@@ -25,38 +26,38 @@ PIPE = ["pipe", "--ae", "UPSD"]
 
 def echo_rows(few):
     count = 1_000 if few else 10_000
-    opening = pipe.associate([(pipe.VERIFICATION, pipe.IMPLICIT)])
-    asked = b"".join(pipe.echo(i + 1) for i in range(count))
-    yield "C-ECHO", PIPE, opening + pipe.RELEASE, opening + asked + pipe.RELEASE, count
+    opening = dicom.associate([(dicom.VERIFICATION, dicom.IMPLICIT)])
+    asked = b"".join(dicom.echo(i + 1) for i in range(count))
+    yield "C-ECHO", PIPE, opening + dicom.RELEASE, opening + asked + dicom.RELEASE, count
 
 
 def step_rows(few):
     rounds = 1 if few else 20
-    for name, syntax, explicit in (("Implicit", pipe.IMPLICIT, False), ("Explicit", pipe.EXPLICIT, True)):
-        opening = pipe.associate([(pipe.PUSH, syntax)])
-        made = b"".join(pipe.create(1, i + 1, b"1.2.3.%d" % (i + 1), pipe.step(explicit)) for i in range(200))
-        asked = b"".join(pipe.get(1, i + 1, b"1.2.3.%d" % (i + 1)) for i in range(200)) * rounds
-        change = pipe.data(explicit, 0x0074, 0x1204, b"LO", b"MR READ ")
-        changes = b"".join(pipe.set_attributes(1, i + 1, b"1.2.3.%d" % (i + 1), change) for i in range(200)) * rounds
-        yield f"N-CREATE of 20 attributes, {name}", PIPE, opening + pipe.RELEASE, opening + made + pipe.RELEASE, 200
-        yield f"N-GET of 20 attributes, {name}", PIPE, opening + made + pipe.RELEASE, opening + made + asked + pipe.RELEASE, 200 * rounds
-        yield f"N-SET of an attribute, {name}", PIPE, opening + made + pipe.RELEASE, opening + made + changes + pipe.RELEASE, 200 * rounds
+    for name, syntax, explicit in (("Implicit", dicom.IMPLICIT, False), ("Explicit", dicom.EXPLICIT, True)):
+        opening = dicom.associate([(dicom.PUSH, syntax)])
+        made = b"".join(dicom.create(1, i + 1, b"1.2.3.%d" % (i + 1), dicom.step(explicit)) for i in range(200))
+        asked = b"".join(dicom.get(1, i + 1, b"1.2.3.%d" % (i + 1)) for i in range(200)) * rounds
+        change = dicom.data(explicit, 0x0074, 0x1204, b"LO", b"MR READ ")
+        changes = b"".join(dicom.set_attributes(1, i + 1, b"1.2.3.%d" % (i + 1), change) for i in range(200)) * rounds
+        yield f"N-CREATE of 20 attributes, {name}", PIPE, opening + dicom.RELEASE, opening + made + dicom.RELEASE, 200
+        yield f"N-GET of 20 attributes, {name}", PIPE, opening + made + dicom.RELEASE, opening + made + asked + dicom.RELEASE, 200 * rounds
+        yield f"N-SET of an attribute, {name}", PIPE, opening + made + dicom.RELEASE, opening + made + changes + dicom.RELEASE, 200 * rounds
 
 
 def find_rows(few):
-    opening = pipe.associate([(pipe.PUSH, pipe.EXPLICIT), (pipe.PULL, pipe.EXPLICIT)])
+    opening = dicom.associate([(dicom.PUSH, dicom.EXPLICIT), (dicom.PULL, dicom.EXPLICIT)])
     for count in (100, 1_000):
         made = b""
         for i in range(count):
             more = {(0x0010, 0x0020): (b"LO", b"P%05d" % i), (0x0074, 0x1204): (b"LO", b"CT %d READ" % (i % 10) + b" ")}
-            made += pipe.create(1, i + 1, b"1.2.3.%d" % (i + 1), pipe.step(True, more))
+            made += dicom.create(1, i + 1, b"1.2.3.%d" % (i + 1), dicom.step(True, more))
         for name, answers, texts, queries in (
             ("patient ID", 1, {(0x0010, 0x0020): (b"LO", b"P00042")}, 20 if few else 1_000),
             ("wild card", count // 10, {(0x0074, 0x1204): (b"LO", b"C?*7*READ ")}, 20 if few else 300),
         ):
-            asked = b"".join(pipe.find(3, i + 1, pipe.keys(texts)) for i in range(queries))
+            asked = b"".join(dicom.find(3, i + 1, pipe.keys(texts)) for i in range(queries))
             what = f"C-FIND by {name}, {count:,} steps, {answers} answered"
-            yield what, PIPE, opening + made + pipe.RELEASE, opening + made + asked + pipe.RELEASE, queries
+            yield what, PIPE, opening + made + dicom.RELEASE, opening + made + asked + dicom.RELEASE, queries
 
 
 def large_rows(few):
@@ -65,9 +66,9 @@ def large_rows(few):
         ("elements without value", False, lambda n: {(0x0009 + 2 * (i // 60000), 0x1001 + i % 60000): (b"UN", b"") for i in range(n // 8)}),
         ("nested sequences", True, lambda n: {(0x0040, 0x4018): (b"SQ", pipe.nested(True, n))}),
     ):
-        opening = pipe.associate([(pipe.PUSH, pipe.EXPLICIT if explicit else pipe.IMPLICIT)])
-        row = pipe.step(explicit, shape(1_000_000))
-        yield f"one data set of {len(row):,} bytes, {name}", PIPE, opening + pipe.RELEASE, opening + pipe.create(1, 1, b"1.2.3.1", row) + pipe.RELEASE, 1
+        opening = dicom.associate([(dicom.PUSH, dicom.EXPLICIT if explicit else dicom.IMPLICIT)])
+        row = dicom.step(explicit, shape(1_000_000))
+        yield f"one data set of {len(row):,} bytes, {name}", PIPE, opening + dicom.RELEASE, opening + dicom.create(1, 1, b"1.2.3.1", row) + dicom.RELEASE, 1
 
 
 def script_rows(few):

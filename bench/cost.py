@@ -14,14 +14,16 @@ import os
 import sys
 import time
 
-sys.path.insert(0, os.path.dirname(os.path.abspath(__file__)))
+sys.path.insert(0, os.path.join(os.path.dirname(os.path.dirname(os.path.abspath(__file__))), "check/lib"))
+import dicom
 import pipe
-import serve
 from compare import PIPE, allocations, instructions
+from peer import Peer
+from serve import Measured
 
 HELD = 1_000  # steps that are there
 ASKED = 200  # requests that are counted
-OPENING = pipe.associate([(pipe.PUSH, pipe.EXPLICIT), (pipe.PULL, pipe.EXPLICIT), (pipe.VERIFICATION, pipe.EXPLICIT)])
+OPENING = dicom.associate([(dicom.PUSH, dicom.EXPLICIT), (dicom.PULL, dicom.EXPLICIT), (dicom.VERIFICATION, dicom.EXPLICIT)])
 PUSH_ON, PULL_ON, ECHO_ON = 1, 3, 5
 
 
@@ -38,7 +40,7 @@ def attributes(i):
         (0x0074, 0x1204, b"LO", b"CT READ "),
         (0x0040, 0x4010, b"DT", b"20240229120000"),
     )
-    return b"".join(pipe.data(True, *it) for it in sorted(row))
+    return b"".join(dicom.data(True, *it) for it in sorted(row))
 
 
 def uid(i):
@@ -46,30 +48,28 @@ def uid(i):
 
 
 def created(first, count):
-    return b"".join(pipe.create(PUSH_ON, i + 1, uid(i), attributes(i)) for i in range(first, first + count))
+    return b"".join(dicom.create(PUSH_ON, i + 1, uid(i), attributes(i)) for i in range(first, first + count))
 
 
 def echo(i):
-    message = bytearray(pipe.echo(i + 1))
-    message[10] = ECHO_ON
-    return bytes(message)
+    return dicom.echo(i + 1, ECHO_ON)
 
 
 def get(i):
-    return pipe.get(PUSH_ON, i + 1, uid(i))
+    return dicom.get(PUSH_ON, i + 1, uid(i))
 
 
 def found(i):
     asked = {(0x0008, 0x0018): (b"UI", b""), (0x0010, 0x0020): (b"LO", b"P%05d" % i), (0x0074, 0x1000): (b"CS", b"")}
-    return pipe.find(PULL_ON, i + 1, pipe.keys(asked))
+    return dicom.find(PULL_ON, i + 1, pipe.keys(asked))
 
 
 def indexed(i):
-    return pipe.set_attributes(PULL_ON, i + 1, uid(i), pipe.data(True, 0x0074, 0x1202, b"LO", b"READS%d" % (i % 10)))
+    return dicom.set_attributes(PULL_ON, i + 1, uid(i), dicom.data(True, 0x0074, 0x1202, b"LO", b"READS%d" % (i % 10)))
 
 
 def other(i):
-    return pipe.set_attributes(PULL_ON, i + 1, uid(i), pipe.data(True, 0x0074, 0x1204, b"LO", b"MR READ "))
+    return dicom.set_attributes(PULL_ON, i + 1, uid(i), dicom.data(True, 0x0074, 0x1204, b"LO", b"MR READ "))
 
 
 def repeated(one):
@@ -106,10 +106,10 @@ def granted(program, stdin):
 def counted(programs):
     heads = " | ".join("instructions | blocks" for _ in programs)
     print(f"| over {HELD:,} steps | {heads} |\n|---|{'---|---|' * len(programs)}")
-    base = OPENING + created(0, HELD) + pipe.RELEASE
+    base = OPENING + created(0, HELD) + dicom.RELEASE
     bases = [[count([it, *PIPE], base) for count in (instructions, allocations)] for it in programs]
     for name, requests in ROWS:
-        whole = base[: -len(pipe.RELEASE)] + requests + pipe.RELEASE
+        whole = base[: -len(dicom.RELEASE)] + requests + dicom.RELEASE
         cells = []
         assert all(granted(it, whole) >= HELD + ASKED for it in programs), name
         for program, (beside, blocks) in zip(programs, bases):
@@ -120,10 +120,10 @@ def counted(programs):
 
 def longest(program, steps, last):
     """Each of the last N-CREATE, from the longest, in milliseconds until it was answered."""
-    with serve.Server(program, 1) as server:
-        peer, took = serve.Peer(server.port), []
+    with Measured(program, 1) as server:
+        peer, took = Peer(server.port), []
         for i in range(steps):
-            message = pipe.create(PUSH_ON, i % 60_000 + 1, uid(i), attributes(i))
+            message = dicom.create(PUSH_ON, i % 60_000 + 1, uid(i), attributes(i))
             began = time.perf_counter()
             assert peer.ask(message) == 0
             took.append((time.perf_counter() - began) * 1e3)

@@ -21,112 +21,19 @@ before anybody asks for anything.
 
 import argparse
 import os
-import socket
 import statistics
-import struct
 import sys
-import threading
 import time
 
-sys.path.insert(0, os.path.dirname(os.path.abspath(__file__)))
-from pipe import EXPLICIT, PULL, PUSH, RELEASE, act, associate, command, create, find, get, item, message, pdu, set_attributes, us
-from serve import FOLLOWS, PULL_ON, PUSH_ON, Peer, a_step, claim, progress, told
-from stock import Server
+sys.path.insert(0, os.path.join(os.path.dirname(os.path.dirname(os.path.abspath(__file__))), "check/lib"))
+from dicom import act, create, find, get, set_attributes
+from listeners import Watcher
+from machine import resident, used_by
+from peer import FILTERED, GLOBAL, PULL_ON, PUSH_ON, Asker, a_step, claim, progress, subscribe, told, unsubscribe
+from server import Server
 
-WATCH = b"1.2.840.10008.5.1.4.34.6.2"
-WATCH_ON = 5
-GLOBAL = b"1.2.840.10008.5.1.4.34.5"
-FILTERED = b"1.2.840.10008.5.1.4.34.5.1"
 COUNT = 100  # requests of each kind that are measured
 LOCKED = 500  # lives of steps between the beginning of a lock of everything and its end
-
-
-class Watcher:
-    """A peer that listens: it answers each report with 0000, and remembers when the last one of a step came."""
-
-    def __init__(self, title):
-        self.title, self.arrived, self.reports = title, {}, 0
-        self.listener = socket.create_server(("127.0.0.1", 0))
-        self.place = f"127.0.0.1:{self.listener.getsockname()[1]}"
-        threading.Thread(target=self.listen, daemon=True).start()
-
-    def listen(self):
-        while True:
-            peer = Incoming(self.listener.accept()[0])
-            try:
-                for step in peer.reports():
-                    self.reports += 1
-                    self.arrived[step] = time.monotonic()
-            except (EOFError, OSError):
-                pass
-            peer.socket.close()
-
-
-class Incoming(Peer):
-    """An association that the server asks for, and the Event Type ID and the Event Information of its last report."""
-
-    def __init__(self, connected):
-        self.socket, self.left, self.event, self.information = connected, b"", b"", b""
-
-    def reports(self):
-        """The steps of the reports, each of which is answered."""
-        kind, body = self.pdu()
-        user = item(0x51, struct.pack(">I", 16384)) + item(0x52, b"1.2.3")
-        accepted = item(0x21, bytes([1, 0, 0, 0]) + item(0x40, EXPLICIT))
-        self.socket.sendall(pdu(2, body[:68] + item(0x10, b"1.2.840.10008.3.1.1.1") + accepted + item(0x50, user)))
-        while True:
-            kind, body = self.pdu()
-            if kind == 5:
-                self.socket.sendall(pdu(6, bytes(4)))
-                return
-            if kind != 4:
-                return
-            if body[5] & 1:
-                elements = body[6:]
-                found = {}
-                while elements:
-                    number, length = struct.unpack("<xxHI", elements[:8])
-                    found[number], elements = elements[8:8 + length], elements[8 + length:]
-            if body[5] & 2 and not body[5] & 1:
-                self.event, self.information = found[0x1002], body[6:]
-                answer = [(0x0002, found[0x0002]), (0x0100, us(0x8100)), (0x0120, found[0x0110]), (0x0800, us(0x0101)),
-                          (0x0900, us(0)), (0x1000, found[0x1000]), (0x1002, found[0x1002])]
-                self.socket.sendall(message(1, command(answer)))
-                yield found[0x1000].rstrip(b"\0")
-
-
-class Asker(Peer):
-    """An association with a context for watching too."""
-
-    def __init__(self, port):
-        self.socket = socket.create_connection(("127.0.0.1", port), 60)
-        self.socket.setsockopt(socket.IPPROTO_TCP, socket.TCP_NODELAY, 1)
-        self.left, self.accepted = b"", 0
-        self.socket.sendall(associate([(PUSH, EXPLICIT), (PULL, EXPLICIT), (WATCH, EXPLICIT)]))
-        assert self.pdu()[0] == 2, "not accepted"
-
-    def do(self, request):
-        """Asks for what is to be accepted."""
-        status = self.ask(request)
-        assert status in (0, 1), f"{status:04X}"
-        self.accepted += 1
-
-    def count(self, request):
-        """How many answers a query has before its last."""
-        self.socket.sendall(request)
-        answers = 0
-        while self.answer() == FOLLOWS:
-            answers += 1
-        return answers
-
-
-def subscribe(place, title, lock, more=b""):
-    lock = told(0x0074, 0x1230, b"LO", lock)
-    return act(WATCH_ON, 1, place, 3, more + lock + told(0x0074, 0x1234, b"AE", title))
-
-
-def unsubscribe(place, title):
-    return act(WATCH_ON, 1, place, 4, told(0x0074, 0x1234, b"AE", title))
 
 
 def instance(number):
@@ -155,20 +62,6 @@ def kinds(number):
 
 OTHERS = ["sweeping", "reporting", "sweep", "round", "idle", "lag", "held", "memory"]
 ACCEPTED = {"create", "watch", "claim", "set", "set again", "unwatch", "finish"}
-
-
-def used_by(pid, task):
-    """The nanoseconds that a thread has run; 0 where it has ended."""
-    try:
-        with open(f"/proc/{pid}/task/{task}/schedstat", encoding="ascii") as it:
-            return int(it.read().split()[0])
-    except OSError:
-        return 0
-
-
-def resident(pid):
-    with open(f"/proc/{pid}/status", encoding="ascii") as lines:
-        return next(int(line.split()[1]) * 1024 for line in lines if line.startswith("VmRSS"))
 
 
 class Day:

@@ -26,8 +26,8 @@ import threading
 import time
 from collections.abc import Iterator
 
-sys.path.insert(0, os.path.dirname(os.path.abspath(__file__)))
-from stock import Server
+sys.path.insert(0, os.path.join(os.path.dirname(os.path.dirname(os.path.abspath(__file__))), "check/lib"))
+from server import Server
 
 NAMESPACE, HERE, THERE = "upsd-delay", "10.213.77.1", "10.213.77.2"
 DEVICES = ("upsd0", "upsd1")

@@ -29,7 +29,7 @@ static const uint8_t response[] = {
     0, 0, 0, 9, 2, 0, 0, 0, 0, 0,
 };
 
-/* Where the Message ID stands in that response, and in a request as bench/pipe.py writes it. */
+/* Where the Message ID stands in that response, and in a request as check/lib/dicom.py writes it. */
 enum { ID_ANSWERED = 68, ID_ASKED = 68 };
 
 static void *serve(void *given)

@@ -18,11 +18,11 @@ import os
 import statistics
 import sys
 
-sys.path.insert(0, os.path.dirname(os.path.abspath(__file__)))
-from day import resident, used_by
-from pipe import act, create, data, even, find, items, set_attributes, step
-from serve import PULL_ON, PUSH_ON, Peer, claim, told
-from stock import Server
+sys.path.insert(0, os.path.join(os.path.dirname(os.path.dirname(os.path.abspath(__file__))), "check/lib"))
+from dicom import act, create, data, even, find, items, set_attributes, step
+from machine import resident, used_by
+from peer import PULL_ON, PUSH_ON, Peer, claim, told
+from server import Server
 
 ALONE, TEN = 0, range(1, 11)
 TRANSACTION = b"2.25.1"

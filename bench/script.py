@@ -1,13 +1,15 @@
 #!/usr/bin/env python3
 """Measures `upsd script`: lines a second, and the memory of a long line; prints a table."""
 
+import os
 import resource
 import subprocess
 import sys
 import time
 
-sys.path.insert(0, __file__.rsplit("/", 1)[0])
-from pipe import arguments, timed
+sys.path.insert(0, os.path.join(os.path.dirname(os.path.dirname(os.path.abspath(__file__))), "check/lib"))
+from machine import arguments
+from pipe import timed
 
 STEP = b"00404005=20240229120000 00404041=READY 00741000=SCHEDULED 00741200=MEDIUM 00741204=CT%20READ 00100020=P"
 

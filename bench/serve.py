@@ -17,115 +17,25 @@ Usage: bench/serve.py [--calls] [PROGRAM]        (crates/upsd/out/upsd, which `r
 import functools
 import multiprocessing
 import os
-import re
 import shutil
 import signal
-import socket
-import struct
 import subprocess
 import sys
 import tempfile
 import time
 
-sys.path.insert(0, __file__.rsplit("/", 1)[0])
-from pipe import (EXPLICIT, PULL, PUSH, RELEASE, VERIFICATION, act, associate, create, data, echo, even, find, get, items,
-                  set_attributes, step)
+sys.path.insert(0, os.path.join(os.path.dirname(os.path.dirname(os.path.abspath(__file__))), "check/lib"))
+from dicom import create, echo, find, get
+from machine import free_port, holds, listens, processor
+from peer import ECHO_ON, PULL_ON, PUSH_ON, Peer, a_step, claim, finish, progress, told
+from server import Server
 
-CONTEXTS = [(PUSH, EXPLICIT), (PULL, EXPLICIT), (VERIFICATION, EXPLICIT)]
-PUSH_ON, PULL_ON, ECHO_ON = 1, 3, 5
 CLAIMED = 0x0000
 TAKEN = 0xC302
-FOLLOWS = 0xFF00
-
-
-class Peer:
-    """An association with the server."""
-
-    def __init__(self, port):
-        self.socket = socket.create_connection(("127.0.0.1", port), 60)
-        self.socket.setsockopt(socket.IPPROTO_TCP, socket.TCP_NODELAY, 1)
-        self.left = b""
-        self.socket.sendall(associate(CONTEXTS))
-        assert self.pdu()[0] == 2, "not accepted"
-
-    def take(self, count):
-        while len(self.left) < count:
-            more = self.socket.recv(65536)
-            if not more:
-                raise EOFError("the server hung up")
-            self.left += more
-        taken, self.left = self.left[:count], self.left[count:]
-        return taken
-
-    def pdu(self):
-        head = self.take(6)
-        return head[0], self.take(struct.unpack(">I", head[2:])[0])
-
-    def fragments(self, of_command):
-        """The bytes of a command set or of a data set."""
-        found = b""
-        while True:
-            kind, body = self.pdu()
-            assert kind == 4, kind
-            while body:
-                length = struct.unpack(">I", body[:4])[0]
-                control, body, found = body[5], body[4 + length:], found + body[6:4 + length]
-                assert bool(control & 1) == of_command
-                if control & 2:
-                    return found
-
-    def answer(self):
-        """The status of a response, whose data set is read too."""
-        elements, command = {}, self.fragments(True)
-        while command:
-            number, length = struct.unpack("<xxHI", command[:8])
-            elements[number], command = command[8:8 + length], command[8 + length:]
-        if struct.unpack("<H", elements[0x0800])[0] != 0x0101:
-            self.fragments(False)
-        return struct.unpack("<H", elements[0x0900])[0]
-
-    def ask(self, message):
-        self.socket.sendall(message)
-        status = self.answer()
-        while status == FOLLOWS:
-            status = self.answer()
-        return status
-
-    def release(self):
-        self.socket.sendall(RELEASE)
-        assert self.pdu()[0] == 6
-        self.socket.close()
-
-
-def told(group, number, vr, value):
-    """An element of a data set, padded."""
-    return data(True, group, number, vr, even(value, b"\0" if vr == b"UI" else b" "))
-
-
-def a_step(patient):
-    return step(True, {(0x0010, 0x0020): (b"LO", even(patient, b" "))})
-
-
-def claim(number, instance, transaction):
-    change = told(0x0008, 0x1195, b"UI", transaction) + told(0x0074, 0x1000, b"CS", b"IN PROGRESS")
-    return act(PULL_ON, number, instance, 1, change)
-
-
-def finish(number, instance, transaction):
-    change = told(0x0008, 0x1195, b"UI", transaction) + told(0x0074, 0x1000, b"CS", b"CANCELED")
-    return act(PULL_ON, number, instance, 1, change)
-
-
-def progress(number, instance, transaction):
-    when = told(0x0040, 0x4052, b"DT", b"20240229120300")
-    sequence = data(True, 0x0074, 0x1002, b"SQ", items([when]))
-    return set_attributes(PULL_ON, number, instance, told(0x0008, 0x1195, b"UI", transaction) + sequence)
 
 
 def one_echo(peer, me, i):
-    message = bytearray(echo(1))
-    message[10] = ECHO_ON
-    return peer.ask(bytes(message))
+    return peer.ask(echo(1, ECHO_ON))
 
 
 def one_get(peer, me, i):
@@ -174,18 +84,11 @@ def claimer(port, me, barrier, results):
     peer.release()
 
 
-def processor(pid):
-    """The processor seconds of a process and all of its threads, by the clock that the system keeps for it."""
-    return time.clock_gettime(~pid << 3 | 2)
+class Measured(Server):
+    """A server with so many workers, whose log nobody reads."""
 
-
-class Server:
     def __init__(self, program, workers, **variables):
-        self.begin([program, "serve", "--ae", "UPSD", "--port", "0", "--associations", str(workers)], **variables)
-
-    def begin(self, words, **variables):
-        self.process = subprocess.Popen(words, stdout=subprocess.PIPE, stderr=subprocess.DEVNULL, env={**os.environ, **variables})
-        self.port = int(re.match(rb"\d+", self.process.stdout.readline())[0])
+        super().__init__([program], "--associations", str(workers), error=subprocess.DEVNULL, **variables)
 
     def fill(self, steps):
         peer = Peer(self.port)
@@ -193,48 +96,32 @@ class Server:
             assert peer.ask(create(PUSH_ON, 1, b"1.2.0.%d" % i, a_step(b"P%d" % i))) == 0
         peer.release()
 
-    def __enter__(self):
-        return self
 
-    def __exit__(self, *_):
-        self.process.terminate()
-        self.process.wait()
-
-
-class Least(Server):
+class Least(Measured):
     """The least that a server does for a C-ECHO: bench/echo.c."""
 
     def __init__(self, program, _):
-        self.begin([program])
+        self.begin([program], subprocess.DEVNULL)
+        self.port = self.printed()
 
 
-class Storescp:
+class Storescp(Measured):
     """DCMTK's server, which serves one association at a time."""
 
     def __init__(self):
-        with socket.socket() as it:
-            it.bind(("127.0.0.1", 0))
-            self.port = it.getsockname()[1]
+        self.port = free_port()
         # Without this it writes an answer in two parts, of which the second waits for the client's kernel for 40 ms.
-        quick = {**os.environ, "TCP_NODELAY": "1"}
-        self.process = subprocess.Popen(["storescp", str(self.port)], stdout=subprocess.DEVNULL, stderr=subprocess.DEVNULL, env=quick)
-        for _ in range(100):
-            try:
-                socket.create_connection(("127.0.0.1", self.port)).close()
-                return
-            except ConnectionRefusedError:
-                time.sleep(0.1)
-        sys.exit("storescp does not listen")
+        self.begin(["storescp", str(self.port)], subprocess.DEVNULL, TCP_NODELAY="1")
+        if not holds(lambda: listens(self.port), 10):
+            sys.exit("storescp does not listen")
 
     def fill(self, steps):
         pass
 
-    __enter__, __exit__ = Server.__enter__, Server.__exit__
-
 
 def race(program):
     """Eight associations claim the same hundred steps."""
-    with Server(program, 8) as server:
+    with Measured(program, 8) as server:
         server.fill(100)
         barrier, results = multiprocessing.Barrier(8), multiprocessing.Queue()
         peers = [multiprocessing.Process(target=claimer, args=(server.port, i, barrier, results)) for i in range(8)]
@@ -289,7 +176,7 @@ def measure_echo(start):
 
 def calls_of(program, one, **variables):
     """The server's system calls for each of 1,000 requests, by name."""
-    with Server(program, 1, **variables) as server, tempfile.NamedTemporaryFile("r") as counted:
+    with Measured(program, 1, **variables) as server, tempfile.NamedTemporaryFile("r") as counted:
         peer = Peer(server.port)
         for i in range(10):
             assert peer.ask(create(PUSH_ON, 1, b"1.2.0.%d" % i, a_step(b"P%d" % i))) == 0
@@ -319,7 +206,7 @@ def main():
     if "--calls" in sys.argv[1:]:
         count_calls(program)
         return
-    start = functools.partial(Server, program)
+    start = functools.partial(Measured, program)
     race(program)
     print("| requests a second, and processor time of the server for each | 1 association | 4 | 12 |")
     print("|---|---|---|---|")

@@ -17,11 +17,13 @@ import time
 from multiprocessing.synchronize import Barrier
 from typing import Optional
 
-from pipe import create
+from dicom import create
+from machine import pid_of, processor
+from peer import PUSH_ON
 from results import Results
-from serve import PUSH_ON, one_create, one_life, processor
-from stock import Server
-from stored import Client, Stored, a_step_of, folder_for, pid_of
+from serve import one_create, one_life
+from server import Server
+from stored import Client, Stored, a_step_of, folder_for
 
 ASSOCIATIONS = 4
 SYNCS = 400

@@ -1,0 +1,294 @@
+#!/usr/bin/env python3
+"""Compares the numbers that documents, help texts and the client repeat with the constants of the sources.
+
+    check/facts.py              from the top of the checkout
+    check/facts.py --self-test  spoils each kind of fact in memory, in turn, and sees that it is found
+
+A number in README.md, in a page of docs or in a man page is compared where it has a mark in front, with the name of a fact:
+`<!--=keep-->60`. It has a comma behind each thousand, and is told in the unit of the constant, or in MiB, or in seconds for
+milliseconds. The mark `status` stands before the code of a status: where a page marks any, it has to mark all that `ups_cycle`
+has, and no other. A `[default: N]` in a help text of the program is compared by its option, and the man page of the program has
+each option with the same word and the same default, and no other. The client in examples has a text for each status but the one
+that more answers follow, and its options have the defaults that their help tells, and those of the sources.
+
+It prints each difference, with its file and line, and then how many marks there are. The status is 1 where anything differs.
+"""
+
+from __future__ import annotations
+
+import argparse
+import ast
+import glob
+import os
+import re
+import sys
+from collections.abc import Iterator
+from typing import Optional, Union
+
+HERE = os.path.dirname(os.path.dirname(os.path.abspath(__file__)))
+Value = Union[int, str]
+Texts = dict[str, str]  # by path
+MILLISECONDS = {"short"}
+# where each fact stands: a crate, and a constant in its sources
+CONSTANTS = {
+    "keep": ("ups_args", "KEEP"), "offset": ("ups_args", "OFFSET"),
+    "max_workers": ("ups_args", "MAX_WORKERS"), "workers": ("ups_args", "WORKERS"),
+    "idle": ("ups_args", "IDLE"), "timeout": ("ups_args", "TIMEOUT"), "delivery_timeout": ("ups_args", "DELIVERY_TIMEOUT"),
+    "version": ("ups_args", "VERSION"), "address": ("ups_args", "LOOPBACK"),
+    "short": ("ups_net", "QUICK_OPENING"), "crowd": ("ups_net", "CROWD"), "group": ("ups_net", "GROUP"),
+    "longest_pdu": ("ups_pdu", "MAX_DATA_LENGTH"), "longest_message": ("ups_assoc", "LONGEST_MESSAGE"),
+    "max_depth": ("ups_dataset", "MAX_DEPTH"), "max_row_bytes": ("ups_life", "MAX_ROW_BYTES"),
+    "max_history": ("ups_life", "MAX_HISTORY"), "max_peers": ("ups_life", "MAX_PEERS"),
+    "min_offset": ("ups_life", "MIN_OFFSET"), "max_offset": ("ups_life", "MAX_OFFSET"),
+}
+OPTIONS = {"keep": "keep", "offset": "offset", "associations": "workers", "idle": "idle", "timeout": "timeout",
+           "delivery-timeout": "delivery_timeout", "bind": "address"}  # by which fact the help of an option tells its default
+STATUS_FILE = "crates/ups_cycle/src/status.rt"
+MAN_PAGE = "packaging/man/upsd.8"
+DOCUMENTS = (".md", ".8")
+PENDING = 0xFF00
+MARK = re.compile(r"<!--=(\w+)-->")
+NUMBER = re.compile(r"-?[0-9A-Z]+(?:[.,][0-9]+)*")
+OPTION = re.compile(r'\b(?:worded|flag)\(\s*alloc,\s*"([\w-]+)",\s*(?:"(\w+)",)?')  # in the sources: its name, and its word
+ENTRY = re.compile(r"(?m)^\.It Fl -([\w-]+)(?: Ar (\w+))?\n((?:(?!\.It|\.El).*\n)*)")  # in the man page: so too, and its text
+DEFAULT = re.compile(r"\[default: ([^\]]+)\]")
+
+
+def texts() -> Texts:
+    """The files that are compared."""
+    crates = sorted({crate for crate, _ in CONSTANTS.values()} | {"ups_cycle"})
+    forms = ["README.md", "docs/**/*.md", "examples/**/*.py", MAN_PAGE, *(f"crates/{it}/src/**/*.rt" for it in crates)]
+    found = {}
+    for path in sorted(path for form in forms for path in glob.glob(form, root_dir=HERE, recursive=True)):
+        with open(os.path.join(HERE, path), encoding="utf-8") as opened:
+            found[path] = opened.read()
+    return found
+
+
+def place(path: str, text: str, at: int) -> str:
+    return f"{path}:{text.count(chr(10), 0, at) + 1}"
+
+
+def constant(files: Texts, crate: str, name: str) -> Optional[Value]:
+    """The value of the one constant of this name in a crate, or None."""
+    found = [it[1] for path, text in files.items() if path.startswith(f"crates/{crate}/")
+             for it in re.finditer(rf"\bconst {name}: [^=;]+ = ([^;]+);", text)]
+    if len(found) != 1:
+        return None
+    return found[0].strip('"') if found[0].startswith('"') else int(found[0].replace("_", ""), 0)
+
+
+def codes_of(files: Texts) -> set[int]:
+    """The codes of the statuses."""
+    return {int(it, 16) for it in re.findall(r"Status::\w+ => 0x([0-9A-Fa-f]{4})\b", files.get(STATUS_FILE, ""))}
+
+
+def spelled(name: str, value: Value, unit: str) -> str:
+    """A value as a page tells it in a unit."""
+    if isinstance(value, str):
+        return value
+    told = value / 2**20 if unit == "MiB" else value / 1000 if name in MILLISECONDS and unit != "ms" else value
+    return f"{told:,}" if told == value else f"{told:g}"
+
+
+def marks(files: Texts) -> Iterator[tuple[str, str, int, re.Match[str]]]:
+    """Each mark of a document: the path, the text, and where what is told begins."""
+    for path, text in files.items():
+        if path.endswith(DOCUMENTS):
+            yield from ((path, text, it.end(), it) for it in MARK.finditer(text))
+
+
+def faults_of_marks(files: Texts, values: dict[str, Value]) -> Iterator[str]:
+    for path, text, end, mark in marks(files):
+        name, told = mark[1], NUMBER.match(text, end)
+        if name == "status":
+            continue
+        if name not in values or not told:
+            yield f"{place(path, text, end)}: {mark[0]} names no fact, or has no number behind it: {text[end:end + 20]!r}"
+            continue
+        unit = re.match(r" ?(\w*)", text[told.end():])[1]
+        if told[0] != (wanted := spelled(name, values[name], unit)):
+            yield f"{place(path, text, end)}: {name} is told as {told[0]} {unit}, and is {wanted}"
+    for path, text in files.items():
+        for it in re.finditer(r"<!--\s*=.*?-->", text) if path.endswith(DOCUMENTS) else ():
+            if not MARK.fullmatch(it[0]):
+                yield f"{place(path, text, it.start())}: {it[0]} is no mark: write <!--=NAME-->"
+
+
+def faults_of_statuses(files: Texts, codes: set[int]) -> Iterator[str]:
+    told: dict[str, set[int]] = {}
+    for path, text, end, mark in marks(files):
+        if mark[1] == "status":
+            code = re.match(r"`?([0-9A-F]{4})\b", text[end:])
+            if not code or int(code[1], 16) not in codes:
+                yield f"{place(path, text, end)}: {text[end:end + 6]!r} is the code of no status"
+            else:
+                told.setdefault(path, set()).add(int(code[1], 16))
+    for path, found in told.items():
+        if missing := codes - found:
+            yield f"{path}: no mark for the statuses {', '.join(f'{it:04X}' for it in sorted(missing))}"
+
+
+def defaults_of(files: Texts) -> Iterator[tuple[str, str, str]]:
+    """What the help texts of the program tell: where, of which option, which default. A text stands in the call that names the
+    option, or in a variable before it."""
+    for path, text in files.items():
+        for it in re.finditer(r'"[^"]*\[default: ([^\]]+)\]"', text) if path.startswith("crates/ups_args/") else ():
+            variable = re.search(r"let (\w+) =\s*$", text[:it.start()])
+            call = r'worded\(\s*alloc,\s*"([\w-]+)",\s*"\w+",\s*'
+            found = re.search(call + variable[1] + r"\b", text) if variable else re.search(call + "$", text[:it.start()])
+            yield place(path, text, it.start()), found[1] if found else "", it[1]
+
+
+def faults_of_help(files: Texts, values: dict[str, Value]) -> Iterator[str]:
+    left = set(OPTIONS)
+    for where, option, default in defaults_of(files):
+        left.discard(option)
+        if option not in OPTIONS and not default.startswith("none"):
+            yield f"{where}: [default: {default}] is that of no option which is known"
+        elif option in OPTIONS and default != str(values.get(OPTIONS[option])):
+            yield f"{where}: --{option} has [default: {default}], and has {values.get(OPTIONS[option])}"
+    if left:
+        yield f"crates/ups_args/src: no help text has the default of {', '.join(f'--{it}' for it in sorted(left))}"
+
+
+def faults_of_man_page(files: Texts) -> Iterator[str]:
+    """Whether the man page of the program has each of its options, once, with its word and its default."""
+    sources = "".join(text for path, text in files.items() if path.startswith("crates/ups_args/"))
+    words = {it[1]: it[2] for it in OPTION.finditer(sources)}
+    defaults = {option: default for _, option, default in defaults_of(files)}
+    page, left = files.get(MAN_PAGE, ""), set(words)
+    for it in ENTRY.finditer(page):
+        where, option, told = place(MAN_PAGE, page, it.start()), it[1], DEFAULT.findall(it[3])
+        if option not in left:
+            yield f"{where}: --{option} is {'told twice' if option in words else 'no option of the program'}"
+        elif it[2] != words[option]:
+            yield f"{where}: --{option} takes {it[2]}, and takes {words[option]} in the sources"
+        if told != [default for name, default in defaults.items() if name == option]:
+            yield f"{where}: --{option} has the defaults {told}, and in the sources {defaults.get(option)}"
+        left.discard(option)
+    yield from (f"{MAN_PAGE}: --{it} is not told" for it in sorted(left))
+
+
+def faults_of_client(files: Texts, codes: set[int], values: dict[str, Value]) -> Iterator[str]:
+    """What the client of the examples says of statuses, of the longest PDU, and in its help."""
+    has_statuses = False
+    clients = {path: ast.walk(ast.parse(text)) for path, text in files.items() if path.endswith(".py")}
+    for path, node in ((path, node) for path, nodes in clients.items() for node in nodes):
+        if isinstance(node, ast.Dict):
+            told = {it.value for it in node.keys if isinstance(it, ast.Constant)}
+            is_of_statuses = {0x0000, 0xC300} <= told
+            has_statuses |= is_of_statuses
+            for code in sorted(told ^ (codes - {PENDING})) if is_of_statuses else ():
+                yield f"{path}:{node.lineno}: the status {code:04X} {'is none of the server' if code in told else 'has no text'}"
+        elif isinstance(node, ast.Assign) and ast.unparse(node.targets[0]) == "LONGEST":
+            if ast.literal_eval(node.value) != values.get("longest_pdu"):
+                yield f"{path}:{node.lineno}: LONGEST is {ast.unparse(node.value)}, and {values.get('longest_pdu')} at the server"
+        elif isinstance(node, ast.Call) and ast.unparse(node.func).endswith(".add_argument"):
+            yield from faults_of_option(path, node, values)
+    if not has_statuses:
+        yield "examples: no client has texts for statuses"
+
+
+def faults_of_option(path: str, call: ast.Call, values: dict[str, Value]) -> Iterator[str]:
+    """Whether an option of the client has the default that its help tells in brackets, and --host the address of the server."""
+    given = {it.arg: it.value.value for it in call.keywords if isinstance(it.value, ast.Constant)}
+    told = re.search(r"\(([^()\s]+)\)$", str(given.get("help", "")))
+    name, default = ast.unparse(call.args[0]).strip("'"), given.get("default")
+    if default and told and told[1] != str(default):
+        yield f"{path}:{call.lineno}: the help of {name} tells {told[1]}, and its default is {default}"
+    if name == "--host" and default != values.get("address"):
+        yield f"{path}:{call.lineno}: the default of --host is {default}, and a server listens on {values.get('address')}"
+
+
+def faults(files: Texts) -> set[str]:
+    """Each difference."""
+    values = {name: value for name, it in CONSTANTS.items() if (value := constant(files, *it)) is not None}
+    found = {f"crates/{it[0]}/src: no constant {it[1]}, or more than one" for name, it in CONSTANTS.items() if name not in values}
+    codes = codes_of(files)
+    found |= {*faults_of_marks(files, values), *faults_of_statuses(files, codes), *faults_of_help(files, values)}
+    found |= {*faults_of_man_page(files), *faults_of_client(files, codes, values)}
+    return found if codes else found | {f"{STATUS_FILE}: no codes"}
+
+
+# the self-test
+
+def page_of(values: dict[str, Value], codes: set[int]) -> str:
+    """A page that marks each fact."""
+    lines = [f"{name}: <!--={name}-->{spelled(name, value, '')}." for name, value in values.items()]
+    lines += [f"| <!--=status-->{it:04X} | a status |" for it in sorted(codes)]
+    in_mib = spelled("longest_message", values["longest_message"], "MiB")
+    lines.append(f"as <!--=short-->{values['short']} ms, <!--=longest_message-->{in_mib} MiB")
+    return "\n".join(lines) + "\n"
+
+
+PAGE = "docs/planted.md"
+IN_PAGE = {  # what is spoiled of it: a pattern, and what takes its place
+    "an amount in MiB": (r"\d MiB", "77 MiB"), "an amount in ms": (r"\d ms", "7 ms"), "a name": ("<!--=keep-->", "<!--=kept-->"),
+    "the form of a mark": ("<!--=keep-->", "<!-- =keep -->"), "what is behind a mark": ("<!--=keep-->", "<!--=keep--> about "),
+    "a status that is not marked": (".*C311.*\n", ""), "a marked status": ("C311", "C312"),
+}
+IN_CLIENT = {
+    "a status": ("0xC311:", "0xC312:"), "a default": (r'("--host", default="[0-9.]*)"', r'\g<1>1"'),
+    "a help text": (r"port \(\d+\)", "port (1)"), "the longest PDU": (r"LONGEST = [\d_]+", "LONGEST = 1"),
+}
+IN_MAN_PAGE = {
+    "a default": (r"\[default: 16\]", "[default: 4]"), "a default that is none": (r"(It Fl -verbose\n)", r"\1[default: 1]\n"),
+    "a missing default": (r"\[default: 60\]\n", ""), "the name of a word": ("It Fl -idle Ar SECONDS\n", "It Fl -idle Ar N\n"),
+    "a missing option": (r"\.It Fl -hex\n", ""), "an option more": (r"\.It Fl -hex\n", ".It Fl -hexed\n.It Fl -hex\n"),
+    "an option twice": (r"\.It Fl -hex\n", ".It Fl -hex\n.It Fl -hex\n"), "a marked number": ("-->1,022", "-->1,023"),
+}
+
+
+def other(found: re.Match[str]) -> str:
+    """A constant with another value."""
+    number = found[2].replace("_", "")
+    return found[1] + (str(int(number) + 1) if number.lstrip("-").isdigit() else '"9.9"')
+
+
+def spoiled(files: Texts) -> Iterator[tuple[str, str, str]]:
+    """What is spoiled, in which file, and its text then."""
+    for name, (crate, constant_name) in CONSTANTS.items():
+        form = rf'(const {constant_name}: [^=;]+ = )([-\w]+|"[^"]*")'
+        for path in [path for path in files if path.startswith(f"crates/{crate}/") and re.search(form, files[path])]:
+            yield f"the constant of {name}", path, re.sub(form, other, files[path])
+        yield f"a mark of {name}", PAGE, files[PAGE].replace(f"<!--={name}-->", f"<!--={name}-->7", 1)
+    yield "a status of the server", STATUS_FILE, files[STATUS_FILE].replace("=> 0xC311", "=> 0xC312")
+    for path, text in files.items():
+        for it in re.finditer(r"\[default: [^n\]][^\]]*\]", text) if path.startswith("crates/ups_args/") else ():
+            yield f"{it[0]} of {path}", path, text[:it.start()] + "[default: 9]" + text[it.end():]
+        for name, change in IN_CLIENT.items() if path.endswith("ups.py") else ():
+            yield f"{name} of the client", path, re.sub(*change, text, count=1)
+        for name, change in IN_MAN_PAGE.items() if path == MAN_PAGE else ():
+            yield f"{name} of the man page", path, re.sub(*change, text, count=1)
+    for name, change in IN_PAGE.items():
+        yield f"{name} of a page", PAGE, re.sub(*change, files[PAGE])
+
+
+def self_test(files: Texts) -> None:
+    """Prints what is spoiled and not found, and ends the program."""
+    values = {name: value for name, it in CONSTANTS.items() if (value := constant(files, *it)) is not None}
+    planted = {**files, PAGE: page_of(values, codes_of(files))}
+    before, count = faults(planted), 0
+    missed = sorted(it for it in before if it.startswith(PAGE))
+    for name, path, text in spoiled(planted):
+        count += 1
+        missed += [] if faults({**planted, path: text}) - before else [f"not found: {name}"]
+    print("\n".join(missed) or f"{count} spoiled facts, each found")
+    sys.exit(bool(missed))
+
+
+def main() -> None:
+    about, _, more = (__doc__ or "").partition("\n\n")
+    asked = argparse.ArgumentParser(description=about, epilog=more, formatter_class=argparse.RawDescriptionHelpFormatter)
+    asked.add_argument("--self-test", action="store_true", help="spoil each kind of fact, and see that it is found")
+    files = texts()
+    if asked.parse_args().self_test:
+        self_test(files)
+    found = sorted(faults(files))
+    print("".join(f"{it}\n" for it in found) + f"{sum(1 for _ in marks(files))} marks, {len(found)} faults")
+    sys.exit(bool(found))
+
+
+if __name__ == "__main__":
+    main()

@@ -1,0 +1,423 @@
+#!/usr/bin/env python3
+"""Has memory and devices fail under what the rows say, and sees that nothing comes of it but what is due.
+
+    check/failures.py rows/*.rows examples      over the built programs: crates/upsd/out/upsd, crates/refusals/out/refusals
+
+Memory: each growth of a course, and of the scripts of the examples and of the files named `attributes`, `life_cycle`,
+`lines`, `matching` and `watching`, is refused in turn. Each reply is then the one that is due, or the status of lacking
+memory; or what was asked ends for lack of memory behind a beginning of the replies. The history holds what was accepted,
+and no more: what was not done is asked once more, and from there on all is answered as if nothing had been refused.
+
+Devices, under each association of `sessions`:
+
+- the input ends after a number of bytes: what is answered is the same wherever it ends within a PDU, and a beginning of the
+  answer that ends with a PDU; between two PDUs the association is closed, and within one the exit status and what is said
+  tell of that
+- the output has room for a number of bytes: it has the first ones, and the write that failed is told
+- the input comes, and the output goes, byte by byte, and a signal interrupts each call: all is answered (of one in three)
+
+Under the examples the input breaks off, and the output has room for a number of bytes, in the same way.
+
+Watchers, some hundred of one server: the first association with each ends after another number of bytes that it answers, in
+the midst of the connection or by its reset. How it ends is told, and the report is made again where it was not acknowledged.
+
+It prints how many failures were tried, and each that came to something else; the status is then 1.
+"""
+
+import argparse
+import collections
+import contextlib
+import itertools
+import multiprocessing
+import os
+import re
+import socket
+import string
+import struct
+import sys
+import time
+
+sys.path.insert(0, os.path.join(os.path.dirname(os.path.dirname(os.path.abspath(__file__))), "check/lib"))
+import courses
+import dicom
+import rows
+import runs
+
+COURSES = ("attributes.rows", "courses.rows", "life_cycle.rows", "lines.rows", "matching.rows", "watching.rows")
+SMALL = 4_000  # bytes of an input that is tried
+SHAKEN = 3  # of so many associations one is given and taken byte by byte, unless it has more bytes than:
+SHORT = 1_200
+READ = (2, b"upsd: a read failed, or the input ended inside a PDU\n")
+WRITE = (2, b"upsd: a write failed\n")
+BROKEN = (2, b"upsd: a read failed\n")
+WELL = (0, b"")
+WAIT = 30  # seconds for all watchers
+GIVEN = {"every": 7}  # what the command line gives
+
+
+def quick(words, given, room=None):
+    """Runs a program on an input that ends behind these bytes, with room for so many bytes of output."""
+    source, giver = os.pipe()
+    os.write(giver, given)
+    os.close(giver)
+    told, said = os.pipe()
+    output = os.memfd_create("output")
+    try:
+        with runs.files_of(room):
+            actions = [(os.POSIX_SPAWN_DUP2, one, other) for one, other in ((source, 0), (output, 1), (said, 2))]
+            child = os.posix_spawn(words[0], words, os.environ, file_actions=actions)
+        os.close(said)
+        _, status = os.waitpid(child, 0)
+        return os.waitstatus_to_exitcode(status), os.pread(output, 1 << 20, 0), os.read(told, 1 << 16)
+    finally:
+        for it in (source, told, output):
+            os.close(it)
+
+
+def ends_of(pdus):
+    """Where the PDUs of bytes begin, and where the last one ends, if that is there."""
+    ends = [0]
+    while ends[-1] + 6 <= len(pdus):
+        ends.append(ends[-1] + 6 + int.from_bytes(pdus[ends[-1] + 2:ends[-1] + 6], "big"))
+    return [it for it in ends if it <= len(pdus)]
+
+
+def places(length, ends):
+    """The places from 0 to a length that are tried: those around each end of a PDU and behind its header, and others."""
+    near = {it + more for it in ends for more in (-1, 0, 1, 5, 6, 7)}
+    return [it for it in range(length + 1) if it in near or it % GIVEN["every"] == 0]
+
+
+class Memory:
+    """The growths of a course."""
+
+    program = "refusals"
+
+    def __init__(self, course):
+        self.course, self.name = course, course.name
+
+    def spoiled(self):
+        """The same with something else that is due."""
+        return Memory(self.course.spoiled()[0])
+
+    def tried(self, program):
+        """Refuses each, and gives how many there are and what came of them that is not due."""
+        try:
+            count, _ = self.course.failures(program)
+            return {"growths of memory refused": count}, []
+        except (courses.Fault, ValueError) as fault:
+            return {}, [str(fault)]
+
+
+class Ends:
+    """The places where the input of an association ends."""
+
+    program = "upsd"
+
+    def __init__(self, session):
+        self.session, self.name = session, session.name
+
+    def spoiled(self):
+        """The same with another answer that is due."""
+        return Ends(self.session.spoiled()[0])
+
+    def tried(self, program):
+        """Has the input end at each, and gives how many there are and what came of them that is not due."""
+        asked, ends = self.session.asked, ends_of(self.session.asked)
+        tried, due, faults = places(len(asked), ends), b"", []
+        for place in tried:
+            status, answer, said = quick([program, "pipe", "--ae", "UPSD"], asked[:place])
+            if place in ends:
+                if not answer.startswith(due):
+                    faults.append(f"at {place} it answers {answer!r}, and before {due!r}")
+                due = answer
+            if why := self.unlike(place, place in ends, due, answer, (status, said)):
+                faults.append(f"at {place}: {why}")
+        return {"ends of an input": len(tried)}, faults
+
+    def unlike(self, place, is_end, due, answer, ended):
+        """How what comes of an end is not due; None where it is."""
+        whole = self.session.answered
+        is_over = answer == whole and rows.ended_of(runs.Ran(ended[0], answer, ended[1])) == self.ended()
+        if place == len(self.session.asked) or is_over:
+            return None if is_over else f"it answers {answer!r} and ends as {ended}"
+        if answer != due or not whole.startswith(answer) or len(answer) not in ends_of(whole):
+            return f"it answers {answer!r} and not {due!r}"
+        return None if ended == (WELL if is_end else READ) else f"it ends as {ended}"
+
+    def ended(self):
+        """How the association ends as a whole, as far as the program tells that."""
+        return "Ok" if self.session.ended.startswith("Ok") else self.session.ended
+
+
+class Rooms:
+    """The numbers of bytes that there is room for in the output."""
+
+    program = "upsd"
+
+    def __init__(self, name, words, asked, answered):
+        self.name, self.words, self.asked, self.answered = name, words, asked, answered
+
+    def spoiled(self):
+        """The same with another answer that is due."""
+        return Rooms(self.name, self.words, self.asked, b"X" + self.answered)
+
+    def tried(self, program):
+        """Leaves each, and gives how many there are and what came of them that is not due."""
+        tried = places(len(self.answered), ends_of(self.answered))[:-1]
+        faults = []
+        for room in tried:
+            status, output, said = quick([program, *self.words], self.asked, room)
+            if (status, said) != WRITE or output != self.answered[:room]:
+                faults.append(f"with room for {room}: {(status, output, said)}")
+        return {"bytes of room for an output": len(tried)}, faults
+
+
+class Shaken:
+    """An association of which each byte is given and taken by itself, with a signal that interrupts the call."""
+
+    program = "upsd"
+
+    def __init__(self, session):
+        self.session, self.name = session, session.name
+
+    def spoiled(self):
+        """The same with another answer that is due."""
+        return Shaken(self.session.spoiled()[0])
+
+    def tried(self, program):
+        """Shakes it, and gives how many bytes there are and what came of it that is not due."""
+        ran = runs.run_shaken([program, "pipe", "--ae", "UPSD"], self.session.asked)
+        count = len(self.session.asked) + len(self.session.answered)
+        is_due = ran.output == self.session.answered and rows.ended_of(ran) == Ends(self.session).ended()
+        return {"bytes that come or go by themselves": count}, [] if is_due else [f"it is shaken: {ran}"]
+
+
+class Breaks:
+    """The places where the input of a script breaks off."""
+
+    program = "upsd"
+
+    def __init__(self, script):
+        self.script, self.name = script, script.name
+
+    def spoiled(self):
+        """The same with other replies that are due."""
+        return Breaks(self.script.spoiled()[0])
+
+    def tried(self, program):
+        """Has it break off at each, and gives how many there are and what came of them that is not due."""
+        given, replies = self.script.script.encode(), self.script.replies.encode().splitlines(keepends=True)
+        tried, faults = range(0, len(given), GIVEN["every"]), []
+        for place in tried:
+            due = b"".join(replies[:given[:place].count(b"\n")])
+            with runs.broken(given[:place]) as source:
+                ran = runs.run([program, *self.script.words], source=source)
+            if (ran.status, ran.said) != BROKEN or ran.output != due:
+                faults.append(f"broken off at {place}: {ran}")
+        return {"places where a script breaks off": len(tried)}, faults
+
+
+class Watchers:
+    """The places where what a watcher answers ends, or its connection is reset."""
+
+    program = "upsd"
+
+    def __init__(self, name, subscribed, created, taken, heard):
+        self.name, self.subscribed, self.created = name, subscribed, created
+        self.taken, self.heard = taken, heard
+
+    def spoiled(self):
+        """The same with something else that is to be heard."""
+        return Watchers(self.name, self.subscribed, self.created, self.taken, [b"X" + self.heard[0], *self.heard[1:]])
+
+    def titles(self):
+        """A title of two letters for each place and each way to end, and these."""
+        letters = string.ascii_letters + string.digits
+        names = ("".join(pair) for pair in itertools.product(letters, letters))
+        ways = itertools.product(range(len(b"".join(self.taken)) + 1), ("end", "reset"))
+        return dict(zip(names, list(ways)[:1000]))
+
+    def tried(self, program):
+        """Runs a server with such watchers, and gives how many there are and what came of them that is not due."""
+        titles = self.titles()
+        heard = {it: [] for it in titles}
+        with socket.create_server(("127.0.0.1", 0), backlog=1000) as listener:
+            place = listener.getsockname()[1]
+            with runs.logging(program, [f"{it}=127.0.0.1:{place}" for it in titles]) as (log, server):
+                self.subscribe(server.port, titles)
+                self.listen(listener, titles, heard)
+                told = log.read().decode(errors="replace")
+        faults = [f"watcher at {titles[it]}: {why}" for it in titles if (why := self.unlike(it, titles[it], heard[it], told))]
+        return {"watchers that end or reset": len(titles)}, faults
+
+    def subscribe(self, port, titles):
+        """Subscribes each watcher to all steps, and creates one."""
+        first, subscription, last = self.subscribed
+        each = b"".join(subscription.replace(b"W1", it.encode()) for it in titles)
+        with runs.connected(port) as connection:
+            runs.exchange(connection, first + each + self.created + last)
+
+    def listen(self, listener, titles, heard):
+        """Answers associations until each watcher has had as many as are due, or the time is over."""
+        end = time.monotonic() + WAIT
+        listener.settimeout(1)
+        while time.monotonic() < end and any(len(heard[it]) < self.associations(titles[it]) for it in titles):
+            with contextlib.suppress(TimeoutError):
+                with listener.accept()[0] as connection:
+                    connection.settimeout(5)
+                    self.answer(connection, titles, heard)
+
+    def associations(self, way):
+        """How many associations are due of a watcher: another one unless the first acknowledged the report."""
+        place, _ = way
+        return 1 if place >= len(b"".join(self.taken[:2])) else 2
+
+    def answer(self, connection, titles, heard):
+        """Answers an association: the first of a watcher as far as it goes, and each other one well, byte by byte."""
+        proposed = received(connection, len(self.heard[0]))
+        title = proposed[10:26].decode(errors="replace").strip()
+        place, how = titles[title]
+        given = b"".join(self.taken).replace(b"W1", title.encode())
+        is_first = not heard[title]
+        heard[title].append(proposed)
+        with contextlib.suppress(OSError):
+            if is_first:
+                connection.sendall(given[:place])
+            else:
+                connection.setsockopt(socket.IPPROTO_TCP, socket.TCP_NODELAY, 1)
+                for byte in given:
+                    connection.sendall(bytes([byte]))
+            if is_first and how == "reset":
+                connection.setsockopt(socket.SOL_SOCKET, socket.SO_LINGER, struct.pack("ii", 1, 0))
+                return
+            connection.shutdown(socket.SHUT_WR)
+        heard[title][-1] += runs.rest_of(connection)
+
+    def unlike(self, title, way, heard, told):
+        """How what a watcher heard, and what is told of it, is not due; None where it is."""
+        place, how = way
+        due = [it.replace(b"W1", title.encode()) for it in self.heard]
+        ends = list(itertools.accumulate([0, *(len(it) for it in self.taken)]))
+        count = max(number for number, end in enumerate(ends) if end <= place)
+        found = re.search(rf"deliver {title}: (\w+)", told)
+        ended = found[1] if found else None
+        if how == "reset":
+            is_due = heard[:1] == due[:1] and (count > 1 and ended or ended in ("Read", "Write", "Closed"))
+        else:
+            wanted = "Released" if place == ends[-1] else "Closed" if place in ends else "Read"
+            is_due = heard[:1] == [b"".join(due[:count + 1])] and ended == wanted
+        if not is_due:
+            return f"it hears {heard[:1]}, and is told as {ended}"
+        if count < 2 and heard[1:2] != [b"".join(due)]:
+            return f"it hears then {heard[1:2]}"
+        return None
+
+
+def received(connection, length):
+    """So many bytes that come over a connection, or as many as there are."""
+    found = b""
+    while len(found) < length and (more := connection.recv(length - len(found))):
+        found += more
+    return found
+
+
+def course_of(script):
+    """A script as a course; None where it has lines without a reply, or others than the program answers."""
+    lines, replies = script.script.splitlines(), script.replies.splitlines()
+    is_known = script.words in (["script"], ["script", *rows.PEERS])
+    if script.said or len(lines) != len(replies) or not is_known or len(script.script) > SMALL:
+        return None
+    if len(script.words) == 1 and re.search(r"\bW[12]\b", script.script):
+        return None
+    texts = [" -> ".join(pair) for pair in zip(lines, replies)]
+    return courses.Course(script.name, courses.parts_of({}, ["script", *texts], str))
+
+
+def devices_of(file):
+    """What is tried of the associations of a file."""
+    sessions = [it for it in rows.rows_of(file) if not (it.what or it.is_hexadecimal or len(it.asked) > SMALL)]
+    for number, session in enumerate(sessions):
+        yield Ends(session)
+        if session.answered:
+            yield Rooms(session.name, ["pipe", "--ae", "UPSD"], session.asked, session.answered)
+        if number % SHAKEN == 0 and len(session.asked) + len(session.answered) <= SHORT:
+            yield Shaken(session)
+
+
+def watchers_of(file):
+    """The watchers of the names of a file of deliveries."""
+    names = dicom.stored() | rows.names_in(file)
+
+    def given(words):
+        return dicom.bytes_of(names, words)
+
+    yield Watchers(
+        file,
+        (given("PUSH_AND_WATCH"), given("GLOBAL_ACTION 0300 TO_WATCH"), given("RELEASE")),
+        given("CREATE STEP"),
+        [given(it) for it in ("AGREED", "FIRST_TAKEN", "RELEASED")],
+        [given(it) for it in ("PROPOSED", "FIRST_REPORT", "RELEASE")],
+    )
+
+
+def tasks_of(file):
+    """What is tried of a file of rows, or of a folder of examples."""
+    if os.path.isdir(file):
+        for script in rows.examples_of(file):
+            yield Breaks(script)
+            yield Rooms(script.name, script.words, script.script.encode(), script.replies.encode())
+            if course := course_of(script):
+                yield Memory(course)
+    elif os.path.basename(file) == "deliveries.rows":
+        yield from watchers_of(file)
+    elif os.path.basename(file) == "sessions.rows":
+        yield from devices_of(file)
+    elif os.path.basename(file) in COURSES:
+        for row in rows.rows_of(file):
+            if course := row if isinstance(row, courses.Course) else course_of(row):
+                yield Memory(course)
+
+
+TASKS = []
+
+
+def tried(number):
+    """What came of a task."""
+    task = TASKS[number]
+    try:
+        return number, *task.tried(GIVEN[task.program])
+    except (runs.TimeoutExpired, OSError, ValueError) as fault:
+        return number, {}, [f"{type(fault).__name__}: {fault}"]
+
+
+def main():
+    about, _, more = __doc__.partition("\n\n")
+    asked = argparse.ArgumentParser(description=about, epilog=more, formatter_class=argparse.RawDescriptionHelpFormatter)
+    asked.add_argument("files", nargs="+", metavar="FILE", help="a file of rows, or a folder of examples")
+    asked.add_argument("--program", default="crates/upsd/out/upsd", help="the program (default: %(default)s)")
+    asked.add_argument("--refusals", default="crates/refusals/out/refusals", help="that of courses (default: %(default)s)")
+    asked.add_argument("--self-test", action="store_true", help="spoil what is due: each has to fail")
+    asked.add_argument("--every", type=int, default=7, help="try one place in so many (default: %(default)s)")
+    given = asked.parse_args()
+    GIVEN.update(upsd=os.path.abspath(given.program), refusals=os.path.abspath(given.refusals), every=given.every)
+    found = [task for file in given.files for task in tasks_of(file)]
+    TASKS.extend(task.spoiled() for task in found) if given.self_test else TASKS.extend(found)
+    TASKS.sort(key=lambda task: not isinstance(task, (Memory, Watchers)))
+    counts, failed = collections.Counter(), 0
+    with multiprocessing.get_context("fork").Pool(len(os.sched_getaffinity(0))) as pool:
+        for number, count, faults in pool.imap_unordered(tried, range(len(TASKS))):
+            if given.self_test:
+                faults = [] if faults else ["what is not due is not found"]
+            counts.update(count)
+            failed += len(faults)
+            for fault in faults[:3]:
+                print(f"{TASKS[number].name}: {fault}")
+    for what, count in sorted(counts.items()):
+        print(f"{count} {what}")
+    print(f"{len(TASKS)} rows, {failed} failures that came to something else")
+    sys.exit(1 if failed else 0)
+
+
+if __name__ == "__main__":
+    main()

@@ -1,0 +1,184 @@
+"""Spells what DICOM sends: PDUs, command sets and data sets, and bytes by words that a person can read."""
+
+import os
+import re
+import struct
+
+from machine import HERE
+
+PUSH = b"1.2.840.10008.5.1.4.34.6.1"
+WATCH = b"1.2.840.10008.5.1.4.34.6.2"
+PULL = b"1.2.840.10008.5.1.4.34.6.3"
+EVENT = b"1.2.840.10008.5.1.4.34.6.4"
+VERIFICATION = b"1.2.840.10008.1.1"
+IMPLICIT = b"1.2.840.10008.1.2"
+EXPLICIT = b"1.2.840.10008.1.2.1"
+LONG = {b"OB", b"SQ", b"UN"}
+UIDS = {"VERIFICATION": VERIFICATION, "PUSH": PUSH, "WATCH": WATCH, "PULL": PULL, "EVENT": EVENT}  # words that stand for a UID
+VECTORS = os.path.join(HERE, "crates/fixtures/src/vectors.rt")
+
+
+def item(kind, content):
+    return struct.pack(">BBH", kind, 0, len(content)) + content
+
+
+def pdu(kind, body):
+    return struct.pack(">BBI", kind, 0, len(body)) + body
+
+
+def associate(contexts, calling=b"BENCH"):
+    """An A-ASSOCIATE-RQ with a context for each (abstract syntax, transfer syntax), ids 1, 3, .."""
+    body = struct.pack(">HH", 1, 0) + b"UPSD".ljust(16) + calling.ljust(16) + bytes(32)
+    body += item(0x10, b"1.2.840.10008.3.1.1.1")
+    for i, (abstract, transfer) in enumerate(contexts):
+        body += item(0x20, bytes([2 * i + 1, 0, 0, 0]) + item(0x30, abstract) + item(0x40, transfer))
+    body += item(0x50, item(0x51, struct.pack(">I", 16384)) + item(0x52, b"1.2.3"))
+    return pdu(1, body)
+
+
+RELEASE = pdu(5, bytes(4))
+
+
+def even(value, pad=b"\0"):
+    return value if len(value) % 2 == 0 else value + pad
+
+
+def element(number, value):
+    """An element of a command set."""
+    return struct.pack("<HHI", 0, number, len(value)) + value
+
+
+def command(elements):
+    rest = b"".join(element(n, v) for n, v in elements)
+    return element(0, struct.pack("<I", len(rest))) + rest
+
+
+def us(number):
+    return struct.pack("<H", number)
+
+
+def message(context, command_set, data_set=None):
+    """A message in PDUs of at most 16,384 bytes."""
+    out = b""
+    for control, last, part in ((1, 3, command_set), (0, 2, data_set)):
+        if part is None:
+            continue
+        at = 0
+        while True:
+            piece = part[at : at + 16378]
+            at += 16378
+            ended = at >= len(part)
+            out += pdu(4, struct.pack(">IBB", len(piece) + 2, context, last if ended else control) + piece)
+            if ended:
+                break
+    return out
+
+
+def echo(number, context=1):
+    return message(context, command([(0x0002, even(VERIFICATION)), (0x0100, us(0x0030)), (0x0110, us(number)), (0x0800, us(0x0101))]))
+
+
+def create(context, number, instance, data_set):
+    elements = [(0x0002, even(PUSH)), (0x0100, us(0x0140)), (0x0110, us(number)), (0x0800, us(1)), (0x1000, even(instance))]
+    return message(context, command(elements), data_set)
+
+
+def get(context, number, instance):
+    elements = [(0x0003, even(PUSH)), (0x0100, us(0x0110)), (0x0110, us(number)), (0x0800, us(0x0101)), (0x1001, even(instance))]
+    return message(context, command(elements))
+
+
+def set_attributes(context, number, instance, data_set):
+    """An N-SET."""
+    elements = [(0x0003, even(PUSH)), (0x0100, us(0x0120)), (0x0110, us(number)), (0x0800, us(1)), (0x1001, even(instance))]
+    return message(context, command(elements), data_set)
+
+
+def act(context, number, instance, action, data_set):
+    """An N-ACTION of a type."""
+    elements = [(0x0003, even(PUSH)), (0x0100, us(0x0130)), (0x0110, us(number)), (0x0800, us(1)), (0x1001, even(instance)), (0x1008, us(action))]
+    return message(context, command(elements), data_set)
+
+
+def find(context, number, identifier):
+    """A C-FIND of medium priority."""
+    elements = [(0x0002, even(PULL)), (0x0100, us(0x0020)), (0x0110, us(number)), (0x0700, us(0)), (0x0800, us(1))]
+    return message(context, command(elements), identifier)
+
+
+def give_up(context, number):
+    """A C-CANCEL of a C-FIND."""
+    return message(context, command([(0x0100, us(0x0FFF)), (0x0120, us(number)), (0x0800, us(0x0101))]))
+
+
+def data(explicit, group, number, vr, value):
+    """An element of a data set."""
+    tag = struct.pack("<HH", group, number)
+    if not explicit:
+        return tag + struct.pack("<I", len(value)) + value
+    if vr in LONG:
+        return tag + vr + struct.pack("<HI", 0, len(value)) + value
+    return tag + vr + struct.pack("<H", len(value)) + value
+
+
+def items(elements):
+    return b"".join(struct.pack("<HHI", 0xFFFE, 0xE000, len(e)) + e for e in elements)
+
+
+def step(explicit, more=()):
+    """The attributes of a step that is accepted: 20 of them, one a sequence, and more."""
+    row = {
+        (0x0010, 0x0010): (b"PN", b"DOE^JANE"),
+        (0x0010, 0x0020): (b"LO", b"P1"),
+        (0x0010, 0x0030): (b"DA", b"19700101"),
+        (0x0010, 0x0040): (b"CS", b"F "),
+        (0x0032, 0x1060): (b"LO", b"CT CHEST"),
+        (0x0038, 0x0010): (b"LO", b"ADM1"),
+        (0x0040, 0x4005): (b"DT", b"20240229120000"),
+        (0x0040, 0x4010): (b"DT", b"20240229120000"),
+        (0x0040, 0x4011): (b"DT", b"20240229130000"),
+        (0x0040, 0x4036): (b"LO", b"RADIOLOGY "),
+        (0x0040, 0x4037): (b"PN", b"ROE^JOHN"),
+        (0x0040, 0x4041): (b"CS", b"READY "),
+        (0x0074, 0x1000): (b"CS", b"SCHEDULED "),
+        (0x0074, 0x1200): (b"CS", b"MEDIUM"),
+        (0x0074, 0x1202): (b"LO", b"READS "),
+        (0x0074, 0x1204): (b"LO", b"CT READ "),
+        (0x0008, 0x0050): (b"SH", b"A1"),
+        (0x0008, 0x0090): (b"PN", b"POE^ANN "),
+        (0x0020, 0x000D): (b"UI", b"1.2.3.4\0"),
+        (0x0040, 0x4018): (b"SQ", items([data(explicit, 8, 0x0100, b"SH", b"C1") + data(explicit, 8, 0x0102, b"SH", b"99A ")])),
+    }
+    row.update(more)
+    return b"".join(data(explicit, g, e, vr, value) for (g, e), (vr, value) in sorted(row.items()))
+
+
+# bytes by words
+
+def stored():
+    """The stored PDUs that the tests of the crates have too, as texts by their names."""
+    with open(VECTORS, encoding="utf-8") as text:
+        found = re.findall(r'pub const (\w+): &str =\s*"((?:[^"\\]|\\")*)";', text.read())
+    return {name: spelled.replace('\\"', '"') for name, spelled in found}
+
+
+def bytes_of(names, text):
+    """The bytes of a text: what stands in quotes, and what each of the other words stands for."""
+    parts = re.findall(r'"([^"]*)"|([^\s"]+)', text)
+    return b"".join(bytes_of_word(names, word) if word else quoted.encode() for quoted, word in parts)
+
+
+def bytes_of_word(names, word):
+    """The bytes of a word: of a name, a UID or hex digits, as often as a number behind `*` says."""
+    name, _, count = word.partition("*")
+    times = int(count or 1)
+    if name not in names:
+        return (UIDS[name] if name in UIDS else bytes.fromhex(name)) * times
+    if "#" in names[name]:
+        return b"".join(bytes_of(names, text) for text in numbered(names[name], times))
+    return bytes_of(names, names[name]) * times
+
+
+def numbered(text, times):
+    """A text so many times, with two hex digits or more in the place of a `#`: 01, 03, 05 and so on."""
+    return [text.replace("#", f"{number:02x}") for number in range(1, 2 * times, 2)]

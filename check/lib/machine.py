@@ -1,0 +1,103 @@
+"""What scripts ask of this machine: the checkout, programs, packages, ports, and what a process takes."""
+
+from __future__ import annotations
+
+import argparse
+import importlib.util
+import os
+import shutil
+import socket
+import subprocess
+import sys
+import time
+
+HERE = os.path.dirname(os.path.dirname(os.path.dirname(os.path.abspath(__file__))))  # the top of the checkout
+PYTHON = "/usr/bin/python3"
+SHELLS = ("sh", "bash", "dash", "env", "strace", "nice", "time")
+
+
+def arguments(about, *numbers):
+    """The program that the command line names, and its numbers, each given here with its default and what it is."""
+    parser = argparse.ArgumentParser(description=about, formatter_class=argparse.RawDescriptionHelpFormatter)
+    built = "crates/upsd/out/upsd"
+    parser.add_argument("program", nargs="?", default=built, help=f"the program ({built}, which `rt run` builds)")
+    for name, default, what in numbers:
+        parser.add_argument(name, nargs="?", type=int, default=default, help=f"{what} ({default:,})")
+    return parser.parse_args()
+
+
+def install(packages: dict[str, str]) -> None:
+    """Has pydicom there, and these commands, each from the Debian package that is named with it."""
+    own = importlib.util.find_spec("pydicom")
+    missing = sorted({package for command, package in packages.items() if not shutil.which(command)})
+    if not own and subprocess.run([PYTHON, "-c", "import pydicom"], stderr=subprocess.DEVNULL).returncode:
+        missing.append("python3-pydicom")
+    if missing:
+        subprocess.run(["apt-get", "update"], check=True, stdout=subprocess.DEVNULL)
+        subprocess.run(["apt-get", "install", "-y", *missing], check=True, stdout=subprocess.DEVNULL)
+    if not own:
+        os.execv(PYTHON, [PYTHON, *sys.argv])
+
+
+def holds(what, seconds):
+    """Whether it comes to hold in so many seconds."""
+    deadline = time.monotonic() + seconds
+    while not what():
+        if time.monotonic() > deadline:
+            return False
+        time.sleep(0.05)
+    return True
+
+
+def free_port() -> int:
+    """A port of this machine that is free."""
+    with socket.create_server(("127.0.0.1", 0)) as listener:
+        return listener.getsockname()[1]
+
+
+def listens(port: int) -> bool:
+    """Whether somebody listens on a port of this machine."""
+    try:
+        socket.create_connection(("127.0.0.1", port), 1).close()
+        return True
+    except OSError:
+        return False
+
+
+def processor(pid):
+    """The processor seconds of a process and all of its threads, by the clock that the system keeps for it."""
+    return time.clock_gettime(~pid << 3 | 2)
+
+
+def used_by(pid, task):
+    """The nanoseconds that a thread has run; 0 where it has ended."""
+    try:
+        with open(f"/proc/{pid}/task/{task}/schedstat", encoding="ascii") as it:
+            return int(it.read().split()[0])
+    except OSError:
+        return 0
+
+
+def resident(pid):
+    with open(f"/proc/{pid}/status", encoding="ascii") as lines:
+        return next(int(line.split()[1]) * 1024 for line in lines if line.startswith("VmRSS"))
+
+
+def pid_of(started: subprocess.Popen) -> int:
+    """The process that a program is, which a script or strace may have begun."""
+    pid = started.pid
+    for _ in range(500):
+        try:
+            with open(f"/proc/{pid}/comm", encoding="ascii") as it:
+                name = it.read().strip()
+            with open(f"/proc/{pid}/task/{pid}/children", encoding="ascii") as it:
+                children = it.read().split()
+        except OSError:
+            return started.pid
+        if name not in SHELLS:
+            return pid
+        if children:
+            pid = int(children[0])
+        else:
+            time.sleep(0.01)
+    return pid

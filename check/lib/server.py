@@ -1,0 +1,73 @@
+"""Starts the program as a server of this machine."""
+
+from __future__ import annotations
+
+import os
+import re
+import select
+import subprocess
+import sys
+import threading
+import time
+from typing import IO, Callable, Optional, Union
+
+Sink = Union[int, IO[bytes]]  # where standard error goes
+
+
+class Server:
+    """`upsd serve` on a free port, or on one that is told: it prints the port, and has a log."""
+
+    limit: Optional[float] = None  # the seconds in which it has to print its port
+
+    def __init__(self, program: list[str], *options: str, port: int = 0, error: Sink = subprocess.PIPE,
+                 prepare: Optional[Callable[[], None]] = None, **variables: str) -> None:
+        self.begin([*program, "serve", "--ae", "UPSD", "--port", str(port), *options], error, prepare, **variables)
+        try:
+            self.port = port or self.printed()
+        except BaseException:
+            self.stop()
+            raise
+
+    def begin(self, words: list[str], error: Sink = subprocess.PIPE, prepare: Optional[Callable[[], None]] = None,
+              is_group: bool = False, **variables: str) -> None:
+        """Begins a process, in which something is done before, and which may be a group of its own. What it says on standard
+        error is the log, unless that goes elsewhere."""
+        self.began = time.monotonic()
+        self.process = subprocess.Popen(words, stdin=subprocess.DEVNULL, stdout=subprocess.PIPE, stderr=error, text=True,
+                                        preexec_fn=prepare, start_new_session=is_group, env={**os.environ, **variables})
+        self.log: list[str] = []
+        self.times: list[float] = []  # when each line of the log came
+        self.reader = threading.Thread(target=self.read_log, daemon=True)
+        self.reader.start()
+
+    def read_log(self) -> None:
+        for line in self.process.stderr or ():
+            self.times.append(time.monotonic())
+            self.log.append(line.rstrip())
+
+    def printed(self) -> int:
+        """The port that it prints."""
+        line = ""
+        if select.select([self.process.stdout], [], [], self.limit)[0]:
+            line = self.process.stdout.readline()
+        self.took = time.monotonic() - self.began
+        return int(line) if re.fullmatch(r"\d+\s*", line) else self.without_port(line)
+
+    def without_port(self, line: str) -> int:
+        """Ends the script, as the server prints no port."""
+        sys.exit(f"the server printed {line!r} for a port: {' '.join(self.log)}")
+
+    def stop(self) -> None:
+        self.process.terminate()
+        try:
+            self.process.wait(10)
+        except subprocess.TimeoutExpired:
+            self.process.kill()
+            self.process.wait()
+        self.process.stdout.close()
+
+    def __enter__(self) -> Server:
+        return self
+
+    def __exit__(self, *_: object) -> None:
+        self.stop()

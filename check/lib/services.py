@@ -1,0 +1,167 @@
+"""Services: what one service answers in an association or a script, how that ends, and what is told of the service then.
+
+The program `refusals` runs them: with devices that fail, a history that is full, and moments that are given. It tells the calls
+of the gate, what the history holds, which events are pending, what the plain programs list, and how large a step is.
+"""
+
+import copy
+import re
+
+import dicom
+import runs
+
+OPTIONS = {"fails": "fails", "reads": "reads", "writes": "writes", "in full": "full"}
+LIMITS = {"turns": ",turns={}", "room": ",room={}"}
+SETTINGS = {"history": ",history={}", "offset": ",offset={}"}
+STEPS = ("1.2.3.1", "1.2.3.2", "1.2.3.3")
+# the attributes that are shown of each step, but for long values, and the lines that tell all of three steps
+SHOWN = "00080018 00100010 00404005 00404041 00741000 00741002 00741200 00741202 00741204 00741216"
+LISTS = "0 P1 held\n0 W1 watches\n0 W2 watches\n"
+ALL = "".join(f"0 P1 get {it} {SHOWN}\n0 P1 holder {it}\n" for it in STEPS) + LISTS + "0 W1 pending 99\n0 W2 pending 99\n"
+
+
+class Heading:
+    """What stands in brackets in a heading: what is said before, the kind of its rows, its settings, and the options of a part."""
+
+    def __init__(self, text, befores):
+        self.before, self.kind, self.settings, self.options = [], "serve", "", ""
+        for words in re.findall(r"\(([^()]*)\)", text):
+            name, _, number = words.partition(" ")
+            if words in befores:
+                self.before = befores[words]
+            elif words in ("delivers", "script", "line by line"):
+                self.kind = "deliver" if words == "delivers" else words
+            elif words in OPTIONS:
+                self.options += f",{OPTIONS[words]}"
+            elif name in LIMITS:
+                self.options += LIMITS[name].format(int(number))
+            elif name in SETTINGS:
+                self.settings += SETTINGS[name].format(int(number))
+            else:
+                raise ValueError(f"{text}: no option ({words})")
+
+
+def word_of(kind, given):
+    """The word of a part."""
+    return f"{kind}:{given.hex()}"
+
+
+def told(program, lines):
+    """What the program tells of lines: of each part what is written, and what stands behind that."""
+    ran = runs.run([program], "".join(f"{it}\n" for it in lines).encode())
+    if ran.status or ran.said:
+        raise ValueError(f"it ends with status {ran.status}, saying {ran.said.decode(errors='replace')!r}")
+    return [[part_of(it) for it in line.split(" | ")[:-1]] for line in ran.output.decode().splitlines()]
+
+
+def part_of(text):
+    """What is written in a part, and what stands behind that."""
+    digits, _, rest = text.partition(" ")
+    return bytes.fromhex(digits), rest
+
+
+class Service:
+    """An association or a script in bytes: what is given and written, and what is told behind that. It is tried for each number
+    of what is short: the input ends or breaks off behind so many bytes, or the output has room for so many."""
+
+    program = "refusals"
+
+    def __init__(self, names, heading, row):
+        short, bar, words = row.rpartition(" | ")
+        asked, answered = words.split(" -> ")
+        answered, self.ended = answered.split(" : ")
+        self.name, self.heading = row, heading
+        self.what, *numbers = short.split(" ") if bar else [""]
+        self.first, self.last = (int(it) for it in numbers) if bar else (0, 0)
+        if self.what not in ("", "end", "break", "room") or self.last < self.first:
+            raise ValueError(row)
+        self.asked, self.answered = dicom.bytes_of(names, asked), dicom.bytes_of(names, answered)
+        self.before = [word_of("serve,timed", dicom.bytes_of(names, it)) for it in heading.before]
+
+    def spoiled(self):
+        """The same with another answer, and with something else that is told behind it."""
+        answer, end = copy.copy(self), copy.copy(self)
+        answer.answered, end.ended = b"X" + self.answered, f"{self.ended}X"
+        return [answer, end]
+
+    def line(self, number):
+        """The line that asks for the row at a number."""
+        more = {"break": ",fails", "room": f",room={number}"}.get(self.what, "")
+        more += "" if self.heading.kind == "script" else ",timed"
+        more += ",pending" if self.heading.kind == "deliver" else ""
+        given = self.asked[:number] if self.what in ("end", "break") else self.asked
+        last = word_of(f"{self.heading.kind}{self.heading.options}{more}", given)
+        return " ".join([f"0{self.heading.settings}", *self.before, last])
+
+    def difference(self, program):
+        """How what the program tells differs from the row, at the first number where it does; None where it never does."""
+        numbers = range(self.first, self.last + 1)
+        for number, (*before, last) in zip(numbers, told(program, [self.line(it) for it in numbers]), strict=True):
+            if not all(rest.startswith("Released ") for _, rest in before):
+                return f"before it is told {before}"
+            answered = self.answered[:number] if self.what == "room" else self.answered
+            if last != (answered, self.ended):
+                return f"at {number} is told {last} and not {(answered, self.ended)}"
+        return None
+
+
+class Lines:
+    """Lines of a script, and what is asked of the service, each with its answer. A line that enters no request leaves the
+    replies to some others as they were, and the plain programs list what the service lists."""
+
+    program = "refusals"
+
+    def __init__(self, name, heading, rows, spelled):
+        self.name, self.heading, self.lists = name, heading, LISTS
+        self.rows = [spelled(row).split(" -> ") for row in rows]
+
+    def spoiled(self):
+        """The same with another last reply, and with another list than those that are compared."""
+        answer, lists = copy.deepcopy(self), copy.copy(self)
+        answer.rows[-1][1] += "X"
+        lists.lists += "0 P1 held\n"
+        return [answer, lists]
+
+    def line(self):
+        """The line that asks for the rows: before and behind each one all is told, and behind the last the lists."""
+        every = word_of("script", ALL.encode())
+        parts = [it for line, _ in self.rows for it in (every, part_for(line))]
+        return " ".join([f"0{self.heading.settings}", *parts, every, word_of("script", self.lists.encode()), "plain:"])
+
+    def difference(self, program):
+        """How what the program tells differs from the rows; None where it doesn't."""
+        *parts, lists, plain = told(program, [self.line()])[0]
+        for place, (line, answer) in enumerate(self.rows):
+            before, found, behind = parts[2 * place:2 * place + 3]
+            if why := unlike(line, answer, found):
+                return f"row {place + 1}: {why}"
+            if before[1] == behind[1] and before != behind:
+                return f"row {place + 1}: it enters nothing, and then is told {behind} and not {before}"
+        return None if lists == plain else f"the plain programs list {plain} and not {lists}"
+
+
+def part_for(line):
+    """The part that a line of a row asks for. How many requests are entered is told of each."""
+    verb, _, rest = line.partition(" ")
+    if verb in ("due", "size"):
+        return word_of(verb, rest.encode())
+    return word_of("script", b"" if line == "entries" else f"{line}\n".encode())
+
+
+def unlike(line, answer, found):
+    """How what is told of a line differs from its answer; None where it doesn't."""
+    written, ended = found
+    end, _, entries = ended.partition(" ")
+    told_of = entries if line == "entries" else written.decode(errors="replace").removesuffix("\n")
+    if end == "Done" and told_of == answer:
+        return None
+    return f"{told_of!r} is answered, and it ends as {end}; {answer!r} is due"
+
+
+def rows_of(names, befores, heading, rows, spelled):
+    """What is to be run of a section."""
+    options = Heading(heading, befores)
+    if options.kind == "line by line":
+        yield Lines(heading, options, rows, spelled)
+    else:
+        yield from (Service(names, options, row) for row in rows)

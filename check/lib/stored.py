@@ -1,0 +1,302 @@
+"""Servers on a store, what is asked of them in an association, who is told of events, and what a store has."""
+
+from __future__ import annotations
+
+import contextlib
+import dataclasses
+import os
+import re
+import shutil
+import signal
+import socket
+import sqlite3
+import struct
+import subprocess
+import tempfile
+from collections.abc import Callable, Iterator
+from typing import NoReturn, Optional
+
+from dicom import EXPLICIT, PULL, PUSH, VERIFICATION, WATCH, act, create, data, echo, even, find, get, items, set_attributes, step
+from ledger import (CANCELLATION_TIME, LABEL, PERFORMED, PROGRESS, SOP_INSTANCE, STATE, TRANSACTION, VRS, Association, Attributes,
+                    Fault, Reply, read)
+from listeners import Counting, Incoming
+from machine import pid_of
+from peer import FOLLOWS, PULL_ON, PUSH_ON, Peer, subscribe, told, unsubscribe
+from server import Server
+
+SECONDS = 60.0  # for one answer, and for a start: a machine that is busy takes its time
+FAULTS = (Fault, OSError, EOFError, AssertionError, KeyError, IndexError, struct.error)
+ECHO_ON = 7
+READY, WAITING = b"READY", b"UNAVAILABLE"
+READINESS = (0x0040, 0x4041)
+STATE_REPORT = b"\1\0"
+
+
+class Stored(Server):
+    """`upsd serve` on a store, with what comes before the program's words. It may be told not to wait for its port."""
+
+    def __init__(self, program: list[str], file: str, *options: str, seconds: float = SECONDS, waits: bool = True) -> None:
+        self.begin([*program, "serve", "--ae", "UPSD", "--port", "0", "--store", file, *options], is_group=True)
+        self.port, self.took = 0, 0.0
+        if waits:
+            self.await_port(seconds)
+
+    def await_port(self, seconds: float = SECONDS) -> None:
+        """Waits until it listens."""
+        self.limit = seconds
+        self.port = self.printed()
+        self.pid = pid_of(self.process)
+
+    def without_port(self, line: str) -> NoReturn:
+        self.kill()
+        self.reader.join(5)
+        raise Fault(f"the server does not start: it printed {line!r} for a port, and ended with {self.process.returncode}: {self.log[-5:]}")
+
+    def kill(self) -> None:
+        """Ends all that it is at once."""
+        with contextlib.suppress(ProcessLookupError):
+            os.killpg(self.process.pid, signal.SIGKILL)
+        self.process.wait()
+
+    def stop(self) -> None:
+        self.kill()
+        self.reader.join(5)
+        self.process.stdout.close()
+
+    def lines(self, words: str) -> list[str]:
+        """The lines of the log in which these words are found."""
+        return [line for line in list(self.log) if re.search(words, line)]
+
+
+class Client(Association):
+    """An association with a context for watching too, in which each request has a Message ID of its own."""
+
+    def __init__(self, port: int, title: bytes = b"BENCH", seconds: float = SECONDS) -> None:
+        self.number = 0
+        Peer.__init__(self, port, [(it, EXPLICIT) for it in (PUSH, PULL, WATCH, VERIFICATION)], title, seconds)
+
+    def next(self) -> int:
+        self.number = self.number % 65535 + 1
+        return self.number
+
+    def status_of(self, spelled: bytes) -> int:
+        """The status that a request is answered with, which has one answer."""
+        self.socket.sendall(spelled)
+        reply = self.reply()
+        number = struct.unpack("<H", reply.elements[0x0120])[0]
+        if number != self.number:
+            raise Fault(f"request {self.number} is answered as {number}")
+        return reply.status
+
+    def create(self, uid: bytes, data_set: bytes) -> int:
+        return self.status_of(create(PUSH_ON, self.next(), uid, data_set))
+
+    def change(self, uid: bytes, state: bytes, transaction: bytes) -> int:
+        return self.status_of(act(PULL_ON, self.next(), uid, 1, told(*TRANSACTION, b"UI", transaction) + told(*STATE, b"CS", state)))
+
+    def set(self, uid: bytes, data_set: bytes, transaction: Optional[bytes]) -> int:
+        holder = told(*TRANSACTION, b"UI", transaction) if transaction else b""
+        return self.status_of(set_attributes(PULL_ON, self.next(), uid, holder + data_set))
+
+    def cancel(self, uid: bytes) -> int:
+        """A request to cancel."""
+        return self.status_of(act(PUSH_ON, self.next(), uid, 2, told(0x0074, 0x1238, b"LT", b"ILL")))
+
+    def subscribe(self, place: bytes, title: bytes, lock: bytes, keys: bytes = b"") -> int:
+        return self.status_of(renumbered(subscribe(place, title, lock, keys), self.next()))
+
+    def unsubscribe(self, place: bytes, title: bytes) -> int:
+        return self.status_of(renumbered(unsubscribe(place, title), self.next()))
+
+    def echo(self) -> int:
+        return self.status_of(echo(self.next(), ECHO_ON))
+
+    def got(self, uid: bytes) -> Optional[Attributes]:
+        """What an N-GET of all attributes tells of a step, or None where it is unknown."""
+        self.socket.sendall(get(PUSH_ON, self.next(), uid))
+        reply = self.reply()
+        if reply.status == 0xC307:
+            return None
+        if reply.status != 0x0000 or reply.data_set is None:
+            raise Fault(f"an N-GET of {uid.decode()} is answered {reply.status:04X}")
+        return read(True, reply.data_set)
+
+    def found(self, *keys: tuple[tuple[int, int], bytes]) -> list[Attributes]:
+        """What a C-FIND tells by these keys, of the UIDs, the states and the labels."""
+        asked = {SOP_INSTANCE: b"", STATE: b"", LABEL: b""} | dict(keys)
+        self.socket.sendall(find(PULL_ON, self.next(), b"".join(told(*tag, VRS[tag], value) for tag, value in sorted(asked.items()))))
+        return self.matches()
+
+    def matches(self) -> list[Attributes]:
+        """The data sets of the answers to a C-FIND."""
+        replies: list[Reply] = [self.reply()]
+        while replies[-1].status == FOLLOWS:
+            replies.append(self.reply())
+        if replies[-1].status != 0x0000:
+            raise Fault(f"a C-FIND is answered {replies[-1].status:04X}")
+        return [read(True, it.data_set or b"") for it in replies[:-1]]
+
+
+def renumbered(spelled: bytes, number: int) -> bytes:
+    """A request, which has the Message ID 1, with another one."""
+    one = struct.pack("<HHI", 0, 0x0110, 2) + b"\1\0"
+    assert spelled.count(one) == 1
+    return spelled.replace(one, one[:-2] + struct.pack("<H", number))
+
+
+def a_step_of(patient: bytes) -> bytes:
+    """The attributes of a step that is accepted, of a patient."""
+    return step(True, {(0x0010, 0x0020): (b"LO", even(patient, b" "))})
+
+
+def text_in(attributes: Attributes, tag: tuple[int, int]) -> bytes:
+    return attributes.get(tag, (b"", b""))[1].rstrip(b"\0 ")
+
+
+MOMENT = b"20240229120000"
+
+
+def performed(number: int) -> bytes:
+    """What a workstation sets of a step for the time with a number: what each final state needs, and the number twice."""
+    canceled = data(True, *CANCELLATION_TIME, b"DT", MOMENT) + data(True, 0x0074, 0x1004, b"DS", even(b"%d" % (number % 100000), b" "))
+    done = data(True, 0x0040, 0x4050, b"DT", MOMENT) + data(True, 0x0040, 0x4051, b"DT", MOMENT)
+    return (data(True, *PROGRESS, b"SQ", items([canceled])) + told(*LABEL, b"LO", b"READ %d" % number)
+            + data(True, *PERFORMED, b"SQ", items([done])))
+
+
+@dataclasses.dataclass(frozen=True)
+class Report:
+    """An event that a watcher was told of."""
+
+    uid: bytes
+    event: int
+    information: bytes
+
+    def shown(self) -> tuple[bytes, bytes]:
+        """The state and the readiness that it tells."""
+        told_of = read(True, self.information)
+        return text_in(told_of, STATE), text_in(told_of, READINESS)
+
+
+class Hearing(Counting):
+    """A watcher that answers each report at once, and keeps them. It may be deaf: it hangs up then."""
+
+    def __init__(self) -> None:
+        self.reports: list[Report] = []
+        self.last: dict[bytes, Report] = {}  # the last State Report of each step
+        self.is_deaf = False
+        super().__init__()
+
+    def talk(self, connected: socket.socket) -> None:
+        if self.is_deaf:
+            return
+        incoming = Incoming(connected)
+        for uid in incoming.reports():
+            report = Report(uid, struct.unpack("<H", incoming.event)[0], incoming.information)
+            self.reports.append(report)
+            if incoming.event == STATE_REPORT:
+                self.last[uid] = report
+
+
+# the files of a store
+
+def files_of(file: str) -> list[str]:
+    """The files of a store that are there."""
+    return [it for it in (file, file + "-wal") if os.path.exists(it)]
+
+
+def copy_of(file: str, folder: str, name: str = "copy") -> str:
+    """A copy of a store, in a folder."""
+    target = os.path.join(folder, name)
+    for it in (target, target + "-wal", target + "-shm"):
+        with contextlib.suppress(FileNotFoundError):
+            os.remove(it)
+    for it in files_of(file):
+        shutil.copyfile(it, target + it[len(file):])
+    return target
+
+
+def bytes_in(file: str) -> dict[str, bytes]:
+    """What the files of a store hold."""
+    found = {}
+    for it in files_of(file):
+        with open(it, "rb") as opened:
+            found[it] = opened.read()
+    return found
+
+
+Row = tuple[object, ...]
+COLUMNS = ("number", "moment", "title", "operation", "instance", "transaction_uid", "state", "receiver", "deletion_lock", "event", "attributes")
+
+
+def rows_at(file: str) -> list[Row]:
+    """The requests of a store that nobody has open, in order, by sqlite3: it may change the files. None of a store that was not made yet."""
+    with contextlib.closing(sqlite3.connect(file, isolation_level=None)) as opened:
+        try:
+            return opened.execute(f"SELECT {', '.join(COLUMNS)} FROM request ORDER BY number").fetchall()
+        except sqlite3.OperationalError as fault:
+            if "no such table" in str(fault):
+                return []
+            raise
+
+
+def rows_of(file: str) -> list[Row]:
+    """The requests of a store, by a copy of it, in order."""
+    with tempfile.TemporaryDirectory() as folder:
+        return rows_at(copy_of(file, folder))
+
+
+def runs_of(file: str) -> list[Row]:
+    """The runs that a store tells of, by a copy of it."""
+    with tempfile.TemporaryDirectory() as folder, contextlib.closing(sqlite3.connect(copy_of(file, folder))) as opened:
+        return opened.execute("SELECT number, moment, version, settings, requests FROM run ORDER BY number").fetchall()
+
+
+@dataclasses.dataclass
+class Ended:
+    """How a run of the program ended that is to end by itself."""
+
+    status: Optional[int]
+    output: str
+    said: str
+
+
+def ended(words: list[str], seconds: float = SECONDS) -> Ended:
+    """Runs the program; the status is None where it does not end in time."""
+    with subprocess.Popen(words, stdout=subprocess.PIPE, stderr=subprocess.PIPE, text=True, start_new_session=True) as ran:
+        try:
+            output, said = ran.communicate(timeout=seconds)
+        except subprocess.TimeoutExpired:
+            os.killpg(ran.pid, signal.SIGKILL)
+            output, said = ran.communicate()
+            return Ended(None, output, said)
+    return Ended(ran.returncode, output, said)
+
+
+def started_on(program: list[str], file: str, *options: str, seconds: float = SECONDS) -> Ended:
+    """What comes of a start that is to be refused."""
+    return ended([*program, "serve", "--ae", "UPSD", "--port", "0", "--store", file, *options], seconds)
+
+
+def compacted(program: list[str], file: str, *options: str, seconds: float = SECONDS) -> Ended:
+    """What comes of a compaction."""
+    return ended([*program, "compact", file, *options], seconds)
+
+
+def tried(trial: Callable[..., Optional[str]], *more: object) -> Optional[str]:
+    """What is wrong with a trial, or why it doesn't come to its end; or None."""
+    try:
+        return trial(*more)
+    except FAULTS as fault:
+        return repr(fault)
+
+
+@contextlib.contextmanager
+def folder_for(kept: Optional[str]) -> Iterator[str]:
+    """A folder for stores: a temporary one, or one that is told and stays."""
+    if kept:
+        os.makedirs(kept, exist_ok=True)
+        yield kept
+        return
+    with tempfile.TemporaryDirectory(prefix="store") as folder:
+        yield folder

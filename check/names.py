@@ -1,0 +1,119 @@
+#!/usr/bin/env python3
+"""Sees that a name of a definition means one thing in the whole workspace.
+
+    check/names.py              reads crates/*/specs, from the top of the checkout
+    check/names.py --self-test  plants a name that stands there already, in each form, and sees that it is found
+
+A name is that of a definition of a module of specs, as `pub` or not: of a record, of a `data` and each of its constructors, of
+an `abbrev`, and of what has a type and equations alone. Fields of records are none, since they are written behind a value. It
+prints each name that stands in two modules or more, with the modules, and then how many names there are and how many stand
+twice. The status is 1 where one does.
+"""
+
+from __future__ import annotations
+
+import argparse
+import collections
+import glob
+import os
+import re
+import sys
+
+HERE = os.path.dirname(os.path.dirname(os.path.abspath(__file__)))
+# what may stand in front of a name; a `data` has its constructors below it, further in
+HEAD = re.compile(r"(?:(?:abbrev|unfoldable|pub) +)*(?:(record|data) +)?([^\W\d][\w-]*)(?![\w.])(.*)")
+CONSTRUCTOR = re.compile(r" +(?:pub +)?([^\W\d][\w-]*) +:")
+BLOCK = re.compile(r"(?:abbrev +)?(?:mutual|module)\b.*")  # what has definitions below it, further in
+PARAMETERS = re.compile(r"\([^(){}]*\)|\{[^(){}]*\}")
+OTHERS = {"use", "mod", "module", "mutual", "record", "data", "abbrev"}
+PLANTED = (  # forms of a definition, with the name for {0}
+    "abbrev pub {0} : ℕ\n{0} = 0",
+    "{0} : ℕ\n{0} = 0",
+    "unfoldable pub {0} : ℕ → ℕ\n{0} n = n",
+    "pub record {0} (n : ℕ) : Type 0 where\n  pub a : ℕ",
+    "record {0} : Type 0 where\n  a : ℕ",
+    "pub data {0} : Type 0 where\n  zz : {0}",
+    "pub data ZZ : Type 0 where\n  zz : ZZ\n  {0} : ZZ",
+    "abbrev mutual\n  pub zz : ℕ\n  zz = 0\n\n  pub {0} : ℕ\n  {0} = 0",
+    "module _ {{A : Type 0}} (n : ℕ) where\n  abbrev pub {0} : ℕ\n  {0} = n",
+)
+
+
+def declared(line: str) -> tuple[str, str]:
+    """The kind of definition that a line declares, where it is a record or a `data`, and its name; empty where it declares none."""
+    found = HEAD.fullmatch(line)
+    if not found or found[2] in OTHERS:
+        return "", ""
+    rest = found[3]
+    while PARAMETERS.search(rest):  # they may have types too
+        rest = PARAMETERS.sub("", rest)
+    before, colon, _ = rest.partition(":")
+    return ("", "") if not colon or "=" in before else (found[1] or "", found[2])
+
+
+def names_in(text: str) -> set[str]:
+    """The names that a module defines."""
+    names, is_data, is_block = set(), False, False
+    for line in re.sub(r"--.*", "", text).split("\n"):
+        if line and not line.startswith(" "):
+            is_block = bool(BLOCK.fullmatch(line))
+        elif is_block:
+            line = line.removeprefix("  ")
+        if line and not line.startswith(" "):
+            kind, name = declared(line)
+            names |= {name} - {""}
+            is_data = kind == "data"
+        elif is_data and (found := CONSTRUCTOR.match(line)):
+            names.add(found[1])
+    return names
+
+
+def texts() -> dict[str, str]:
+    """The text of each module, by its path."""
+    found = {}
+    for path in sorted(glob.glob(f"{HERE}/crates/*/specs/**/*.antt", recursive=True)):
+        with open(path, encoding="utf-8") as opened:
+            found[os.path.relpath(path, HERE)] = opened.read()
+    return found
+
+
+def modules_of(modules: dict[str, str]) -> dict[str, list[str]]:
+    """The modules in which each name is defined."""
+    found = collections.defaultdict(list)
+    for path, text in modules.items():
+        for name in names_in(text):
+            found[name].append(path)
+    return found
+
+
+def self_test(modules: dict[str, str]) -> list[str]:
+    """The forms in which a name that is planted in another module is not found."""
+    found = modules_of(modules)
+    name = min(name for name, paths in found.items() if len(paths) == 1)
+    missed = []
+    for form in PLANTED:
+        spoiled = {**modules, "planted.antt": "-- a module\n" + form.format(name) + "\n"}
+        if modules_of(spoiled)[name] != [*found[name], "planted.antt"]:
+            missed.append(form.format(name))
+    return missed
+
+
+def main() -> None:
+    about, _, more = (__doc__ or "").partition("\n\n")
+    asked = argparse.ArgumentParser(description=about, epilog=more, formatter_class=argparse.RawDescriptionHelpFormatter)
+    asked.add_argument("--self-test", action="store_true", help="plant a name, and see that it is found")
+    modules = texts()
+    if asked.parse_args().self_test:
+        missed = self_test(modules)
+        print("\n".join(f"not found: {it!r}" for it in missed) or f"{len(PLANTED)} planted names, each found")
+        sys.exit(bool(missed))
+    found = modules_of(modules)
+    twice = {name: paths for name, paths in sorted(found.items()) if len(paths) > 1}
+    for name, paths in twice.items():
+        print(f"{name}: {', '.join(paths)}")
+    print(f"{len(found):,} names, {len(twice)} twice")
+    sys.exit(bool(twice))
+
+
+if __name__ == "__main__":
+    main()

@@ -1,0 +1,355 @@
+#!/usr/bin/env python3
+"""Has eight workstations share the steps of one server, and sees what a server does by itself, and what one leaves that ends.
+
+    check/sharing.py [PROGRAM] [--passes PASSES] [--steps 100] [--seed 1]
+                                     (default: crates/upsd/out/upsd, and crates/passes/out/passes)
+
+Each of eight workstations creates each step, claims it, sets what it has performed, finds it, finishes it and shows it: some
+5,600 requests. A request has to be answered with a status that is due where the others may have been first, as docs/use/conformance.md
+has it. Of each step one creation and one claim are accepted, and what is set and finished is that of the workstation that
+claimed it. In the end an N-GET tells each step so, and C-FINDs of all and of each state tell the steps once each, in the order of their creation.
+
+A server of one worker then has three peers that connect and say nothing, before one that subscribes W1, which does not listen
+yet, and creates a step. It has to be answered as if it were alone. Once W1 listens it has to hear one report, and once the
+step is canceled and no longer kept, it has to be gone.
+
+Where an association has the only worker and three connections wait, the log has to tell how many.
+
+The program `passes` runs a server that ends: with one worker for two associations, and with two workers for one each. In the
+first association W1 is subscribed to all steps and a step is created, of which W1 hears; in the second one the subscription
+ends and the step is canceled, and it is no longer kept. What the history then has in order, once the desk is closed, has to
+be the requests of these associations by the passes of the workers, the acknowledgement by that of the deliverer, and the
+sweep by that of the sweeper.
+
+A line tells each of these, and then comes `N passed, M failed`. The status is 1 where one failed.
+"""
+
+from __future__ import annotations
+
+import argparse
+import collections
+import concurrent.futures
+import os
+import random
+import socket
+import subprocess
+import sys
+import threading
+import time
+from typing import Optional
+
+sys.path.insert(0, os.path.join(os.path.dirname(os.path.dirname(os.path.abspath(__file__))), "check/lib"))
+import dicom
+import rows
+import runs
+from dicom import act, create, data, even, find, get, items, set_attributes, step
+from ledger import (CANCELED, CANCELLATION_TIME, COMPLETED, IN_PROGRESS, LABEL, PERFORMED, PROGRESS, SOP_INSTANCE, STATE,
+                    TRANSACTION, VRS, Association, Fault, read)
+from machine import HERE
+from results import Results
+from server import Server
+
+WORKSTATIONS, PUSH_ON, PULL_ON = 8, 1, 3
+MOMENT = b"20240229120000"
+# the statuses of a request: where it is accepted, and where another workstation was first
+DUE = {
+    "create": (0x0000, 0x0111),
+    "claim": (0x0000, 0xC302, 0xC300),
+    "set": (0x0000, 0xC301, 0xC300),
+    "finish": (0x0000, 0xC301),
+}
+
+
+def last_state(number: int) -> bytes:
+    """The state in which a step is left: each tenth stays in progress, and the others are completed or canceled."""
+    if number % 10 == 0:
+        return IN_PROGRESS
+    return COMPLETED if number % 2 else CANCELED
+
+
+def uid_of(number: int) -> bytes:
+    return b"1.2.3.%d" % (number + 1)
+
+
+def texts(*elements: tuple[tuple[int, int], bytes, bytes]) -> bytes:
+    """A data set of these elements, each with its value representation."""
+    return b"".join(data(True, *tag, vr, value) for tag, vr, value in sorted(elements))
+
+
+class Workstation:
+    """An association that asks for each step, and which of its requests were accepted, by the kind."""
+
+    def __init__(self, port: int, number: int) -> None:
+        self.association = Association(port, True, b"PERFORM%d" % number, runs.SECONDS)
+        self.label = b"READ BY %d " % number
+        self.transaction = TRANSACTION, b"UI", even(b"2.%d" % (number + 10))
+        self.accepted: dict[str, set[int]] = collections.defaultdict(set)
+        self.asked = 0
+
+    def ask(self, verb: str, number: int, spelled: bytes) -> None:
+        """Asks for something of a step, and notes whether that was accepted."""
+        self.association.socket.sendall(spelled)
+        status = self.association.reply().status
+        self.asked += 1
+        if status not in DUE[verb]:
+            raise Fault(f"{verb} of step {number}: the status is {status:04X}")
+        if status == 0x0000:
+            self.accepted[verb].add(number)
+
+    def message(self) -> int:
+        """The number of the next message."""
+        self.association.number = self.association.number % 65535 + 1
+        return self.association.number
+
+    def performs(self, number: int) -> bytes:
+        """What is set of a step before it gets its last state."""
+        if last_state(number) == CANCELED:
+            item = texts((CANCELLATION_TIME, b"DT", MOMENT))
+            return texts(self.transaction, (PROGRESS, b"SQ", items([item])), (LABEL, b"LO", self.label))
+        item = texts(((0x0040, 0x4050), b"DT", MOMENT), ((0x0040, 0x4051), b"DT", MOMENT))
+        return texts(self.transaction, (LABEL, b"LO", self.label), (PERFORMED, b"SQ", items([item])))
+
+    def change(self, verb: str, number: int, state: bytes) -> None:
+        change = texts(self.transaction, (STATE, b"CS", state))
+        self.ask(verb, number, act(PULL_ON, self.message(), uid_of(number), 1, change))
+
+    def work(self, number: int) -> None:
+        """Does all with a step that a workstation does."""
+        uid = uid_of(number)
+        self.ask("create", number, create(PUSH_ON, self.message(), uid, step(True)))
+        self.change("claim", number, IN_PROGRESS)
+        self.shown(number)
+        self.ask("set", number, set_attributes(PULL_ON, self.message(), uid, self.performs(number)))
+        self.found(STATE, IN_PROGRESS)
+        if last_state(number) != IN_PROGRESS:
+            self.change("finish", number, last_state(number))
+        self.shown(number)
+
+    def shown(self, number: int) -> dict[tuple[int, int], tuple[bytes, bytes]]:
+        """What an N-GET tells of a step."""
+        self.association.socket.sendall(get(PUSH_ON, self.message(), uid_of(number)))
+        reply = self.association.reply()
+        self.asked += 1
+        if reply.status != 0x0000 or reply.data_set is None:
+            raise Fault(f"an N-GET of step {number}: the status is {reply.status:04X}")
+        return read(True, reply.data_set)
+
+    def found(self, key: tuple[int, int], value: bytes) -> list[bytes]:
+        """The UIDs of the steps that a C-FIND tells."""
+        keys = texts((SOP_INSTANCE, b"UI", b""), (key, VRS[key], value))
+        self.association.socket.sendall(find(PULL_ON, self.message(), keys))
+        self.asked += 1
+        uids = []
+        while (reply := self.association.reply()).status == 0xFF00:
+            uids.append(read(True, reply.data_set or b"")[SOP_INSTANCE][1].rstrip(b"\0"))
+        if reply.status != 0x0000:
+            raise Fault(f"a C-FIND: the status is {reply.status:04X}")
+        return uids
+
+
+def at_once(workstations: list[Workstation], steps: int, chance: random.Random) -> list[str]:
+    """Has all workstations work at the same time; and gives their faults."""
+    barrier, faults = threading.Barrier(len(workstations)), []
+
+    def run(it: Workstation, pause: float) -> None:
+        barrier.wait()
+        try:
+            for number in range(steps):
+                it.work(number)
+                if chance.random() < pause:
+                    time.sleep(0.001)
+        except (Fault, OSError, EOFError, AssertionError, KeyError) as fault:
+            faults.append(repr(fault))
+
+    threads = [threading.Thread(target=run, args=(it, number / 10)) for number, it in enumerate(workstations)]
+    for it in threads:
+        it.start()
+    for it in threads:
+        it.join(4 * runs.SECONDS)
+    return faults + ["a workstation doesn't come to its end" for it in threads if it.is_alive()]
+
+
+def owner_of(workstations: list[Workstation], number: int) -> Workstation:
+    """Who has claimed a step; where not one has created it, one claimed it, and that one set and finished it, a fault."""
+    by = {verb: [it for it in workstations if number in it.accepted[verb]] for verb in DUE}
+    wanted = 0 if last_state(number) == IN_PROGRESS else 1
+    if len(by["create"]) != 1 or len(by["claim"]) != 1 or by["set"] != by["claim"] or by["finish"] != by["claim"] * wanted:
+        raise Fault(f"step {number}: accepted were {({verb: len(its) for verb, its in by.items()})}")
+    return by["claim"][0]
+
+
+def audit(workstations: list[Workstation], steps: int) -> None:
+    """Compares all steps, as they are told, with what was accepted."""
+    for number in range(steps):
+        owner, told = owner_of(workstations, number), workstations[0].shown(number)
+        if told[STATE][1] != last_state(number) or told[LABEL][1] != owner.label:
+            raise Fault(f"step {number} is {told[STATE][1]!r}, {told[LABEL][1]!r}, and not {last_state(number)!r}, {owner.label!r}")
+    # each workstation asks for a step behind the one before it, so they are created in this order, by whomever
+    if workstations[0].found(LABEL, b"READ BY * ") != [uid_of(it) for it in range(steps)]:
+        raise Fault("a C-FIND of all does not tell each step once, in the order of their creation")
+    for state in (IN_PROGRESS, COMPLETED, CANCELED):
+        if workstations[0].found(STATE, state) != [uid_of(it) for it in range(steps) if last_state(it) == state]:
+            raise Fault(f"a C-FIND of {state!r} does not tell the steps in it, in the order of their creation")
+
+
+def tried_sharing(program: str, steps: int, chance: random.Random) -> tuple[str, Optional[str]]:
+    """What comes of it that workstations share steps: how much was asked, and the first fault."""
+    with runs.logging(program, ["--associations", str(WORKSTATIONS)]) as (_, server):
+        workstations = [Workstation(server.port, it) for it in range(WORKSTATIONS)]
+        faults = at_once(workstations, steps, chance)
+        try:
+            if not faults:
+                audit(workstations, steps)
+        except (Fault, OSError, EOFError, AssertionError, KeyError) as fault:
+            faults.append(str(fault))
+        asked = sum(it.asked for it in workstations)
+        for it in workstations:
+            it.association.release()
+    return f"{WORKSTATIONS} workstations do the same with {steps} steps at the same time, by {asked} requests", faults[0] if faults else None
+
+
+class Alone:
+    """A server of one worker, to which W1 is a watcher that does not listen yet; and some peers that say nothing."""
+
+    def __init__(self, port: int, watcher: socket.socket, silent: int) -> None:
+        self.port, self.watcher = port, watcher
+        self.names = dicom.stored() | rows.names_in(f"{HERE}/rows/courses.rows") | rows.names_in(f"{HERE}/rows/deliveries.rows")
+        self.silent = [runs.connected(port) for _ in range(silent)]
+
+    def spelled(self, words: str) -> bytes:
+        return dicom.bytes_of(self.names, words)
+
+    def answered(self, words: str, due: str) -> bool:
+        """Whether an association is answered as is due."""
+        with runs.connected(self.port) as connection:
+            return runs.exchange(connection, self.spelled(words)) == self.spelled(due)
+
+    def subscribes(self) -> Optional[str]:
+        """A peer behind the silent ones subscribes W1 and creates a step."""
+        asked = "PUSH_AND_WATCH GLOBAL_ACTION 0300 TO_WATCH CREATE STEP RELEASE"
+        due = "TWO_ACCEPTED GLOBAL_ACTED 0000 GLOBAL_ACTED_ON 0300 CREATED RELEASED"
+        return None if self.answered(asked, due) else "it is answered something else"
+
+    def reports(self) -> Optional[str]:
+        """W1 hears of the step, once it listens."""
+        self.watcher.listen()
+        self.watcher.settimeout(runs.SECONDS)
+        with self.watcher.accept()[0] as connection:
+            connection.settimeout(runs.SECONDS)
+            heard = runs.exchange(connection, self.spelled("AGREED FIRST_TAKEN RELEASED"))
+        return None if heard == self.spelled("PROPOSED FIRST_REPORT RELEASE") else f"it hears {heard!r}"
+
+    def sweeps(self) -> Optional[str]:
+        """A step that is canceled goes, once it is no longer kept."""
+        if not self.answered("REQUEST ACTION_ON_1 0200 NOTHING_ON_1 RELEASE", "ACCEPTED ACTED_ON_1 0000 ACTED_ON 0200 RELEASED"):
+            return "it is not canceled"
+        end = time.monotonic() + runs.SECONDS
+        while time.monotonic() < end:
+            if self.answered("REQUEST GET RELEASE", "ACCEPTED NOT_HELD RELEASED"):
+                return None
+            time.sleep(0.1)
+        return "it is still there"
+
+
+def try_alone(program: str, results: Results) -> None:
+    """Tells what a server does by itself."""
+    with socket.socket() as watcher:
+        watcher.bind(("127.0.0.1", 0))
+        words = ["--associations", "1", "--keep", "1", f"W1=127.0.0.1:{watcher.getsockname()[1]}"]
+        with runs.logging(program, words) as (_, started):
+            server = Alone(started.port, watcher, 3)
+            results.tell("a peer behind three that say nothing is answered", server.subscribes())
+            results.tell("a watcher that listens late hears one report", server.reports())
+            results.tell("a canceled step is removed once it is no longer kept", server.sweeps())
+
+
+def tried_queue(program: str) -> Optional[str]:
+    """An association has the only worker, and three connections wait: the log tells how many."""
+    wanted, end = b"each of 1 workers has an association, 3 connections wait", time.monotonic() + runs.SECONDS
+    with runs.logging(program, ["--associations", "1"]) as (log, server):
+        connections = [runs.connected(server.port) for _ in range(4)]
+        connections[0].sendall(dicom.bytes_of(dicom.stored(), "REQUEST"))
+        told = b""
+        while wanted not in told and time.monotonic() < end:
+            time.sleep(0.1)
+            log.seek(0)
+            told = log.read()
+    return None if wanted in told else f"the log has {told!r}"
+
+
+class Ending:
+    """A server that ends, whose port is told, and W1, which listens."""
+
+    ROUNDS = 8  # of the sweeper and of the deliverer, one a second
+
+    def __init__(self, port: int, watcher: socket.socket) -> None:
+        self.alone = Alone(port, watcher, 0)
+
+    def serves(self) -> Optional[str]:
+        """Has two associations, and W1 hear of the first."""
+        fault = self.alone.subscribes() or self.alone.reports()
+        if fault:
+            return fault
+        asked = "PUSH_AND_WATCH GLOBAL_ACTION 0400 WATCHER ACTION_ON_1 0200 NOTHING_ON_1 RELEASE"
+        due = "TWO_ACCEPTED GLOBAL_ACTED 0000 GLOBAL_ACTED_ON 0400 ACTED_ON_1 0000 ACTED_ON 0200 RELEASED"
+        return None if self.alone.answered(asked, due) else "the second association is answered something else"
+
+
+def history_of(first: int, second: int, deliverer: int) -> list[str]:
+    """What a server leaves by the number of the pass that has the first association, of the one that has the second, and of
+    the deliverer."""
+    return [
+        f"{first} SCHED1 subscribe",
+        f"{first} SCHED1 create",
+        f"{deliverer} W1 ack 1",
+        f"{second} SCHED1 unsubscribe",
+        f"{second} SCHED1 ask to cancel",
+        f"{deliverer + 1} UPSD sweep",
+    ]
+
+
+def tried_ending(passes: str, workers: int, associations: int) -> Optional[str]:
+    """What a server leaves that has so many workers, each of which has so many associations."""
+    with socket.socket() as watcher:
+        watcher.bind(("127.0.0.1", 0))
+        watcher.listen()
+        words = ["--keep", "0", "--associations", str(workers), f"W1=127.0.0.1:{watcher.getsockname()[1]}"]
+        with Server([passes, str(associations), str(Ending.ROUNDS)], *words, error=subprocess.DEVNULL) as server:
+            guard = threading.Timer(runs.SECONDS, server.process.kill)
+            guard.start()
+            fault = Ending(server.port, watcher).serves()
+            told, status = server.process.stdout.read().splitlines(), server.process.wait()
+            guard.cancel()
+    orders = [(1, 1)] if workers == 1 else [(1, 2), (2, 1)]
+    if fault or told in [history_of(*order, workers + 1) for order in orders] and status == 0:
+        return fault
+    return f"it ends with {status}, and the history has {told}"
+
+
+def try_endings(passes: str, results: Results) -> None:
+    """Tells what servers leave that end, which run at the same time."""
+    with concurrent.futures.ThreadPoolExecutor() as pool:
+        one = pool.submit(tried_ending, passes, 1, 2)
+        two = pool.submit(tried_ending, passes, 2, 1)
+        results.tell("a server that ends leaves what its worker, its deliverer and its sweeper asked", one.result())
+        results.tell("a server that ends leaves what its two workers, its deliverer and its sweeper asked", two.result())
+
+
+def main() -> None:
+    about, _, more = (__doc__ or "").partition("\n\n")
+    asked = argparse.ArgumentParser(description=about, epilog=more, formatter_class=argparse.RawDescriptionHelpFormatter)
+    asked.add_argument("program", nargs="?", default="crates/upsd/out/upsd", help="the program (default: %(default)s)")
+    asked.add_argument("--passes", default="crates/passes/out/passes", help="that of servers that end (default: %(default)s)")
+    asked.add_argument("--steps", type=int, default=100, help="how many steps there are (default: %(default)s)")
+    asked.add_argument("--seed", type=int, default=1, help="when the workstations pause (default: %(default)s)")
+    given = asked.parse_args()
+    program, results = os.path.abspath(given.program), Results()
+    results.tell(*tried_sharing(program, given.steps, random.Random(given.seed)))
+    try_alone(program, results)
+    results.tell("the log tells how many connections wait for the only worker", tried_queue(program))
+    try_endings(os.path.abspath(given.passes), results)
+    results.end()
+
+
+if __name__ == "__main__":
+    main()

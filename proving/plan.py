@@ -1,0 +1,105 @@
+#!/usr/bin/env python3
+"""Reckons how long the gate takes on a machine of so many processors, from what each of its tasks takes.
+
+    proving/plan.py COSTS [--processors 2 4] [--tasks]
+
+COSTS is what `proving/watch_gate.py --costs` writes: in each line a crate, its lines of code, the seconds of a check where
+nothing changed, of its proof and of the proof with its tests (0 where it has none), its edits, the seconds of each, and the
+crates below it. All seconds are of one processor. The schedule is rt's, with RT_JOBS: a task waits for the proofs of the
+crates below; proofs and tests come before edits, and among them those first that have the most lines above them; edits wait
+for the proof, the tests and the seed of their crate, which is a second proof.
+"""
+
+import argparse
+
+
+def read(file):
+    """The crates of a file of costs."""
+    crates = []
+    with open(file, encoding="utf-8") as costs:
+        for line in costs:
+            if line.strip() and not line.startswith("#"):
+                name, lines, load, proof, tests, edits, each, *below = line.split()
+                crates.append((name, int(lines), float(load), float(proof), float(tests), int(edits), float(each), below))
+    return crates
+
+
+def below(name, direct):
+    """The crates below one, the lowest first."""
+    found = []
+    for it in direct[name]:
+        found += [one for one in [*below(it, direct), it] if one not in found]
+    return found
+
+
+def tasks_of(crates):
+    """The tasks: of each what it waits for, its weight in lines, and its seconds. What it waits for stands before it."""
+    tasks, direct = {}, {it[0]: it[7] for it in crates}
+    for name, lines, load, proof, tests, edits, each, _ in sorted(crates, key=lambda it: len(below(it[0], direct))):
+        waits = [(it, "proof") for it in below(name, direct)]
+        own = [(name, "proof")]
+        tasks[name, "proof"] = (waits, lines, proof)
+        if tests:
+            tasks[name, "tests"] = (waits, lines, tests)
+            own.append((name, "tests"))
+        if edits > 1:
+            tasks[name, "seed"] = (waits, 0, proof)
+            tries = [(name, "edit", number) for number in range(edits)]
+            for key in tries:
+                tasks[key] = ([*own, (name, "seed")], lines, each)
+            tasks[name, "seed as it was"] = ([*tries, (name, "seed")], 0, load)
+        elif edits:
+            tasks[name, "edit", 0] = (own, lines, proof * 1.1)
+    return tasks
+
+
+def weights(tasks):
+    """What each task weighs with the heaviest chain of those that wait for it, in lines."""
+    behind = dict.fromkeys(tasks, 0)
+    for key in reversed([*tasks]):
+        waits, lines, _ = tasks[key]
+        behind[key] += lines
+        for it in waits:
+            behind[it] = max(behind[it], behind[key])
+    return behind
+
+
+def played(tasks, processors):
+    """The spans of the tasks, in the order in which they begin."""
+    behind = weights(tasks)
+    left = sorted(tasks, key=lambda it: (it[1] not in ("proof", "tests"), -behind[it]))
+    now, running, done, spans = 0.0, {}, set(), []
+    while left or running:
+        for key in [it for it in left if done.issuperset(tasks[it][0])][: processors - len(running)]:
+            left.remove(key)
+            running[key] = now + tasks[key][2]
+            spans.append((now, running[key], key))
+        now = min(running.values())
+        ended = [it for it, end in running.items() if end <= now]
+        done.update(ended)
+        for key in ended:
+            del running[key]
+    return spans
+
+
+def main():
+    about, _, more = __doc__.partition("\n\n")
+    asked = argparse.ArgumentParser(description=about, epilog=more, formatter_class=argparse.RawDescriptionHelpFormatter)
+    asked.add_argument("costs", help="the costs of the crates")
+    asked.add_argument("--processors", type=int, nargs="+", default=[2, 4])
+    asked.add_argument("--tasks", action="store_true", help="list when each task but the edits runs")
+    given = asked.parse_args()
+    tasks = tasks_of(read(given.costs))
+    used = sum(seconds for _, _, seconds in tasks.values())
+    for processors in given.processors:
+        spans = played(tasks, processors)
+        clock = max(end for _, end, _ in spans)
+        print(f"{processors} processors: {clock / 60:.0f} minutes by the clock, {used / 60:.0f} processor minutes")
+        if given.tasks:
+            for begin, end, key in spans:
+                if key[1] != "edit":
+                    print(f"  {begin / 60:6.1f} to {end / 60:6.1f}  {' '.join(key)}")
+
+
+if __name__ == "__main__":
+    main()

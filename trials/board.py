@@ -1,0 +1,475 @@
+#!/usr/bin/env python3
+"""Tries the board of the client `ups` in headless Chromium, over a server and three workstations.
+
+    trials/board.py [--program PROGRAM [WORD..]] [--steps 200] [--many 10000] [--picture FILE]
+
+It installs what is missing (`apt-get install -y chromium python3-pydicom python3-websocket`, which needs root), starts a server
+and a board on free ports of this machine, and ends by itself. It prints a line for each trial, and then `N passed, M failed`;
+the exit status is 1 where one failed.
+
+    lives        three workstations take steps through their lives: created, claimed, progress set, and completed or canceled by
+                 the performer or by request. The page has to show each state of each step within a second behind the answer of
+                 the server; in the end both tellings, of queries and of reports, have the states that the workstations gave
+    a step       the page shows the attributes of a step that is chosen, who holds it, and its reports in their order
+    a search     a patient's name, part of it, leaves that patient's steps
+    an event 4   `ups announce` is shown, and makes the board subscribe anew
+    a restart    the server is stopped: the page says so; it is started again, and both tellings agree on what it holds
+    many         a server holds 10,000 steps: the page draws the newest 200 of a state within 2 seconds, while reports are coming
+                 and at rest
+    elsewhere    a request with another host name in it gets no page, and the port is open to this machine alone
+    the console  has no error
+"""
+
+from __future__ import annotations
+
+import argparse
+import base64
+import contextlib
+import importlib.util
+import json
+import os
+import re
+import shutil
+import signal
+import subprocess
+import sys
+import tempfile
+import threading
+import time
+import urllib.error
+import urllib.parse
+import urllib.request
+from typing import Any, Iterator, Optional
+
+sys.path.insert(0, os.path.join(os.path.dirname(os.path.dirname(os.path.abspath(__file__))), "check/lib"))
+import dicom
+import stock
+from machine import HERE, free_port, holds, install, listens
+from peer import PUSH_ON, Peer, a_step
+from results import Results
+from server import Server
+from stock import PUSH
+
+CLIENT = os.path.join(HERE, "examples", "ups.py")
+LIMIT = 1.0  # seconds within which the page shows a state
+LOADS = 2.0  # seconds within which the page of many steps is drawn
+HELD = 1.2  # seconds that a step stays in a state
+BATCH = 8  # steps that a workstation has at a time
+STATIONS = ("CT1", "CT2", "MR1")
+PATIENTS = ("DOE^JANE", "MÜLLER^JÜRGEN", "OKAFOR^ADA", "NOVÁK^PETR", "SILVA^ANA", "ROSSI^LUCA", "YILMAZ^ELIF", "LARSEN^NILS")
+LABELS = ("CT head", "CT thorax", "CT abdomen", "MR knee", "MR spine", "CT angiography")
+ALL = 900  # seconds for all trials
+
+# notes when a card comes to stand in the column of a state
+OBSERVER = """
+window.noted = {};
+new MutationObserver(changes => {
+  for (const change of changes) for (const node of change.addedNodes) {
+    if (!(node instanceof Element)) continue;
+    for (const card of node.querySelectorAll("[data-uid]")) {
+      const column = card.closest("[data-state]");
+      if (column) window.noted[card.dataset.uid + " " + column.dataset.state] ??= Date.now() / 1000;
+    }
+  }
+}).observe(document, {childList: true, subtree: true});
+"""
+
+
+class Browser:
+    """Headless Chromium with one page, driven over its debugging port."""
+
+    def __init__(self) -> None:
+        self.folder = tempfile.mkdtemp()
+        words = [shutil.which("chromium") or "chromium", "--headless=new", "--no-sandbox", "--disable-gpu",
+                 "--disable-dev-shm-usage", "--disable-background-networking", "--no-first-run", "--remote-debugging-port=0",
+                 f"--user-data-dir={self.folder}", "about:blank"]
+        self.process = subprocess.Popen(words, stderr=subprocess.PIPE, text=True, start_new_session=True)
+        self.errors: list[str] = []
+        self.numbers = 0
+        port = next(found[1] for line in self.process.stderr or [] if (found := re.search(r"ws://127\.0\.0\.1:(\d+)/", line)))
+        threading.Thread(target=self.process.stderr.read, daemon=True).start()
+        with urllib.request.urlopen(f"http://127.0.0.1:{port}/json") as told:
+            page = next(each for each in json.load(told) if each["type"] == "page")
+        import websocket
+        self.socket = websocket.create_connection(page["webSocketDebuggerUrl"], timeout=60, suppress_origin=True)
+        for name in ("Page.enable", "Runtime.enable", "Log.enable"):
+            self.ask(name)
+        self.size(1200, 800)
+        self.ask("Page.addScriptToEvaluateOnNewDocument", source=OBSERVER)
+
+    def note(self, told: dict[str, Any]) -> None:
+        """Keeps what is an error of the console."""
+        what, more = told.get("method"), told.get("params", {})
+        is_error = what == "Runtime.consoleAPICalled" and more["type"] in ("error", "assert")
+        if is_error or what == "Runtime.exceptionThrown" or what == "Log.entryAdded" and more["entry"]["level"] == "error":
+            self.errors.append(json.dumps(more)[:300])
+
+    def ask(self, method: str, **words: Any) -> dict[str, Any]:
+        self.numbers += 1
+        self.socket.send(json.dumps({"id": self.numbers, "method": method, "params": words}))
+        while True:
+            told = json.loads(self.socket.recv())
+            if told.get("id") == self.numbers:
+                return told.get("result", {})
+            self.note(told)
+
+    def run(self, script: str) -> Any:
+        """The value of a script in the page."""
+        return self.ask("Runtime.evaluate", expression=script, returnByValue=True, awaitPromise=True)["result"].get("value")
+
+    def size(self, width: int, height: int) -> None:
+        self.ask("Emulation.setDeviceMetricsOverride", width=width, height=height, deviceScaleFactor=1, mobile=False)
+
+    def go(self, address: str, done: str, seconds: float) -> Optional[float]:
+        """Opens a page, and tells how long it took until a script says so."""
+        begun = time.monotonic()
+        self.ask("Page.navigate", url=address)
+        while time.monotonic() < begun + seconds:
+            if self.run(done):
+                return time.monotonic() - begun
+            time.sleep(0.02)
+        return None
+
+    def scheme(self, word: str) -> None:
+        """Light or dark colors."""
+        self.ask("Emulation.setEmulatedMedia", features=[{"name": "prefers-color-scheme", "value": word}])
+        time.sleep(0.3)
+
+    def picture(self, path: str) -> None:
+        """A picture of the page, with 128 colors where that can be."""
+        with open(path, "wb") as file:
+            file.write(base64.b64decode(self.ask("Page.captureScreenshot", format="png")["data"]))
+        if importlib.util.find_spec("PIL"):  # Debian's python3-pil
+            from PIL import Image
+            Image.open(path).convert("RGB").quantize(128).save(path, optimize=True)
+
+    def end(self) -> None:
+        self.socket.close()
+        self.process.terminate()
+        self.process.wait(20)
+        shutil.rmtree(self.folder, ignore_errors=True)
+
+
+class Board:
+    """`ups board` on a free port, for a server."""
+
+    def __init__(self, server_port: int, listen: int, *words: str) -> None:
+        command = [sys.executable, CLIENT, "board", "--server-port", str(server_port), "--port", "0", "--ae", "BOARD",
+                   "--listen", str(listen), *words]
+        self.process = subprocess.Popen(command, stdout=subprocess.PIPE, text=True)
+        line = self.process.stdout.readline()
+        found = re.fullmatch(r"the board is at (http://127\.0\.0\.1:(\d+)/)\n", line)
+        if not found:
+            sys.exit(f"the board printed {line!r}")
+        self.address, self.port = found[1], int(found[2])
+
+    def state(self, **words: str) -> dict[str, Any]:
+        with urllib.request.urlopen(f"{self.address}state?{urllib.parse.urlencode(words)}", timeout=30) as told:
+            return json.load(told)
+
+    def agrees(self, steps: int) -> bool:
+        """Whether both tellings have so many steps and agree on each."""
+        told = self.state()
+        same = told["steps"] == told["told"] == steps and told["counts"] == told["toldCounts"]
+        return same and not told["waiting"] and not told["trouble"]
+
+    def end(self) -> int:
+        self.process.terminate()
+        return self.process.wait(20)
+
+
+class Workstation(threading.Thread):
+    """Takes its steps through their lives, and notes when the server had answered each change."""
+
+    def __init__(self, port: int, place: int, count: int, held: float = HELD) -> None:
+        super().__init__(daemon=True)
+        self.port, self.place, self.station, self.count, self.held = port, place, STATIONS[place], count, held
+        self.answered: dict[str, float] = {}
+        self.final: dict[str, str] = {}
+        self.fault: Optional[str] = None
+
+    def ask(self, request: tuple[str, dict[str, Any], Any], uid: str, state: str = "") -> None:
+        status = self.wire.ask(*request)[-1][0].Status
+        assert status == 0, f"{uid}, {state}: {status:04X}"
+        if state:
+            self.answered.setdefault(f"{uid} {state}", time.time())
+
+    def create(self, number: int) -> str:
+        uid = f"1.2.3.{self.place + 1}.{number + 1}"
+        patient = (number * 3 + self.place) % len(PATIENTS)
+        code = [{"CodeValue": self.station, "CodingSchemeDesignator": "99HOSP", "CodeMeaning": f"Room {self.station}"}]
+        label = LABELS[(number + 2 * self.place) % len(LABELS)]
+        self.ask(stock.create(uid, SpecificCharacterSet="ISO_IR 192", PatientName=PATIENTS[patient],
+                              PatientID=f"P{1000 + patient}",
+                              ProcedureStepLabel=label, ScheduledStationNameCodeSequence=code,
+                              ScheduledProcedureStepStartDateTime=time.strftime("%Y%m%d%H%M%S"),
+                              ScheduledProcedureStepPriority="HIGH" if number % 6 == 2 else "MEDIUM"), uid, "SCHEDULED")
+        return uid
+
+    def claim(self, uid: str) -> None:
+        self.ask(stock.move(uid, "IN PROGRESS"), uid, "IN PROGRESS")
+        progress = {"ProcedureStepProgressInformationSequence": [
+            {"ProcedureStepProgress": "50", "ProcedureStepProgressDescription": "series 2 of 4"}]}
+        self.ask(stock.change(uid, **stock.OWN, **self.performed(), **progress), uid)
+
+    def performed(self, **more: str) -> dict[str, Any]:
+        """What the workstation tells of its work: where it is done, and when it began."""
+        station = [{"CodeValue": self.station, "CodingSchemeDesignator": "99HOSP", "CodeMeaning": f"Room {self.station}"}]
+        return {"UnifiedProcedureStepPerformedProcedureSequence": [
+            {"PerformedStationNameCodeSequence": station, "PerformedProcedureStepStartDateTime": time.strftime("%Y%m%d%H%M%S"),
+             **more}]}
+
+    def finish(self, uid: str, number: int) -> None:
+        state = "CANCELED" if number % 9 == 3 else "COMPLETED"
+        ended = self.performed(PerformedProcedureStepEndDateTime=time.strftime("%Y%m%d%H%M%S"))
+        self.ask(stock.change(uid, **stock.OWN, **(stock.GIVEN_UP if state == "CANCELED" else ended)), uid)
+        self.ask(stock.move(uid, state), uid, state)
+        self.final[uid] = state
+
+    def batch(self, numbers: range) -> None:
+        steps = {number: self.create(number) for number in numbers}
+        time.sleep(self.held)
+        for number, uid in list(steps.items()):
+            if number % 13 == 5:
+                self.ask(stock.cancel(PUSH, uid, ReasonForCancellation="patient has left"), uid, "CANCELED")
+                self.final[steps.pop(number)] = "CANCELED"
+        for uid in steps.values():
+            self.claim(uid)
+        time.sleep(self.held)
+        for number, uid in steps.items():
+            self.finish(uid, number)
+
+    def run(self) -> None:
+        try:
+            self.wire = stock.open_association(self.port, [it.encode() for it in stock.CONTEXTS], stock.EXPLICIT)
+            time.sleep(self.place * self.held * 2 / 3)
+            for begin in range(0, self.count, BATCH):
+                self.batch(range(begin, min(begin + BATCH, self.count)))
+            self.wire.release()
+        except (AssertionError, OSError, EOFError) as fault:
+            self.fault = f"{self.station}: {fault!r}"
+
+
+def lateness(stations: list[Workstation], noted: dict[str, float]) -> tuple[list[str], list[float]]:
+    """The states that the page did not show within a second, and how late each was."""
+    answered = {what: moment for each in stations for what, moment in each.answered.items()}
+    late = {what: noted[what] - moment if what in noted else None for what, moment in answered.items()}
+    missed = [f"{what} {'never' if seconds is None else f'after {seconds:.2f} s'}" for what, seconds in late.items()
+              if seconds is None or seconds > LIMIT]
+    return missed, sorted(max(0.0, seconds) for seconds in late.values() if seconds is not None)
+
+
+def try_lives(board: Board, browser: Browser, port: int, steps: int, results: Results) -> list[Workstation]:
+    """The lives of steps before the eyes of the page."""
+    share = [steps // 3 + (place < steps % 3) for place in range(3)]
+    stations = [Workstation(port, place, count) for place, count in enumerate(share)]
+    for each in stations:
+        each.start()
+    for each in stations:
+        each.join(ALL)
+    results.tell("the workstations", "; ".join(each.fault for each in stations if each.fault) or None)
+    at_rest = holds(lambda: board.agrees(steps), 30)
+    time.sleep(1)
+    missed, seconds = lateness(stations, browser.run("window.noted") or {})
+    median, most = (1e3 * seconds[len(seconds) // 2], 1e3 * seconds[-1]) if seconds else (0, 0)
+    figures = f"{len(seconds)} states, {median:.0f} ms in the median, {most:.0f} ms at most"
+    results.tell(f"the page shows each state within a second ({figures})", "; ".join(missed[:5]) or None)
+    told = board.state()
+    wanted = {state: sum(final == state for each in stations for final in each.final.values())
+              for state in ("COMPLETED", "CANCELED")}
+    results.tell("both tellings agree at rest", None if at_rest
+                 else f"{told['waiting']} of {told['steps']} steps differ: {told['differing']}")
+    results.tell("both have what the workstations did", None if told["counts"] == told["toldCounts"] == wanted
+                 else f"{told['counts']}, not {wanted}")
+    verdict = "document.getElementById('verdict').textContent"
+    shown = holds(lambda: browser.run(verdict) == f"Worklist and reports agree on {steps} steps", 5)
+    results.tell("the page says so", None if shown else f"it says {browser.run(verdict)!r}")
+    return stations
+
+
+def try_step(browser: Browser, uid: str, results: Results) -> None:
+    """A step that was completed, chosen by a click."""
+    browser.run(f"document.querySelector('[data-uid=\"{uid}\"]').click()")
+    holds(lambda: browser.run("document.querySelectorAll('#life li').length"), 5)
+    life = browser.run("[...document.querySelectorAll('#life li span:not(.soft)')].map(each => each.lastChild.textContent)")
+    wanted = ["SCHEDULED, READY", "IN PROGRESS, READY", "50 %, series 2 of 4", "COMPLETED, READY"]
+    told = [each for each in wanted if each in life]
+    in_order = told == [each for each in life if each in wanted] and life[-1:] == wanted[-1:]
+    results.tell("a step has its reports in their order", None if in_order else str(life))
+    text = browser.run("document.getElementById('detail').innerText")
+    lacks = [each for each in (uid, "Performed Station Name Code Sequence", "CT1", "held by CT1", "(0074,1204)")
+             if each not in text]
+    results.tell("a step has its attributes and its holder", f"it lacks {lacks}: {text[:400]}" if lacks else None)
+    browser.run("document.getElementById('close').click()")
+
+
+def try_search(browser: Browser, results: Results) -> None:
+    type_in = "const it = document.getElementById('find'); it.value = '{}'; it.dispatchEvent(new Event('input')); 0"
+    patients = "[...new Set([...document.querySelectorAll('.card .patient')].map(each => each.textContent))]"
+    browser.run(f"{{ {type_in.format('müll')} }}")
+    found = holds(lambda: browser.run(patients) == ["MÜLLER, JÜRGEN  ·  P1001"], 5)
+    results.tell("a search leaves one patient's steps", None if found else f"it leaves {browser.run(patients)}")
+    browser.run(f"{{ {type_in.format('')} }}")
+    results.tell("and none all of them", None if holds(lambda: len(browser.run(patients)) == len(PATIENTS), 5)
+                 else str(browser.run(patients)))
+
+
+def try_announcement(board: Board, browser: Browser, listen: int, steps: int, results: Results) -> None:
+    """A change of the server's status, which makes the board subscribe anew."""
+    subprocess.run([sys.executable, CLIENT, "announce", f"BOARD=127.0.0.1:{listen}"], stdout=subprocess.DEVNULL, timeout=60)
+    found = holds(lambda: ": RESTARTED COLD START" in browser.run("document.getElementById('asked').textContent"), 10)
+    results.tell("the page tells a change of the server's status", None if found else "it doesn't")
+    results.tell("and both tellings agree behind it", None if holds(lambda: board.agrees(steps), 30)
+                 else json.dumps(board.state())[:300])
+
+
+def try_elsewhere(board: Board, results: Results) -> None:
+    asked = urllib.request.Request(board.address + "state", headers={"Host": "elsewhere.example"})
+    try:
+        with urllib.request.urlopen(asked) as told:
+            fault: Optional[str] = f"{told.status}"
+    except urllib.error.HTTPError as refused:
+        fault = None if refused.code == 403 else f"{refused.code}"
+    results.tell("another host name gets nothing", fault)
+    listeners = subprocess.run(["ss", "-Hltn", f"sport = :{board.port}"], capture_output=True, text=True).stdout.split()
+    results.tell("the page is on 127.0.0.1 alone", None if f"127.0.0.1:{board.port}" in listeners and len(listeners) == 5
+                 else str(listeners))
+
+
+@contextlib.contextmanager
+def tried(program: list[str], port: int, listen: int) -> Iterator[subprocess.Popen]:
+    """A server on a port that stays the same."""
+    words = [*program, "serve", "--ae", "UPSD", "--port", str(port), "--keep", "86400", f"BOARD=127.0.0.1:{listen}"]
+    process = subprocess.Popen(words, stdout=subprocess.DEVNULL, stderr=subprocess.DEVNULL, start_new_session=True)
+    try:
+        holds(lambda: listens(port), ALL)
+        yield process
+    finally:
+        process.terminate()
+        process.wait(20)
+
+
+def try_restart(program: list[str], board: Board, browser: Browser, port: int, listen: int, results: Results) -> None:
+    """A server that begins anew behind one that the board knew."""
+    says = "document.getElementById('trouble').hidden ? '' : document.getElementById('trouble').textContent"
+    found = holds(lambda: "does not answer" in (browser.run(says) or ""), 10)
+    results.tell("the page says that the server is gone", None if found else f"it says {browser.run(says)!r}")
+    with tried(program, port, listen):
+        wire = stock.open_association(port, [it.encode() for it in stock.CONTEXTS], stock.EXPLICIT)
+        statuses = [wire.ask(*stock.create(f"1.2.4.{number}"))[-1][0].Status for number in range(5)]
+        wire.release()
+        found = not any(statuses) and holds(lambda: board.agrees(5), 30)
+        results.tell("and both tellings agree behind a restart", None if found else json.dumps(board.state())[:300])
+        found = holds(lambda: browser.run(f"document.querySelectorAll('.card').length == 5 && ({says}) == ''"), 10)
+        results.tell("which the page shows", None if found else f"it says {browser.run(says)!r}")
+
+
+def load(board: Board, browser: Browser, when: str, drawn: str, results: Results) -> None:
+    """How long the page takes to be drawn."""
+    told = board.state()
+    took = browser.go(board.address, drawn, 30)
+    what = f"{told['steps']:,} steps, {when} ({told['told']:,} told), the page is drawn within {LOADS:.0f} s"
+    results.tell(f"{what} ({took or 0:.2f} s; all are asked for in {told['took']:.2f} s)",
+                 None if took is not None and took <= LOADS else "it took longer")
+
+
+def fill(port: int, many: int) -> None:
+    """Creates so many steps."""
+    peer = Peer(port)
+    for number in range(many):
+        assert peer.ask(dicom.create(PUSH_ON, 1, b"1.2.0.%d" % number, a_step(b"P%d" % number))) == 0
+    peer.release()
+
+
+def try_many(program: list[str], browser: Browser, many: int, results: Results) -> None:
+    """The page over a server with many steps."""
+    listen = free_port()
+    with Server(program, "--keep", "86400", f"BOARD=127.0.0.1:{listen}") as server:
+        fill(server.port, many)
+        board = Board(server.port, listen)
+        drawn = "document.querySelectorAll('.card').length == 200 && document.body.innerText.includes('newest of')"
+        try:
+            holds(lambda: board.state()["steps"] == many, 60)
+            holds(lambda: board.state()["told"] > 0, 60)
+            load(board, browser, "while reports are coming", drawn, results)
+            begun = time.monotonic()
+            found = holds(lambda: board.agrees(many), 300)
+            results.tell(f"both tellings agree on each, {time.monotonic() - begun:.1f} s later", None if found
+                         else json.dumps(board.state())[:200])
+            load(board, browser, "at rest", drawn, results)
+        finally:
+            browser.go("about:blank", "document.readyState == 'complete'", 10)
+            results.tell("the board ends at SIGTERM", None if (ended := board.end()) == 0 else f"it ended with {ended}")
+
+
+def take_picture(program: list[str], browser: Browser, path: str) -> Optional[str]:
+    """The page in the middle of slow work, with a step that is held, at a moment at which both tellings agree."""
+    count = "state => document.querySelectorAll(`[data-state='${state}'] .card`).length"
+    begun = f"['SCHEDULED', 'IN PROGRESS', 'COMPLETED'].map({count}).every((there, place) => there > [5, 5, 15][place])"
+    ready = f"!!document.querySelector('.verdict.agree') && {begun}"
+    held = "[data-state=\"IN PROGRESS\"] .card"
+    port, listen = free_port(), free_port()
+    with tried(program, port, listen):
+        board = Board(port, listen)
+        browser.go(board.address, "document.readyState == 'complete'", 10)
+        for place in range(3):
+            Workstation(port, place, 80, 6).start()
+        for _ in range(10):
+            holds(lambda: browser.run(ready), 40)
+            browser.run(f"document.querySelector('{held}').click()")
+            holds(lambda: browser.run("document.querySelectorAll('#life li').length > 2"), 2)
+            browser.picture(path)
+            if browser.run(f"{ready} && !!document.querySelector('{held}[aria-pressed=true]')"):
+                break
+            browser.run("document.getElementById('close').click()")
+        browser.scheme("dark")
+        browser.picture(re.sub(r"\.png$", "-dark.png", path))
+        board.end()
+    return None if os.path.getsize(path) < 150_000 else f"{path} has {os.path.getsize(path):,} bytes"
+
+
+def try_all(asked: argparse.Namespace, browser: Browser, results: Results) -> None:
+    port, listen = free_port(), free_port()
+    with tried(asked.program, port, listen):
+        board = Board(port, listen)
+        browser.go(board.address, "document.readyState == 'complete'", 10)
+        stations = try_lives(board, browser, port, asked.steps, results)
+        try_step(browser, next(uid for uid, state in stations[0].final.items() if state == "COMPLETED"), results)
+        try_search(browser, results)
+        try_elsewhere(board, results)
+        try_announcement(board, browser, listen, asked.steps, results)
+    try_restart(asked.program, board, browser, port, listen, results)
+    browser.go("about:blank", "document.readyState == 'complete'", 10)  # before the board ends, which the page would tell
+    board.end()
+    if asked.many:
+        try_many(asked.program, browser, asked.many, results)
+    browser.run("0")
+    results.tell("the console", "; ".join(browser.errors) or None)
+
+
+def main() -> None:
+    parser = argparse.ArgumentParser(description=__doc__, formatter_class=argparse.RawDescriptionHelpFormatter)
+    parser.add_argument("--program", nargs="+", default=[os.path.join(HERE, "crates/upsd/out/upsd")],
+                        help="the program, and words before those of `serve` (crates/upsd/out/upsd, which `rt run` builds)")
+    parser.add_argument("--steps", type=int, default=200, help="steps that live (200)")
+    parser.add_argument("--many", type=int, default=10_000, help="steps of a large worklist (10,000; 0 leaves it out)")
+    parser.add_argument("--picture", metavar="FILE", help="takes a picture of the page and one in dark colors, and no trial")
+    asked = parser.parse_args()
+    install({"chromium": "chromium"})
+    if not importlib.util.find_spec("websocket"):
+        subprocess.run(["apt-get", "install", "-y", "python3-websocket"], check=True, stdout=subprocess.DEVNULL)
+    signal.signal(signal.SIGALRM, lambda *_: sys.exit(f"board.py: not done in {ALL} seconds"))
+    signal.alarm(ALL)
+    results, browser = Results(), Browser()
+    try:
+        if asked.picture:
+            results.tell("a picture", take_picture(asked.program, browser, asked.picture))
+        else:
+            try_all(asked, browser, results)
+    finally:
+        browser.end()
+    results.end()
+
+
+if __name__ == "__main__":
+    main()

@@ -1,0 +1,446 @@
+#!/usr/bin/env python3
+"""Runs each command of the client `ups` (examples/ups.py) against a server, and compares what it prints.
+
+    trials/client.py [PROGRAM [WORD..]]      (crates/upsd/out/upsd, which `rt run` builds)
+
+It installs pydicom where it is missing (`apt-get install -y python3-pydicom`, which needs root), starts servers on free ports of
+this machine, and ends by itself. It prints a line for each trial that doesn't agree, and in the end how many agree; the exit
+status is 1 where one doesn't. trials/stock.py has the life of steps through the client, and trials/board.py its board.
+
+    commands     what each prints, and its exit status; in Explicit and in Implicit VR Little Endian
+    check        data sets with each fault that an N-CREATE, an N-SET or a final state can have: what `ups check` says, of JSON
+                 and of a DICOM file, is what docs/use/conformance.md has for it, and what the server answers when it is sent
+    json         what `find --json` and `get --json` print is DICOM JSON with the attributes that were sent
+    status       counts what was created; the line, the performance data and the exit status of a plugin; the text format of
+                 Prometheus, also in a file
+    watch        with another status and with a delay: what the server says of it in its log
+    announce     what a watcher that listens here is told
+"""
+
+from __future__ import annotations
+
+import argparse
+import dataclasses
+import json
+import os
+import re
+import signal
+import stat
+import subprocess
+import sys
+import tempfile
+import threading
+import warnings
+from typing import Any, Optional
+
+sys.path.insert(0, os.path.join(os.path.dirname(os.path.dirname(os.path.abspath(__file__))), "check/lib"))
+import stock
+from machine import HERE, free_port, holds, install
+from results import Results
+from server import Server
+from stock import DONE, GLOBAL, NO_ANSWER, OWN, PERFORMED, REFUSED, STEP, Watcher, made, open_association, plain
+
+LIMIT = 60  # seconds for a command
+ALL = 600  # seconds for all trials
+A, B, C, D = (f"1.2.5.{number}" for number in range(1, 5))
+OLDEST, OLDEST_SECONDS = "20240229130000+0100", 1709208000  # by `date -d 2024-02-29T12:00Z +%s`
+MODIFIED = "20240301120000+0000"
+HOLDER = ["--transaction", "2.25.7"]
+
+
+@dataclasses.dataclass
+class Ran:
+    """What a command came to."""
+
+    status: int
+    out: str
+    error: str
+
+
+def run(*words: str, given: str = "") -> Ran:
+    """Runs the client. One that does not end has the status -1."""
+    command = [sys.executable, os.path.join(HERE, "examples/ups.py"), *words]
+    environment = {**os.environ, "PYTHONIOENCODING": "utf-8"}
+    try:
+        ran = subprocess.run(command, input=given, capture_output=True, encoding="utf-8", timeout=LIMIT, env=environment)
+    except subprocess.TimeoutExpired:
+        return Ran(-1, "", "it does not end")
+    return Ran(ran.returncode, ran.stdout, ran.stderr)
+
+
+def wrong(ran: Ran, status: int, *told: str) -> Optional[str]:
+    """Why a command didn't come to this status, or what it didn't tell."""
+    said = (ran.out + ran.error).strip()
+    if ran.status != status:
+        return f"it ended with {ran.status} and not {status}: {said}"
+    return next((f"it did not tell {each!r}: {said}" for each in told if each not in said), None)
+
+
+# the commands, in order: a name, the words, the exit status, and what is told
+COMMANDS: list[tuple[str, list[str], int, list[str]]] = [
+    ("echo", ["echo"], DONE, ["0000 success"]),
+    ("create", ["create", A, "--label", "CT READ", "--patient-name", "MÜLLER^JÜRGEN", "-k", "(0040,4025)[0].(0008,0100)=R1"],
+     DONE, ["0000"]),
+    ("create in Implicit VR", ["create", B, "--implicit", "--label", "MR READ", "--start", OLDEST,
+                               "-k", "(0040,4025)[0].(0008,0100)=R2"], DONE, ["0000"]),
+    ("create for two stations", ["create", C, "-k", "(0040,4025)[0].(0008,0100)=R1", "-k", "(0040,4025)[1].(0008,0100)=R2",
+                                 "-k", f"ScheduledProcedureStepModificationDateTime={MODIFIED}"], DONE, ["0000"]),
+    ("create for a third", ["create", D, "-k", "(0040,4025)[0].(0008,0100)=R3"], DONE, ["0000"]),
+    ("find a station", ["find", "--station", "R1"], DONE, [A, C, "2 found"]),
+    ("find several stations, each step once", ["find", "--station", "R1", "--station", "R2"], DONE, [A, B, C, "3 found"]),
+    ("find stations, of which nobody has one", ["find", "--station", "R4", "--station", "R3"], DONE, [D, "1 found"]),
+    ("find a key that can't be read", ["find", "--start", "yesterday", "--station", "R1", "--station", "R2"], REFUSED, ["A900"]),
+    ("find in Implicit VR", ["find", "--implicit", "--label", "CT*"], DONE, [f"{A}  MÜLLER^JÜRGEN", "1 found"]),
+    ("get in Implicit VR", ["get", "--implicit", A], DONE, ["LO: 'CT READ'", "0000 success"]),
+    ("claim in Implicit VR", ["claim", "--implicit", A, *HOLDER], DONE, ["0000 success"]),
+    ("finish in Implicit VR", ["finish", "--implicit", A, *HOLDER], DONE, ["0000 success"]),
+    ("subscribe", ["subscribe", "--receiver", "WATCHER"], DONE, ["0000 success"]),
+    ("suspend", ["suspend", "--receiver", "WATCHER"], DONE, ["0000 success"]),
+    ("suspend a stranger", ["suspend", "--receiver", "STRANGER"], REFUSED, ["C308"]),
+    ("unsubscribe in Implicit VR", ["unsubscribe", "--implicit", "--receiver", "WATCHER"], DONE, ["0000 success"]),
+    ("no command", [], NO_ANSWER, ["usage: "]),
+    ("a status that is none", ["watch", "--status", "1F"], NO_ANSWER, ["is no status"]),
+    ("a delay that is none", ["watch", "--delay", "soon"], NO_ANSWER, ["is no number of seconds"]),
+    ("a watcher that is none", ["announce", "WATCHER"], NO_ANSWER, ["is no watcher"]),
+    ("nobody there to announce to", ["announce", "WATCHER=127.0.0.1:1"], NO_ANSWER, ["WATCHER: ", "refused"]),
+]
+
+# data sets for N-CREATE: a name, what is other than in a good one (None takes it away), and the status of docs/use/conformance.md
+LONG = "x" * 700_000
+
+
+def nested(deep: int) -> list[dict[str, Any]]:
+    """Items so deep in one another."""
+    return [{"ReferencedSOPSequence": nested(deep - 1)}] if deep else []
+
+
+CREATIONS: list[tuple[str, dict[str, Any], int]] = [
+    ("a good one", {}, 0x0000),
+    ("without a state", {"ProcedureStepState": None}, 0xC309),
+    ("an empty state", {"ProcedureStepState": ""}, 0xC309),
+    ("another state", {"ProcedureStepState": "IN PROGRESS"}, 0xC309),
+    ("a state in small letters", {"ProcedureStepState": "scheduled"}, 0xC309),
+    ("a Transaction UID", {"TransactionUID": "1.2.3"}, 0x0106),
+    ("an empty Transaction UID", {"TransactionUID": ""}, 0x0000),
+    ("no start", {"ScheduledProcedureStepStartDateTime": None}, 0x0120),
+    ("an empty start", {"ScheduledProcedureStepStartDateTime": ""}, 0x0121),
+    ("a start of a year", {"ScheduledProcedureStepStartDateTime": "2024"}, 0x0000),
+    ("a start with a fraction and an offset", {"ScheduledProcedureStepStartDateTime": "20240229120000.5-0500"}, 0x0000),
+    ("a start in a leap second", {"ScheduledProcedureStepStartDateTime": "20240229235960"}, 0x0000),
+    ("a start of a day that is none", {"ScheduledProcedureStepStartDateTime": "20230229"}, 0x0106),
+    ("a start in month 00", {"ScheduledProcedureStepStartDateTime": "202400"}, 0x0106),
+    ("a start at hour 24", {"ScheduledProcedureStepStartDateTime": "2024022924"}, 0x0106),
+    ("a start that is a range", {"ScheduledProcedureStepStartDateTime": "20240101-20240201"}, 0x0106),
+    ("a minus behind a cut", {"ScheduledProcedureStepStartDateTime": "2024022912-0500"}, 0x0106),
+    ("a plus behind a cut", {"ScheduledProcedureStepStartDateTime": "2024022912+0500"}, 0x0000),
+    ("an offset of -1201", {"ScheduledProcedureStepStartDateTime": "20240229120000-1201"}, 0x0106),
+    ("an offset of +1401", {"ScheduledProcedureStepStartDateTime": "20240229120000+1401"}, 0x0106),
+    ("seven digits of a fraction", {"ScheduledProcedureStepStartDateTime": "20240229120000.1234567"}, 0x0106),
+    ("no readiness", {"InputReadinessState": None}, 0x0120),
+    ("an empty readiness", {"InputReadinessState": ""}, 0x0121),
+    ("another readiness", {"InputReadinessState": "MAYBE"}, 0x0106),
+    ("two readinesses", {"InputReadinessState": ["READY", "INCOMPLETE"]}, 0x0106),
+    ("a space before the readiness", {"InputReadinessState": " READY"}, 0x0106),
+    ("no priority", {"ScheduledProcedureStepPriority": None}, 0x0120),
+    ("another priority", {"ScheduledProcedureStepPriority": "URGENT"}, 0x0106),
+    ("no label", {"ProcedureStepLabel": None}, 0x0120),
+    ("an empty label", {"ProcedureStepLabel": "  "}, 0x0121),
+    ("the first fault by tag: start before label", {"ProcedureStepLabel": None, "ScheduledProcedureStepStartDateTime": "x"},
+     0x0106),
+    ("the state before the label", {"ProcedureStepLabel": None, "ProcedureStepState": "COMPLETED"}, 0xC309),
+    ("the state before the Transaction UID", {"TransactionUID": "1.2", "ProcedureStepState": "COMPLETED"}, 0xC309),
+    ("items 8 deep", {"ScheduledProcessingParametersSequence": nested(8)}, 0x0000),
+    ("items 9 deep", {"ScheduledProcessingParametersSequence": nested(9)}, 0x0110),
+]
+# for N-SET on a step that is SCHEDULED
+CHANGES: list[tuple[str, dict[str, Any], int]] = [
+    ("a new label", {"ProcedureStepLabel": "MR"}, 0x0000),
+    ("nothing", {}, 0x0000),
+    ("a state", {"ProcedureStepState": "SCHEDULED"}, 0x0106),
+    ("a SOP class", {"SOPClassUID": stock.PUSH}, 0x0106),
+    ("an empty label", {"ProcedureStepLabel": ""}, 0x0121),
+    ("another priority", {"ScheduledProcedureStepPriority": "URGENT"}, 0x0106),
+    ("an empty start before another priority",
+     {"ScheduledProcedureStepStartDateTime": "", "ScheduledProcedureStepPriority": "URGENT"}, 0x0121),
+    ("an attribute that isn't checked", {"PatientID": ""}, 0x0000),
+]
+# for a final state: what the step has when it is asked to change to it
+BEGUN = {"PerformedProcedureStepStartDateTime": "20240229120100"}
+ENDED = {"PerformedProcedureStepEndDateTime": "20240229120200"}
+STOPPED = {"ProcedureStepCancellationDateTime": "20240229120300"}
+FINALS: list[tuple[str, str, dict[str, Any], int]] = [
+    ("nothing", "COMPLETED", {}, 0xC304),
+    ("an empty sequence", "COMPLETED", {"UnifiedProcedureStepPerformedProcedureSequence": []}, 0xC304),
+    ("a start alone", "COMPLETED", {"UnifiedProcedureStepPerformedProcedureSequence": [BEGUN]}, 0xC304),
+    ("an empty end", "COMPLETED",
+     {"UnifiedProcedureStepPerformedProcedureSequence": [{**BEGUN, "PerformedProcedureStepEndDateTime": ""}]}, 0xC304),
+    ("two items", "COMPLETED", {"UnifiedProcedureStepPerformedProcedureSequence": [{**BEGUN, **ENDED}] * 2}, 0xC304),
+    ("what it needs", "COMPLETED", PERFORMED, 0x0000),
+    ("nothing", "CANCELED", {}, 0xC304),
+    ("no time", "CANCELED", {"ProcedureStepProgressInformationSequence": [{"ProcedureStepProgress": "50"}]}, 0xC304),
+    ("two items", "CANCELED", {"ProcedureStepProgressInformationSequence": [STOPPED] * 2}, 0xC304),
+    ("what it needs", "CANCELED", {"ProcedureStepProgressInformationSequence": [STOPPED]}, 0x0000),
+]
+
+
+def try_commands(results: Results, port: int) -> None:
+    for name, words, status, told in COMMANDS:
+        place = [] if not words or words[0] in ("watch", "announce") else ["--port", str(port)]
+        results.tell(name, wrong(run(*words, *place), status, *told))
+    first = run("find", "--station", "R1", "--station", "R2", "--port", str(port)).out
+    results.tell("a step of two stations comes once", None if first.count(f"{C}  ") == 1 else first)
+
+
+def sent(given: dict[str, Any]) -> dict[str, Any]:
+    """A data set without what is taken away."""
+    return {keyword: value for keyword, value in given.items() if value is not None}
+
+
+@dataclasses.dataclass
+class Case:
+    """A data set, the status that the profile has for it, and the one that the server answered."""
+
+    name: str
+    given: dict[str, Any]
+    wanted: int
+    answered: int
+
+
+def verdicts(ran: Ran) -> list[str]:
+    """The statuses that `check` says, one for each data set."""
+    return re.findall(r"^[^ ].*: ([0-9A-F]{4}) ", ran.out, re.MULTILINE)
+
+
+def judge(results: Results, folder: str, cases: list[Case], *words: str) -> None:
+    """Compares what `check` says with the profile and with the server's answer: of all in a file of JSON, of some in DICOM."""
+    path = os.path.join(folder, "steps.json")
+    with open(path, "w", encoding="utf-8") as file:
+        json.dump([plain(sent(case.given)) for case in cases], file)
+    ran = run("check", path, *words)
+    said = verdicts(ran)
+    refused = sum(case.wanted != 0 for case in cases)
+    results.tell(f"check {' '.join(words)}", wrong(ran, min(1, refused), f"{refused} of {len(cases)} would be refused"))
+    for place, case in enumerate(cases):
+        told = [f"{case.wanted:04X}", f"{case.answered:04X}", said[place] if place < len(said) else "nothing"]
+        fault = None if len(set(told)) == 1 else "the profile says {}, the server {}, and the client {}".format(*told)
+        results.tell(f"check, {case.name}", fault)
+        if place % 6 == 0:
+            results.tell(f"check, {case.name}, of a DICOM file", of_dicom(folder, case, *words))
+
+
+def of_dicom(folder: str, case: Case, *words: str) -> Optional[str]:
+    path = os.path.join(folder, "step.dcm")
+    with open(path, "wb") as file:
+        file.write(stock.spelled(made(sent(case.given)), stock.EXPLICIT))
+    ran = run("check", path, *words)
+    return wrong(ran, 1 if case.wanted else 0) or (None if verdicts(ran) == [f"{case.wanted:04X}"] else ran.out)
+
+
+def status_of(wire: Any, request: tuple[str, dict[str, Any], Any]) -> int:
+    return wire.ask(*request)[0][0].Status
+
+
+def created(wire: Any, uid: str, given: dict[str, Any]) -> int:
+    """The status of an N-CREATE."""
+    context, elements, _ = stock.create(uid)
+    return status_of(wire, (context, elements, sent(given)))
+
+
+def finished(wire: Any, uid: str, state: str, changes: dict[str, Any]) -> int:
+    """The status of the last change of a step that is created, claimed and set."""
+    for request in (stock.create(uid), stock.move(uid, "IN PROGRESS"), stock.change(uid, **OWN, **changes)):
+        assert status_of(wire, request) == 0, uid
+    return status_of(wire, stock.move(uid, state))
+
+
+def try_check(results: Results, wire: Any, folder: str) -> None:
+    cases = []
+    for number, (name, changes, wanted) in enumerate(CREATIONS):
+        given = {**STEP, **changes}
+        cases.append(Case(name, given, wanted, created(wire, f"1.2.6.{number}", given)))
+    for uid in (GLOBAL, "1.2.840.10008.5.1.4.34.5.1", "1.02"):
+        cases.append(Case(f"the UID {uid}", {**STEP, "SOPInstanceUID": uid}, 0x0117, created(wire, uid, STEP)))
+    judge(results, folder, cases)
+    changed = [Case(f"set {name}", changes, wanted, status_of(wire, stock.change("1.2.6.0", **changes)))
+               for name, changes, wanted in CHANGES]
+    judge(results, folder, changed, "--set")
+    for state in ("COMPLETED", "CANCELED"):
+        asked = [(f"1.2.7.{number}", *each) for number, each in enumerate(FINALS) if each[1] == state]
+        ended = [Case(f"{state} with {name}", {**STEP, **changes}, wanted, finished(wire, uid, state, changes))
+                 for uid, name, _, changes, wanted in asked]
+        judge(results, folder, ended, "--final", state)
+    try_files(results, folder)
+
+
+def try_files(results: Results, folder: str) -> None:
+    """A message that is too long, standard input, and files that are none."""
+    long = json.dumps(plain({**STEP, "ReasonForCancellation": LONG, "TextValue": LONG}))
+    results.tell("check, a message that is too long",
+               wrong(run("check", "-", given=long), 1, "the association would end", "1,048,576"))
+    both = json.dumps([plain(STEP), plain({**STEP, "ProcedureStepLabel": ""})])
+    results.tell("check, two of standard input",
+               wrong(run("check", "-", given=both), 1, "data set 1: 0000", "data set 2: 0121", "1 of 2 would"))
+    results.tell("check, no file", wrong(run("check", os.path.join(folder, "none")), NO_ANSWER, "No such file"))
+    results.tell("check, no JSON", wrong(run("check", "-", given="{"), NO_ANSWER, "can't be read"))
+
+
+def json_of(ran: Ran) -> Any:
+    """The array that a command printed, by UID."""
+    return {each["00080018"]["Value"][0]: each for each in json.loads(ran.out)}
+
+
+def try_json(results: Results, port: int) -> None:
+    place = ["--port", str(port)]
+    found = json_of(run("find", "--json", "--station", "R1", "--station", "R2", *place))
+    results.tell("json, the steps of two stations", None if set(found) == {A, B, C} else str(set(found)))
+    first = found[A]
+    wanted = {"00741204": ["CT READ"], "00100010": [{"Alphabetic": "MÜLLER^JÜRGEN"}], "00080005": ["ISO_IR 192"]}
+    told = {tag: first[tag].get("Value") for tag in wanted}
+    results.tell("json, the attributes of one", None if told == wanted else str(told))
+    code = first["00404025"]["Value"][0]["00080100"]["Value"]
+    results.tell("json, a sequence", None if code == ["R1"] else str(code))
+    ran = run("find", "--json", "--label", "nobody has it", *place)
+    results.tell("json, none", wrong(ran, DONE) or (None if json.loads(ran.out) == [] else ran.out))
+    results.tell("json, the count aside", None if "0 found" in ran.error else ran.error)
+    whole = run("get", "--json", B, *place)
+    results.tell("json, of one step", None if json_of(whole)[B]["00741000"]["Value"] == ["SCHEDULED"] else whole.out)
+    results.tell("json, which check reads", wrong(run("check", "-", given=whole.out), DONE, f"{B}: 0000"))
+
+
+# what try_commands left: A is COMPLETED, and B, C and D are SCHEDULED
+COUNTS = {"SCHEDULED": 3, "IN PROGRESS": 0, "COMPLETED": 1, "CANCELED": 0}
+PLUGIN = re.compile(r"UPS (OK|WARNING|CRITICAL) - [^|\n]+ \| ('?[a-z_]+'?=(U|[0-9.]+s?(;[0-9.]*){0,4}) ?)+\n")
+SAMPLE = re.compile(r'([a-z_]+)(\{state="([A-Z ]+)"\})? ([0-9.]+)')
+
+
+def samples(text: str) -> dict[tuple[str, str], float]:
+    """What the text format says; a line that isn't of it is an error."""
+    found = {}
+    for line in text.splitlines():
+        if not re.fullmatch(r"# (HELP|TYPE) [a-z_]+ .+", line):
+            sample = SAMPLE.fullmatch(line)
+            assert sample, line
+            found[sample[1], sample[3] or ""] = float(sample[4])
+    return found
+
+
+def try_status(results: Results, port: int, folder: str) -> None:
+    place = ["--port", str(port)]
+    ran = run("status", *place)
+    rows = {state: int(number) for state, number in re.findall(r"^([A-Z ]+?) +(\d+)", ran.out, re.MULTILINE) if state in COUNTS}
+    oldest = [f"oldest start {OLDEST}, ", f"oldest modification {MODIFIED}, "]
+    results.tell("status, counts", wrong(ran, DONE, "look-up by UID", *oldest) or (None if rows == COUNTS else ran.out))
+    limits = [(["--warning", "30", "--critical", "60"], 0), (["--warning", "0", "--critical", "60"], 1),
+              (["--warning", "0", "--critical", "0"], 2), (["--warning", ",0.001"], 1),
+              (["--critical", "60,0.001"], 2), (["--warning", ",1e12"], 0)]
+    for words, status in limits:
+        ran = run("status", "--nagios", *words, *place)
+        fault = wrong(ran, status) or (None if PLUGIN.fullmatch(ran.out) else f"this is no line of a plugin: {ran.out!r}")
+        results.tell(f"status --nagios {' '.join(words)}", fault)
+    counts = {what: int(number) for what, number in re.findall(r" ([a-z_]+)=(\d+);;;0", ran.out)}
+    results.tell("performance data", None if counts == {state.lower().replace(" ", "_"): count for state, count in COUNTS.items()}
+               else ran.out)
+    results.tell("a plugin with wrong words", wrong(run("status", "--nagios", "--warning", "soon"), 3, "is no limit"))
+    results.tell("a plugin with no server", wrong(run("status", "--nagios", "--port", "1"), 2, "UPS CRITICAL - "))
+    results.tell("a plugin with another title",
+               wrong(run("status", "--nagios", "--called", "OTHER", *place), 2, "UPS CRITICAL - ", "rejected"))
+    try_prometheus(results, place, os.path.join(folder, "ups.prom"))
+
+
+def try_prometheus(results: Results, place: list[str], path: str) -> None:
+    ran = run("status", "--prometheus", *place)
+    found = samples(ran.out)
+    told = {state: found.get(("ups_steps", state)) for state in COUNTS}
+    oldest = found.get(("ups_oldest_start_timestamp_seconds", "SCHEDULED"))
+    results.tell("status --prometheus", wrong(ran, DONE)
+               or (None if told == COUNTS and found["ups_up", ""] == 1 and oldest == OLDEST_SECONDS else ran.out))
+    ran = run("status", "--prometheus", "--output", path, *place)
+    with open(path) as file:
+        results.tell("a file of it", wrong(ran, DONE)
+                   or (None if samples(file.read())["ups_steps", "SCHEDULED"] == 3 and not ran.out else ran.out))
+    results.tell("which all may read", None if stat.S_IMODE(os.stat(path).st_mode) == 0o644 else oct(os.stat(path).st_mode))
+    ran = run("status", "--prometheus", "--output", path, "--port", "1")
+    with open(path) as file:
+        results.tell("a file without a server", wrong(ran, NO_ANSWER)
+                   or (None if samples(file.read()) == {("ups_up", ""): 0} else "it has more"))
+    left = [name for name in os.listdir(os.path.dirname(path)) if name.startswith(".ups.")]
+    results.tell("no file is left beside it", str(left) if left else None)
+
+
+def try_watch(results: Results, program: list[str]) -> None:
+    """A watcher that answers with a failure, and one that is slow."""
+    listen = free_port()
+    with Server(program, "--keep", "3600", f"WATCHER=127.0.0.1:{listen}") as server:
+        place, watch = ["--port", str(server.port)], ["watch", "--ae", "WATCHER", "--listen", str(listen), "--associations", "1"]
+        for number, (words, logged) in enumerate([
+                (["--status", "0110"], r"deliver WATCHER: 1 reports were answered with a failure status, the last with 0110"),
+                (["--delay", "1.5"], r"deliver WATCHER: Released, 1 reports, 1\.[5-9] s"),
+                (["--delay", "0", "--status", "0000"], r"deliver WATCHER: (Released, 1 reports|1 reports more)")]):
+            seen = len(server.log)
+            told: list[Ran] = []
+            thread = threading.Thread(target=lambda: told.append(run(*watch, *words)))
+            thread.start()
+            run("subscribe", "--receiver", "WATCHER", *place) if number == 0 else None
+            run("create", f"1.2.8.{number}", *place)
+            thread.join(LIMIT)
+            results.tell(f"watch {' '.join(words)}", wrong(told[0], DONE, f"1.2.8.{number} state: ") if told else "it does not end")
+            found = holds(lambda: any(re.search(logged, line) for line in server.log[seen:]), 5)
+            results.tell(f"what the log says of watch {' '.join(words)}", None if found else str(server.log[seen:]))
+        try_suspend(results, place, watch)
+
+
+def try_suspend(results: Results, place: list[str], watch: list[str]) -> None:
+    """A watcher that has suspended is told of the steps that it watched before, and of no others."""
+    asked = [["suspend", "--receiver", "WATCHER"], ["create", "1.2.8.9"], ["claim", "1.2.8.0", *HOLDER]]
+    statuses = [run(*words, *place).status for words in asked]
+    ran = run(*watch)
+    told = wrong(ran, DONE, "1.2.8.0 state: InputReadinessState=READY  ProcedureStepState=IN PROGRESS")
+    fault = str(statuses) if any(statuses) else told or (ran.out if "1.2.8.9" in ran.out else None)
+    results.tell("what is told behind suspend", fault)
+
+
+def try_announce(results: Results) -> None:
+    """Two watchers are told, each under its title."""
+    for syntax, words, wanted in (
+            (stock.EXPLICIT, [],
+             {"SCPStatus": "RESTARTED", "SubscriptionListStatus": "COLD START", "UnifiedProcedureStepListStatus": "COLD START"}),
+            (stock.IMPLICIT, ["--subscriptions", "WARM START"],
+             {"SCPStatus": "RESTARTED", "SubscriptionListStatus": "WARM START", "UnifiedProcedureStepListStatus": "COLD START"}),
+            (stock.IMPLICIT, ["--status", "GOING DOWN", "--implicit"], {"SCPStatus": "GOING DOWN"})):
+        watcher = Watcher(syntax)
+        peers = [watcher.peer, watcher.peer + ",lock"]
+        ran = run("announce", *peers, *words)
+        fault = wrong(ran, DONE) or (None if ran.out.count("WATCHER: 0000 success") == 2 else ran.out)
+        results.tell(f"announce {' '.join(words)}", fault)
+        holds(lambda: watcher.released == 2, 5)
+        events = [(4, GLOBAL, plain(wanted))] * 2
+        results.tell(f"what is told of announce {' '.join(words)}", None if watcher.reports == events else str(watcher.reports))
+        results.tell(f"the associations of announce {' '.join(words)}", "; ".join(watcher.faults) or None)
+
+
+def main() -> None:
+    parser = argparse.ArgumentParser(description=__doc__, formatter_class=argparse.RawDescriptionHelpFormatter)
+    parser.add_argument("program", nargs="*", default=[os.path.join(HERE, "crates/upsd/out/upsd")],
+                        help="the program, and words before those of `serve` (crates/upsd/out/upsd, which `rt run` builds)")
+    asked = parser.parse_args()
+    install({})
+    warnings.simplefilter("ignore")  # pydicom warns of the values that are tried
+    signal.signal(signal.SIGALRM, lambda *_: sys.exit(f"client.py: not done in {ALL} seconds"))
+    signal.alarm(ALL)
+    results = Results()
+    with tempfile.TemporaryDirectory() as folder:
+        with Server(asked.program, "--keep", "3600", "WATCHER=127.0.0.1:1") as server:
+            try_commands(results, server.port)
+            try_json(results, server.port)
+            try_status(results, server.port, folder)
+        with Server(asked.program, "--keep", "3600") as server:
+            wire = open_association(server.port, [each.encode() for each in stock.CONTEXTS], stock.EXPLICIT, LIMIT)
+            try_check(results, wire, folder)
+            wire.release()
+    try_watch(results, asked.program)
+    try_announce(results)
+    results.end("the client `ups`")
+
+
+if __name__ == "__main__":
+    main()

@@ -1,0 +1,185 @@
+#!/usr/bin/env python3
+"""Tries how long a working peer waits behind 200 others at `upsd serve` that have begun something and don't go on.
+
+    trials/crowds.py [PROGRAM..] [--limit 15]      (default: crates/upsd/out/upsd)
+
+At servers of 16 workers, with `--timeout 10`, 200 peers come at the same time, and
+
+    half a header     send three bytes of an association request, and nothing more
+    all but a byte    send an association request without its last byte, and nothing more
+    associates        ask for an association, and nothing more
+
+A working peer that comes a second behind them has to be served within 15 seconds (`--limit`). Four peers that had an
+association before, and ask twice a second, go on being answered all the while.
+
+At a server of two workers one peer has an association and says nothing, another asks twice a second, and a third one waits. The
+silent one has to make way when it has been silent for ten seconds, and hears an A-ABORT of which the log tells; the other goes on.
+The third one then asks each three seconds, while a fourth one waits: it goes on, too.
+
+Where nobody waits, `--timeout` and `--idle` hold: with 4 and 14 seconds a connection with half a header is closed after 4 and an
+association that says nothing after 14, each within a second, and neither before.
+
+It ends by itself, in two minutes where all is well. It prints how long each peer waited, a line for each trial that doesn't
+agree, and in the end how many passed. It ends with status 1 where one doesn't. `trials/abuse.py` has peers of many other kinds.
+"""
+
+from __future__ import annotations
+
+import argparse
+import contextlib
+import os
+import signal
+import sys
+import threading
+import time
+from collections.abc import Awaitable, Callable, Iterator
+from typing import Optional
+
+sys.path.insert(0, os.path.join(os.path.dirname(os.path.dirname(os.path.abspath(__file__))), "check/lib"))
+from abuse import ABORT, CROWD, ECHO, FAULTS, REQUEST, Caller, Holder, connect, crowd, hung_up, served
+from ending import Visitor
+from machine import HERE, holds
+from results import Results
+from server import Server
+
+WORKERS, BUSY = 16, 4
+TIMEOUT = 10  # seconds: of the server that a crowd comes to, and behind which a silent association makes way
+PATIENCE = 180  # seconds for which a working peer waits at most, so that it is told after how many it is served
+SHORT, LONG = 4, 14  # the limits where nobody waits
+SLACK = 1.0
+
+
+def sends(said: bytes) -> Callable[[Holder], Awaitable[None]]:
+    """A peer that sends these bytes, and nothing more."""
+    async def begins(holder: Holder) -> None:
+        await holder.say(said)
+        await holder.hear_all()
+
+    return begins
+
+
+KINDS = {"half a header": sends(REQUEST[:3]), "all but a byte": sends(REQUEST[:-1]), "associates": sends(REQUEST)}
+
+
+@contextlib.contextmanager
+def visitors(port: int, count: int) -> Iterator[list[Visitor]]:
+    """So many peers that have an association already, and ask twice a second."""
+    over = threading.Event()
+    working = [Visitor(port, over) for _ in range(count)]
+    holds(lambda: all(it.is_served for it in working), TIMEOUT)
+    try:
+        yield working
+    finally:
+        over.set()
+        for it in working:
+            it.thread.join(TIMEOUT)
+
+
+def fault_of(working: list[Visitor]) -> Optional[str]:
+    """Why peers that ask all the while are not answered, or None."""
+    faults = [it.fault or "it is not served" for it in working if it.fault or not it.is_served]
+    return f"{len(faults)} of {len(working)}: {faults[0]}" if faults else None
+
+
+def crowd_trial(program: list[str], results: Results, name: str, limit: float) -> None:
+    """A working peer behind a crowd, and others that were there before."""
+    with Server(program, "--associations", str(WORKERS), "--timeout", str(TIMEOUT)) as server:
+        with visitors(server.port, BUSY) as working, crowd(server.port, KINDS[name], [Holder() for _ in range(CROWD)]):
+            waited = served(server.port, PATIENCE, 1)
+            fault = fault_of(working)
+        results.tell(f"{name}, those that ask all the while", fault)
+        told = "not served" if waited is None else f"served after {waited:.1f} s"
+        results.tell(f"a peer behind {CROWD}: {name}", None if waited is not None and waited <= limit else f"it is {told}")
+        print(f"a peer behind {CROWD}: {name}: {told}", flush=True)
+
+
+class Waiting:
+    """A peer that waits for its association, and then asks each so many seconds until it is told to go."""
+
+    def __init__(self, port: int, pause: float, over: threading.Event) -> None:
+        self.port, self.pause, self.over = port, pause, over
+        self.began, self.seconds, self.fault = time.monotonic(), 0.0, "it is not served"
+        self.thread = threading.Thread(target=self.work, daemon=True)
+        self.thread.start()
+
+    def work(self) -> None:
+        try:
+            peer = Caller(self.port, 4 * TIMEOUT)
+            assert peer.ask(ECHO) == 0
+            self.seconds, self.fault = time.monotonic() - self.began, ""
+            while not self.over.wait(self.pause):
+                assert peer.ask(ECHO) == 0
+            peer.release()
+        except FAULTS as fault:
+            self.fault = repr(fault)
+
+    def told(self) -> str:
+        return self.fault or f"served after {self.seconds:.1f} s"
+
+
+def idle_trial(program: list[str], results: Results) -> None:
+    """The association that has been silent for longest makes way, and no other."""
+    over = threading.Event()
+    with Server(program, "--associations", "2") as server, visitors(server.port, 1) as working:
+        silent = Caller(server.port, TIMEOUT)
+        address = "{}:{}".format(*silent.socket.getsockname())
+        third = Waiting(server.port, 3.0, over)
+        holds(lambda: third.seconds, 2 * TIMEOUT)
+        is_good = abs(third.seconds - TIMEOUT) <= 2 * SLACK
+        results.tell("a peer behind an idle one", None if is_good else f"it is {third.told()}")
+        results.tell("an idle one makes way, A-ABORT", heard(silent))
+        told = [line for line in server.log if address in line]
+        results.tell("an idle one makes way, the log", None if told else f"no line names {address}")
+        fourth = Waiting(server.port, 1.0, over)
+        time.sleep(TIMEOUT - SLACK)
+        results.tell("a peer that pauses while another one waits", third.fault or None)
+        results.tell("an idle one makes way, another one", fault_of(working))
+        over.set()
+        for it in (third, fourth):
+            it.thread.join(TIMEOUT)
+        print(f"a peer behind an idle one: {third.told()}; {told}", flush=True)
+
+
+def heard(peer: Caller) -> Optional[str]:
+    """Why a peer that is cut off has not heard an A-ABORT, or None."""
+    peer.socket.settimeout(SLACK)
+    try:
+        last = peer.socket.recv(65536)
+    except OSError as fault:
+        return repr(fault)
+    return None if last.startswith(ABORT[:1]) else f"it hears {last.hex()}"
+
+
+def alone_trial(program: list[str], results: Results) -> None:
+    """Where nobody waits, the limits hold."""
+    with Server(program, "--associations", "4", "--timeout", str(SHORT), "--idle", str(LONG)) as server:
+        half, idle = connect(server.port), Caller(server.port, LONG).socket
+        half.sendall(REQUEST[:3])
+        began = time.monotonic()
+        for name, peer, limit in (("half a header", half, SHORT), ("an idle association", idle, LONG)):
+            is_cut = hung_up(peer, began + limit + SLACK)
+            seconds = time.monotonic() - began
+            is_good = is_cut and seconds >= limit - SLACK / 2
+            told = f"cut off after {seconds:.1f} s" if is_cut else f"not cut off after {seconds:.1f} s"
+            results.tell(f"alone, {name}", None if is_good else f"it is {told}, and the limit is {limit} s")
+            print(f"alone, {name}: {told}", flush=True)
+
+
+def main() -> None:
+    about, _, more = (__doc__ or "").partition("\n\n")
+    parser = argparse.ArgumentParser(description=about, epilog=more, formatter_class=argparse.RawDescriptionHelpFormatter)
+    parser.add_argument("program", nargs="*", default=[os.path.join(HERE, "crates/upsd/out/upsd")],
+                        help="the program, and words before those of `serve` (default: crates/upsd/out/upsd, which `rt run` builds)")
+    parser.add_argument("--limit", type=float, default=15.0, help="seconds that a working peer may wait (default: %(default)s)")
+    given, results = parser.parse_args(), Results(tells_passed=False)
+    signal.signal(signal.SIGALRM, lambda *_: sys.exit("crowds.py: it does not end"))
+    signal.alarm(900)
+    for name in KINDS:
+        crowd_trial(given.program, results, name, given.limit)
+    idle_trial(given.program, results)
+    alone_trial(given.program, results)
+    results.end(f"peers that have begun, {CROWD} of each kind")
+
+
+if __name__ == "__main__":
+    main()

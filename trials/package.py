@@ -1,0 +1,366 @@
+#!/usr/bin/env python3
+"""Makes the Debian package, installs it in a bare Debian that it boots, tries it there, and removes it.
+
+    trials/package.py                  with crates/upsd/out/upsd, which `rt run` builds
+    trials/package.py --program PATH   with another program
+    trials/package.py --checked        with a program that is built with checks (`rt try`): LimitAS is too little for it
+    trials/package.py --root FOLDER    takes the bare Debian of a folder, and makes it there where there is none
+
+Two builds have to be equal, `lintian` may find no error and no warning, `systemd-analyze security` no more than 2.0, and each
+option that a --help has stands in the man page of the command. Then `debootstrap` makes a Debian 12 with systemd (some 300 MB
+from deb.debian.org), and `systemd-nspawn` boots it, with a network of its own. There the package is installed with what it
+depends on; the unit, as it is but for the words in /etc/default/upsd, runs the tour of README.md through `ups`; a restart, an
+upgrade, a wrong word, a removal and a purge have to do what the package says. In the end nothing of it is left.
+
+It installs what is missing (lintian, debootstrap, systemd-container, man-db, python3-pydicom) and needs root. It prints a line
+for each trial, and then `N passed, M failed`. The exit status is 1 where one failed.
+"""
+
+from __future__ import annotations
+
+import argparse
+import contextlib
+import os
+import re
+import shlex
+import shutil
+import subprocess
+import sys
+import tempfile
+from typing import Iterator, Optional
+
+sys.path.insert(0, os.path.join(os.path.dirname(os.path.dirname(os.path.abspath(__file__))), "check/lib"))
+from machine import HERE, holds, install
+from results import Results
+import tour
+
+TOOLS = {"lintian": "lintian", "debootstrap": "debootstrap", "systemd-nspawn": "systemd-container", "systemd-analyze": "systemd",
+         "man": "man-db", "strip": "binutils", "objdump": "binutils", "nsenter": "util-linux"}
+MIRROR = "http://deb.debian.org/debian"
+MOST_EXPOSED = 2.0
+STORE = "/var/lib/upsd/upsd.db"
+PORTS = {port: port for port in (tour.SERVER_PORT, tour.WATCHER_PORT)}  # all are free: what is booted has its own network
+BOOT = 60  # seconds until it has booted
+QUIET = {**os.environ, "LC_ALL": "C.UTF-8", "DEBIAN_FRONTEND": "noninteractive", "PATH": "/usr/sbin:/usr/bin:/sbin:/bin"}
+NOT_COMPARED = ("var/log", "var/cache", "var/lib/dpkg", "var/lib/apt", "var/tmp", "var/lib/systemd", "tmp", "run", "proc", "sys",
+                "dev", "root", "etc/passwd-", "etc/group-", "etc/shadow-", "etc/gshadow-", "etc/.pwd.lock")
+
+
+def run(*words: str) -> subprocess.CompletedProcess[str]:
+    return subprocess.run(words, capture_output=True, text=True, env=QUIET, cwd=HERE)
+
+
+def fault_of(ran: subprocess.CompletedProcess[str]) -> Optional[str]:
+    """Why a command failed, or None."""
+    return None if ran.returncode == 0 else f"status {ran.returncode}: {tour.last_line(ran.stderr or ran.stdout)}"
+
+
+def unless(holds_so: bool, fault: str) -> Optional[str]:
+    return None if holds_so else fault
+
+
+# the package by itself
+
+def built(program: str, folder: str) -> str:
+    """The path of a package that is built into a folder."""
+    ran = run("packaging/build", "--program", program, "--output", folder)
+    if ran.returncode:
+        sys.exit(f"package.py: it can't be built: {tour.last_line(ran.stderr)}")
+    return ran.stdout.strip()
+
+
+def content(path: str) -> bytes:
+    with open(path, "rb") as opened:
+        return opened.read()
+
+
+def lint(package: str) -> Optional[str]:
+    found = [it for it in run("lintian", package).stdout.split("\n") if it[:2] in ("E:", "W:")]
+    return unless(not found, "; ".join(found))
+
+
+def exposure(unit: str) -> Optional[str]:
+    """Why a unit is too exposed, or None."""
+    said = run("systemd-analyze", "security", "--offline=true", unit).stdout
+    found = re.search(r"exposure level for \S+: ([\d.]+)", said)
+    return unless(found is not None and float(found[1]) <= MOST_EXPOSED, found[0] if found else "no level is told")
+
+
+def options_in(text: str) -> set[str]:
+    return set(re.findall(r"(?<![\w-])--([a-z][\w-]*)", text)) - {"help", "version"}
+
+
+def synopsis(program: str) -> Optional[str]:
+    """Which options of the program's commands the synopsis of its man page lacks, or has too many; or None."""
+    with open(os.path.join(HERE, "packaging/man/upsd.8"), encoding="utf-8") as opened:
+        page = opened.read().partition(".Sh SYNOPSIS\n")[2].partition(".Sh ")[0]
+    faults = []
+    for name, text in re.findall(r"(?s)\.Cm (\w+)\n(.*?)(?=\.Nm|\Z)", page):
+        told, asked = {it for it in re.findall(r"Fl -([\w-]+)", text)}, options_in(run(program, name, "--help").stdout)
+        faults += [f"{name}: --{it}" for it in sorted(told ^ asked)]
+    return unless(not faults, ", ".join(faults))
+
+
+def man_pages(root: str) -> Optional[str]:
+    """What `man` warns of in the pages that are installed below a root."""
+    faults = []
+    for page in ("man1/ups.1.gz", "man5/upsd-script.5.gz", "man8/upsd.8dicom.gz"):
+        ran = run("man", "--warnings", "-l", "-Tutf8", "-Z", os.path.join(root, "usr/share/man", page))
+        faults += [f"{page}: {tour.last_line(ran.stderr)}"] if ran.stderr or ran.returncode else []
+    return unless(not faults, "; ".join(faults))
+
+
+def try_package(program: str, folder: str, results: Results) -> str:
+    """Builds the package, and looks at it: its path."""
+    package, other = built(program, folder), built(program, os.path.join(folder, "again"))
+    results.tell("two builds are equal", unless(content(package) == content(other), "they differ"))
+    results.tell("lintian", lint(package))
+    results.tell("systemd-analyze security", exposure(os.path.join(HERE, "packaging/upsd.service")))
+    results.tell("the synopsis of upsd(8)", synopsis(program))
+    return package
+
+
+# a Debian that is booted
+
+def bare(folder: str) -> None:
+    """Makes a Debian with systemd and nothing more in a folder, unless it is there."""
+    if not os.path.exists(os.path.join(folder, "usr/bin/dpkg")):
+        ran = run("debootstrap", "--variant=minbase", "--include=systemd-sysv", "bookworm", folder, MIRROR)
+        if ran.returncode:
+            sys.exit(f"package.py: debootstrap: {tour.last_line(ran.stdout)}")
+
+
+class Machine:
+    """A Debian below a folder, which may be booted."""
+
+    def __init__(self, root: str) -> None:
+        self.root = root
+        self.leader = ""  # the process that is its process 1
+
+    def path(self, name: str) -> str:
+        return os.path.join(self.root, name.lstrip("/"))
+
+    def words(self) -> list[str]:
+        """What stands before a command that is run in it."""
+        return ["nsenter", "-t", self.leader, "-m", "-u", "-i", "-n", "-p", "-C"] if self.leader else ["chroot", self.root]
+
+    def run(self, *words: str) -> subprocess.CompletedProcess[str]:
+        return run(*self.words(), *words)
+
+    def says(self, *words: str) -> str:
+        return self.run(*words).stdout.strip()
+
+    def of_unit(self, name: str) -> str:
+        """A property of the unit."""
+        return self.says("systemctl", "show", "--property", name, "--value", "upsd.service")
+
+    def has_booted(self, pid: int) -> bool:
+        children = run("pgrep", "-P", str(pid)).stdout.split()
+        self.leader = children[0] if children else ""
+        return bool(children) and self.says("systemctl", "is-system-running") in ("running", "degraded")
+
+    def paths(self) -> set[str]:
+        """The files and folders in it, but for those that a running system, or a package manager, writes."""
+        found = set()
+        for path, folders, names in os.walk(self.root):
+            here = os.path.relpath(path, self.root).removeprefix(".")
+            folders[:] = [it for it in folders if os.path.join(here, it) not in NOT_COMPARED]
+            found |= {os.path.join(here, it) for it in (*folders, *names)}
+        return {it for it in found if not it.startswith(NOT_COMPARED) and "__pycache__" not in it}
+
+    @contextlib.contextmanager
+    def booted(self) -> Iterator[None]:
+        words = ["systemd-nspawn", "--boot", "--private-network", "--register=no", "--keep-unit", "--console=pipe"]
+        silent = {it: subprocess.DEVNULL for it in ("stdin", "stdout", "stderr")}
+        with subprocess.Popen([*words, f"--directory={self.root}"], **silent) as process:
+            try:
+                holds(lambda: process.poll() is not None or self.has_booted(process.pid), BOOT)
+                if not self.leader or process.poll() is not None:
+                    sys.exit("package.py: the Debian does not boot")
+                yield
+            finally:
+                self.leader = ""
+                process.terminate()
+                with contextlib.suppress(subprocess.TimeoutExpired):
+                    process.wait(20)
+                process.kill()
+
+
+def write(path: str, text: str) -> None:
+    os.makedirs(os.path.dirname(path), exist_ok=True)
+    with open(path, "w", encoding="utf-8") as opened:
+        opened.write(text)
+
+
+def depend(machine: Machine, package: str) -> None:
+    """Installs what the package depends on."""
+    depends = re.findall(r"([a-z][\w.-]*)", re.sub(r"\([^)]*\)|:any", "", run("dpkg-deb", "-f", package, "Depends").stdout))
+    shutil.copy("/etc/resolv.conf", machine.path("etc/resolv.conf"))
+    ran = machine.run("apt-get", "install", "-y", "--no-install-recommends", *depends)
+    if ran.returncode:
+        sys.exit(f"package.py: {' '.join(depends)}: {tour.last_line(ran.stderr)}")
+    shutil.copy(package, machine.path("root/upsd.deb"))
+
+
+def try_installation(machine: Machine, results: Results) -> None:
+    """Installs the package."""
+    results.tell("install", fault_of(machine.run("dpkg", "--install", "/root/upsd.deb")))
+    states = machine.says("systemctl", "is-enabled", "upsd.service"), machine.of_unit("ActiveState")
+    results.tell("nothing is enabled or started", unless(states == ("disabled", "inactive"), " ".join(states)))
+    results.tell("the system user", fault_of(machine.run("id", "upsd")))
+    results.tell("the man pages", man_pages(machine.root))
+
+
+# what is tried in it
+
+def serve_words(commands: list[tour.Command]) -> str:
+    """The words of the README's server, with a store."""
+    command = next(it.text for it in commands if it.is_server)
+    return f"{re.search(r' serve (.*?)(?: 2>.*)? &$', command)[1]} --store {STORE}"
+
+
+def has_words(machine: Machine, words: str) -> None:
+    write(machine.path("etc/default/upsd"), f'UPSD_OPTIONS="{words}"\n')
+
+
+def comes_to(machine: Machine, state: str, seconds: float = 20) -> Optional[str]:
+    """Why a unit does not come to a state in time, or None."""
+    holds(lambda: machine.of_unit("ActiveState") == state, seconds)
+    found = machine.of_unit("ActiveState"), machine.of_unit("Result"), machine.of_unit("ExecMainStatus")
+    return unless(found[0] == state, f"it is {found[0]}, {found[1]}, with status {found[2]}")
+
+
+def has_line(machine: Machine, name: str, line: str) -> None:
+    """Adds a line to the unit, until the next boot."""
+    folder = "/run/systemd/system/upsd.service.d"
+    machine.run("mkdir", "-p", folder)
+    machine.run("sh", "-c", f"printf '[Service]\\n{line}\\n' > {folder}/{name}.conf")
+    machine.run("systemctl", "daemon-reload")
+
+
+def listens(machine: Machine, *options: str) -> Optional[str]:
+    """Why the server does not answer within some seconds, or None."""
+    has_answered = holds(lambda: machine.run("ups", "echo", *options).returncode == 0, 20)
+    return None if has_answered else machine.says("journalctl", "--quiet", "--lines=3", "--unit=upsd")
+
+
+def take_tour(machine: Machine, commands: list[tour.Command], results: Results) -> None:
+    """Runs the client's commands of the README, and compares what they print."""
+    enter = shlex.join(machine.words())
+    for command in commands:
+        if not command.is_server:
+            words = f"{enter} ups{command.text.removeprefix(tour.CLIENT).removeprefix('ups')}"
+            results.tell(f"tour: {command.text}", tour.difference(command, words, PORTS))
+
+
+def try_unit(machine: Machine, commands: list[tour.Command], results: Results) -> None:
+    """Starts the unit, takes the tour, and restarts it."""
+    has_words(machine, serve_words(commands))
+    results.tell("start", fault_of(machine.run("systemctl", "start", "upsd.service")) or listens(machine))
+    owner = machine.says("stat", "--format=%U %a", STORE, os.path.dirname(STORE))
+    results.tell("the store is the user's alone", unless(owner == "upsd 600\nupsd 700", owner))
+    take_tour(machine, commands, results)
+    held = machine.says("ups", "find")
+    results.tell("restart", fault_of(machine.run("systemctl", "restart", "upsd.service")) or listens(machine))
+    found = machine.says("ups", "find")
+    results.tell("a restart loses nothing", unless(found == held and "1 found" in held, f"{found!r} and not {held!r}"))
+    before = machine.of_unit("MainPID")
+    results.tell("upgrade", fault_of(machine.run("dpkg", "--install", "--force-confold", "/root/upsd.deb")) or listens(machine))
+    results.tell("an upgrade restarts what runs", unless(machine.of_unit("MainPID") != before, f"it is still {before}"))
+    errors = machine.says("journalctl", "--quiet", "--unit=upsd", "--priority=err", "_COMM=upsd")
+    results.tell("the log has no error", unless(not errors, errors))
+    ran = machine.run("runuser", "-u", "upsd", "--", "upsd", "compact", STORE)
+    results.tell("a store that is open is not compacted", unless(ran.returncode == 2, f"status {ran.returncode}"))
+
+
+def try_ends(machine: Machine, commands: list[tour.Command], results: Results) -> None:
+    """How the unit ends, by the exit statuses of docs/use/command-line.md."""
+    killed = machine.run("systemctl", "kill", "--signal=KILL", "upsd.service")
+    begins = holds(lambda: machine.of_unit("NRestarts") == "1", 20)
+    results.tell("a crash is mended", fault_of(killed) or unless(begins, "no restart") or listens(machine))
+    results.tell("stop", fault_of(machine.run("systemctl", "stop", "upsd.service")) or comes_to(machine, "inactive"))
+    strange = f"--ae UPSD --port {tour.SERVER_PORT} --bind 192.0.2.1"
+    for name, words, status, restarts in (("a wrong word ends it for good", "--ae UPSD", "1", False),
+                                          ("an address of another machine is tried again", strange, "2", True)):
+        has_words(machine, words)
+        machine.run("systemctl", "start", "upsd.service")
+        ends = holds(lambda: machine.of_unit("ExecMainStatus") == status, 10)
+        again = holds(lambda: int(machine.of_unit("NRestarts")) > 0, 10)
+        results.tell(name, unless(ends and again == restarts, f"status {machine.of_unit('ExecMainStatus')}, restarted: {again}"))
+        machine.run("systemctl", "stop", "upsd.service")
+        machine.run("systemctl", "reset-failed", "upsd.service")
+    try_port(machine, results)
+    has_words(machine, serve_words(commands))
+    machine.run("systemctl", "start", "upsd.service")
+    results.tell("start again", listens(machine))
+
+
+def try_port(machine: Machine, results: Results) -> None:
+    """Whether the unit takes DICOM's port, with the line that it names for that and without."""
+    has_words(machine, "--ae UPSD --port 104")
+    machine.run("systemctl", "start", "upsd.service")
+    refused = holds(lambda: machine.of_unit("ExecMainStatus") == "2", 10)
+    results.tell("port 104 wants a capability", unless(refused, machine.of_unit("ActiveState")))
+    has_line(machine, "port", "AmbientCapabilities=CAP_NET_BIND_SERVICE")
+    machine.run("systemctl", "restart", "upsd.service")
+    results.tell("port 104", listens(machine, "--port", "104"))
+    machine.run("systemctl", "stop", "upsd.service")
+
+
+def try_removal(machine: Machine, before: set[str], results: Results) -> None:
+    """Removes the package, and purges it."""
+    results.tell("remove", fault_of(machine.run("dpkg", "--remove", "upsd")))
+    left = machine.paths() - before
+    kept = {"etc/default/upsd", "var/lib/upsd", "var/lib/upsd/upsd.db", "var/lib/upsd/upsd.db-wal"}
+    results.tell("a removal keeps words and store alone", unless(left == kept, f"{sorted(left ^ kept)}"))
+    runs = "upsd" in machine.says("sh", "-c", "cat /proc/[0-9]*/comm").split()
+    results.tell("a removal ends the server", unless(not runs, "it runs"))
+    results.tell("purge", fault_of(machine.run("dpkg", "--purge", "upsd")))
+    left = machine.paths() ^ before
+    results.tell("a purge leaves nothing", unless(not left, f"{sorted(left)}"))
+    results.tell("nor the user", unless(machine.run("id", "upsd").returncode != 0, "there is one"))
+
+
+def try_in(root: str, package: str, is_checked: bool, results: Results) -> None:
+    """Tries the package in a Debian below a folder."""
+    with open(os.path.join(HERE, "README.md"), encoding="utf-8") as text:
+        commands = [it for it in tour.commands_of(text.read()) if it.is_server or it.text.startswith((tour.CLIENT, "ups "))]
+    machine = Machine(root)
+    depend(machine, package)
+    with machine.booted():
+        if is_checked:
+            has_line(machine, "limits", "LimitAS=infinity")
+        before = machine.paths()
+        try_installation(machine, results)
+        try_unit(machine, commands, results)
+        try_ends(machine, commands, results)
+        try_removal(machine, before, results)
+
+
+@contextlib.contextmanager
+def copied(folder: Optional[str]) -> Iterator[str]:
+    """A copy of the bare Debian of a folder, which goes again; of a new one where none is named."""
+    with tempfile.TemporaryDirectory(prefix="upsd-debian-") as place:
+        bare(folder or os.path.join(place, "bare"))
+        subprocess.run(["cp", "-a", folder or os.path.join(place, "bare"), os.path.join(place, "root")], check=True)
+        yield os.path.join(place, "root")
+
+
+def main() -> None:
+    about, _, more = (__doc__ or "").partition("\n\n")
+    asked = argparse.ArgumentParser(description=about, epilog=more, formatter_class=argparse.RawDescriptionHelpFormatter)
+    asked.add_argument("--program", metavar="PATH", default=tour.PROGRAM, help=f"the program ({tour.PROGRAM})")
+    asked.add_argument("--checked", action="store_true", help="the program is built with checks, and gets no LimitAS")
+    asked.add_argument("--root", metavar="FOLDER", help="a bare Debian, which is copied (made anew)")
+    given = asked.parse_args()
+    install(TOOLS)
+    results = Results()
+    with tempfile.TemporaryDirectory(prefix="upsd-trial-") as folder:
+        package = try_package(os.path.join(HERE, given.program), folder, results)
+        with copied(given.root) as root:
+            try_in(root, package, given.checked, results)
+    results.end()
+
+
+if __name__ == "__main__":
+    main()

@@ -1,0 +1,97 @@
+#!/usr/bin/env python3
+"""Tries whether a watcher waits for another one, gets a report twice or in another order, or has two associations at once.
+
+    trials/pool.py [PROGRAM] [--silent 3] [--mute 0] [--needs 2,2,2] [--quick 1] [--steps 20] [--timeout SECONDS] [--limit 0.3]
+
+It starts `upsd serve` on a free port of this machine with so many watchers that take connections and say nothing, so many that
+take the association and say nothing more, one for each number that needs so many seconds for each answer, so many that answer
+at once, and one that refuses the context of events. Each subscribes to all steps. So many steps are pushed, a second apart and
+more. It prints the longest time from a push to its report at the quick ones, for the first step and the others; of how many
+steps a watcher that answers got no report, more than one, or one in another order; the most associations that one watcher had
+at once; and how often the one that refuses was asked. It ends with status 1 where a quick one waited longer than the limit, a
+report is missing, came twice or in another order, or a watcher had two associations. `--timeout` is the server's
+`--delivery-timeout`.
+"""
+
+import argparse
+import collections
+import os
+import random
+import re
+import statistics
+import sys
+import time
+
+sys.path.insert(0, os.path.join(os.path.dirname(os.path.dirname(os.path.abspath(__file__))), "check/lib"))
+from dicom import create
+from listeners import Counting, Mute, Refusing, Silent, Slow
+from machine import holds
+from peer import GLOBAL, PUSH_ON, Asker, a_step, subscribe
+from server import Server
+
+PATIENCE = 15  # seconds for which the quick ones are waited for at each step
+
+
+def push(asker, quick, count):
+    """The steps that are pushed, and how long the quick ones waited for each."""
+    times, steps = [], []
+    for number in range(count):
+        step = b"1.2.0.%d" % number
+        asker.do(create(PUSH_ON, 1, step, a_step(b"P%d" % number)))
+        since = time.monotonic()
+        holds(lambda: all(step in it.first for it in quick), PATIENCE)
+        times.append(max(it.first.get(step, since + PATIENCE) for it in quick) - since)
+        steps.append(step)
+        time.sleep(random.uniform(1, 2))
+    return steps, times
+
+
+def tell_log(log):
+    """How often each word stands behind each watcher in the log."""
+    found = collections.Counter()
+    for line in log:
+        if told := re.search(r"deliver (W\d+)(?:: (\w+)| (is \w+))", line):
+            found[told[1], told[2] or told[3]] += 1
+    for (watcher, word), count in sorted(found.items(), key=lambda it: (int(it[0][0][1:]), it[0][1])):
+        print(f"    {watcher} {word}: {count}")
+
+
+def main():
+    about, _, more = __doc__.partition("\n\n")
+    asked = argparse.ArgumentParser(description=about, epilog=more, formatter_class=argparse.RawDescriptionHelpFormatter)
+    asked.add_argument("program", nargs="?", default="crates/upsd/out/upsd")
+    asked.add_argument("--silent", type=int, default=3)
+    asked.add_argument("--mute", type=int, default=0)
+    asked.add_argument("--needs", default="2,2,2")
+    asked.add_argument("--quick", type=int, default=1)
+    asked.add_argument("--steps", type=int, default=20)
+    asked.add_argument("--timeout", type=int, default=5)
+    asked.add_argument("--limit", type=float, default=0.3, help="seconds (0.3)")
+    given = asked.parse_args()
+    needs = [float(it) for it in given.needs.split(",") if it]
+    quick, slow = [Counting() for _ in range(given.quick)], [Slow(it) for it in needs]
+    silent, mute, refusing = [Silent() for _ in range(given.silent)], [Mute() for _ in range(given.mute)], [Refusing()]
+    everyone = silent + mute + slow + refusing + quick
+    words = [f"W{number}={it.place}" for number, it in enumerate(everyone)]
+    with Server([given.program], "--delivery-timeout", str(given.timeout), *words) as server:
+        asker = Asker(server.port)
+        for number in range(len(everyone)):
+            asker.do(subscribe(GLOBAL, b"W%d" % number, b"FALSE"))
+        steps, times = push(asker, quick, given.steps)
+        asker.release()
+        holds(lambda: all(len(it.came) >= len(steps) for it in slow + quick), 2 * max(needs, default=0) * given.steps + 30)
+        time.sleep(3)
+    missing = sum(step not in it.came for it in slow + quick for step in steps)
+    twice = sum(count > 1 for it in slow + quick for count in it.came.values())
+    disordered = sum(it.disordered(steps) for it in slow + quick)
+    most = max(it.most for it in everyone)
+    others = times[1:] or times
+    print(f"quick ones: the first report within {times[0]:.2f} s, the others within {max(others):.2f} s (median {statistics.median(others):.3f}); "
+          f"{missing} missing, {twice} twice, {disordered} in another order; at most {most} associations of one watcher; "
+          f"the one that refuses was asked {refusing[0].asked} times")
+    tell_log(server.log)
+    sys.exit(max(times) > given.limit or missing > 0 or twice > 0 or disordered > 0 or most > 1)
+
+
+if __name__ == "__main__":
+    main()

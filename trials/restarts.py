@@ -1,0 +1,272 @@
+"""Starts servers on stores that are not as they would have them: with other settings, held, foreign or damaged."""
+
+from __future__ import annotations
+
+import argparse
+import contextlib
+import os
+import random
+import re
+import sqlite3
+import time
+from typing import Optional
+
+from ledger import SOP_INSTANCE, Fault
+from machine import holds
+from results import Results
+from stored import (FAULTS, Client, Ended, Row, Stored, a_step_of, bytes_in, copy_of, ended, folder_for, performed, rows_of,
+                    runs_of, started_on, text_in, tried)
+
+KEEP = ["--keep", "1000000"]
+W1, W1_PLAIN, W2 = "W1=127.0.0.1:1,lock", "W1=127.0.0.1:1", "W2=127.0.0.1:1"
+BOTH = [*KEEP, W1, W2]
+STEPS = 20
+TIDY = 10.0  # seconds by which a server that nobody asks anything has copied its log into the file
+REFUSED = 2  # the status of a start that is refused
+OPERATION, RECEIVER = 3, 7  # columns of a row
+MISSING = r"fewer requests|lost|missing"
+
+
+def uid_of(number: int) -> bytes:
+    return b"1.2.3.%d" % (number + 1)
+
+
+def ask_all(client: Client, first: int, count: int) -> None:
+    """Creates so many steps, claims and sets each second one, and subscribes watchers to some."""
+    for number in range(first, first + count):
+        uid, transaction = uid_of(number), b"2.25.%d" % (number + 1)
+        statuses = [client.create(uid, a_step_of(b"P%d" % number))]
+        if number % 2:
+            statuses += [client.change(uid, b"IN PROGRESS", transaction), client.set(uid, performed(1), transaction)]
+        if number % 5 == 1:
+            statuses.append(client.subscribe(uid, b"W1", b"TRUE"))
+        if number % 5 == 3:
+            statuses.append(client.subscribe(uid, b"W2", b"FALSE"))
+        if any(statuses):
+            raise Fault(f"what is asked of step {number} is answered {statuses}")
+
+
+def make(program: list[str], file: str, steps: int = STEPS, tidies: bool = False) -> list[Row]:
+    """Makes a store with the requests of so many steps, and gives its rows. Its log may be copied into the file."""
+    with Stored(program, file, *BOTH) as server:
+        client = Client(server.port)
+        ask_all(client, 0, steps)
+        client.release()
+        if tidies and not holds(lambda: runs_of(file)[-1][4] == len(rows_of(file)), TIDY):
+            raise Fault("the server does not write how many requests there are, when nobody asks anything")
+        time.sleep(0.5 if tidies else 0)
+    return rows_of(file)
+
+
+def is_sentence(said: str, words: str = "") -> bool:
+    """Whether a program tells on standard error why it doesn't use a store, in a line."""
+    return bool(re.search(rf"^upsd: the store [^\n]*{words}", said, re.MULTILINE | re.IGNORECASE))
+
+
+def refused(come: Ended, words: str, before: dict[str, bytes], file: str, with_log: bool = True) -> Optional[str]:
+    """Why a start is not refused as it should be, with a sentence that has these words, and the files as they were."""
+    if come.status != REFUSED:
+        return f"it ends with {come.status}: {come.said[-300:]!r}"
+    if not is_sentence(come.said, words):
+        return f"it does not say {words!r}: {come.said[-300:]!r}"
+    now = bytes_in(file) if os.path.isfile(file) else {}
+    differ = [it for it, content in before.items() if now.get(it) != content and (with_log or it == file)]
+    return f"{differ} are not as they were" if differ else None
+
+
+# other settings
+
+def other_settings(program: list[str], folder: str, results: Results) -> None:
+    file = os.path.join(folder, "settings")
+    rows = make(program, file)
+    left = [(number, row[OPERATION]) for number, row in enumerate(rows, 1) if row[RECEIVER] == "W2"]
+    before = bytes_in(file)
+    number, operation = left[0]
+    come = started_on(program, file, *KEEP, W1)
+    named = rf"request {number} \({operation}\)"
+    results.tell("a peer is gone: status 2, with the number and the operation", refused(come, named, before, file, False))
+    results.tell("a peer is gone: both files are as they were", refused(come, "", before, file))
+    results.tell("a peer is gone: the requests are as they were", None if rows_of(file) == rows else "they are not")
+    results.tell("a peer is gone, and may be left out", tried(leaves_out, program, file, rows, left))
+    results.tell("all peers are there again", serves_all(program, file, BOTH, STEPS + 1))
+    for name, words in (("another time to keep", [*KEEP[:1], "3600", W1, W2]), ("a further peer", [*BOTH, "W3=127.0.0.1:1"]),
+                        ("other addresses", [*KEEP, "W1=127.0.0.1:2,lock", "W2=127.0.0.1:3"])):
+        results.tell(name, serves_all(program, copy_of(file, folder), words, STEPS + 1))
+    for name, words in (("a right to lock that is gone", [*KEEP, W1_PLAIN, W2]), ("another offset", [*BOTH, "--offset", "+0200"])):
+        results.tell(f"{name}: a start or a sentence", starts_or_says(program, copy_of(file, folder), words, STEPS + 1))
+    results.tell("the table of runs", tried(fault_of_runs, file))
+
+
+def leaves_out(program: list[str], file: str, rows: list[Row], left: list[tuple[int, object]]) -> Optional[str]:
+    """Why a server that may leave requests out doesn't do as it should, or None."""
+    with Stored(program, file, *KEEP, W1, "--store-leave-out") as server:
+        client = Client(server.port)
+        is_summed = holds(lambda: bool(server.lines(rf"store: {len(left)} requests? .*left out")), 5)
+        untold = [it for it in left if not holds(lambda: bool(server.lines(rf"request {it[0]} \({it[1]}\) is left out")), 5)]
+        there = len(client.found())
+        status = client.create(uid_of(STEPS), a_step_of(b"P"))
+        others = [line for line in server.lines("is left out") if not any(f"request {it[0]} " in line for it in left)]
+    if untold or others or not is_summed:
+        return f"the log does not tell of {untold}, or tells of others: {others}; how many is {'told' if is_summed else 'not told'}"
+    if there != STEPS or status != 0x0000:
+        return f"{there} of {STEPS} steps are there, and a creation is answered {status:04X}"
+    now, numbers = rows_of(file), {number for number, _ in left}
+    wanted = [row[1:] for number, row in enumerate(rows, 1) if number not in numbers]
+    is_good = [row[1:] for row in now[:-1]] == wanted and [row[0] for row in now] == list(range(1, len(wanted) + 2))
+    return None if is_good else f"the store has {len(now)} requests, and not the {len(wanted)} that are left and one more"
+
+
+def serves_all(program: list[str], file: str, words: list[str], steps: int) -> Optional[str]:
+    """Why a server does not start with so many steps, or None."""
+    try:
+        with Stored(program, file, *words) as server:
+            client = Client(server.port)
+            found = sorted(text_in(it, SOP_INSTANCE) for it in client.found())
+            status = client.set(uid_of(1), performed(2), b"2.25.2")
+        if found != sorted(uid_of(it) for it in range(steps)) or status != 0x0000:
+            return f"{len(found)} of {steps} steps are there, and the holder's request is answered {status:04X}"
+    except FAULTS as fault:
+        return str(fault)
+    return None
+
+
+def starts_or_says(program: list[str], file: str, words: list[str], steps: int) -> Optional[str]:
+    fault = serves_all(program, file, words, steps)
+    if fault is None:
+        return None
+    come = started_on(program, file, *words)
+    return None if come.status == REFUSED and is_sentence(come.said, r"request \d+ \(") else fault
+
+
+def fault_of_runs(file: str) -> Optional[str]:
+    """Why the runs are not told of as they should be, or None: three have been."""
+    runs = runs_of(file)
+    if [it[0] for it in runs] != list(range(1, len(runs) + 1)) or len(runs) < 3:
+        return f"there are {runs}"
+    good = all(isinstance(it[3], str) and "serve" in it[3] and it[1] > 0 and it[2] for it in runs) and "--store-leave-out" in runs[1][3]
+    return None if good else f"they are {runs}"
+
+
+# files that are held, or are none
+
+def held(program: list[str], folder: str) -> Optional[str]:
+    """Why a second process may use a file, or None."""
+    file = os.path.join(folder, "held")
+    with Stored(program, file, *BOTH) as server:
+        client = Client(server.port)
+        ask_all(client, 0, 2)
+        for come in (started_on(program, file, *BOTH), ended([*program, "compact", file, *BOTH])):
+            fault = refused(come, "another process", {}, file)
+            if fault:
+                return fault
+        ask_all(client, 2, 2)
+        client.release()
+    return serves_all(program, file, BOTH, 4)
+
+
+def foreign_files(program: list[str], folder: str, results: Results) -> None:
+    """Files that are no store."""
+    chance = random.Random(1)
+    text, noise, other, short = (os.path.join(folder, it) for it in ("text", "noise", "other", "short"))
+    for path, content in ((text, b"no store\n" * 1000), (noise, chance.randbytes(8192)), (short, b"SQLite")):
+        with open(path, "wb") as opened:
+            opened.write(content)
+    with contextlib.closing(sqlite3.connect(other)) as opened:
+        opened.execute("CREATE TABLE request (number INTEGER PRIMARY KEY, other TEXT)")
+        opened.commit()
+    for name, path in (("a text", text), ("random bytes", noise), ("another database", other), ("six bytes", short)):
+        results.tell(f"{name} for a store", refused(started_on(program, path, *BOTH), "", bytes_in(path), path, False))
+    os.makedirs(os.path.join(folder, "a folder"), exist_ok=True)
+    for name, path in (("a folder", os.path.join(folder, "a folder")), ("a file in no folder", os.path.join(folder, "none", "store"))):
+        results.tell(f"{name} for a store", refused(started_on(program, path, *BOTH), "", {}, path))
+    empty = os.path.join(folder, "empty")
+    with open(empty, "wb"):
+        pass
+    results.tell("an empty file for a store", None if make(program, empty, 2) else "it keeps nothing")
+    link = os.path.join(folder, "link")
+    os.link(empty, link)
+    results.tell("a file of two names for a store", refused(started_on(program, link, *BOTH), "", {}, link))
+    come = ended([*program, "compact", os.path.join(folder, "nothing"), *BOTH])
+    results.tell("a compaction of nothing", None if come.status in (0, REFUSED) else f"it ends with {come.status}: {come.said!r}")
+
+
+# damage
+
+def damaged_files(program: list[str], folder: str, given: argparse.Namespace, results: Results) -> None:
+    """Flipped bits in the file, and in the log beside it."""
+    file = os.path.join(folder, "damaged")
+    rows = make(program, file, STEPS, True)
+    chance, faults, harmless = random.Random(f"{given.seed} damage"), [], 0
+    for _ in range(given.flips):
+        copy = copy_of(file, folder)
+        place = flip(copy, chance, os.path.getsize(copy))
+        before = bytes_in(copy)
+        come = start_briefly(program, copy)
+        if come.status is None:
+            harmless += 1
+            faults += [f"at {place}: it starts, and has other requests"] if rows_of(copy) != rows else []
+        elif fault := refused(come, "", before, copy, False):
+            faults.append(f"at {place}: {fault}")
+    results.tell(f"{given.flips} flipped bits in the file, {harmless} harmless", "; ".join(faults[:3]) or None)
+    results.tell("flipped bits in the log", tried(damaged_logs, program, folder, file, given, chance))
+
+
+def start_briefly(program: list[str], file: str) -> Ended:
+    """What comes of a start, with the status None where it serves."""
+    try:
+        with Stored(program, file, *BOTH) as server:
+            pass
+        return Ended(None, "", "\n".join(server.log))
+    except Fault:
+        return started_on(program, file, *BOTH)
+
+
+def flip(path: str, chance: random.Random, size: int) -> int:
+    """Flips a bit of the first so many bytes of a file."""
+    place = chance.randrange(size)
+    with open(path, "r+b") as opened:
+        opened.seek(place)
+        byte = opened.read(1)[0]
+        opened.seek(place)
+        opened.write(bytes([byte ^ 1 << chance.randrange(8)]))
+    return place
+
+
+def damaged_logs(program: list[str], folder: str, file: str, given: argparse.Namespace, chance: random.Random) -> Optional[str]:
+    """Why what is left of a damaged log is wrong: it has to be a beginning, with all that the file has."""
+    copied = len(rows_of(file))
+    with Stored(program, file, *BOTH) as server:
+        client = Client(server.port)
+        ask_all(client, STEPS, STEPS)
+        client.release()
+    rows, faults, lost, said = rows_of(file), [], 0, 0
+    used = used_of(file + "-wal")
+    for _ in range(given.flips):
+        copy = copy_of(file, folder)
+        place = flip(copy + "-wal", chance, used)
+        come = start_briefly(program, copy)
+        if come.status is not None:
+            said += 1
+            faults += [] if is_sentence(come.said) else [f"at {place}: {come.said!r}"]
+            continue
+        now = rows_of(copy)
+        lost += len(now) < len(rows)
+        said += len(now) < len(rows) and bool(re.search(MISSING, come.said))
+        if now != rows[:len(now)] or len(now) < copied:
+            faults.append(f"at {place}: {len(now)} requests are there, {copied} were in the file and {len(rows)} in all")
+    print(f"    of {given.flips} flipped bits in the log {lost} lost requests, and {said} were told of", flush=True)
+    return "; ".join(faults[:3]) or None
+
+
+def used_of(path: str) -> int:
+    """How many bytes of a log are not zeros at its end."""
+    with open(path, "rb") as opened:
+        return len(opened.read().rstrip(b"\0"))
+
+
+def run(program: list[str], given: argparse.Namespace, results: Results) -> None:
+    with folder_for(given.folder) as folder:
+        other_settings(program, folder, results)
+        results.tell("a file that another process holds", tried(held, program, folder))
+        foreign_files(program, folder, results)
+        damaged_files(program, folder, given, results)

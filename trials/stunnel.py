@@ -1,0 +1,147 @@
+#!/usr/bin/env python3
+"""Tries `upsd serve` behind TLS: `stunnel` on both sides, by the two configurations of docs/use/operating.md.
+
+    trials/stunnel.py [PROGRAM]
+
+It takes the configurations as the page has them, with free ports of this machine in the place of theirs and with certificates
+that `openssl` makes in a temporary folder. Through both tunnels examples/ups.py then asks for an echo, makes a step, claims
+and finishes it, and takes its report. A client without a certificate, and one with a certificate that the server doesn't
+know, get no answer.
+
+It installs what is missing (`apt-get install -y stunnel4 openssl python3-pydicom`, which needs root), and ends by itself. It
+prints a line for each trial, and then `N passed, M failed`. The exit status is 1 where one failed.
+"""
+
+from __future__ import annotations
+
+import argparse
+import contextlib
+import os
+import re
+import shutil
+import subprocess
+import sys
+import tempfile
+from typing import Iterator
+
+sys.path.insert(0, os.path.join(os.path.dirname(os.path.dirname(os.path.abspath(__file__))), "check/lib"))
+from machine import HERE, free_port, holds, install, listens
+from results import Results
+from server import Server
+from stock import DONE, NO_ANSWER, by_client
+
+STEP = "1.2.3.1"
+HOLDER = ["--transaction", "2.25.7"]
+# the ports of the page: of the server, of TLS before it, of the watcher's tunnel, of TLS before the watcher, and of the watcher
+SERVER, SERVER_TLS, TUNNEL, WATCHER_TLS, WATCHER = 11112, 2762, 11121, 2763, 11113
+
+# what is tried through both tunnels, in order: a name, the words, and what is read among what is told
+LIFE = [
+    ("echo", ["echo"], "0000 success"),
+    ("subscribe", ["subscribe", "--receiver", "WATCH1"], "0000 success"),
+    ("create", ["create", STEP], "0000 success"),
+    ("claim", ["claim", STEP, *HOLDER], "0000 success"),
+    ("finish", ["finish", STEP, *HOLDER], "0000 success"),
+    ("find", ["find", "--state", "COMPLETED"], "1 found"),
+]
+REPORT = f"{STEP} state: InputReadinessState=READY  ProcedureStepState=COMPLETED"
+
+
+def configurations() -> list[str]:
+    """The configurations of the page: the server's and the workstation's."""
+    with open(os.path.join(HERE, "docs/use/operating.md"), encoding="utf-8") as page:
+        section = page.read().partition("\n## TLS\n")[2].partition("\n## ")[0]
+    found = re.findall(r"(?ms)^```ini\n(.*?)^```$", section)
+    if len(found) != 2:
+        sys.exit(f"stunnel.py: docs/use/operating.md has {len(found)} configurations of stunnel, and not 2")
+    return found
+
+
+def placed(configuration: str, folder: str, ports: dict[int, int]) -> str:
+    """A configuration with the files of a folder, and with other ports, all of this machine."""
+    text = configuration.replace("/etc/stunnel/", f"{folder}/")
+    text = re.sub(r"(?m)^(accept|connect) = (?:\S+:)?(\d+)$", lambda it: f"{it[1]} = 127.0.0.1:{ports[int(it[2])]}", text)
+    return f"foreground = yes\npid =\nsyslog = no\n{text}"
+
+
+def certify(folder: str, name: str) -> None:
+    """Makes a key, and a certificate that it signs itself."""
+    words = ["openssl", "req", "-x509", "-newkey", "rsa:2048", "-nodes", "-days", "1", "-subj", f"/CN={name}",
+             "-keyout", f"{folder}/{name}.key", "-out", f"{folder}/{name}.crt"]
+    subprocess.run(words, check=True, capture_output=True)
+
+
+@contextlib.contextmanager
+def tunnel(folder: str, name: str, configuration: str, port: int) -> Iterator[None]:
+    """A running stunnel, which listens on this port."""
+    path = f"{folder}/{name}.conf"
+    with open(path, "w", encoding="utf-8") as text:
+        text.write(configuration)
+    with open(f"{folder}/{name}.log", "w+", encoding="utf-8") as log, subprocess.Popen(["stunnel4", path], stderr=log) as process:
+        try:
+            if not holds(lambda: listens(port) or process.poll() is not None, 10) or process.poll() is not None:
+                log.seek(0)
+                sys.exit(f"stunnel.py: the tunnel {name} does not listen: {log.read()}")
+            yield
+        finally:
+            process.terminate()
+
+
+def clients(configuration: str) -> list[tuple[str, str, int]]:
+    """The part of a workstation's configuration that connects to the server, in three forms: a name, and what comes of it."""
+    own = configuration.partition("[watch1]")[0]
+    return [
+        ("a client with its certificate", own, DONE),
+        ("a client without a certificate", re.sub(r"(?m)^(cert|key) = .*\n", "", own), NO_ANSWER),
+        ("a client with another certificate", own.replace("station.", "stranger."), NO_ANSWER),
+    ]
+
+
+def live(port: int, watcher: int, results: Results) -> None:
+    """The life of a step through both tunnels, and its report."""
+    for name, words, told in LIFE:
+        results.tell(name, by_client([*words, "--port", str(port)], DONE, told))
+    watch = ["watch", "--ae", "WATCH1", "--associations", "1", "--listen", str(watcher)]
+    results.tell("watch", by_client(watch, DONE, REPORT))
+
+
+def call(folder: str, name: str, configuration: str, status: int, ports: dict[int, int], results: Results) -> None:
+    """An echo through a tunnel of its own to the server's."""
+    port = free_port()
+    with tunnel(folder, name.replace(" ", "-"), placed(configuration, folder, {**ports, SERVER: port}), port):
+        results.tell(name, by_client(["echo", "--port", str(port)], status, ""))
+
+
+def trials(program: list[str], folder: str, results: Results) -> None:
+    """Starts the server and the tunnels, and tries them."""
+    for name in ("server", "station", "stranger"):
+        certify(folder, name)
+    shutil.copy(f"{folder}/station.crt", f"{folder}/stations.crt")
+    server_side, station_side = configurations()
+    ports = {named: free_port() for named in (SERVER_TLS, TUNNEL, WATCHER_TLS, WATCHER)}
+    entry = free_port()  # of the workstation's tunnel to the server
+    with contextlib.ExitStack() as stack:
+        server = stack.enter_context(Server(program, "--timeout", "10", f"WATCH1=127.0.0.1:{ports[TUNNEL]}"))
+        at_server = placed(server_side, folder, {**ports, SERVER: server.port})
+        stack.enter_context(tunnel(folder, "server", at_server, ports[SERVER_TLS]))
+        stack.enter_context(tunnel(folder, "station", placed(station_side, folder, {**ports, SERVER: entry}), entry))
+        live(entry, ports[WATCHER], results)
+        for name, configuration, status in clients(station_side):
+            call(folder, name, configuration, status, ports, results)
+
+
+def main() -> None:
+    about, _, more = (__doc__ or "").partition("\n\n")
+    asked = argparse.ArgumentParser(description=about, epilog=more, formatter_class=argparse.RawDescriptionHelpFormatter)
+    asked.add_argument("program", nargs="?", default=os.path.join(HERE, "crates/upsd/out/upsd"),
+                       help="the program (default: crates/upsd/out/upsd, which `rt run` builds)")
+    given = asked.parse_args()
+    install({"stunnel4": "stunnel4", "openssl": "openssl"})
+    results = Results()
+    with tempfile.TemporaryDirectory(prefix="upsd-stunnel-") as folder:
+        trials([given.program], folder, results)
+    results.end()
+
+
+if __name__ == "__main__":
+    main()
