@@ -1,48 +1,72 @@
 #!/usr/bin/env python3
-"""Talks to a DICOM UPS manager, so that a server can be tried by hand.
+"""Talks to a DICOM UPS manager: by hand, for a monitor, or as a board that shows its worklist.
 
-    examples/ups.py echo
-    examples/ups.py create 1.2.3.1 --label "CT READ" --patient-id P1 --patient-name DOE^JANE
-    examples/ups.py find --state SCHEDULED
-    examples/ups.py find --station R1
-    examples/ups.py claim 1.2.3.1 --transaction 2.25.7
-    examples/ups.py set 1.2.3.1 --transaction 2.25.7 -k "ProcedureStepLabel=CT READ 2"
-    examples/ups.py finish 1.2.3.1 --transaction 2.25.7
-    examples/ups.py get 1.2.3.1
-    examples/ups.py subscribe --ae WATCH1 --receiver WATCH1
-    examples/ups.py watch --ae WATCH1 --listen 11113
+    ups echo
+    ups create 1.2.3.1 --label "CT READ" --patient-id P1 --patient-name DOE^JANE
+    ups find --state SCHEDULED
+    ups find --station R1 --station R2 --json
+    ups claim 1.2.3.1 --transaction 2.25.7
+    ups set 1.2.3.1 --transaction 2.25.7 -k "ProcedureStepLabel=CT READ 2"
+    ups finish 1.2.3.1 --transaction 2.25.7
+    ups get 1.2.3.1
+    ups subscribe --ae WATCH1 --receiver WATCH1
+    ups watch --ae WATCH1 --listen 11113
+    ups check step.dcm
+    ups status
+    ups board --port 8080 --ae BOARD --listen 11114
 
 Each command has its own --help with an example. A key or an attribute (-k) is a keyword, or the tag, with `=` and a value; one
 within a sequence has the way to it in front, as DCMTK writes it: (0040,4025)[0].(0008,0100)=R1, where [0] is the first item.
 Where a text isn't ASCII, the data set says that it is UTF-8 (ISO_IR 192), unless -k SpecificCharacterSet= says another set.
 
-The server is on 127.0.0.1, port 11112, and is called UPSD, unless --host, --port and --called say otherwise; this side is called
-CLIENT, or what --ae says. It needs Python 3.9 and pydicom (apt-get install -y python3-pydicom: then /usr/bin/python3 has it). The
-exit status is 0 where the server answers with success or a warning, 1 where it answers with a failure, and 2 where there is no
-answer, or where what is asked can't be sent.
+The server is on 127.0.0.1, port 11112, and is called UPSD, unless --host, --port and --called say otherwise (of a board --port is
+the port of its page, and --server-port that of the server); this side is called CLIENT, or what --ae says. It needs Python 3.9
+and pydicom (apt-get install -y python3-pydicom: then /usr/bin/python3 has it). The exit status is 0 where the server answers
+with success or a warning, 1 where it answers with a failure, and 2 where there is no answer, or where what is asked can't be
+sent; `status --nagios` has those of a monitoring plugin.
 """
 
 from __future__ import annotations
 
 import argparse
+import collections
+import contextlib
 import datetime
+import functools
+import heapq
+import http.server
 import itertools
+import json
+import math
+import os
+import queue
 import re
+import secrets
+import signal
 import socket
 import struct
 import sys
+import tempfile
+import threading
+import time
+import urllib.parse
+import uuid
 import warnings
-from typing import Any, Iterator, Optional
+from html import escape
+from typing import Any, Callable, Iterable, Iterator, Optional
 
 try:
-    from pydicom.datadict import dictionary_VR, tag_for_keyword
+    from pydicom import dcmread
+    from pydicom.datadict import dictionary_description, dictionary_VR, keyword_for_tag, tag_for_keyword
     from pydicom.dataelem import DataElement
     from pydicom.dataset import Dataset
     from pydicom.filebase import DicomBytesIO
     from pydicom.filereader import read_dataset
     from pydicom.filewriter import write_dataset
 except ImportError:
-    sys.exit("ups.py: pydicom is missing for this Python: Debian has it for /usr/bin/python3 as python3-pydicom")
+    sys.exit("ups: pydicom is missing for this Python: Debian has it for /usr/bin/python3 as python3-pydicom")
+
+NAME = os.path.basename(sys.argv[0]) or "ups"
 
 VERIFICATION = "1.2.840.10008.1.1"
 PUSH = "1.2.840.10008.5.1.4.34.6.1"
@@ -52,6 +76,7 @@ EVENT = "1.2.840.10008.5.1.4.34.6.4"
 GLOBAL = "1.2.840.10008.5.1.4.34.5"
 FILTERED = "1.2.840.10008.5.1.4.34.5.1"
 EXPLICIT = "1.2.840.10008.1.2.1"
+IMPLICIT = "1.2.840.10008.1.2"
 APPLICATION_CONTEXT = "1.2.840.10008.3.1.1.1"
 IMPLEMENTATION = "2.25.7002"
 LONGEST = 16_384  # bytes of a P-DATA-TF that this side receives
@@ -59,6 +84,9 @@ UTF_8 = "ISO_IR 192"
 NUMBERS = {"SL", "SS", "UL", "US"}
 CHARACTER_SET = 0x0008_0005  # the tag of Specific Character Set
 TEXTS = {"LO", "LT", "PN", "SH", "ST", "UC", "UT"}  # what may have other characters than ASCII (PS3.5 section 6.1.2.2)
+
+PENDING = (0xFF00, 0xFF01)
+STATES = ("SCHEDULED", "IN PROGRESS", "COMPLETED", "CANCELED")
 
 # PDU types (PS3.8 section 9.3.1)
 ASSOCIATE_RQ, ASSOCIATE_AC, ASSOCIATE_RJ, P_DATA_TF, RELEASE_RQ, RELEASE_RP, ABORT = range(1, 8)
@@ -71,13 +99,16 @@ STATUSES = {
     0x0000: "success", 0x0001: "success, but listed attributes are not there", 0x0106: "an attribute may not have this value",
     0x0110: "the data set can't be read", 0x0111: "a step was created under this UID before",
     0x0114: "a filter has keys that match each step", 0x0115: "an argument may not have this value",
-    0x0117: "this is no instance for that", 0x0118: "this SOP class may not be named here", 0x0120: "a required attribute is absent",
+    0x0117: "this is no instance for that", 0x0118: "this SOP class may not be named here",
+    0x0120: "a required attribute is absent",
     0x0121: "a required attribute is empty", 0x0123: "there is no such action", 0x0211: "there is no such service here",
     0x0213: "there is no room", 0xA700: "memory ran out", 0xA900: "a key can't be read", 0xC000: "the keys can't be read",
-    0xB301: "done, but without the deletion lock", 0xB304: "the step is canceled already", 0xB306: "the step is completed already",
+    0xB301: "done, but without the deletion lock", 0xB304: "the step is canceled already",
+    0xB306: "the step is completed already",
     0xC300: "the step is final", 0xC301: "this is not the Transaction UID of the claim", 0xC302: "the step is claimed already",
     0xC303: "a step becomes scheduled by its creation alone", 0xC304: "what the final state needs is not there",
-    0xC307: "there is no such step", 0xC308: "the receiver is none of the server's peers", 0xC309: "a new step has to be scheduled",
+    0xC307: "there is no such step", 0xC308: "the receiver is none of the server's peers",
+    0xC309: "a new step has to be scheduled",
     0xC310: "the step is not claimed", 0xC311: "the step is completed", 0xC314: "not for this instance",
 }
 
@@ -128,31 +159,53 @@ def read(found: bytes, implicit: bool) -> Dataset:
     return read_dataset(DicomBytesIO(found), implicit, True, parent_encoding="utf8")
 
 
+def command_set(elements: dict[str, Any]) -> bytes:
+    """A command set (PS3.7 section 6.3.1), whose elements are UIDs and numbers of two bytes, by keyword."""
+    spelled_out = b""
+    for tag, value in sorted((tag_for_keyword(keyword) or 0, value) for keyword, value in elements.items()):
+        content = struct.pack("<H", value) if isinstance(value, int) else (value + "\0" * (len(value) % 2)).encode()
+        spelled_out += struct.pack("<HHI", 0, tag, len(content)) + content
+    return struct.pack("<HHII", 0, 0, 4, len(spelled_out)) + spelled_out
+
+
+@functools.lru_cache(maxsize=64)
+def command_of(found: bytes) -> Dataset:
+    """A command set by its bytes: those of the responses to a query are all the same, but for the last."""
+    return read(found, True)
+
+
+EVENT_ROLE = item(0x54, struct.pack(">H", len(EVENT)) + EVENT.encode() + bytes([0, 1]))  # the acceptor is the SCU of UPS Event
+
+
 def made(attributes: dict[str, Any]) -> Dataset:
     """A data set by keywords; a sequence is a list of such."""
     found = Dataset()
     for keyword, value in attributes.items():
-        setattr(found, keyword, [made(each) for each in value] if isinstance(value, list) and keyword.endswith("Sequence") else value)
+        setattr(found, keyword, [made(each) for each in value] if isinstance(value, list) and keyword.endswith("Sequence")
+                else value)
     return found
 
 
 class Association:
     """One association, of either side (PS3.8): messages go over it as command sets and data sets (PS3.7)."""
 
-    def __init__(self, connection: socket.socket) -> None:
+    def __init__(self, connection: socket.socket, implicit: bool = False) -> None:
         self.connection = connection
+        self.implicit = implicit
+        self.syntax = IMPLICIT if implicit else EXPLICIT
+        self.received, self.at = b"", 0
         self.contexts: dict[str, int] = {}
         self.fragments: Iterator[tuple[int, int, bytes]] = iter(())
         self.numbers = itertools.count(1)
 
     def take(self, count: int) -> bytes:
-        taken = b""
-        while len(taken) < count:
-            more = self.connection.recv(count - len(taken))
+        while len(self.received) - self.at < count:
+            more = self.connection.recv(1 << 16)
             if not more:
                 raise Refused("the connection was closed")
-            taken += more
-        return taken
+            self.received, self.at = self.received[self.at :] + more, 0
+        self.at += count
+        return self.received[self.at - count : self.at]
 
     def pdu(self) -> tuple[int, bytes]:
         kind, _, length = struct.unpack(">BBI", self.take(6))
@@ -163,41 +216,41 @@ class Association:
             raise Refused(f"the association was aborted (source {body[2]}, reason {body[3]})")
         return kind, body
 
-    def propose(self, called: str, calling: str, classes: list[str]) -> None:
-        """Asks for an association."""
+    def propose(self, called: str, calling: str, classes: list[str], syntaxes: tuple[str, ...] = (), roles: bytes = b"") -> None:
+        """Asks for an association, with these transfer syntaxes (that of this side) and role selections."""
         body = struct.pack(">HH", 1, 0) + called.encode().ljust(16) + calling.encode().ljust(16) + bytes(32)
         body += item(0x10, APPLICATION_CONTEXT.encode())
+        offered = b"".join(item(0x40, each.encode()) for each in syntaxes or (self.syntax,))
         for place, each in enumerate(classes):
             self.contexts[each] = 2 * place + 1
-            body += item(0x20, bytes([2 * place + 1, 0, 0, 0]) + item(0x30, each.encode()) + item(0x40, EXPLICIT.encode()))
-        body += item(0x50, item(0x51, struct.pack(">I", LONGEST)) + item(0x52, IMPLEMENTATION.encode()))
+            body += item(0x20, bytes([2 * place + 1, 0, 0, 0]) + item(0x30, each.encode()) + offered)
+        body += item(0x50, item(0x51, struct.pack(">I", LONGEST)) + item(0x52, IMPLEMENTATION.encode()) + roles)
         self.connection.sendall(pdu(ASSOCIATE_RQ, body))
         kind, answer = self.pdu()
         if kind == ASSOCIATE_RJ:
             raise Refused(f"the association was rejected (result {answer[1]}, source {answer[2]}, reason {answer[3]})")
         if kind != ASSOCIATE_AC:
             raise Refused(f"the association was answered with a PDU of type {kind:02X}")
-        results = {content[0]: content[2] for number, content in items(answer[68:]) if number == 0x21}
+        results = {content[0]: content for number, content in items(answer[68:]) if number == 0x21}
         for each, context in self.contexts.items():
-            if results.get(context, 3):
+            if context not in results or results[context][2]:
                 raise Refused(f"the presentation context of {each} was not accepted")
+            self.implicit = dict(items(results[context][4:])).get(0x40, b"").rstrip(b"\0") == IMPLICIT.encode()
 
     def accept(self, asked: bytes) -> None:
-        """Accepts each context of UPS Event in Explicit VR Little Endian, and no other; this side is its SCU."""
+        """Accepts each context of UPS Event in this side's transfer syntax, and no other; this side is its SCU."""
         answers = b""
         for number, content in items(asked[68:]):
             if number == 0x20:
                 words = list(items(content[4:]))
-                is_event = (0x30, EVENT.encode()) in words and (0x40, EXPLICIT.encode()) in words
-                answers += item(0x21, bytes([content[0], 0, 0 if is_event else 3, 0]) + item(0x40, EXPLICIT.encode()))
-        role = item(0x54, struct.pack(">H", len(EVENT)) + EVENT.encode() + bytes([0, 1]))
-        more = item(0x50, item(0x51, struct.pack(">I", LONGEST)) + item(0x52, IMPLEMENTATION.encode()) + role)
+                is_event = (0x30, EVENT.encode()) in words and (0x40, self.syntax.encode()) in words
+                answers += item(0x21, bytes([content[0], 0, 0 if is_event else 3, 0]) + item(0x40, self.syntax.encode()))
+        more = item(0x50, item(0x51, struct.pack(">I", LONGEST)) + item(0x52, IMPLEMENTATION.encode()) + EVENT_ROLE)
         self.connection.sendall(pdu(ASSOCIATE_AC, asked[:68] + item(0x10, APPLICATION_CONTEXT.encode()) + answers + more))
 
     def send(self, context: int, elements: dict[str, Any], given: Optional[Dataset] = None) -> None:
-        command = made({**elements, "CommandDataSetType": 0x0101 if given is None else 1})
-        command.CommandGroupLength = len(spelled(command, True))
-        for control, part in ((1, spelled(command, True)), (0, None if given is None else spelled(given, False))):
+        command = command_set({**elements, "CommandDataSetType": 0x0101 if given is None else 1})
+        for control, part in ((1, command), (0, None if given is None else spelled(given, self.implicit))):
             if part is not None:
                 self.send_part(context, control, part)
 
@@ -225,33 +278,51 @@ class Association:
                 raise Refused(f"a PDU of type {kind:02X} instead of an answer")
             self.fragments = fragments(body)
 
-    def message(self) -> Optional[tuple[int, Dataset, Optional[Dataset]]]:
-        """The context of a message, its command set, and its data set where it has one; None where the peer releases."""
+    def message(self) -> Optional[tuple[int, Dataset, Optional[bytes]]]:
+        """The context of a message, its command set, and the bytes of its data set, if any; None where the peer releases."""
         found = self.part()
         if found is None:
             return None
-        command = read(found[1], True)
+        command = command_of(found[1])
         if command.CommandDataSetType == 0x0101:
             return found[0], command, None
         data = self.part()
         if data is None:
             raise Refused("a release instead of a data set")
-        return found[0], command, read(data[1], False)
+        return found[0], command, data[1]
 
-    def ask(self, context: str, elements: dict[str, Any], given: Optional[Dataset] = None) -> list[tuple[Dataset, Optional[Dataset]]]:
-        """The responses to a request."""
+    def answers(self, context: str, elements: dict[str, Any],
+                given: Optional[Dataset] = None) -> Iterator[tuple[Dataset, Optional[bytes]]]:
+        """The responses to a request, one by one: a command set, and the bytes of a data set."""
         self.send(self.contexts[context], {**elements, "MessageID": next(self.numbers)}, given)
-        responses = []
-        while not responses or responses[-1][0].Status in (0xFF00, 0xFF01):
+        while True:
             answer = self.message()
             if answer is None:
                 raise Refused("a release instead of a response")
-            responses.append(answer[1:])
-        return responses
+            yield answer[1], answer[2]
+            if answer[1].Status not in PENDING:
+                return
+
+    def ask(self, context: str, elements: dict[str, Any],
+            given: Optional[Dataset] = None) -> list[tuple[Dataset, Optional[Dataset]]]:
+        """The responses to a request."""
+        answers = self.answers(context, elements, given)
+        return [(command, None if data is None else read(data, self.implicit)) for command, data in answers]
 
     def release(self) -> None:
         self.connection.sendall(pdu(RELEASE_RQ, bytes(4)))
         self.pdu()
+
+
+@contextlib.contextmanager
+def associated(asked: argparse.Namespace, classes: list[str]) -> Iterator[Association]:
+    """An association with the server, which is released in the end."""
+    with socket.create_connection((asked.host, asked.port), asked.timeout) as connection:
+        connection.setsockopt(socket.IPPROTO_TCP, socket.TCP_NODELAY, 1)
+        association = Association(connection, asked.implicit)
+        association.propose(asked.called, asked.ae, classes)
+        yield association
+        association.release()
 
 
 def items(text: bytes) -> Iterator[tuple[int, bytes]]:
@@ -318,8 +389,9 @@ def attributes_of(words: list[str], given: Optional[Dataset] = None) -> Dataset:
         try:
             give(found, word)
         except (IndexError, KeyError, TypeError, ValueError):
-            raise Refused(f"{word!r} is no attribute that can be given: write it as PatientID=P1, 00100020=P1 or (0010,0020)=P1, and "
-                          "what is within a sequence as (0040,4025)[0].(0008,0100)=R1, its items in the order 0, 1 and so on") from None
+            raise Refused(f"{word!r} is no attribute that can be given: write it as PatientID=P1, 00100020=P1 or (0010,0020)=P1, "
+                          "and what is within a sequence as (0040,4025)[0].(0008,0100)=R1, its items in the order 0, 1 and "
+                          "so on") from None
     return found
 
 
@@ -359,27 +431,61 @@ def shown(element: DataElement) -> str:
     return "{" + ", ".join(" ".join(shown(each) for each in one) for one in element.value) + "}" if element.value else "-"
 
 
-def find(association: Association, asked: argparse.Namespace) -> int:
-    keys = made({"SpecificCharacterSet": "", "SOPInstanceUID": "", "ProcedureStepState": asked.state, "ProcedureStepLabel": asked.label,
+def as_json(found: Iterable[Dataset]) -> str:
+    """Data sets as an array of DICOM JSON, each in a line."""
+    try:
+        return "[" + ",\n".join(json.dumps(each.to_json_dict(), ensure_ascii=False) for each in found) + "]"
+    except Exception as fault:  # pydicom's faults are of many classes
+        raise Refused(f"this can't be written as JSON: {fault}") from None
+
+
+def keys_of(asked: argparse.Namespace, station: Optional[str]) -> Dataset:
+    """The identifier of a query, for one station or for none."""
+    keys = made({"SpecificCharacterSet": "", "SOPInstanceUID": "", "ProcedureStepState": asked.state,
+                 "ProcedureStepLabel": asked.label,
                  "PatientID": asked.patient_id, "PatientName": "", "ScheduledProcedureStepPriority": "",
                  "ScheduledProcedureStepStartDateTime": asked.start})
-    if asked.station:
-        keys.ScheduledStationNameCodeSequence = [made({"CodeValue": asked.station})]
-    attributes_of(asked.attributes, keys)
+    if station is not None:
+        keys.ScheduledStationNameCodeSequence = [made({"CodeValue": station})]
+    return attributes_of(asked.attributes, keys)
+
+
+def query(association: Association, keys: Dataset) -> tuple[list[Dataset], int]:
+    """The matches of a C-FIND, and the status behind the last."""
     answers = association.ask(PULL, {"AffectedSOPClassUID": PULL, "CommandField": 0x0020, "Priority": 0}, keys)
-    for _command, found in answers[:-1]:
-        if found is not None:
-            print("  ".join(shown(element) for element in found if element.tag != CHARACTER_SET))
-    print(f"{len(answers) - 1} found")
-    return answers[-1][0].Status
+    return [found for _command, found in answers[:-1] if found is not None], answers[-1][0].Status
+
+
+def find(association: Association, asked: argparse.Namespace) -> int:
+    """One query, or one for each station: a sequence as a key has one item, and a code value one value (PS3.4 C.2.2.2)."""
+    steps: dict[str, Dataset] = {}
+    status = 0
+    for station in asked.station or [None]:
+        found, status = query(association, keys_of(asked, station))
+        steps.update((str(each.get("SOPInstanceUID")), each) for each in found)
+        if not is_done(status):
+            break
+    if asked.json:
+        print(as_json(steps.values()))
+    else:
+        for each in steps.values():
+            print("  ".join(shown(element) for element in each if element.tag != CHARACTER_SET))
+    print(f"{len(steps)} found", file=asked.aside)
+    return status
+
+
+def get_step(association: Association, step: str) -> tuple[int, Optional[Dataset]]:
+    """An N-GET of all attributes."""
+    elements = {"RequestedSOPClassUID": PUSH, "CommandField": 0x0110, "RequestedSOPInstanceUID": step}
+    answer, found = association.ask(PULL, elements)[0]
+    return answer.Status, found
 
 
 def get(association: Association, asked: argparse.Namespace) -> int:
-    elements = {"RequestedSOPClassUID": PUSH, "CommandField": 0x0110, "RequestedSOPInstanceUID": asked.step}
-    answer, found = association.ask(PULL, elements)[0]
+    status, found = get_step(association, asked.step)
     if found is not None:
-        print(found)
-    return answer.Status
+        print(as_json([found]) if asked.json else found)
+    return status
 
 
 def act(association: Association, context: str, kind: int, instance: str, information: Dataset) -> int:
@@ -437,32 +543,441 @@ def unsubscribe(association: Association, asked: argparse.Namespace) -> int:
     return act(association, WATCH, 4, asked.step or GLOBAL, made({"ReceivingAE": asked.receiver or asked.ae}))
 
 
-CLASSES = {echo: VERIFICATION, create: PUSH, find: PULL, get: PULL, claim: PULL, set_attributes: PULL, finish: PULL, cancel: PUSH,
-           subscribe: WATCH, unsubscribe: WATCH}
+def suspend(association: Association, asked: argparse.Namespace) -> int:
+    return act(association, WATCH, 5, GLOBAL, made({"ReceivingAE": asked.receiver or asked.ae}))
 
+
+# data sets as bytes: what a board and a monitor take of many steps, and what a check looks at
+
+LONG = {b"OB", b"OD", b"OF", b"OL", b"OV", b"OW", b"SQ", b"SV", b"UC", b"UN", b"UR", b"UT", b"UV"}  # PS3.5 section 7.1.2
+PLAIN = (b"", b"ISO_IR 6", UTF_8.encode())  # character sets whose bytes are UTF-8
+
+
+def elements_of(found: bytes) -> dict[int, tuple[bytes, bytes]]:
+    """The value representation and the value of each element, by tag: of a data set in Explicit VR Little Endian, whose sequences
+    have a given length."""
+    elements, at = {}, 0
+    while at < len(found):
+        group, number, vr, length = struct.unpack_from("<HH2sH", found, at)
+        at += 8
+        if vr in LONG:
+            (length,) = struct.unpack_from("<I", found, at)
+            at += 4
+        elements[group << 16 | number] = vr, found[at : at + length]
+        at += length
+    return elements
+
+
+def first_item(sequence: bytes) -> bytes:
+    """The first item of a sequence of a given length; empty where it has none."""
+    return sequence[8 : 8 + struct.unpack_from("<I", sequence, 4)[0]] if sequence else b""
+
+
+def value_at(found: bytes, *path: int) -> str:
+    """The text at the end of a path of tags, through the first item of each sequence; empty where there is none."""
+    *outer, last = path
+    for tag in outer:
+        found = first_item(elements_of(found).get(tag, (b"", b""))[1])
+    return elements_of(found).get(last, (b"", b""))[1].rstrip(b"\0 ").decode("utf8", "replace")
+
+
+def character_set_of(found: bytes) -> bytes:
+    """The Specific Character Set of a data set in Explicit VR Little Endian, if it is the first element; else nothing."""
+    group, number, vr, length = struct.unpack_from("<HH2sH", found) if found else (0, 0, b"", 0)
+    return found[8 : 8 + length].strip() if group << 16 | number == CHARACTER_SET and vr == b"CS" else b""
+
+
+def plain(found: bytes, implicit: bool) -> bytes:
+    """A data set in Explicit VR Little Endian, its sequences of a given length and its texts in UTF-8, whatever it was."""
+    if not implicit and b"\xff\xff\xff\xff" not in found and character_set_of(found) in PLAIN:
+        return found
+    given = read(found, implicit)
+    given.decode()
+    given.SpecificCharacterSet = UTF_8
+    return spelled(with_lengths(given), False)
+
+
+def with_lengths(given: Dataset) -> Dataset:
+    """A data set whose sequences and items are written with their lengths."""
+    for element in given.iterall():
+        if element.VR == "SQ":
+            element.is_undefined_length = False
+            for one in element.value:
+                one.is_undefined_length_sequence_item = False
+    return given
+
+
+DT = re.compile(r"(\d{4})(?:(\d\d)(?:(\d\d)(?:(\d\d)(?:(\d\d)(?:(\d\d)(\.\d{1,6})?)?)?)?)?)?([+-]\d{4})?", re.ASCII)
+
+
+def offset_of(sign: str, is_whole: bool) -> int:
+    """The minutes east of UTC that a suffix says: to -1200 behind whole seconds alone, and to +1400."""
+    hours, minutes = int(sign[1:3]), int(sign[3:])
+    most = 840 if sign[0] == "+" else 720 if is_whole else -1
+    if minutes > 59 or 60 * hours + minutes > most:
+        raise ValueError("no offset")
+    return (60 * hours + minutes) * (1 if sign[0] == "+" else -1)
+
+
+def dt_of(text: str) -> Optional[tuple[datetime.datetime, Optional[int]]]:
+    """The first moment that a date and time names (PS3.5 section 6.2, DT), and its offset in minutes; None where it is none."""
+    found = DT.fullmatch(text)
+    if not found:
+        return None
+    least = (1, 1, 1, 0, 0, 0)
+    year, month, day, hour, minute, second = (low if part is None else int(part) for low, part in zip(least, found.groups()))
+    try:
+        if second > 60:
+            return None
+        moment = datetime.datetime(year, month, day, hour, minute, min(second, 59))
+        return moment, found[8] and offset_of(found[8], found[6] is not None)
+    except ValueError:
+        return None
+
+
+def moment_of(text: str, offset: Optional[int]) -> Optional[float]:
+    """The first moment of a date and time, in seconds since 1970; one without an offset is in the local time of `offset`."""
+    found = dt_of(text)
+    if found is None:
+        return None
+    moment, own = found
+    minutes = offset if own is None else own
+    zone = None if minutes is None else datetime.timezone(datetime.timedelta(minutes=minutes))
+    try:
+        return moment.replace(tzinfo=zone).timestamp()
+    except (OverflowError, OSError, ValueError):
+        return None
+
+
+# the state of the server, for people and for monitors
+
+STATE, START, MODIFIED, READINESS = 0x0074_1000, 0x0040_4005, 0x0040_4010, 0x0040_4041
+AGES = {"start": START, "modification": MODIFIED}
+
+
+class Health:
+    """What `status` found: steps by state, the moment and the text of the oldest, and how long it took."""
+
+    def __init__(self) -> None:
+        self.counts = dict.fromkeys(STATES, 0)
+        self.oldest: dict[tuple[str, str], tuple[float, str]] = {}
+        self.look_up = self.total = 0.0
+
+    def add(self, found: bytes, asked: argparse.Namespace) -> None:
+        step = plain(found, asked.implicit)
+        state = value_at(step, STATE)
+        self.counts[state] = self.counts.get(state, 0) + 1
+        for what, tag in AGES.items() if state in STATES[:2] else ():
+            text = value_at(step, tag)
+            moment = moment_of(text, asked.offset) if text else None
+            if moment is not None:
+                self.oldest[state, what] = min(self.oldest.get((state, what), (math.inf, text)), (moment, text))
+
+    def age(self, state: str, what: str = "start") -> Optional[float]:
+        """How many seconds ago the oldest was, 0 where that is yet to come."""
+        return max(0.0, time.time() - self.oldest[state, what][0]) if (state, what) in self.oldest else None
+
+
+def measured(association: Association, asked: argparse.Namespace) -> tuple[Health, int]:
+    """Looks for a step that is none, which is one look-up in the server's index, and then for all. The last status."""
+    health, elements = Health(), {"AffectedSOPClassUID": PULL, "CommandField": 0x0020, "Priority": 0}
+    nobody = made({"SOPInstanceUID": f"2.25.{uuid.uuid4().int}", "ProcedureStepState": ""})
+    begun = time.monotonic()
+    status = association.ask(PULL, elements, nobody)[-1][0].Status
+    health.look_up = time.monotonic() - begun
+    if is_done(status):
+        keys = made({"ScheduledProcedureStepStartDateTime": "", "ScheduledProcedureStepModificationDateTime": "",
+                     "ProcedureStepState": ""})
+        for command, data in association.answers(PULL, elements, keys):
+            status = command.Status
+            if data is not None:
+                health.add(data, asked)
+    health.total = time.monotonic() - asked.begun
+    return health, status
+
+
+def in_words(health: Health) -> str:
+    """For people, a line for each state."""
+    lines = []
+    for state, count in health.counts.items():
+        oldest = [f"oldest {what} {health.oldest[state, what][1]}, {health.age(state, what):,.0f} s ago"
+                  for what in AGES if (state, what) in health.oldest]
+        lines.append("  ".join([f"{state:12} {count:7,}", *oldest]))
+    return "\n".join([*lines, f"look-up by UID {1e3 * health.look_up:.1f} ms, all {1e3 * health.total:.1f} ms"])
+
+
+def level_of(value: Optional[float], asked: argparse.Namespace, place: int) -> int:
+    """0, 1 or 2, as a value is below its limits, above that of a warning, or above the critical one."""
+    if value is None:
+        return 0
+    return 2 if value > asked.critical[place] else 1 if value > asked.warning[place] else 0
+
+
+def limit_of(value: float) -> str:
+    return "" if math.isinf(value) else f"{value:.6f}".rstrip("0").rstrip(".")
+
+
+def word_of(state: str) -> str:
+    return state.lower().replace(" ", "_")
+
+
+def by_nagios(health: Health, asked: argparse.Namespace) -> int:
+    """A line with performance data, and the exit status of a monitoring plugin: 0 OK, 1 WARNING, 2 CRITICAL."""
+    ages = {state: health.age(state) for state in STATES[:2]}
+    level = max(level_of(health.look_up, asked, 0), *(level_of(age, asked, 1) for age in ages.values()))
+    words = [f"{count} {state}" for state, count in health.counts.items()]
+    limits = [f"{limit_of(asked.warning[place])};{limit_of(asked.critical[place])};0" for place in (0, 1)]
+    data = [f"lookup={health.look_up:.6f}s;{limits[0]}", f"total={health.total:.6f}s;;;0"]
+    data += [f"{word_of(state)}={count};;;0" for state, count in health.counts.items()]
+    for state, age in ages.items():
+        data.append(f"oldest_{word_of(state)}={'U' if age is None else f'{age:.0f}s;{limits[1]}'}")
+    oldest = ", ".join(f"oldest {state} {age:.0f} s" for state, age in ages.items() if age is not None)
+    told_of = ", ".join([*words, f"look-up {1e3 * health.look_up:.1f} ms", *([oldest] if oldest else [])])
+    print(f"UPS {('OK', 'WARNING', 'CRITICAL')[level]} - {told_of} | {' '.join(data)}")
+    return level
+
+
+def by_prometheus(health: Optional[Health]) -> str:
+    """The text format of Prometheus, for a textfile collector; without a measurement only that there was no answer."""
+    def metric(name: str, what: str, values: Iterable[tuple[str, Any]]) -> str:
+        rows = [f"{name}{labels} {value}" for labels, value in values]
+        return "\n".join([f"# HELP {name} {what}", f"# TYPE {name} gauge", *rows, ""])
+
+    text = metric("ups_up", "Whether the server answered a query with success.", [("", int(health is not None))])
+    if health is None:
+        return text
+    text += metric("ups_steps", "Steps held, by Procedure Step State.",
+                   ((f'{{state="{state}"}}', count) for state, count in health.counts.items()))
+    for what, name in (("start", "Scheduled Procedure Step Start"), ("modification", "Scheduled Procedure Step Modification")):
+        ages = [(f'{{state="{state}"}}', f"{health.oldest[state, what][0]:.0f}") for state in STATES[:2]
+                if (state, what) in health.oldest]
+        if ages:
+            text += metric(f"ups_oldest_{what}_timestamp_seconds", f"The oldest {name} DateTime, in seconds since 1970.", ages)
+    text += metric("ups_lookup_seconds", "How long a look-up by SOP Instance UID took.", [("", f"{health.look_up:.6f}")])
+    return text + metric("ups_status_seconds", "How long the whole of it took.", [("", f"{health.total:.6f}")])
+
+
+def write_whole(path: str, text: str) -> None:
+    """Writes a file so that a reader sees the old one or the new one: readable by all, as a textfile collector needs."""
+    with tempfile.NamedTemporaryFile("w", dir=os.path.dirname(os.path.abspath(path)), prefix=".ups.", suffix=".tmp",
+                                     delete=False) as made_file:
+        try:
+            made_file.write(text)
+            made_file.flush()
+            os.fchmod(made_file.fileno(), 0o644)
+            os.fsync(made_file.fileno())
+            os.replace(made_file.name, path)
+        except BaseException:
+            os.unlink(made_file.name)
+            raise
+
+
+def put_metrics(asked: argparse.Namespace, health: Optional[Health]) -> None:
+    if asked.output:
+        write_whole(asked.output, by_prometheus(health))
+    else:
+        print(by_prometheus(health), end="")
+
+
+def server_status(association: Association, asked: argparse.Namespace) -> int:
+    health, status = measured(association, asked)
+    asked.health = health if is_done(status) else None
+    if asked.prometheus:
+        put_metrics(asked, asked.health)
+    elif not asked.nagios and asked.health:
+        print(in_words(health))
+    return status
+
+
+def ended_by_nagios(asked: argparse.Namespace, status: Optional[int], fault: Optional[Exception]) -> int:
+    """The line of a plugin and its exit status: CRITICAL also where the server does not answer, or not with success."""
+    if status is not None and asked.health:
+        return by_nagios(asked.health, asked)
+    print(f"UPS CRITICAL - {fault if status is None else told(status)}")
+    return 2
+
+
+def limits(word: str) -> tuple[float, float]:
+    """Seconds for the look-up, and behind a comma seconds for the oldest step; what isn't given has no limit."""
+    look_up, _, oldest = word.partition(",")
+    try:
+        found = float(look_up or "inf"), float(oldest or "inf")
+    except ValueError:
+        raise argparse.ArgumentTypeError(f"{word!r} is no limit: write it as 0.5 or 0.5,86400 or ,86400") from None
+    if not all(each >= 0 for each in found):
+        raise argparse.ArgumentTypeError(f"{word!r} is no limit: seconds are 0 or more")
+    return found
+
+
+# what the server would answer to a data set, judged without it
+
+MOST = 1_048_576  # bytes of a message, and of a step's attributes
+DEEPEST = 8  # items in one another
+ANY = ()
+# the checked attributes of an N-CREATE (PS3.4 table CC.2.5-3), and what their text may be: a DT, one of some words, or any that
+# isn't empty
+CHECKED: dict[int, Optional[tuple[str, ...]]] = {
+    START: None, READINESS: ("INCOMPLETE", "UNAVAILABLE", "READY"), 0x0074_1200: ("HIGH", "MEDIUM", "LOW"), 0x0074_1204: ANY}
+# what a final state needs: one item of a sequence, in which each of these has a text
+NEEDED = {"COMPLETED": (0x0074_1216, (0x0040_4050, 0x0040_4051)), "CANCELED": (0x0074_1002, (0x0040_4052,))}
+SOP_CLASS, SOP_INSTANCE, TRANSACTION = 0x0008_0016, 0x0008_0018, 0x0008_1195
+Elements = dict[int, tuple[bytes, bytes]]
+Reason = tuple[Optional[int], str]  # no status where the association ends without an answer
+
+
+def called(tag: int) -> str:
+    return f"({tag >> 16:04X},{tag & 0xFFFF:04X}) {dictionary_description(tag)}"
+
+
+def text_in(elements: Elements, tag: int) -> Optional[str]:
+    """The text of an attribute without padding; None where it is absent, or a sequence."""
+    vr, value = elements.get(tag, (b"SQ", b""))
+    return None if vr == b"SQ" else value.rstrip(b"\0 ").decode("utf8", "replace")
+
+
+def is_uid(text: str) -> bool:
+    """PS3.5 section 9.1: components of digits, of which none but 0 begins with a zero."""
+    return len(text) <= 64 and re.fullmatch(r"(0|[1-9][0-9]*)(\.(0|[1-9][0-9]*))*", text, re.ASCII) is not None
+
+
+def value_reason(elements: Elements, tag: int) -> Optional[Reason]:
+    """Why the value of a checked attribute that is there would be refused."""
+    text, allowed = text_in(elements, tag), CHECKED[tag]
+    if text is None:
+        return 0x0106, f"{called(tag)} is a sequence"
+    if not text:
+        return 0x0121, f"{called(tag)} is empty"
+    if allowed is None and dt_of(text) is None:
+        return 0x0106, f"{called(tag)} is {text!r}, which is no date and time"
+    if allowed and text not in allowed:
+        return 0x0106, f"{called(tag)} is {text!r}, and not one of {', '.join(allowed)}"
+    return None
+
+
+def create_reasons(elements: Elements) -> Iterator[Reason]:
+    """Why an N-CREATE would be refused, in the order in which it is judged."""
+    instance = text_in(elements, SOP_INSTANCE)
+    if SOP_INSTANCE in elements and (instance in (GLOBAL, FILTERED) or not is_uid(instance or "")):
+        yield 0x0117, f"{called(SOP_INSTANCE)} is {instance!r}, which can't be that of a step"
+    if text_in(elements, STATE) != "SCHEDULED":
+        yield 0xC309, f"{called(STATE)} is {text_in(elements, STATE)!r}" if STATE in elements else f"{called(STATE)} is absent"
+    if TRANSACTION in elements and text_in(elements, TRANSACTION) != "":
+        yield 0x0106, f"{called(TRANSACTION)} has a value"
+    for tag in CHECKED:
+        reason = value_reason(elements, tag) if tag in elements else (0x0120, f"{called(tag)} is absent")
+        if reason:
+            yield reason
+
+
+def set_reasons(elements: Elements) -> Iterator[Reason]:
+    """Why an N-SET would be refused, whatever the state of the step."""
+    for tag in (SOP_CLASS, SOP_INSTANCE, STATE):
+        if tag in elements:
+            yield 0x0106, f"{called(tag)} is set by the server alone"
+    for tag in CHECKED:
+        reason = value_reason(elements, tag) if tag in elements else None
+        if reason:
+            yield reason
+
+
+def final_reasons(elements: Elements, state: str) -> Iterator[Reason]:
+    """What a step lacks for a final state."""
+    sequence, tags = NEEDED[state]
+    vr, value = elements.get(sequence, (b"SQ", b""))
+    item_content = first_item(value) if vr == b"SQ" else b""
+    if vr != b"SQ" or not value or len(item_content) + 8 != len(value):
+        yield 0xC304, f"{called(sequence)} hasn't exactly one item"
+        return
+    inner = elements_of(item_content)
+    for tag in tags:
+        if not text_in(inner, tag):
+            yield 0xC304, f"{called(tag)} has no value in {called(sequence)}"
+
+
+def depth(given: Dataset) -> int:
+    """How deep items lie in one another."""
+    return max((1 + depth(one) for element in given if element.VR == "SQ" for one in element.value), default=0)
+
+
+def reasons(given: Dataset, asked: argparse.Namespace) -> list[Reason]:
+    """Why a data set would be refused, as far as it alone tells: the status is that of the first."""
+    found = spelled(with_lengths(given), False)
+    size = len(found if not asked.implicit else spelled(given, True)) + 200  # with a command set, which has no more
+    why: list[Reason] = []
+    if size > MOST:
+        why.append((None, f"a message of some {size:,} bytes, and not {MOST:,} at most"))
+    if depth(given) > DEEPEST:
+        return [*why, (0x0110, f"items lie {depth(given)} deep in one another, and not {DEEPEST} at most")]
+    elements = elements_of(found)
+    if asked.final:
+        return list(final_reasons(elements, asked.final))
+    why += set_reasons(elements) if asked.set else create_reasons(elements)
+    if len(found) > MOST:
+        why.append((0x0213, f"{len(found):,} bytes of attributes in Explicit VR, and not {MOST:,} at most"))
+    return why
+
+
+def data_sets(path: str) -> list[Dataset]:
+    """The data sets of a file: one of DICOM (PS3.10, or a data set alone), or those of JSON (PS3.18 annex F), an array or one."""
+    found = sys.stdin.buffer.read() if path == "-" else open(path, "rb").read()
+    try:
+        if found.lstrip()[:1] in (b"[", b"{"):
+            sets = json.loads(found)
+            return [Dataset.from_json(each) for each in (sets if isinstance(sets, list) else [sets])]
+        return [dcmread(DicomBytesIO(found), force=True)]
+    except Exception as fault:  # pydicom's faults are of many classes
+        raise Refused(f"{path} can't be read: {fault}") from None
+
+
+def check(asked: argparse.Namespace) -> int:
+    """Tells of each data set what the server would answer, and why; 1 where one would be refused."""
+    warnings.simplefilter("ignore")  # pydicom warns of values that are told of here
+    refused, sets = 0, data_sets(asked.file)
+    for number, given in enumerate(sets, 1):
+        why = reasons(given, asked)
+        refused += bool(why)
+        answer = told(0) if not why else told(why[0][0]) if why[0][0] is not None else "the association would end"
+        print(f"{given.get('SOPInstanceUID') or f'data set {number}'}: {answer}")
+        for status, reason in why:
+            print(f"    {'----' if status is None else f'{status:04X}'} {reason}")
+    print(f"{refused} of {len(sets)} would be refused")
+    return min(refused, 1)
+
+
+CLASSES = {echo: VERIFICATION, create: PUSH, find: PULL, get: PULL, claim: PULL, set_attributes: PULL, finish: PULL, cancel: PUSH,
+           subscribe: WATCH, unsubscribe: WATCH, suspend: WATCH, server_status: PULL}
+
+
+# event reports, of a watcher and to one
 
 def report_line(command: Dataset, information: Optional[Dataset]) -> str:
     """What an N-EVENT-REPORT tells, in a line."""
-    shown = "" if information is None else "  ".join(f"{it.keyword or it.tag}={'..' if it.VR == 'SQ' else it.value}" for it in information)
+    shown = "" if information is None else "  ".join(f"{it.keyword or it.tag}={'..' if it.VR == 'SQ' else it.value}"
+                                                     for it in information)
     return f"{now()} {command.AffectedSOPInstanceUID} {EVENTS.get(command.EventTypeID, command.EventTypeID)}: {shown}"
 
 
-def take_reports(association: Association) -> None:
-    """Takes the reports of one association that the server has asked for, and prints each."""
+def take_reports(association: Association, tell: Callable[[Dataset, Optional[bytes]], None], status: int = 0,
+                 delay: float = 0) -> None:
+    """Takes the reports of one association that the server has asked for, and tells each before it answers."""
     kind, asked = association.pdu()
     if kind != ASSOCIATE_RQ:
         raise Refused(f"a PDU of type {kind:02X} instead of an association request")
     association.accept(asked)
     while (found := association.message()) is not None:
-        context, command, information = found
-        print(report_line(command, information), flush=True)
-        association.send(context, {"AffectedSOPClassUID": PUSH, "CommandField": 0x8100, "Status": 0,
+        context, command, data = found
+        tell(command, data)
+        time.sleep(delay)
+        association.send(context, {"AffectedSOPClassUID": PUSH, "CommandField": 0x8100, "Status": status,
                                    "MessageIDBeingRespondedTo": command.MessageID, "EventTypeID": command.EventTypeID,
                                    "AffectedSOPInstanceUID": command.AffectedSOPInstanceUID})
 
 
 def watch(asked: argparse.Namespace) -> int:
     """Listens where the server delivers the reports of a watcher, until it is interrupted."""
+    def tell(command: Dataset, data: Optional[bytes]) -> None:
+        print(report_line(command, None if data is None else read(data, asked.implicit)), flush=True)
+
     with socket.create_server((asked.address, asked.listen)) as listener:
         print(f"{asked.ae} takes reports on {asked.address}:{listener.getsockname()[1]}", flush=True)
         for number in itertools.count(1):
@@ -472,10 +987,753 @@ def watch(asked: argparse.Namespace) -> int:
             with connection:
                 connection.settimeout(asked.timeout)
                 try:
-                    take_reports(Association(connection))
+                    take_reports(Association(connection, asked.implicit), tell, asked.status, asked.delay)
                 except (OSError, Refused) as fault:
                     print(f"{now()} {fault}", file=sys.stderr, flush=True)
     return 0
+
+
+def announce_to(asked: argparse.Namespace, watcher: tuple[str, str, int]) -> int:
+    """Reports a change of the server's status to one watcher (PS3.4 table CC.2.4-1, event 4)."""
+    called, host, port = watcher
+    told_of = {"SCPStatus": asked.status}
+    if asked.status == "RESTARTED":
+        told_of.update(SubscriptionListStatus=asked.subscriptions, UnifiedProcedureStepListStatus=asked.steps)
+    with socket.create_connection((host, port), asked.timeout) as connection:
+        association = Association(connection, asked.implicit)
+        association.propose(called, asked.called, [EVENT], (IMPLICIT,) if asked.implicit else (EXPLICIT, IMPLICIT), EVENT_ROLE)
+        elements = {"AffectedSOPClassUID": PUSH, "CommandField": 0x0100, "AffectedSOPInstanceUID": GLOBAL, "EventTypeID": 4}
+        status = association.ask(EVENT, elements, made(told_of))[0][0].Status
+        association.release()
+    return status
+
+
+def announce(asked: argparse.Namespace) -> int:
+    """Tells each watcher in turn, in the server's title; the worst that came of it is the exit status."""
+    worst = 0
+    for watcher in asked.watchers:
+        try:
+            status = announce_to(asked, watcher)
+            print(f"{watcher[0]}: {told(status)}", flush=True)
+            worst = max(worst, 0 if is_done(status) else 1)
+        except (OSError, Refused) as fault:
+            print(f"{NAME}: {watcher[0]}: {fault}", file=sys.stderr)
+            worst = 2
+    return worst
+
+
+# the board: the worklist, and beside it what event reports alone tell
+
+FINAL = STATES[2:]
+SHOWN = 200  # steps of each state that the page draws
+LIFE = 100  # reports of a step that are kept
+SETTLES = 3  # seconds that a report may take before a difference is told
+LABEL, PATIENT, PATIENT_ID, PRIORITY, WORKLIST = 0x0074_1204, 0x0010_0010, 0x0010_0020, 0x0074_1200, 0x0074_1202
+STATION, PERFORMED, PERFORMED_AT, PERFORMERS, PERFORMER = 0x0040_4025, 0x0074_1216, 0x0040_4028, 0x0040_4035, 0x0040_4037
+CODE, MEANING = 0x0008_0100, 0x0008_0104
+ROW = {"state": STATE, "readiness": READINESS, "label": LABEL, "patient": PATIENT, "id": PATIENT_ID, "priority": PRIORITY,
+       "worklist": WORKLIST, "start": START}
+SEARCHED = ("uid", "label", "patient", "id", "station", "worklist", "holder")
+
+
+def code_at(found: bytes, *path: int) -> str:
+    """A code by its value, or by its meaning where it has none."""
+    return value_at(found, *path, CODE) or value_at(found, *path, MEANING)
+
+
+def row_of(uid: str, found: bytes) -> dict[str, Any]:
+    """What the page draws of a step: texts, by the words of the page."""
+    elements = elements_of(found)
+    row: dict[str, Any] = {"uid": uid, **{word: text_in(elements, tag) or "" for word, tag in ROW.items()}}
+    row["station"] = code_at(found, STATION)
+    row["holder"] = code_at(found, PERFORMED, PERFORMED_AT) or value_at(found, PERFORMED, PERFORMERS, PERFORMER) or row["station"]
+    return row
+
+
+class Fold:
+    """What event reports alone tell of a step."""
+
+    def __init__(self) -> None:
+        self.state = self.readiness = ""
+        self.since: Optional[float] = None  # when the report of its state came; None where it was in that state before the board
+        self.held: Optional[float] = None
+        self.came = 0.0
+        self.life: collections.deque[dict[str, Any]] = collections.deque(maxlen=LIFE)
+
+
+def event_text(kind: int, data: bytes) -> str:
+    """What a report says, in a line."""
+    if kind == 1:
+        return ", ".join(filter(None, [value_at(data, STATE), value_at(data, READINESS), value_at(data, 0x0074_1238)]))
+    if kind == 2:
+        return ", ".join(filter(None, ["by " + value_at(data, 0x0074_1236), value_at(data, 0x0074_1238)]))
+    if kind == 3:
+        share, words = value_at(data, 0x0074_1002, 0x0074_1004), value_at(data, 0x0074_1002, 0x0074_1006)
+        return ", ".join(filter(None, [share and share + " %", words]))
+    return ", ".join(filter(None, [code_at(data, STATION), code_at(data, 0x0040_4009), value_at(data, 0x0040_4036)]))
+
+
+class Worklist:
+    """Two tellings of the same steps: what queries answered, and what reports told. Each change makes a new version."""
+
+    def __init__(self) -> None:
+        self.changed = threading.Condition()
+        self.version = 1
+        self.rows: dict[str, dict[str, Any]] = {}
+        self.found: dict[str, bytes] = {}
+        self.folds: dict[str, Fold] = {}
+        self.before: dict[str, Fold] = {}  # those of the subscription before this one
+        self.differing: dict[str, float] = {}
+        self.first: Optional[set[str]] = None  # the steps that the board found when it began
+        self.trouble, self.notice = "The server has not answered yet.", ""
+        self.began, self.asked, self.took, self.reported = time.time(), 0.0, 0.0, 0.0
+        self.moves = itertools.count(1)
+
+    def judge(self, uid: str) -> None:
+        """Notes whether the two agree on a step."""
+        row, fold = self.rows.get(uid), self.folds.get(uid)
+        same = row and fold and (row["state"], row["readiness"]) == (fold.state, fold.readiness)
+        if same or not (row or fold):
+            self.differing.pop(uid, None)
+        else:
+            self.differing.setdefault(uid, time.time())
+        self.version += 1
+        self.changed.notify_all()
+
+    def say(self, trouble: str) -> None:
+        with self.changed:
+            if trouble != self.trouble:
+                self.trouble, self.version = trouble, self.version + 1
+                self.changed.notify_all()
+
+    def enter(self, found: dict[str, bytes]) -> None:
+        """Takes the answers of a query for these steps; what is as it was costs nothing."""
+        fresh = {uid: row_of(uid, data) for uid, data in found.items() if self.found.get(uid) != data}
+        with self.changed:
+            for uid, row in fresh.items():
+                before = self.rows.get(uid)
+                row["moved"] = before["moved"] if before and before["state"] == row["state"] else next(self.moves)
+                self.rows[uid], self.found[uid] = row, found[uid]
+                self.judge(uid)
+
+    def leave(self, gone: Iterable[str], began: float) -> None:
+        """Forgets steps that a query did not find. Reports tell no removal: of a final step it is what has to come (CC.2.4)."""
+        with self.changed:
+            for uid in list(gone):
+                self.rows.pop(uid, None)
+                self.found.pop(uid, None)
+                fold = self.folds.get(uid)
+                if fold and fold.state in FINAL and fold.came < began:
+                    del self.folds[uid]
+                self.judge(uid)
+
+    def fold(self, uid: str, kind: int, data: bytes) -> bool:
+        """Takes a report, and tells whether the step has to be asked for."""
+        moment = time.time()
+        with self.changed:
+            self.reported = moment
+            fold = self.folds.get(uid) or self.before.pop(uid, None) or Fold()
+            self.folds[uid] = fold
+            fold.came = moment
+            fold.life.append({"moment": moment, "event": EVENTS.get(kind, str(kind)), "text": event_text(kind, data)})
+            if kind == 1:
+                self.fold_state(uid, fold, value_at(data, STATE), moment)
+                fold.readiness = value_at(data, READINESS)
+            self.judge(uid)
+            return kind != 1 or uid in self.differing
+
+    def fold_state(self, uid: str, fold: Fold, state: str, moment: float) -> None:
+        if state == fold.state:
+            return
+        is_new = fold.state or self.first is not None and uid not in self.first
+        fold.state, fold.since = state, moment if is_new else None
+        if state == STATES[1]:
+            fold.held = fold.since
+
+    def begin(self) -> None:
+        """A new subscription tells each step held again: what was told before stands for nothing until then."""
+        with self.changed:
+            self.folds, self.before, self.first = {}, self.folds, None
+            self.differing = dict.fromkeys(self.rows, time.time())
+            self.version += 1
+
+    def mark(self, uid: str) -> str:
+        """Whether the two agree on a step; they differ at rest alone: longer than a report takes, and while none is coming."""
+        if uid not in self.differing:
+            return "agree"
+        return "differ" if time.time() - max(self.differing[uid] + SETTLES, self.reported + 1) > 0 else "waiting"
+
+
+def drawn(worklist: Worklist, row: dict[str, Any]) -> dict[str, Any]:
+    """A step as the page draws it, with what the reports tell of it."""
+    fold = worklist.folds.get(row["uid"])
+    return {**row, "since": fold and fold.since, "mark": worklist.mark(row["uid"])}
+
+
+def matches(row: dict[str, Any], text: str) -> bool:
+    return not text or any(text in row[word].casefold() for word in SEARCHED)
+
+
+def snapshot(worklist: Worklist, text: str) -> dict[str, Any]:
+    """What the page shows: counts, and of each state the newest steps that have the text."""
+    with worklist.changed:
+        by_state: dict[str, list[dict[str, Any]]] = {state: [] for state in STATES}
+        for row in worklist.rows.values():
+            if matches(row, text):
+                by_state.setdefault(row["state"], []).append(row)
+        newest = {state: heapq.nlargest(SHOWN, rows, key=lambda row: row["moved"]) for state, rows in by_state.items()}
+        counts = collections.Counter(row["state"] for row in worklist.rows.values())
+        told_counts = collections.Counter(fold.state for fold in worklist.folds.values())
+        differing = [uid for uid in worklist.differing if worklist.mark(uid) == "differ"]
+        rows = {state: [drawn(worklist, row) for row in rows] for state, rows in newest.items()}
+        return {"version": worklist.version, "trouble": worklist.trouble, "notice": worklist.notice, "began": worklist.began,
+                "asked": worklist.asked, "took": worklist.took, "steps": len(worklist.rows), "told": len(worklist.folds),
+                "counts": counts, "toldCounts": told_counts, "found": {state: len(rows) for state, rows in by_state.items()},
+                "waiting": len(worklist.differing), "differing": differing[:20], "rows": rows}
+
+
+def attributes_shown(found: Dataset, deep: int = 0) -> Iterator[dict[str, Any]]:
+    """The attributes of a data set, and below a sequence those of its items."""
+    for element in found:
+        tag = f"({element.tag.group:04X},{element.tag.elem:04X})"
+        row = {"deep": deep, "tag": tag, "name": element.name, "value": "" if element.VR == "SQ" else str(element.value)}
+        yield row
+        for number, one in enumerate(element.value if element.VR == "SQ" else [], 1):
+            yield {"deep": deep + 1, "tag": "", "name": f"Item {number}", "value": ""}
+            yield from attributes_shown(one, deep + 2)
+
+
+class Watching:
+    """The board as a watcher: it subscribes, takes reports, and asks for the worklist."""
+
+    def __init__(self, asked: argparse.Namespace, listener: socket.socket) -> None:
+        self.asked, self.listener, self.worklist = asked, listener, Worklist()
+        self.questions: queue.Queue[str] = queue.Queue()
+        self.queued: set[str] = set()
+        self.newest, self.due, self.one, self.subscribed = 0, 0.0, 0.0, 0
+
+    def listen(self) -> None:
+        """Takes each association that the server asks for."""
+        for number in itertools.count(1):
+            connection, _ = self.listener.accept()
+            threading.Thread(target=self.take, args=(number, connection), daemon=True).start()
+
+    def take(self, number: int, connection: socket.socket) -> None:
+        connection.settimeout(self.asked.timeout)
+        with connection, contextlib.suppress(OSError, Refused, struct.error):
+            take_reports(Association(connection, self.asked.implicit), functools.partial(self.report, number))
+
+    def report(self, number: int, command: Dataset, data: Optional[bytes]) -> None:
+        """Folds a report. One of an older association than the newest came again over that, and may be out of its order."""
+        if number < self.newest:
+            return
+        self.newest, kind = number, command.EventTypeID
+        found = plain(data or b"", self.asked.implicit)
+        if kind == 4:
+            told_of = f"{value_at(found, 0x0074_1242)} {value_at(found, 0x0074_1244)}".strip()
+            self.worklist.notice = f"SCP Status Change at {time.strftime('%H:%M:%S')}: {told_of}"
+            self.question("")
+        elif self.worklist.fold(str(command.AffectedSOPInstanceUID), kind, found):
+            self.question(str(command.AffectedSOPInstanceUID))
+
+    def question(self, uid: str) -> None:
+        """Has a step asked for, once; none stands for a new subscription."""
+        if uid not in self.queued:
+            self.queued.add(uid)
+            self.questions.put(uid)
+
+    def query(self, association: Association, uid: str) -> dict[str, bytes]:
+        """The rows of one step, or of all."""
+        keys = made({"SpecificCharacterSet": "", "SOPInstanceUID": uid,
+                     **{str(keyword_for_tag(tag)): "" for tag in ROW.values()}})
+        keys.ScheduledStationNameCodeSequence = []
+        keys.UnifiedProcedureStepPerformedProcedureSequence = []
+        found = {}
+        elements = {"AffectedSOPClassUID": PULL, "CommandField": 0x0020, "Priority": 0}
+        for command, data in association.answers(PULL, elements, keys):
+            if data is not None:
+                step = plain(data, self.asked.implicit)
+                found[value_at(step, SOP_INSTANCE)] = step
+        if not is_done(command.Status):
+            raise Refused(told(command.Status))
+        return found
+
+    def ask_for_one(self, association: Association, uid: str) -> None:
+        began, clock = time.time(), time.monotonic()
+        found = self.query(association, uid)
+        self.one = time.monotonic() - clock
+        self.worklist.enter(found)
+        if not found:
+            self.worklist.leave([uid], began)
+
+    def ask_for_all(self, association: Association) -> None:
+        """The whole worklist, and then no more for some seconds: ten times as long as it took, at least."""
+        began, clock = time.time(), time.monotonic()
+        found = self.query(association, "")
+        self.worklist.enter(found)
+        known = {*self.worklist.rows, *(uid for uid, fold in list(self.worklist.folds.items()) if fold.came < began)}
+        self.worklist.leave(known - set(found), began)
+        took = time.monotonic() - clock
+        with self.worklist.changed:
+            self.worklist.asked, self.worklist.took = began, took
+            self.worklist.first = set(found) if self.worklist.first is None else self.worklist.first
+        self.tell_subscription()
+        self.due = time.monotonic() + max(self.asked.every, 10 * took)
+
+    def tell_subscription(self) -> None:
+        self.worklist.say("" if is_done(self.subscribed)
+                          else f"No reports come: the subscription was answered {told(self.subscribed)}.")
+
+    def named(self, seconds: float) -> list[str]:
+        """The steps that reports have named, as soon as there is one; none after so many seconds."""
+        found: list[str] = []
+        with contextlib.suppress(queue.Empty):
+            found.append(self.questions.get(timeout=seconds))
+            while True:
+                found.append(self.questions.get_nowait())
+        self.queued.difference_update(found)
+        return found
+
+    def work(self, association: Association) -> None:
+        """Subscribes, and asks for steps as reports name them; for all when none comes, or where that takes less time."""
+        self.worklist.begin()
+        self.ask_for_all(association)
+        self.subscribed = act(association, WATCH, 3, GLOBAL, made({"ReceivingAE": self.asked.ae, "DeletionLock": "FALSE"}))
+        self.tell_subscription()
+        while True:
+            wait = self.due - time.monotonic()
+            named = self.named(max(0.01, wait))
+            if "" in named:
+                return
+            if len(named) * self.one > self.worklist.took or wait <= 0 and (not named or wait < -30):
+                self.ask_for_all(association)
+            else:
+                for uid in named:
+                    self.ask_for_one(association, uid)
+
+    def ask(self) -> None:
+        """Keeps an association with the server; after one that ended, all is asked and told anew."""
+        while True:
+            try:
+                with associated(self.asked, [WATCH, PULL]) as association:
+                    self.work(association)
+            except (OSError, Refused, struct.error) as fault:
+                self.worklist.say(f"The server does not answer: {fault}.")
+                time.sleep(1)
+
+    def step(self, uid: str) -> dict[str, Any]:
+        """All of one step: its attributes by an N-GET, and its life by its reports."""
+        with associated(self.asked, [PULL]) as association:
+            status, found = get_step(association, uid)
+        with self.worklist.changed:
+            row, fold = self.worklist.rows.get(uid), self.worklist.folds.get(uid)
+            life = [] if fold is None else list(fold.life)
+            told_of = fold and {"state": fold.state, "readiness": fold.readiness, "since": fold.since, "held": fold.held}
+            return {"uid": uid, "status": told(status), "row": row, "told": told_of, "life": life,
+                    "mark": self.worklist.mark(uid),
+                    "attributes": [] if found is None else list(attributes_shown(found))}
+
+    def end(self) -> None:
+        """Ends the subscription, so that no report waits for a board that is gone."""
+        asked = argparse.Namespace(**{**vars(self.asked), "timeout": min(3, self.asked.timeout)})
+        with contextlib.suppress(OSError, Refused), associated(asked, [WATCH]) as association:
+            act(association, WATCH, 4, GLOBAL, made({"ReceivingAE": self.asked.ae}))
+
+
+class Pages(http.server.BaseHTTPRequestHandler):
+    """The page, and what it asks for: /state, held back until something is new, and /step."""
+
+    protocol_version = "HTTP/1.1"
+    watching: Watching
+
+    def log_message(self, *_: Any) -> None:
+        """Says nothing of a request."""
+
+    def put(self, kind: str, text: str, policy: str = "default-src 'none'", status: int = 200) -> None:
+        content = text.encode()
+        self.send_response(status)
+        for name, value in (("Content-Type", kind), ("Content-Length", str(len(content))), ("Cache-Control", "no-store"),
+                            ("Content-Security-Policy", policy), ("X-Content-Type-Options", "nosniff"),
+                            ("Referrer-Policy", "no-referrer")):
+            self.send_header(name, value)
+        self.end_headers()
+        self.wfile.write(content)
+
+    def put_page(self) -> None:
+        asked, nonce = self.watching.asked, secrets.token_urlsafe(16)
+        where = f"{asked.called} at {asked.host}:{asked.port}, watched as {asked.ae}"
+        text = PAGE.replace("{nonce}", nonce).replace("{title}", escape(asked.called)).replace("{where}", escape(where))
+        policy = f"default-src 'none'; connect-src 'self'; img-src data:; style-src 'nonce-{nonce}'; script-src 'nonce-{nonce}'"
+        self.put("text/html; charset=utf-8", text, policy)
+
+    def put_state(self, words: dict[str, list[str]]) -> None:
+        worklist, seen = self.watching.worklist, words.get("seen", ["0"])[0]
+        with worklist.changed:
+            is_new = worklist.changed.wait_for(lambda: str(worklist.version) != seen, timeout=2) or worklist.differing
+        text = words.get("find", [""])[0].strip().casefold()
+        self.put("application/json", json.dumps(snapshot(worklist, text) if is_new else {"version": worklist.version}))
+
+    def put_step(self, words: dict[str, list[str]]) -> None:
+        try:
+            self.put("application/json", json.dumps(self.watching.step(words.get("uid", [""])[0])))
+        except (OSError, Refused) as fault:
+            self.put("application/json", json.dumps({"status": f"the server does not answer: {fault}"}))
+
+    def do_GET(self) -> None:
+        """Answers this machine alone, under its own name: a page from elsewhere can't ask for patients."""
+        port = self.server.server_address[1]
+        if self.headers.get("Host") not in (f"127.0.0.1:{port}", f"localhost:{port}"):
+            self.put("text/plain", "the board is for 127.0.0.1 alone\n", status=403)
+            return
+        path, _, text = self.path.partition("?")
+        words = urllib.parse.parse_qs(text)
+        with contextlib.suppress(ConnectionError):
+            if path == "/":
+                self.put_page()
+            elif path == "/state":
+                self.put_state(words)
+            elif path == "/step":
+                self.put_step(words)
+            else:
+                self.put("text/plain", "there is no such page\n", status=404)
+
+
+def board(asked: argparse.Namespace) -> int:
+    """Runs the board until it is interrupted."""
+    signal.signal(signal.SIGTERM, lambda *_: sys.exit(0))
+    with socket.create_server((asked.address, asked.listen)) as listener:
+        watching = Watching(asked, listener)
+        pages = type("PagesOfBoard", (Pages,), {"watching": watching})
+        with http.server.ThreadingHTTPServer(("127.0.0.1", asked.page), pages) as server:
+            for run in (watching.listen, watching.ask):
+                threading.Thread(target=run, daemon=True).start()
+            print(f"the board is at http://127.0.0.1:{server.server_address[1]}/", flush=True)
+            try:
+                server.serve_forever()
+            finally:
+                watching.end()
+    return 0
+
+
+PAGE = r"""<!DOCTYPE html>
+<html lang="en">
+<head>
+<meta charset="utf-8">
+<meta name="viewport" content="width=device-width, initial-scale=1">
+<title>Worklist of {title}</title>
+<link rel="icon" href="data:,">
+<style nonce="{nonce}">
+:root { color-scheme: light dark; --page: #f3f5f6; --card: #ffffff; --ink: #1c2429; --soft: #59656d; --line: #d9dfe2;
+  --focus: #1f6fb2; --scheduled: #3d6f9e; --progress: #925d00; --completed: #2c7a4b; --canceled: #7b6670; --good: #2c7a4b;
+  --bad: #b3261e; --chosen: #e7f0f7; }
+@media (prefers-color-scheme: dark) { :root { --page: #13181b; --card: #1c2327; --ink: #e4e9eb; --soft: #9aa7ae; --line: #313a40;
+  --focus: #7fb8e6; --scheduled: #86b4dc; --progress: #e0ae55; --completed: #7cc598; --canceled: #c0a9b3; --good: #7cc598;
+  --bad: #f2938c; --chosen: #22313c; } }
+* { box-sizing: border-box; }
+[hidden] { display: none !important; }
+body { margin: 0; height: 100vh; display: flex; flex-direction: column; background: var(--page); color: var(--ink);
+  font: 14px/1.4 system-ui, "DejaVu Sans", sans-serif; font-variant-numeric: tabular-nums; }
+h1, h2, h3, p, ol, dl, dd { margin: 0; padding: 0; }
+ol { list-style: none; }
+button, input { font: inherit; color: inherit; }
+:focus-visible { outline: 2px solid var(--focus); outline-offset: 1px; }
+.top { display: flex; flex-wrap: wrap; align-items: center; gap: 8px 20px; padding: 12px 16px; background: var(--card);
+  border-bottom: 1px solid var(--line); }
+h1 { font-size: 18px; font-weight: 600; }
+.soft { color: var(--soft); }
+.small { font-size: 12px; }
+.push { margin-left: auto; }
+.verdict { font-weight: 600; }
+.verdict::before { content: "="; display: inline-block; width: 20px; height: 20px; margin-right: 8px; border-radius: 50%;
+  text-align: center; line-height: 18px; border: 1px solid currentColor; }
+.verdict.agree { color: var(--good); }
+.verdict.waiting { color: var(--soft); }
+.verdict.waiting::before { content: "\2026"; }
+.verdict.differ { color: var(--bad); }
+.verdict.differ::before { content: "\2260"; }
+#find { width: 250px; padding: 6px 10px; background: var(--page); border: 1px solid var(--line); border-radius: 6px; }
+#trouble { padding: 8px 16px; color: var(--bad); background: var(--card); border-bottom: 1px solid var(--line); }
+main { flex: 1; min-height: 0; display: flex; gap: 12px; padding: 12px 16px 16px; }
+#columns { flex: 1; min-width: 0; display: grid; grid-template-columns: repeat(4, minmax(0, 1fr)); gap: 12px; }
+.column { display: flex; flex-direction: column; min-height: 0; }
+.column > header { padding: 0 2px 8px; border-bottom: 3px solid var(--hue); margin-bottom: 8px; }
+.column h2 { font-size: 13px; font-weight: 600; letter-spacing: .04em; color: var(--hue); }
+.counts { display: grid; grid-template-columns: 1fr auto 1fr; gap: 0 6px; align-items: start; }
+.counts .mark { font-size: 18px; line-height: 30px; }
+.counts b { display: block; font-size: 21px; font-weight: 600; line-height: 1.25; }
+.counts div span { font-size: 12px; color: var(--soft); }
+.counts div:last-child { text-align: right; }
+.column ol { flex: 1; min-height: 0; overflow-y: auto; scrollbar-width: thin; margin: 0 -4px; padding: 2px 4px; }
+.column li { margin-bottom: 6px; content-visibility: auto; contain-intrinsic-size: auto 72px; }
+.card { display: grid; grid-template-columns: 1fr auto; gap: 0 8px; width: 100%; padding: 7px 10px; text-align: left;
+  cursor: pointer; background: var(--card); border: 1px solid var(--line); border-left: 3px solid var(--hue);
+  border-radius: 6px; }
+.card:hover { border-color: var(--hue); }
+.card[aria-pressed="true"] { background: var(--chosen); border-color: var(--hue); }
+.card span { overflow: hidden; text-overflow: ellipsis; white-space: nowrap; }
+.card .label { display: flex; align-items: center; font-weight: 600; }
+.card .patient, .card .where { grid-column: 1 / 3; }
+.card .where { color: var(--soft); font-size: 12px; }
+.mark { font-weight: 600; color: var(--good); }
+.mark.waiting { color: var(--soft); }
+.mark.differ { color: var(--bad); }
+.card .flag { flex: none; margin-left: 6px; padding: 0 5px; border: 1px solid currentColor; border-radius: 4px; font-size: 11px;
+  color: var(--progress); }
+.more { padding: 6px 2px 0; font-size: 12px; color: var(--soft); }
+#detail { flex: 0 0 356px; min-height: 0; overflow-y: auto; scrollbar-width: thin; padding: 14px 16px; background: var(--card);
+  border: 1px solid var(--line); border-radius: 8px; overflow-wrap: anywhere; }
+#detail h2 { font-size: 17px; font-weight: 600; }
+#detail h3 { margin: 18px 0 6px; font-size: 13px; font-weight: 600; letter-spacing: .02em; color: var(--soft); }
+.uid { font: 12px/1.4 ui-monospace, "DejaVu Sans Mono", monospace; color: var(--soft); }
+#held { margin-top: 10px; }
+table { width: 100%; border-collapse: collapse; }
+th, td { padding: 4px 6px 4px 0; text-align: left; vertical-align: top; font-weight: 400; border-bottom: 1px solid var(--line); }
+thead th, tbody th { color: var(--soft); }
+thead th { font-size: 12px; }
+#attributes th { width: 50%; }
+#attributes small { display: block; font-size: 11px; }
+.deep1 { padding-left: 12px; } .deep2 { padding-left: 24px; } .deep3, .deep4, .deep5, .deep6 { padding-left: 36px; }
+#life li { display: grid; grid-template-columns: 66px 1fr; gap: 8px; padding: 3px 0 3px 12px; position: relative;
+  border-left: 2px solid var(--line); }
+#life li::before { content: ""; position: absolute; left: -5px; top: 9px; width: 8px; height: 8px; border-radius: 50%;
+  background: var(--soft); }
+#life time { font-size: 12px; color: var(--soft); padding-top: 1px; }
+[data-state="SCHEDULED"] { --hue: var(--scheduled); } [data-state="IN PROGRESS"] { --hue: var(--progress); }
+[data-state="COMPLETED"] { --hue: var(--completed); } [data-state="CANCELED"] { --hue: var(--canceled); }
+.close { float: right; padding: 2px 10px; background: none; border: 1px solid var(--line); border-radius: 6px; cursor: pointer; }
+.unseen { position: absolute; width: 1px; height: 1px; overflow: hidden; clip-path: inset(50%); white-space: nowrap; }
+@media (max-width: 960px) { body { height: auto; } main { flex-direction: column; }
+  #columns { grid-template-columns: repeat(2, minmax(0, 1fr)); }
+  .column ol { max-height: 50vh; } #detail { flex: none; } }
+@media (max-width: 520px) { #columns { grid-template-columns: 1fr; } }
+</style>
+</head>
+<body>
+<header class="top">
+  <div><h1>Worklist of {title}</h1><p class="soft small">{where}</p></div>
+  <div role="search"><label class="unseen" for="find">Search steps by label, patient, station or UID</label>
+    <input id="find" type="search" placeholder="Label, patient, station or UID" autocomplete="off" spellcheck="false"></div>
+  <div class="push"><p id="verdict" class="verdict waiting" role="status">The worklist is being asked for</p>
+    <p id="asked" class="soft small"></p></div>
+</header>
+<p id="trouble" role="alert" hidden></p>
+<main>
+  <div id="columns"></div>
+  <aside id="detail" aria-label="The chosen step" hidden>
+    <button type="button" class="close" id="close">Close</button>
+    <h2 id="d-label"></h2><p class="uid" id="d-uid"></p><p id="held"></p>
+    <h3 id="h-both">Worklist and reports</h3>
+    <table aria-labelledby="h-both">
+      <thead><tr><td></td><th scope="col">worklist</th><th scope="col">reports</th><td></td></tr></thead>
+      <tbody id="both"></tbody></table>
+    <h3 id="h-life">Its life, by reports</h3><ol id="life" aria-labelledby="h-life"></ol>
+    <h3 id="h-attributes">Attributes</h3><table aria-labelledby="h-attributes"><tbody id="attributes"></tbody></table>
+  </aside>
+</main>
+<script nonce="{nonce}">
+"use strict";
+const STATES = ["SCHEDULED", "IN PROGRESS", "COMPLETED", "CANCELED"];
+const MARKS = {agree: ["=", "worklist and reports agree"], waiting: ["\u2026", "a report is on its way"],
+  differ: ["\u2260", "worklist and reports differ"]};
+const at = id => document.getElementById(id);
+const many = n => n.toLocaleString("en");
+let seen = 0, began = 0, chosen = null, chosenMark = "", asking = null;
+
+function make(name, of, text) {
+  const made = document.createElement(name);
+  if (of) made.className = of;
+  if (text !== undefined) made.textContent = text;
+  return made;
+}
+function put(node, text) { if (node.textContent !== text) node.textContent = text; }
+function clock(seconds) {
+  const then = new Date(seconds * 1000), time = then.toLocaleTimeString("en-GB");
+  return then.toDateString() === new Date().toDateString() ? time : then.toLocaleDateString("en-CA") + " " + time;
+}
+function since(seconds) { return seconds ? clock(seconds) : "before " + clock(began); }
+function moment(text) {  /* a DT, as 20240229120000+0100 */
+  const part = text.match(/^(\d{4})(\d\d)(\d\d)(\d\d)?(\d\d)?/);
+  if (!part) return text;
+  const day = part.slice(1, 4).join("-"), today = new Date().toLocaleDateString("en-CA");
+  return [day === today && part[4] ? "" : day, part[4] ? part[4] + ":" + (part[5] || "00") : ""].filter(Boolean).join(" ");
+}
+function setMark(node, mark) {
+  put(node, MARKS[mark][0]);
+  node.className = "mark " + mark;
+  node.title = MARKS[mark][1];
+  node.setAttribute("aria-label", MARKS[mark][1]);
+}
+
+const columns = new Map(STATES.map((state, number) => {
+  const column = make("section", "column"), head = make("header"), counts = make("div", "counts");
+  column.dataset.state = state;
+  column.setAttribute("aria-labelledby", "h-" + number);
+  const title = make("h2", "", state);
+  title.id = "h-" + number;
+  const [listed, mark, told] = [make("div"), make("span", "mark"), make("div")];
+  for (const [box, word] of [[listed, "worklist"], [told, "reports"]]) box.append(make("b", "", "0"), make("span", "", word));
+  mark.setAttribute("role", "img");
+  counts.append(listed, mark, told);
+  head.append(title, counts);
+  const list = make("ol"), more = make("p", "more");
+  list.setAttribute("aria-label", "Steps that are " + state);
+  column.append(head, list, more);
+  at("columns").append(column);
+  return [state, {listed: listed.firstChild, told: told.firstChild, mark, list, more, cards: new Map()}];
+}));
+
+function newCard(uid) {
+  const place = make("li"), card = make("button", "card");
+  card.type = "button";
+  card.dataset.uid = uid;
+  for (const name of ["label", "mark", "patient", "where"]) card.append(make("span", name));
+  card.children[1].setAttribute("role", "img");
+  card.addEventListener("click", () => choose(uid));
+  place.append(card);
+  return place;
+}
+function whereOf(row) {
+  if (row.state === "SCHEDULED") return [row.station, moment(row.start)].filter(Boolean).join(", ");
+  const when = since(row.since);
+  if (row.state === "IN PROGRESS") return `${row.holder || "held"} since ${when}`;
+  return [row.holder, when].filter(Boolean).join(", ");
+}
+function fill(place, row) {
+  const card = place.firstChild, [label, mark, patient, where] = card.children;
+  const looks = JSON.stringify([row.label, row.priority, row.readiness]);
+  if (label.dataset.looks !== looks) {
+    label.dataset.looks = looks;
+    label.replaceChildren(make("span", "", row.label));
+    if (row.priority === "HIGH") label.append(make("span", "flag", "HIGH"));
+    if (row.readiness !== "READY") label.append(make("span", "flag", row.readiness));
+  }
+  if (mark.dataset.mark !== row.mark) setMark(mark, mark.dataset.mark = row.mark);
+  put(patient, [row.patient.replace(/\^+$/, "").replace(/\^/g, ", "), row.id].filter(Boolean).join("  \u00b7  ") || "no patient");
+  put(where, whereOf(row));
+  const pressed = String(row.uid === chosen);
+  if (card.getAttribute("aria-pressed") !== pressed) card.setAttribute("aria-pressed", pressed);
+}
+function drawColumn(state, told) {
+  const it = columns.get(state), rows = told.rows[state] || [], wanted = new Set(rows.map(row => row.uid));
+  for (const [uid, place] of it.cards) if (!wanted.has(uid)) { place.remove(); it.cards.delete(uid); }
+  let next = it.list.firstChild;
+  for (const row of rows) {
+    let place = it.cards.get(row.uid);
+    if (!place) it.cards.set(row.uid, place = newCard(row.uid));
+    if (place === next) next = next.nextSibling; else it.list.insertBefore(place, next);
+    fill(place, row);
+  }
+  const listed = told.counts[state] || 0, reported = told.toldCounts[state] || 0, found = told.found[state] || 0;
+  put(it.listed, many(listed));
+  put(it.told, many(reported));
+  setMark(it.mark, listed === reported ? "agree" : told.differing.length ? "differ" : "waiting");
+  put(it.more, found > rows.length ? `${many(rows.length)} newest of ${many(found)}: search for others`
+    : at("find").value && listed ? `${many(found)} of ${many(listed)} found` : "");
+}
+function drawTop(told) {
+  const kind = told.differing.length ? "differ" : told.waiting || !told.asked ? "waiting" : "agree";
+  at("verdict").className = "verdict " + kind;
+  put(at("verdict"), !told.asked ? "The worklist is being asked for"
+    : kind === "agree" ? `Worklist and reports agree on ${many(told.steps)} steps`
+    : kind === "differ" ? `Worklist and reports differ on ${many(told.waiting)} of ${many(told.steps)} steps`
+    : `Reports are coming: ${many(told.steps - told.waiting)} of ${many(told.steps)} steps agree`);
+  const asked = `asked as a whole at ${clock(told.asked)}, in ${many(Math.round(told.took * 1000))} ms`;
+  put(at("asked"), told.asked ? asked + (told.notice && "; " + told.notice) : "");
+  put(at("trouble"), told.trouble);
+  at("trouble").hidden = !told.trouble;
+}
+function draw(told) {
+  seen = told.version;
+  if (!told.rows) return;
+  began = told.began;
+  drawTop(told);
+  for (const state of STATES) drawColumn(state, told);
+  document.body.dataset.version = told.version;
+  const row = chosen && STATES.flatMap(state => told.rows[state] || []).find(row => row.uid === chosen);
+  const looks = row ? JSON.stringify(row) : "";
+  if (chosen && looks !== chosenMark) { chosenMark = looks; showChosen(); }
+}
+
+function line(name, listed, told, mark) {
+  const row = make("tr"), head = make("th", "", name), last = make("td", "mark");
+  head.scope = "row";
+  setMark(last, listed === told ? "agree" : mark === "agree" ? "waiting" : mark);
+  row.append(head, make("td", "", listed || "-"), make("td", "", told === null ? "no report" : told || "-"), last);
+  return row;
+}
+function heldText(step) {
+  const row = step.row, told = step.told;
+  if (!row) return "The worklist has it no more.";
+  if (row.state === "SCHEDULED") return "Nobody holds it.";
+  const who = row.holder || "A performer that has not said its station", held = told && told.held, changed = told && told.since;
+  if (row.state === "IN PROGRESS") return `${who} holds it since ${since(held)}.`;
+  const holder = row.holder ? `, held by ${who}` + (held ? ` since ${clock(held)}` : "") : "";
+  return `${row.state} ${changed ? "at " : ""}${since(changed)}${holder}.`;
+}
+function showStep(step) {
+  put(at("d-label"), step.row ? step.row.label : "A step");
+  put(at("d-uid"), step.uid);
+  put(at("held"), heldText(step));
+  const told = step.told, row = step.row || {state: "", readiness: ""};
+  at("both").replaceChildren(line("State", row.state, told ? told.state : null, step.mark),
+    line("Input", row.readiness, told ? told.readiness : null, step.mark));
+  at("life").replaceChildren(...step.life.map(each => {
+    const place = make("li"), text = make("span");
+    text.append(make("span", "soft", each.event + (each.text ? ": " : "")), each.text);
+    place.append(make("time", "", clock(each.moment)), text);
+    return place;
+  }));
+  at("attributes").replaceChildren(...step.attributes.map(each => {
+    const row = make("tr"), head = make("th", "deep" + Math.min(each.deep, 6), each.name);
+    head.scope = "row";
+    head.append(make("small", "", each.tag));
+    row.append(head, make("td", "", each.value));
+    return row;
+  }));
+  at("detail").hidden = false;
+}
+async function showChosen() {
+  const uid = chosen;
+  try {
+    const step = await (await fetch("/step?uid=" + encodeURIComponent(uid))).json();
+    if (uid === chosen && step.uid) showStep(step);
+  } catch (fault) { /* the next poll tells it */ }
+}
+function choose(uid) {
+  chosen = chosen === uid ? null : uid;
+  chosenMark = "";
+  for (const card of document.querySelectorAll(".card")) card.setAttribute("aria-pressed", String(card.dataset.uid === chosen));
+  if (chosen) showChosen(); else at("detail").hidden = true;
+}
+at("close").addEventListener("click", () => chosen && choose(chosen));
+document.addEventListener("keydown", event => { if (event.key === "Escape" && chosen) choose(chosen); });
+
+async function poll() {
+  asking = new AbortController();
+  let pause = 150;
+  try {
+    const words = new URLSearchParams({seen, find: at("find").value});
+    draw(await (await fetch("/state?" + words, {signal: asking.signal})).json());
+  } catch (fault) {
+    if (fault.name !== "AbortError") {
+      put(at("trouble"), "The board does not answer: is it still running?");
+      at("trouble").hidden = false;
+      pause = 1000;
+      seen = 0;
+    }
+  }
+  setTimeout(poll, pause);
+}
+let typing = 0;
+at("find").addEventListener("input", () => {
+  clearTimeout(typing);
+  typing = setTimeout(() => { seen = 0; asking.abort(); }, 120);
+});
+poll();
+</script>
+</body>
+</html>
+"""
 
 
 def title(word: str) -> str:
@@ -485,99 +1743,229 @@ def title(word: str) -> str:
     return word
 
 
-def parser() -> argparse.ArgumentParser:
-    common = argparse.ArgumentParser(add_help=False)
-    common.add_argument("--host", default="127.0.0.1", help="where the server is (127.0.0.1)")
-    common.add_argument("--port", type=int, default=11112, help="its port (11112)")
-    common.add_argument("--called", type=title, default="UPSD", help="its title (UPSD)")
-    common.add_argument("--ae", type=title, default="CLIENT", help="the title of this side (CLIENT)")
-    common.add_argument("--timeout", type=float, default=30, help="seconds for an answer (30)")
-    about, _, more = (__doc__ or "").partition("\n\n")
-    whole = argparse.ArgumentParser(description=about, epilog=more, formatter_class=argparse.RawDescriptionHelpFormatter)
-    commands = whole.add_subparsers(required=True, metavar="COMMAND")
+def status_word(word: str) -> int:
+    """A status in four hex digits."""
+    if not re.fullmatch("[0-9A-Fa-f]{4}", word):
+        raise argparse.ArgumentTypeError(f"{word!r} is no status: that is four hex digits, as 0110")
+    return int(word, 16)
 
-    def add(name: str, run: Any, what: str, example: str) -> argparse.ArgumentParser:
-        added = commands.add_parser(name, parents=[common], help=what, description=what, epilog=f"example: examples/ups.py {example}")
-        added.set_defaults(run=run)
+
+def seconds(word: str) -> float:
+    if not re.fullmatch(r"\d+(\.\d+)?", word, re.ASCII):
+        raise argparse.ArgumentTypeError(f"{word!r} is no number of seconds")
+    return float(word)
+
+
+def peer(word: str) -> tuple[str, str, int]:
+    """A watcher as the server's command line names it: its title, host and port."""
+    called_title, _, address = word.partition("=")
+    host, _, port = address.removesuffix(",lock").rpartition(":")
+    if not host or not re.fullmatch("[0-9]{1,5}", port) or not 1 <= int(port) <= 65535:
+        raise argparse.ArgumentTypeError(f"{word!r} is no watcher: write it as WATCH1=127.0.0.1:11113")
+    return title(called_title), host, int(port)
+
+
+def common(of_a_board: bool = False) -> argparse.ArgumentParser:
+    """What each command takes. The port of a board is that of its page."""
+    found = argparse.ArgumentParser(add_help=False)
+    found.add_argument("--host", default="127.0.0.1", help="where the server is (127.0.0.1)")
+    found.add_argument("--server-port" if of_a_board else "--port", dest="port", type=int, default=11112,
+                       help="the server's port (11112)")
+    found.add_argument("--called", type=title, default="UPSD", help="the server's title (UPSD)")
+    found.add_argument("--ae", type=title, default="CLIENT", help="the title of this side (CLIENT)")
+    found.add_argument("--timeout", type=float, default=30, help="seconds for an answer (30)")
+    found.add_argument("--implicit", action="store_true", help="Implicit VR Little Endian in place of Explicit VR Little Endian")
+    return found
+
+
+class Commands:
+    """The parser, to which each command is added with its help."""
+
+    def __init__(self) -> None:
+        about, _, more = (__doc__ or "").partition("\n\n")
+        self.whole = argparse.ArgumentParser(prog=NAME, description=about, epilog=more,
+                                             formatter_class=argparse.RawDescriptionHelpFormatter)
+        self.commands = self.whole.add_subparsers(required=True, metavar="COMMAND")
+
+    def add(self, name: str, run: Any, what: str, example: str) -> argparse.ArgumentParser:
+        words = common(name == "board")
+        added = self.commands.add_parser(name, parents=[words], help=what, description=what, epilog=f"example: ups {example}")
+        added.set_defaults(run=run, json=False, nagios=False, prometheus=False, health=None)
         return added
 
-    def attributes(of: argparse.ArgumentParser, what: str) -> None:
-        what += ": PatientID=P1, (0010,0020)=P1, or in a sequence (0040,4025)[0].(0008,0100)=R1"
-        of.add_argument("-k", "--key", dest="attributes", action="append", default=[], metavar="KEY=VALUE", help=what)
 
-    def step(of: argparse.ArgumentParser, **more: Any) -> None:
-        of.add_argument("step", help="the SOP Instance UID of the step", **more)
+def add_attributes(of: argparse.ArgumentParser, what: str) -> None:
+    what += ": PatientID=P1, (0010,0020)=P1, or in a sequence (0040,4025)[0].(0008,0100)=R1"
+    of.add_argument("-k", "--key", dest="attributes", action="append", default=[], metavar="KEY=VALUE", help=what)
 
-    def transaction(of: argparse.ArgumentParser, required: bool = True) -> None:
-        of.add_argument("--transaction", required=required, metavar="UID", help="the Transaction UID of the claim")
 
-    add("echo", echo, "asks whether the server is there (C-ECHO)", "echo --port 11112")
-    it = add("create", create, "creates a step (N-CREATE)", 'create 1.2.3.1 --label "CT READ" --patient-id P1')
-    step(it)
-    it.add_argument("--label", default="READ", help="Procedure Step Label (READ)")
-    it.add_argument("--priority", default="MEDIUM", choices=["HIGH", "MEDIUM", "LOW"], help="Scheduled Procedure Step Priority (MEDIUM)")
-    it.add_argument("--readiness", default="READY", choices=["INCOMPLETE", "UNAVAILABLE", "READY"], help="Input Readiness State (READY)")
-    it.add_argument("--start", help="Scheduled Procedure Step Start DateTime (now)")
-    it.add_argument("--patient-id", help="Patient ID")
-    it.add_argument("--patient-name", help="Patient's Name")
-    attributes(it, "a further attribute")
-    it = add("find", find, "lists the steps that match (C-FIND)", "find --state SCHEDULED --label 'CT*'")
+def add_step(of: argparse.ArgumentParser) -> argparse.ArgumentParser:
+    of.add_argument("step", help="the SOP Instance UID of the step")
+    return of
+
+
+def add_transaction(of: argparse.ArgumentParser, required: bool = True) -> argparse.ArgumentParser:
+    of.add_argument("--transaction", required=required, metavar="UID", help="the Transaction UID of the claim")
+    return of
+
+
+def add_receiver(of: argparse.ArgumentParser, step: bool = True) -> argparse.ArgumentParser:
+    if step:
+        of.add_argument("--step", help="the SOP Instance UID of a step (all steps)")
+    of.add_argument("--receiver", type=title, metavar="AE", help="the title of the watcher (that of --ae)")
+    return of
+
+
+def add_listening(of: argparse.ArgumentParser, port: int) -> None:
+    of.add_argument("--listen", type=int, default=port, help=f"the port that the server has for the watcher ({port})")
+    of.add_argument("--address", default="127.0.0.1", help="the address to listen on (127.0.0.1)")
+
+
+def add_questions(to: Commands) -> None:
+    """The commands that change nothing."""
+    to.add("echo", echo, "asks whether the server is there (C-ECHO)", "echo --port 11112")
+    it = to.add("find", find, "lists the steps that match (C-FIND)", "find --state SCHEDULED --label 'CT*'")
     it.add_argument("--state", default="", help="Procedure Step State")
     it.add_argument("--label", default="", help="Procedure Step Label, with * and ? as wild cards")
     it.add_argument("--patient-id", default="", help="Patient ID")
     it.add_argument("--start", default="", help="Scheduled Procedure Step Start DateTime, or a range of it, as 20240229-")
-    it.add_argument("--station", metavar="CODE", help="the worklist of a station: a Code Value of Scheduled Station Name Code Sequence")
-    attributes(it, "a further key")
-    step(add("get", get, "shows a step (N-GET)", "get 1.2.3.1"))
-    it = add("claim", claim, "changes a step to IN PROGRESS (N-ACTION)", "claim 1.2.3.1 --transaction 2.25.7")
-    step(it)
-    transaction(it)
-    it = add("set", set_attributes, "sets attributes of a step (N-SET)", 'set 1.2.3.1 --transaction 2.25.7 -k "ProcedureStepLabel=CT READ 2"')
-    step(it)
-    transaction(it, required=False)
-    attributes(it, "an attribute")
-    it = add("finish", finish, "sets what a final state needs, and changes a step to COMPLETED", "finish 1.2.3.1 --transaction 2.25.7")
-    step(it)
-    transaction(it)
-    it.add_argument("--canceled", action="store_true", help="changes it to CANCELED instead")
-    it = add("cancel", cancel, "asks for a step to be canceled (N-ACTION)", "cancel 1.2.3.1 --reason 'patient has left'")
-    step(it)
+    it.add_argument("--station", action="append", metavar="CODE",
+                    help="the worklist of a station: a Code Value of Scheduled Station Name Code Sequence; several, of each of them")
+    it.add_argument("--json", action="store_true", help="an array of DICOM JSON; how many there are goes to standard error")
+    add_attributes(it, "a further key")
+    it = add_step(to.add("get", get, "shows a step (N-GET)", "get 1.2.3.1"))
+    it.add_argument("--json", action="store_true",
+                    help="an array of DICOM JSON with one data set; the status goes to standard error")
+    it = to.add("check", check, "tells what the server would answer to an N-CREATE, without a server", "check step.dcm")
+    it.add_argument("file", metavar="FILE", help="a DICOM file, or JSON as find --json prints it (- for standard input)")
+    it.add_argument("--set", action="store_true", help="judges it as an N-SET instead, whatever the state of the step")
+    it.add_argument("--final", choices=["COMPLETED", "CANCELED"],
+                    help="judges whether a step has what this final state asks for instead")
+
+
+def add_status(to: Commands) -> None:
+    it = to.add("status", server_status, "counts steps, and measures a look-up; for a monitor too",
+                "status --nagios --warning 0.5,86400 --critical 2")
+    it.add_argument("--offset", type=int, metavar="MINUTES",
+                    help="the server's --offset, for times that say none (that of this machine)")
+    form = it.add_mutually_exclusive_group()
+    form.add_argument("--nagios", action="store_true",
+                      help="a line with performance data; exit status 0 OK, 1 WARNING, 2 CRITICAL, 3 UNKNOWN")
+    form.add_argument("--prometheus", action="store_true", help="the text format of Prometheus, for a textfile collector")
+    it.add_argument("--output", metavar="FILE", help="with --prometheus: writes this file, in one piece")
+    what = "with --nagios: seconds for the look-up, and behind a comma for the age of the oldest step SCHEDULED or IN PROGRESS"
+    it.add_argument("--warning", type=limits, default=(math.inf, math.inf), metavar="SECONDS[,SECONDS]", help=what)
+    it.add_argument("--critical", type=limits, default=(math.inf, math.inf), metavar="SECONDS[,SECONDS]", help=what)
+
+
+def add_changes(to: Commands) -> None:
+    """The commands that change steps."""
+    it = add_step(to.add("create", create, "creates a step (N-CREATE)", 'create 1.2.3.1 --label "CT READ" --patient-id P1'))
+    it.add_argument("--label", default="READ", help="Procedure Step Label (READ)")
+    it.add_argument("--priority", default="MEDIUM", choices=["HIGH", "MEDIUM", "LOW"],
+                    help="Scheduled Procedure Step Priority (MEDIUM)")
+    it.add_argument("--readiness", default="READY", choices=["INCOMPLETE", "UNAVAILABLE", "READY"],
+                    help="Input Readiness State (READY)")
+    it.add_argument("--start", help="Scheduled Procedure Step Start DateTime (now)")
+    it.add_argument("--patient-id", help="Patient ID")
+    it.add_argument("--patient-name", help="Patient's Name")
+    add_attributes(it, "a further attribute")
+    add_transaction(add_step(to.add("claim", claim, "changes a step to IN PROGRESS (N-ACTION)",
+                                    "claim 1.2.3.1 --transaction 2.25.7")))
+    it = to.add("set", set_attributes, "sets attributes of a step (N-SET)",
+                'set 1.2.3.1 --transaction 2.25.7 -k "ProcedureStepLabel=CT READ 2"')
+    add_attributes(add_transaction(add_step(it), required=False), "an attribute")
+    it = to.add("finish", finish, "sets what a final state needs, and changes a step to COMPLETED",
+                "finish 1.2.3.1 --transaction 2.25.7")
+    add_transaction(add_step(it)).add_argument("--canceled", action="store_true", help="changes it to CANCELED instead")
+    it = add_step(to.add("cancel", cancel, "asks for a step to be canceled (N-ACTION)",
+                         "cancel 1.2.3.1 --reason 'patient has left'"))
     it.add_argument("--reason", help="Reason For Cancellation")
-    it = add("subscribe", subscribe, "subscribes a watcher (N-ACTION): to a step, to all, or by a filter", "subscribe --receiver WATCH1 --lock")
-    it.add_argument("--step", help="the SOP Instance UID of a step (all steps)")
-    it.add_argument("--receiver", type=title, metavar="AE", help="the title of the watcher (that of --ae)")
-    it.add_argument("--lock", action="store_true", help="asks for a deletion lock")
-    attributes(it, "a key of a filter")
-    it = add("unsubscribe", unsubscribe, "ends a subscription (N-ACTION)", "unsubscribe --receiver WATCH1")
-    it.add_argument("--step", help="the SOP Instance UID of a step (all steps)")
-    it.add_argument("--receiver", type=title, metavar="AE", help="the title of the watcher (that of --ae)")
-    it = add("watch", watch, "takes the event reports of a watcher and prints them", "watch --ae WATCH1 --listen 11113")
-    it.add_argument("--listen", type=int, default=11113, help="the port that the server has for the watcher (11113)")
-    it.add_argument("--address", default="127.0.0.1", help="the address to listen on (127.0.0.1)")
+
+
+def add_watching(to: Commands) -> None:
+    """The commands for subscriptions, and for who takes or sends reports."""
+    it = to.add("subscribe", subscribe, "subscribes a watcher (N-ACTION): to a step, to all, or by a filter",
+                "subscribe --receiver WATCH1 --lock")
+    add_receiver(it).add_argument("--lock", action="store_true", help="asks for a deletion lock")
+    add_attributes(it, "a key of a filter")
+    add_receiver(to.add("unsubscribe", unsubscribe, "ends a subscription (N-ACTION)", "unsubscribe --receiver WATCH1"))
+    it = to.add("suspend", suspend, "ends a subscription to steps that are yet to be created (N-ACTION)",
+                "suspend --receiver WATCH1")
+    add_receiver(it, step=False)
+    it = to.add("watch", watch, "takes the event reports of a watcher and prints them", "watch --ae WATCH1 --listen 11113")
+    add_listening(it, 11113)
     it.add_argument("--associations", type=int, default=0, help="ends after so many associations (never)")
-    return whole
+    it.add_argument("--status", type=status_word, default=0, metavar="HHHH",
+                    help="the status of each response, in hex digits (0000)")
+    it.add_argument("--delay", type=seconds, default=0, metavar="S", help="seconds that it waits before each response (0)")
+    it = to.add("announce", announce,
+                "tells watchers that the server's status has changed (N-EVENT-REPORT, event 4), in the server's title",
+                "announce --called UPSD WATCH1=127.0.0.1:11113")
+    it.add_argument("watchers", nargs="+", type=peer, metavar="AE=HOST:PORT",
+                    help="a watcher, as the server's command line has it")
+    it.add_argument("--status", default="RESTARTED", choices=["RESTARTED", "GOING DOWN"], help="SCP Status (RESTARTED)")
+    start = dict(default="COLD START", choices=["COLD START", "WARM START"])
+    it.add_argument("--subscriptions",
+                    help="Subscription List Status of a restart: whether subscriptions are lost or kept (COLD START)", **start)
+    it.add_argument("--steps", help="Unified Procedure Step List Status of a restart (COLD START)", **start)
+    it = to.add("board", board, "shows the worklist as a page, and beside it what event reports alone tell",
+                "board --port 8080 --ae BOARD --listen 11114")
+    it.add_argument("--port", dest="page", type=int, default=8080,
+                    help="the port of the page, on 127.0.0.1 alone (8080; 0 for a free one)")
+    add_listening(it, 11114)
+    it.add_argument("--every", type=seconds, default=5, metavar="S",
+                    help="seconds between two queries for all steps when no report comes (5)")
+
+
+def parser() -> argparse.ArgumentParser:
+    commands = Commands()
+    for add in (add_questions, add_status, add_changes, add_watching):
+        add(commands)
+    return commands.whole
+
+
+def read_words() -> argparse.Namespace:
+    """What the command line asks for. A monitoring plugin that is called with wrong words ends with 3, UNKNOWN."""
+    try:
+        asked = parser().parse_args()
+    except SystemExit as ended:
+        raise SystemExit(3 if ended.code and "--nagios" in sys.argv else ended.code) from None
+    asked.begun = time.monotonic()
+    asked.aside = sys.stderr if asked.json or asked.prometheus else sys.stdout
+    return asked
+
+
+def asked_of_server(asked: argparse.Namespace) -> int:
+    """Runs a command over an association of its own, and tells its status."""
+    status, fault = None, None
+    try:
+        with associated(asked, [CLASSES[asked.run]]) as association:
+            status = asked.run(association, asked)
+    except (OSError, Refused) as it:
+        fault = it
+    if asked.nagios:
+        return ended_by_nagios(asked, None if fault else status, fault)
+    if fault is not None:
+        if asked.prometheus:
+            put_metrics(asked, None)
+        raise fault
+    if not (asked.prometheus and is_done(status)):
+        print(told(status), file=asked.aside)
+    return 0 if is_done(status) else 1
 
 
 def main() -> int:
     for stream in (sys.stdout, sys.stderr):
         stream.reconfigure(errors="backslashreplace")  # a terminal may not have each character
-    asked = parser().parse_args()
+    asked = read_words()
     try:
-        if asked.run is watch:
-            return watch(asked)
-        with socket.create_connection((asked.host, asked.port), asked.timeout) as connection:
-            connection.setsockopt(socket.IPPROTO_TCP, socket.TCP_NODELAY, 1)
-            association = Association(connection)
-            association.propose(asked.called, asked.ae, [CLASSES[asked.run]])
-            status = asked.run(association, asked)
-            association.release()
+        return asked.run(asked) if asked.run in (watch, announce, check, board) else asked_of_server(asked)
     except (OSError, Refused) as fault:
-        print(f"ups.py: {fault}", file=sys.stderr)
+        print(f"{NAME}: {fault}", file=sys.stderr)
         return 2
     except KeyboardInterrupt:
         return 0
-    print(told(status))
-    return 0 if is_done(status) else 1
 
 
 if __name__ == "__main__":
