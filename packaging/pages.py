@@ -1,0 +1,214 @@
+"""Makes man pages and completions of the command line from what says it already: a page in Markdown, a parser, a --help."""
+
+from __future__ import annotations
+
+import argparse
+import dataclasses
+import re
+from collections import Counter
+from collections.abc import Iterator
+
+
+@dataclasses.dataclass(frozen=True)
+class Option:
+    """An option of a command, with its names, the name of its word, what is said of it, and the words that it takes alone."""
+
+    names: tuple[str, ...]
+    word: str
+    about: str
+    choices: tuple[str, ...] = ()
+
+
+@dataclasses.dataclass
+class Command:
+    """A command, what it does, its options, the words behind them, and an example."""
+
+    name: str
+    about: str
+    options: list[Option]
+    operands: list[Option]
+    example: str = ""
+
+
+# what says it
+
+def commands_of_parser(parser: argparse.ArgumentParser) -> list[Command]:
+    """The commands of a parser."""
+    subparsers = next(it for it in parser._actions if isinstance(it, argparse._SubParsersAction))
+    return [command_of(name, it) for name, it in subparsers.choices.items()]
+
+
+def command_of(name: str, parser: argparse.ArgumentParser) -> Command:
+    options = [option_of(it) for it in parser._actions]
+    example = (parser.epilog or "").partition("example: ")[2]
+    named, others = [it for it in options if it.names], [it for it in options if not it.names]
+    return Command(name, parser.description or "", named, others, example)
+
+
+def option_of(action: argparse.Action) -> Option:
+    choices = tuple(str(it) for it in action.choices or ())
+    word = action.metavar or (f"{{{','.join(choices)}}}" if choices else action.dest.upper())
+    if action.nargs == 0 or not action.option_strings:
+        word = "" if action.option_strings else str(action.metavar or action.dest)
+    return Option(tuple(action.option_strings), word if isinstance(word, str) else " ".join(word), action.help or "", choices)
+
+
+def commands_of_help(helps: dict[str, str]) -> list[Command]:
+    """The commands of the program, by what the --help of each says."""
+    return [Command(name, text.partition("\n")[0], list(options_of_help(text)), []) for name, text in helps.items()]
+
+
+def options_of_help(text: str) -> Iterator[Option]:
+    for short, name, word, about in re.findall(r"(?m)^ +(?:(-\w), )?(--[\w-]+)(?: <(\w+)>)? +(.*)$", text):
+        yield Option((short, name) if short else (name,), word, about)
+
+
+# man pages
+
+def quoted(text: str) -> str:
+    """A text as troff prints it."""
+    text = text.replace("\\", "\\e").replace("-", "\\-")
+    return re.sub(r"(?m)^(?=[.'])", r"\\&", text)
+
+
+def inline(text: str) -> str:
+    """A line of Markdown: what is code or bold becomes bold, and of a link its text stays."""
+    text = re.sub(r"\[([^]]+)\]\([^)]*\)", r"\1", text)
+    parts = re.split(r"`([^`]+)`|\*\*([^*]+)\*\*", text)
+    plain, code, strong = parts[::3], parts[1::3], parts[2::3]
+    out = quoted(plain[0])
+    for bold, text in zip((one or other for one, other in zip(code, strong)), plain[1:]):
+        out += rf"\fB{quoted(bold)}\fR" + quoted(text).removeprefix("\\&")
+    return out
+
+
+def head(name: str, section: str, about: str, date: str, version: str) -> str:
+    """The beginning of a man page."""
+    title = f'.TH {name.upper()} {section} "{date}" "upsd {version}"'
+    return f"{title}\n.SH NAME\n{quoted(name)} \\- {quoted(about)}\n.ad l\n.nh\n"
+
+
+def page_of_markdown(text: str, start: str) -> str:
+    """A page in Markdown as a man page: behind its start, without its title."""
+    blocks = re.split(r"\n{2,}(?! )|\n{2,}(?=    )", "\n" + re.sub(r"<!--.*?-->", "", text).strip("\n"))
+    return start + ".SH DESCRIPTION\n" + "".join(block_of(it.strip("\n")) for it in blocks[1:] or blocks)
+
+
+def block_of(block: str) -> str:
+    """A heading, a table, a list, lines that stand as they are, or a paragraph."""
+    if found := re.match(r"(#+) (.*)", block):
+        return f".{'SH' if len(found[1]) < 3 else 'SS'} {inline(found[2].upper() if len(found[1]) < 3 else found[2])}\n"
+    if block.startswith("|"):
+        return table_of(block)
+    if re.match(r"- |\d+\. ", block):
+        return "".join(f".IP \\(bu 2\n{inline(' '.join(it.split()))}\n" for it in re.split(r"(?m)^(?:- |\d+\. )", block)[1:])
+    if block.startswith(("    ", "```")):
+        lines = [it[4:] if it.startswith("    ") else it for it in block.split("\n") if not it.startswith("```")]
+        return ".PP\n.RS 2\n.nf\n" + quoted("\n".join(lines)) + "\n.fi\n.RE\n"
+    return f".PP\n{inline(' '.join(block.split()))}\n"
+
+
+def table_of(block: str) -> str:
+    """A table: an entry for each row, whose first cell is named in front of the others."""
+    rows = [[it.strip() for it in row.strip("|").split("|")] for row in block.split("\n")]
+    return "".join(f".TP 8\n{inline(first)}\n{inline('; '.join(others))}\n" for first, *others in rows[2:])
+
+
+def entry_of(option: Option) -> str:
+    """An option in a man page."""
+    names = ", ".join(rf"\fB{quoted(it)}\fR" for it in option.names) or rf"\fI{quoted(option.word)}\fR"
+    word = rf" \fI{quoted(option.word)}\fR" if option.word and option.names else ""
+    return f".TP\n{names}{word}\n{quoted(option.about)}\n"
+
+
+def page_of_parser(parser: argparse.ArgumentParser, start: str, program: str) -> str:
+    """The man page of a program by its parser."""
+    commands = commands_of_parser(parser)
+    often = Counter(option for it in commands for option in it.options)
+    common = [option for option, count in often.items() if 2 * count > len(commands)]
+    examples, _, more = (parser.epilog or "").partition("\n\n")
+    page = start + rf""".SH SYNOPSIS
+\fB{program}\fR \fICOMMAND\fR [\fIOPTION\fR]... [\fIWORD\fR]...
+.SH DESCRIPTION
+{quoted(' '.join((parser.description or '').split()))}
+"""
+    page += "".join(f".PP\n{quoted(' '.join(it.split()))}\n" for it in more.split("\n\n"))
+    page += ".SH COMMANDS\n" + "".join(section_of(it, common) for it in commands)
+    page += ".SH OPTIONS OF EACH COMMAND\nThese hold where a command doesn't say otherwise.\n" + "".join(map(entry_of, common))
+    return page + ".SH EXAMPLES\n.nf\n" + quoted("\n".join(it.strip() for it in examples.strip().split("\n"))) + "\n.fi\n"
+
+
+def section_of(command: Command, common: list[Option]) -> str:
+    """A command in a man page, with the options that are its own."""
+    own = [it for it in command.options if it not in common]
+    words = "".join(rf" \fI{quoted(it.word)}\fR" for it in command.operands)
+    example = f".PP\nExample: \\fB{quoted(command.example)}\\fR\n" if command.example else ""
+    return (rf".SS {quoted(command.name)}{words}" + f"\n{quoted(command.about)}.\n"
+            + "".join(entry_of(it) for it in command.operands + own) + example)
+
+
+# completions
+
+def bash_of(program: str, commands: list[Command]) -> str:
+    """A completion for bash: the commands, then their options; else files."""
+    names = " ".join(it.name for it in commands)
+    options = "".join(f"        {it.name}) words='{' '.join(name for option in it.options for name in option.names)}' ;;\n"
+                      for it in commands)
+    chosen = [(it, option) for it in commands for option in it.options if option.choices and " " not in "".join(option.choices)]
+    choices = "".join(f"        '{it.name} {name}') words='{' '.join(option.choices)}' ;;\n"
+                      for it, option in chosen for name in option.names)
+    return f"""# bash completion for {program}
+
+_{program}() {{
+    local cur=${{COMP_WORDS[COMP_CWORD]}} words=''
+    COMPREPLY=()
+    case "${{COMP_WORDS[1]}} ${{COMP_WORDS[COMP_CWORD - 1]}}" in
+{choices}        *) ;;
+    esac
+    if ((COMP_CWORD == 1)); then
+        words='{names} --help'
+    elif [[ $words == '' && $cur == -* ]]; then
+        case "${{COMP_WORDS[1]}}" in
+{options}        *) ;;
+        esac
+    fi
+    mapfile -t COMPREPLY < <(compgen -W "$words" -- "$cur")
+}}
+
+complete -o default -F _{program} {program}
+"""
+
+
+def safe(text: str) -> str:
+    """A text within a word of zsh that stands in single quotes."""
+    return re.sub(r"([\[\]:])", r"\\\1", text.replace("'", "'\\''"))
+
+
+def spec_of(option: Option, name: str) -> str:
+    """An option as zsh's _arguments takes it, by one of its names."""
+    if not option.word:
+        return f"'*{name}[{safe(option.about)}]'"
+    choices = " ".join(it.replace(" ", "\\ ") for it in option.choices)
+    words = f"({choices})" if choices else "_files" if option.word == "FILE" else ""
+    return f"'*{name}[{safe(option.about)}]:{safe(option.word)}:{words}'"
+
+
+def zsh_of(program: str, commands: list[Command]) -> str:
+    """A completion for zsh: the commands, then their options, with what is said of each."""
+    specs = {it.name: " ".join(spec_of(option, name) for option in it.options for name in option.names) for it in commands}
+    cases = "".join(f"    {name}) _arguments {spec} '*:word:_files' ;;\n" for name, spec in specs.items())
+    names = " ".join(f"'{it.name}:{safe(it.about)}'" for it in commands)
+    return f"""#compdef {program}
+
+local -a names
+names=({names})
+if ((CURRENT == 2)); then
+    _describe command names
+else
+    local command=$words[2]
+    shift words
+    ((CURRENT--))
+    case $command in
+{cases}    esac
+fi
+"""
