@@ -45,6 +45,7 @@ OPTIONS = {"keep": "keep", "offset": "offset", "associations": "workers", "idle"
            "delivery-timeout": "delivery_timeout", "bind": "address"}  # by which fact the help of an option tells its default
 STATUS_FILE = "crates/ups_cycle/src/status.rt"
 MAN_PAGE = "packaging/man/upsd.8"
+VERSION_NAMES = ("crates/ups_assoc/src/negotiating.rt", "crates/ups_assoc/specs/Negotiation.antt")  # each says it once
 DOCUMENTS = (".md", ".8")
 PENDING = 0xFF00
 MARK = re.compile(r"<!--=(\w+)-->")
@@ -57,7 +58,7 @@ DEFAULT = re.compile(r"\[default: ([^\]]+)\]")
 def texts() -> Texts:
     """The files that are compared."""
     crates = sorted({crate for crate, _ in CONSTANTS.values()} | {"ups_cycle"})
-    forms = ["README.md", "docs/**/*.md", "examples/**/*.py", MAN_PAGE, *(f"crates/{it}/src/**/*.rt" for it in crates)]
+    forms = ["README.md", "docs/**/*.md", "examples/**/*.py", MAN_PAGE, *VERSION_NAMES, *(f"crates/{it}/src/**/*.rt" for it in crates)]
     found = {}
     for path in sorted(path for form in forms for path in glob.glob(form, root_dir=HERE, recursive=True)):
         with open(os.path.join(HERE, path), encoding="utf-8") as opened:
@@ -201,13 +202,21 @@ def faults_of_option(path: str, call: ast.Call, values: dict[str, Value]) -> Ite
         yield f"{path}:{call.lineno}: the default of --host is {default}, and a server listens on {values.get('address')}"
 
 
+def faults_of_version_names(files: Texts, values: dict[str, Value]) -> Iterator[str]:
+    """Whether the implementation version name of an association ends in the version of the program."""
+    for path in VERSION_NAMES:
+        told = re.findall(r'"UPSD_([^"]*)"', files.get(path, ""))
+        if told != [values.get("version")]:
+            yield f"{path}: the implementation version name has the version {' and '.join(told)}, and the program {values.get('version')}"
+
+
 def faults(files: Texts) -> set[str]:
     """Each difference."""
     values = {name: value for name, it in CONSTANTS.items() if (value := constant(files, *it)) is not None}
     found = {f"crates/{it[0]}/src: no constant {it[1]}, or more than one" for name, it in CONSTANTS.items() if name not in values}
     codes = codes_of(files)
     found |= {*faults_of_marks(files, values), *faults_of_statuses(files, codes), *faults_of_help(files, values)}
-    found |= {*faults_of_man_page(files), *faults_of_client(files, codes, values)}
+    found |= {*faults_of_man_page(files), *faults_of_client(files, codes, values), *faults_of_version_names(files, values)}
     return found if codes else found | {f"{STATUS_FILE}: no codes"}
 
 
@@ -261,6 +270,8 @@ def spoiled(files: Texts) -> Iterator[tuple[str, str, str]]:
             yield f"{name} of the client", path, re.sub(*change, text, count=1)
         for name, change in IN_MAN_PAGE.items() if path == MAN_PAGE else ():
             yield f"{name} of the man page", path, re.sub(*change, text, count=1)
+    for path in VERSION_NAMES:
+        yield f"the version name of {path}", path, files[path].replace("UPSD_", "UPSD_9.")
     for name, change in IN_PAGE.items():
         yield f"{name} of a page", PAGE, re.sub(*change, files[PAGE])
 

@@ -13,8 +13,9 @@ A script has in each row a line of it, ` -> ` and its reply; or a line without a
 standard error where the script ends early. `N times: ` repeats a row, with the number of the time in the place of a `#` in
 the line; behind that, `{N: text}` so repeats a text of the line or of the reply. In a heading `(peers)` names the peers W1,
 which may lock steps, and W2, which may not; `(offset N)` sets the local time, in minutes east of UTC; `(without its line
-feed)` takes the line feed from the last line; `(as it is typed)` gives each line once the reply to the one before has come. In a line U1 to U3 stand for three steps, B for the attributes of a new one,
-IP for the state in progress, `=x*N` for a value of N letters x, and `\\r` for a carriage return.
+feed)` takes the line feed from the last line; `(as it is typed)` gives each line once the reply to the one before has come.
+In a line U1 to U3 stand for three steps, B for the attributes of a new one, IP for the state in progress, `=x*N` for a value
+of N letters x, and `\\r` for a carriage return.
 
 A row of `sessions` is `FORM | ASKED | ANSWERED | ENDED`, an association of `upsd pipe` as UPSD, without peers: in `bytes`; or
 in hex digits, which are those of a `text`, or the `digits` of the words, of which the answered ones have a line each, or the

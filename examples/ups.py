@@ -798,7 +798,7 @@ def ended_by_nagios(asked: argparse.Namespace, status: Optional[int], fault: Opt
 
 
 def limits(word: str) -> tuple[float, float]:
-    """Seconds for the look-up, and behind a comma seconds for the oldest step; what isn't given has no limit."""
+    """Seconds for the look-up, and after a comma seconds for the oldest step; what isn't given has no limit."""
     look_up, _, oldest = word.partition(",")
     try:
         found = float(look_up or "inf"), float(oldest or "inf")
@@ -1853,7 +1853,7 @@ def add_status(to: Commands) -> None:
                       help="a line with performance data; exit status 0 OK, 1 WARNING, 2 CRITICAL, 3 UNKNOWN")
     form.add_argument("--prometheus", action="store_true", help="the text format of Prometheus, for a textfile collector")
     it.add_argument("--output", metavar="FILE", help="with --prometheus: writes this file, in one piece")
-    what = "with --nagios: seconds for the look-up, and behind a comma for the age of the oldest step SCHEDULED or IN PROGRESS"
+    what = "with --nagios: seconds for the look-up, and after a comma for the age of the oldest step SCHEDULED or IN PROGRESS"
     it.add_argument("--warning", type=limits, default=(math.inf, math.inf), metavar="SECONDS[,SECONDS]", help=what)
     it.add_argument("--critical", type=limits, default=(math.inf, math.inf), metavar="SECONDS[,SECONDS]", help=what)
 
