@@ -87,15 +87,16 @@ impl Eq for StepUid {
 }
 
 impl Hash for StepUid {
-    ghost use Rattle.std.specs.Hash as fed;
+    ghost use Rattle.std.specs.Prelude.{[], ◌∷◌};
     ghost use Rattle.std.proofs.Common.{rules};
     ghost use Rattle.std.specs.Cmp.Rules.{hashing};
 
-    ghost hash_input = { λ u. fed.slice fed.u8 u };
+    ghost hash_input = { λ u. u ∷ [] };
 
     ghost respects_eq = { Prim.search (hashing, rules) };
 
     fn hash<H: Hasher>(&self, state: &mut H) {
-        self.as_bytes().hash(state);
+        // in one write, and not byte by byte
+        state.write(self.as_bytes());
     }
 }

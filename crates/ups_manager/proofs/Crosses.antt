@@ -26,6 +26,7 @@ use Rattle.ups_dataset.proofs.set.DataSet.TheLaws.TheKnot as knot
 use Rattle.ups_dataset.proofs.tag.Tag.TheSendSync as tag
 use Rattle.ups_dataset.proofs.vr.Vr.TheSendSync as vr
 use Rattle.ups_dataset.specs.contracts.set.DataSet as DataSet
+use Rattle.ups_match.proofs.key_tag.KeyTag.TheSendSync as key_tag
 use Rattle.ups_match.specs.contracts.uids.UidList as UidList
 use Rattle.ups_match.specs.contracts.prepared.Prepared as Prepared
 use Rattle.ups_match.proofs.prepared.Prepared.TheLaws.TheKnot as preparing
@@ -92,7 +93,7 @@ module _ (A : RattleType) (g : Allocator.Ghosts A.Denot) where
   UidList-send s f = search (sendable, over.crosses, maps.BTreeSet-send) depth 40
 
   Prepared-send : IsSend A → Frees g g.dealloc_token → IsSend (Prepared.the_field A g).row
-  Prepared-send s f = let l = UidList-send s f in search (sendable, over.crosses, preparing.send-Prepared, tag.the_send) depth 40
+  Prepared-send s f = let l = UidList-send s f in search (sendable, over.crosses, preparing.send-Prepared, key_tag.the_send) depth 40
 
   Keys-send : IsSend A → Frees g g.dealloc_token → IsSend (Keys.the_field A g).row
   Keys-send s f = let d = DataSet-send s f in let p = Prepared-send s f in search (sendable, over.crosses) depth 20

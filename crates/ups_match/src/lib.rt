@@ -6,6 +6,7 @@ mod digits;
 mod fault;
 mod faults;
 mod first;
+mod key_tag;
 mod keys;
 mod lanes;
 mod likeness;

@@ -6,7 +6,6 @@ ghost use Rattle.ups_match.specs.Matching.{any_item, value_at};
 ghost use Rattle.ups_match.specs.Met.{all_met, value_met};
 ghost use Rattle.ups_match.specs.Prepared.{prepared_view};
 
-use crate::faults::key_rule;
 use crate::prepared::{Prepared, PreparedKey, PreparedValue};
 use crate::texts::is_text_met;
 use std::alloc::Allocator;
@@ -17,15 +16,15 @@ use ups_dataset::{DataSet, Value};
 fn is_met<A: Allocator + Copy>(key: &PreparedKey<A>, row: &DataSet<A>, offset: i16) -> bool
     ensures { result ≡ value_met offset key.now.tag (prepared_view key.now.value) (value_at key.now.tag (elements_of row.now)) }
 {
-    let Some(stored) = row.get(key.tag) else {
+    let Some(stored) = row.get(key.tag.tag()) else {
         return false;
     };
     match (&key.value, &stored.value) {
         (PreparedValue::Uids(list), Value::Bytes(bytes)) => {
-            list.is_met(key_rule(key.tag), offset, bytes.as_slice())
+            list.is_met(key.tag.rule(), offset, bytes.as_slice())
         }
         (PreparedValue::Text(text), Value::Bytes(bytes)) => is_text_met(
-            key_rule(key.tag),
+            key.tag.rule(),
             offset,
             text.as_slice(),
             bytes.as_slice(),

@@ -1,9 +1,9 @@
 //! Keys that are prepared to be tried on many data sets.
 
+use crate::key_tag::KeyTag;
 use crate::uids::UidList;
 use std::alloc::Allocator;
 use std::marker::Model;
-use ups_dataset::Tag;
 
 /// What a prepared key asks for.
 #[derive(Drop)]
@@ -21,7 +21,7 @@ pub(crate) enum PreparedValue<A: Allocator + Copy> {
 #[derive(Drop)]
 #[cycle(prepared)]
 pub(crate) struct PreparedKey<A: Allocator + Copy> {
-    pub(crate) tag: Tag,
+    pub(crate) tag: KeyTag,
     pub(crate) value: PreparedValue<A>,
 }
 

@@ -9,6 +9,7 @@ ghost use Rattle.ups_match.specs.Met.{key_met, Prepares, SaysText};
 ghost use Rattle.ups_match.specs.Prepared.{prepared_view};
 
 use crate::faults::key_rule;
+use crate::key_tag::KeyTag;
 use crate::patterns::shortened;
 use crate::prepared::{Prepared, PreparedKey, PreparedValue};
 use crate::rule::Rule;
@@ -35,7 +36,7 @@ pub(crate) fn prepare_keys<A: Allocator + Copy>(
     for key in keys.elements() {
         if let Some(value) = prepare_key(alloc, key)? {
             prepared.push(PreparedKey {
-                tag: key.tag,
+                tag: KeyTag::of(key.tag),
                 value,
             })?;
         }

@@ -12,7 +12,7 @@ prepare_keys-loop-key-preserved g t c =
     elim c.match-branch-2.branch [
       | prepare_keys-in-Some+in_ok-push w ↦
           one_more c.elements-key-items.result.now c.loop-key.key-index c.key-item.result c.args.keys.now (Some w.in-Some.value) c.loop-key.prepared.items c.match-branch-2.prepared.items
-          c.loop-key.invariant c.loop-key-test.true c.key-item.is (rw w.in-Some.is at c.in_ok-value.ensures) (rw w.prepared-is w.in_ok-push.ensures.items)
+          c.loop-key.invariant c.loop-key-test.true c.key-item.is (rw w.in-Some.is at c.in_ok-value.ensures) (rw w.prepared-is (rw w.of.ensures at w.in_ok-push.ensures.items))
       | prepare_keys-in_default w ↦
           one_more c.elements-key-items.result.now c.loop-key.key-index c.key-item.result c.args.keys.now None c.loop-key.prepared.items c.match-branch-2.prepared.items
           c.loop-key.invariant c.loop-key-test.true c.key-item.is (rw w.in_default.is at c.in_ok-value.ensures) (rw w.prepared-is refl)
