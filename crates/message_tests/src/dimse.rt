@@ -75,11 +75,11 @@ fn refused_growths(rt: &impl AllocGlobal, digits: &str) -> Result<(u64, u64, boo
     Ok((reading, writing, same))
 }
 
-/// Whether a row says how many growths it takes to read its command set. To write it takes more than one.
+/// Whether a row says how many growths it takes to read its command set. To write it takes one: room for all of it.
 fn is_refused_in_turn(rt: &impl AllocGlobal, row: &str) -> Result<bool, Fail> {
     let (growths, digits) = cut(row, "|")?;
     let (reading, writing, is_same) = refused_growths(rt, digits)?;
-    Ok(reading == number(growths)? && writing > 1 && is_same)
+    Ok(reading == number(growths)? && writing == 1 && is_same)
 }
 
 #[test]

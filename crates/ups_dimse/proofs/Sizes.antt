@@ -1,7 +1,8 @@
 -- How long what is written is.
-use Rattle.std.proofs.Common.{◌≡◌, ◌≢◌, ℕ, eqb, true, false, ◌+◌, ◌*◌, ◌^◌, ◌<◌, ◌≤◌, Option, None, Some, IfSome, List, [], ◌∷◌, ◌++◌, length, take, get_or, ◌⊎◌, inl, inr, refl, sym, ap, subst, ◌∙◌, append_assoc, arith}
+use Rattle.std.proofs.Common.{◌≡◌, ◌≢◌, ℕ, eqb, true, false, ◌+◌, ◌-◌, ◌*◌, ◌^◌, ◌<◌, ◌≤◌, Option, None, Some, IfSome, List, [], ◌∷◌, ◌++◌, length, take, drop, get_or, ◌⊎◌, inl, inr, refl, sym, ap, subst, ◌∙◌, append_assoc, arith}
 use Rattle.std.specs.List.{flat_map}
 use Rattle.std.specs.Int.{w32, to_le_bytes}
+use Rattle.std.proofs.Math.Seq.{take-append-add, drop-append-add}
 use Rattle.std.proofs.lemmas.List.{append-nil, length-append, flat_map_more, take_more, take_all, get_or_default}
 use Rattle.std.proofs.lemmas.Bool.Decides.{eqb_tells}
 use Rattle.std.proofs.lemmas.Grind.{flat_map-append}
@@ -17,7 +18,7 @@ use Rattle.ups_dimse.specs.declared.command.OperationResult.TheVariants as resul
 use Rattle.ups_dimse.specs.Elements.{CommandElement, command_tag}
 use Rattle.ups_dimse.specs.Commands.{class_element}
 use Rattle.ups_dimse.specs.Held.{IsHeldTag, IsHeldOperation, IsHeldResult, IsHeld}
-use Rattle.ups_dimse.specs.Written.{written_command_element, us_element, optional_us_element, priority_of, uid_element, tags_element, operation_elements, result_elements, command_elements, tags_of, FitsCommand}
+use Rattle.ups_dimse.specs.Written.{written_command_element, us_element, optional_us_element, priority_of, uid_element, tags_element, operation_elements, result_elements, command_elements, grouped, tags_of, FitsCommand}
 use Rattle.ups_dimse.proofs.UidText.{padded_short}
 
 pub length-tags : (ts : List Tag) → length (flat_map tag_bytes ts) ≡ 4 * length ts
@@ -100,3 +101,16 @@ command_short (Response r) fits h =
     rw (flat_map-append written_command_element (uid_element 0x0002 r.sop_class) _)
     (omega (arith, uid_size 0x0002 r.sop_class h.sop_class, result_size r.result h.operation, length-append {A = ℕ}))
 command_short (Cancel c) fits h = omega arith
+
+-- the length of the elements, written over the four bytes before them
+pub grouped_over : (old head room whole out : List ℕ) (es : List CommandElement) (at len : ℕ)
+    → head ≡ old ++ (tag_bytes (command_tag 0x0000) ++ to_le_bytes w32 4) → at ≡ length head → room ≡ head ++ 0 ∷ 0 ∷ 0 ∷ 0 ∷ [] → whole ≡ room ++ flat_map written_command_element es
+    → len ≡ length whole - length room → out ≡ take at whole ++ (to_le_bytes w32 len ++ drop (at + 4) whole)
+    → out ≡ old ++ flat_map written_command_element (grouped es)
+grouped_over old head room whole out es at len h a r w l o =
+    let body = flat_map written_command_element es in
+    let parts : whole ≡ head ++ (0 ∷ 0 ∷ 0 ∷ 0 ∷ body) = w ∙ ap (λ (x : List ℕ). x ++ body) r ∙ append_assoc head (0 ∷ 0 ∷ 0 ∷ 0 ∷ []) body in
+    let size : len ≡ length body = omega (arith, l, ap length w, length-append room body) in
+    let front : take at whole ≡ head = ap (λ (n : ℕ). take n whole) (a ∙ omega arith) ∙ ap (take (length head + 0)) parts ∙ take-append-add head (0 ∷ 0 ∷ 0 ∷ 0 ∷ body) 0 ∙ append-nil head in
+    let back : drop (at + 4) whole ≡ body = ap (λ (n : ℕ). drop (n + 4) whole) a ∙ ap (drop (length head + 4)) parts ∙ drop-append-add head (0 ∷ 0 ∷ 0 ∷ 0 ∷ body) 4 in
+    rw (o, front, back, size, h) (append_assoc old (tag_bytes (command_tag 0x0000) ++ to_le_bytes w32 4) (to_le_bytes w32 (length body) ++ body))

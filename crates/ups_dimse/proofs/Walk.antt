@@ -86,6 +86,20 @@ found_none number bytes rest still none es s =
     let t = still es s in
     t.3 ∙ ap (value_in number) (no_front t.0 rest t.1 none t.2)
 
+-- no number that rising ones have passed is among them
+above_none : (number from : ℕ) (bytes : List ℕ) (es : List CommandElement) → number < from → SpellsCommandElements from bytes es [] → value_in number es ≡ None
+above_none number from bytes [] l s = refl
+above_none number from bytes (e ∷ es) l s =
+    ap (λ (b : Bool). cond b (Some e.value) (value_in number es)) (ne_eqb e.number number (λ same. omega (arith, l, s.2, same))) ∙ above_none number (e.number + 1) s.0 es (omega (arith, l, s.2)) s.3
+
+pub passed_none : (number : ℕ) (bytes rest : List ℕ) (e : CommandElement) (after : List ℕ) → StillIn number bytes rest → IsCommandElement rest e after → number < e.number
+    → (es : List CommandElement) → SpellsCommandElements 0 bytes es [] → value_in number es ≡ None
+passed_none number bytes rest e after still p greater es s =
+    let t = still es s in
+    let f = front_value number t.0 rest t.1 e after p t.2 in
+    let other = ne_eqb e.number number (λ same. omega (arith, greater, same)) in
+    t.3 ∙ f.2 ∙ ap (λ (b : Bool). cond b (Some e.value) (value_in number f.0)) other ∙ above_none number (e.number + 1) after f.0 (omega (arith, greater)) f.1
+
 -- the bytes are one list of elements
 pub one_list : (from : ℕ) (bytes : List ℕ) (es fs : List CommandElement) → SpellsCommandElements from bytes es [] → SpellsCommandElements from bytes fs [] → es ≡ fs
 one_list from bytes [] [] s t = refl

@@ -13,14 +13,21 @@ use crate::numbers::{DATA_SET_TYPE, command_tag};
 use crate::tag_list::Tags;
 use std::alloc::{AllocError, Allocator};
 use ups_dataset::{Tag, UNDEFINED_LENGTH};
-use ups_pdu::{Uid, le_u16_at, le_u32_at};
+use ups_pdu::{Uid, le_u32_at};
+
+/// How many bytes the header of an element takes: its tag, and the length of its value.
+const HEADER_LEN: usize = 8;
 
 /// The number and the value of the element at the front, and the rest.
+#[inline(always)]
 fn element_at(bytes: &[u8]) -> Option<(u16, &[u8], &[u8])>
     ensures { MatchOption result
         ((element : CommandElement) → (rest : List ℕ) → IsCommandElement bytes.now element rest → ⊥)
         (λ x. IsCommandElement bytes.now (record { number = x.0; value = x.1.now }) x.2.now) }
 {
+    if bytes.len() < HEADER_LEN {
+        return None;
+    }
     let (tag, after) = Tag::at(bytes)?;
     let (len, rest) = le_u32_at(after)?;
     if tag.group != 0 || len == UNDEFINED_LENGTH || len % 2 != 0 || rest.len() < len as usize {
@@ -49,7 +56,8 @@ pub(crate) fn are_elements(bytes: &[u8]) -> bool
     true
 }
 
-/// The value of an element, in bytes that are elements.
+/// The value of an element, in bytes that are elements. Their tags rise, so behind a greater one it is not looked for.
+#[inline(always)]
 fn value_of(bytes: &[u8], number: u16) -> Option<&[u8]>
     ensures { (elements : List CommandElement) → SpellsCommandElements 0 bytes.now elements [] → MatchOption result (value_in number elements ≡ None) (λ v. value_in number elements ≡ Some v.now) }
 {
@@ -57,6 +65,9 @@ fn value_of(bytes: &[u8], number: u16) -> Option<&[u8]>
     while let Some((found, value, after)) = element_at(rest) {
         if found == number {
             return Some(value);
+        }
+        if found > number {
+            return None;
         }
         rest = after;
     }
@@ -74,6 +85,7 @@ pub(crate) fn us_of(bytes: &[u8], number: u16) -> Result<u16, DimseFault>
 }
 
 /// The number in an element with the value representation US, which may be absent.
+#[inline(always)]
 pub(crate) fn optional_us_of(bytes: &[u8], number: u16) -> Result<Option<u16>, DimseFault>
     ensures { (elements : List CommandElement) → SpellsCommandElements 0 bytes.now elements [] → MatchResult result (MayHaveUs elements number) (PresentUsFails elements number) }
 {

@@ -18,4 +18,4 @@ pub use fault::DimseFault;
 pub use limits::{MAX_ATTRIBUTES, limits_are_those_of_the_profile};
 pub use reading::{command_is_unique, fault_is_unique, read_command};
 pub use tag_list::Tags;
-pub use writing::write_command;
+pub use writing::{write_command, write_command_into};

@@ -1,6 +1,6 @@
 //! Writing command sets.
 
-ghost use Rattle.std.specs.Prelude.{◌≡◌, ◌<◌, ◌*◌, ◌^◌, ◌++◌, length, IfOk, IfSome, OnOk};
+ghost use Rattle.std.specs.Prelude.{◌≡◌, ◌<◌, ◌≤◌, ◌+◌, ◌*◌, ◌^◌, ◌++◌, length, take, drop, IfOk, IfSome, OnOk};
 ghost use Rattle.std.specs.Int.{to_le_bytes, w32};
 ghost use Rattle.std.specs.List.{flat_map};
 ghost use Rattle.ups_pdu.specs.Identifier.{IsUid};
@@ -17,14 +17,10 @@ use crate::message::Message;
 use crate::numbers::{
     ACTION_TYPE, AFFECTED_CLASS, AFFECTED_INSTANCE, ATTRIBUTES, COMMAND_FIELD, DATA_SET_TYPE,
     EVENT_TYPE, GROUP_LENGTH, MESSAGE_ID, PRIORITY, REQUESTED_INSTANCE, RESPONDED_TO, STATUS,
-    command_tag,
 };
 use std::alloc::{AllocError, Allocator};
 use ups_dataset::Tag;
 use ups_pdu::Uid;
-
-/// How many bytes the element Command Group Length takes.
-const GROUP_LENGTH_LEN: usize = 12;
 
 /// How many bytes a command has at most where it has no attribute list, and no more than two UIDs: room for them is taken at
 /// once.
@@ -38,8 +34,9 @@ fn put_header<A: Allocator + Copy>(
 ) -> Result<(), AllocError>
     ensures { OnOk result (out.new.items ≡ out.old.items ++ (tag_bytes (command_tag number) ++ to_le_bytes w32 len)) }
 {
-    command_tag(number).put(out)?;
-    out.extend_from_slice(&len.to_le_bytes())?;
+    let [low, high] = number.to_le_bytes();
+    let [first, second, third, fourth] = len.to_le_bytes();
+    out.extend_from_slice(&[0, 0, low, high, first, second, third, fourth])?;
     Ok(())
 }
 
@@ -240,22 +237,53 @@ fn put_cancel<A: Allocator + Copy>(
     Ok(())
 }
 
-/// The elements of a command, without Command Group Length.
-fn elements_of<A: Allocator + Copy>(
-    alloc: A,
+/// Writes the elements of a command at the end, without Command Group Length.
+fn put_elements<A: Allocator + Copy>(
+    out: &mut Vec<u8, A>,
     command: &Command<A>,
-) -> Result<Vec<u8, A>, AllocError>
+) -> Result<(), AllocError>
     requires { FitsCommand command.now }
-    ensures wrote { IfOk result (λ v. v.items ≡ flat_map written_command_element (command_elements command.now)) }
+    ensures wrote { OnOk result (out.new.items ≡ out.old.items ++ flat_map written_command_element (command_elements command.now)) }
     ensures held { OnOk result (IsHeld command.now) }
 {
-    let mut out = Vec::with_capacity(alloc, USUAL_LEN)?;
     match command {
-        Command::Request(request) => put_request(&mut out, request)?,
-        Command::Response(response) => put_response(&mut out, response)?,
-        Command::Cancel(cancel) => put_cancel(&mut out, cancel)?,
+        Command::Request(request) => put_request(out, request),
+        Command::Response(response) => put_response(out, response),
+        Command::Cancel(cancel) => put_cancel(out, cancel),
     }
-    Ok(out)
+}
+
+/// Writes a number over the four bytes at a place, the lowest first.
+fn set_u32<A: Allocator + Copy>(out: &mut Vec<u8, A>, at: usize, number: u32)
+    requires { at + 4 ≤ length out.now.items }
+    ensures { out.new.items ≡ take at out.old.items ++ (to_le_bytes w32 number ++ drop (at + 4) out.old.items) }
+{
+    out.as_mut_slice()[at..at + 4].copy_from_slice(&number.to_le_bytes());
+}
+
+/// Writes the one spelling of a command at the end, as `write_command` does.
+///
+/// # Errors
+///
+/// Memory ran out. It is not said what the vector then holds.
+pub fn write_command_into<A: Allocator + Copy>(
+    out: &mut Vec<u8, A>,
+    command: &Command<A>,
+) -> Result<(), AllocError>
+    requires { FitsCommand command.now }
+    // The one spelling is written.
+    ensures written { OnOk result (out.new.items ≡ out.old.items ++ written_command command.now) }
+    // What is written is read again as the same command.
+    ensures again { OnOk result (SpellsCommand (written_command command.now) command.now) }
+{
+    put_header(out, GROUP_LENGTH, 4)?;
+    let place = out.len();
+    out.extend_from_slice(&[0; 4])?;
+    let start = out.len();
+    put_elements(out, command)?;
+    let len = (out.len() - start) as u32;
+    set_u32(out, place, len);
+    Ok(())
 }
 
 /// The one spelling of a command that is written: Command Group Length (0000,0000) with the exact length of the rest,
@@ -274,10 +302,7 @@ pub fn write_command<A: Allocator + Copy>(
     // What is written is read again as the same command.
     ensures again { IfOk result (λ v. SpellsCommand v.items command.now) }
 {
-    let elements = elements_of(alloc, command)?;
-    let mut out = Vec::with_capacity(alloc, GROUP_LENGTH_LEN + elements.len())?;
-    put_header(&mut out, GROUP_LENGTH, 4)?;
-    out.extend_from_slice(&(elements.len() as u32).to_le_bytes())?;
-    out.extend_from_slice(elements.as_slice())?;
+    let mut out = Vec::with_capacity(alloc, USUAL_LEN)?;
+    write_command_into(&mut out, command)?;
     Ok(out)
 }
