@@ -66,22 +66,26 @@ fn is_within(first: usize, second: usize, third: usize) -> bool
         && third <= LONGEST_MESSAGE - first - second
 }
 
-/// More bytes at the end of those of a message, of which this many stand elsewhere.
+/// More bytes at the end of those of a message, of which this many stand elsewhere. Behind no bytes they stand where they
+/// are, and it takes no memory.
 ///
 /// Errors: TooLong, Memory.
 fn appended<A: Allocator + Copy>(
     bytes: Bytes<A>,
     elsewhere: usize,
-    more: &[u8],
+    more: Bytes<A>,
 ) -> Result<Bytes<A>, AssocFault>
-    ensures appended { IfOk result (λ b. (b ≡ bytes ++ more.now) × (elsewhere + length (bytes ++ more.now) ≤ longest_message)) }
-    ensures fault { IfErr result (λ e. IsRefusedFragment e (elsewhere + length (bytes ++ more.now))) }
+    ensures appended { IfOk result (λ b. (b ≡ bytes ++ more) × (elsewhere + length (bytes ++ more) ≤ longest_message)) }
+    ensures fault { IfErr result (λ e. IsRefusedFragment e (elsewhere + length (bytes ++ more))) }
 {
     if !is_within(elsewhere, bytes.len(), more.len()) {
         return Err(AssocFault::TooLong);
     }
+    if bytes.is_empty() {
+        return Ok(more);
+    }
     let mut vec = bytes.into_vec();
-    vec.extend_from_slice(more)?;
+    vec.extend_from_slice(more.as_slice())?;
     Ok(Bytes::from_vec(vec))
 }
 
@@ -136,11 +140,11 @@ fn with_command<A: Allocator + Copy>(
     alloc: A,
     context: u8,
     bytes: Bytes<A>,
-    pdv: &Pdv<A>,
+    pdv: Pdv<A>,
 ) -> Result<Taken<A>, AssocFault>
-    ensures { Takes (with_command context bytes pdv.now) result }
+    ensures { Takes (with_command context bytes pdv) result }
 {
-    let bytes = appended(bytes, 0, pdv.bytes.as_slice())?;
+    let bytes = appended(bytes, 0, pdv.bytes)?;
     Ok(command_end(alloc, context, bytes, pdv.last))
 }
 
@@ -151,12 +155,12 @@ fn with_data<A: Allocator + Copy>(
     context: u8,
     command: Bytes<A>,
     bytes: Bytes<A>,
-    pdv: &Pdv<A>,
+    pdv: Pdv<A>,
 ) -> Result<Taken<A>, AssocFault>
-    ensures { Takes (with_data context command bytes pdv.now) result }
+    ensures { Takes (with_data context command bytes pdv) result }
 {
     let elsewhere = command.len();
-    let bytes = appended(bytes, elsewhere, pdv.bytes.as_slice())?;
+    let bytes = appended(bytes, elsewhere, pdv.bytes)?;
     Ok(body_end(context, command, bytes, pdv.last))
 }
 
@@ -166,9 +170,9 @@ fn with_data<A: Allocator + Copy>(
 fn take_fragment<A: Allocator + Copy>(
     alloc: A,
     begun: Begun<A>,
-    pdv: &Pdv<A>,
+    pdv: Pdv<A>,
 ) -> Result<Taken<A>, AssocFault>
-    ensures { Takes (fed_fragment begun pdv.now) result }
+    ensures { Takes (fed_fragment begun pdv) result }
 {
     match begun {
         Begun::Nothing => {
@@ -253,9 +257,9 @@ impl<A: Allocator + Copy> Assembler<A> {
     ///
     /// Errors, the first that applies: UnknownContext, MixedContext, DataWithoutCommand, TooLong, Memory. After an
     /// error each later call answers Failed.
-    pub fn feed(&mut self, pdv: &Pdv<A>) -> Result<Option<RawMessage<A>>, AssocFault>
+    pub fn feed(&mut self, pdv: Pdv<A>) -> Result<Option<RawMessage<A>>, AssocFault>
         ensures ids { self.new.ids ≡ self.old.ids }
-        ensures feeds { Feeds (fed self.old.ids self.old.begun pdv.now) self.new.begun result }
+        ensures feeds { Feeds (fed self.old.ids self.old.begun pdv) self.new.begun result }
     {
         let begun = mem::replace(&mut self.begun, Begun::Failed);
         if begun.has_failed() {

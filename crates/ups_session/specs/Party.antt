@@ -17,9 +17,9 @@ use Rattle.ups_session.specs.Fold.{Indication, event, request, confirmation, pre
 abbrev pub indication_of : {A : Type 0} → UlIndication A → Indication A
 indication_of (ul_indications.Event e) = event e
 indication_of (ul_indications.InvalidPdu fault) = invalid fault
-indication_of (ul_indications.AssociateRq rq) = request rq.now
-indication_of (ul_indications.AssociateAc ac) = confirmation ac.now
-indication_of (ul_indications.Pdv pdv) = presentation_data pdv.now
+indication_of (ul_indications.AssociateRq rq) = request rq
+indication_of (ul_indications.AssociateAc ac) = confirmation ac
+indication_of (ul_indications.Pdv pdv) = presentation_data pdv
 
 -- What may come from a peer or from the transport connection: it is not confirmed again once it is open, and a request
 -- was spelled.

@@ -105,23 +105,23 @@ impl<'a, A: Allocator + Copy> Party<A> for Acceptor<'a, A> {
     fn react(
         &mut self,
         alloc: A,
-        indication: &UlIndication<A>,
+        indication: &mut UlIndication<A>,
     ) -> Result<Effect<A, AwaitedRequest<A>>, SessionFault> {
         let association = &mut self.association;
-        match indication {
+        match indication.take() {
             UlIndication::AssociateRq(request) => Ok(Effect::Send(association.on_associate_request(
                 alloc,
                 self.config,
-                request,
+                &request,
             )?)),
             UlIndication::Pdv(pdv) => association.on_fragment(alloc, self.config, pdv),
             UlIndication::Event(event) => Ok(Effect::Send(association.on_event(
-                alloc, ACCEPTOR, UNEXPECTED, *event,
+                alloc, ACCEPTOR, UNEXPECTED, event,
             )?)),
             UlIndication::InvalidPdu(fault) => Ok(Effect::Send(association.on_event(
                 alloc,
                 ACCEPTOR,
-                reason_of(*fault),
+                reason_of(fault),
                 UlEvent::Invalid,
             )?)),
             UlIndication::AssociateAc(_) => Ok(Effect::Send(association.on_event(

@@ -80,14 +80,14 @@ fn on_pdv<A: Allocator + Copy>(
     alloc: A,
     config: &Config,
     established: &mut Established<A>,
-    pdv: &Pdv<A>,
+    pdv: Pdv<A>,
 ) -> Result<Option<Effect<A, AwaitedRequest<A>>>, SessionFault>
     requires roomy { 8 ≤ established.old.parameters.max }
-    ensures effect { IfOk result (λ found. (association : AssociationView A) → Continues false config.now.offset association (established_view established.old) (fed established.old.assembler.ids established.old.assembler.begun pdv.now) (on_message_effect false (record { state = association.state; established = Some (established_view established.new); ending = association.ending }) (message_effect found))) }
+    ensures effect { IfOk result (λ found. (association : AssociationView A) → Continues false config.now.offset association (established_view established.old) (fed established.old.assembler.ids established.old.assembler.begun pdv) (on_message_effect false (record { state = association.state; established = Some (established_view established.new); ending = association.ending }) (message_effect found))) }
     ensures writable { IfOk result AreSendable }
     ensures parameters { established.new.parameters ≡ established.old.parameters }
     ensures memory { IfErr result (λ e. e ≡ Memory) }
-    ensures faultless { OnErr result ((why : AssocFault) → fed established.old.assembler.ids established.old.assembler.begun pdv.now ≡ faulty why → why ≡ NoMemory) }
+    ensures faultless { OnErr result ((why : AssocFault) → fed established.old.assembler.ids established.old.assembler.begun pdv ≡ faulty why → why ≡ NoMemory) }
 {
     match established.assembler.feed(pdv) {
         Ok(None) => Ok(Some(Effect::Send(Vec::new(alloc)))),
@@ -417,10 +417,10 @@ impl<A: Allocator + Copy> Association<A> {
         &mut self,
         alloc: A,
         config: &Config,
-        pdv: &Pdv<A>,
+        pdv: Pdv<A>,
     ) -> Result<Effect<A, AwaitedRequest<A>>, SessionFault>
         requires roomy { IsRoomy self.old.established }
-        ensures reaction { IfOk result (λ effect. Received false config.now.offset (association_view self.old) (option_map established_view self.old.established) pdv.now (reaction_of (association_view self.new) effect)) }
+        ensures reaction { IfOk result (λ effect. Received false config.now.offset (association_view self.old) (option_map established_view self.old.established) pdv (reaction_of (association_view self.new) effect)) }
         ensures writable { IfOk result IsSendable }
         ensures roomy { OnOk result (IsRoomy self.new.established) }
         ensures memory { IfErr result (λ e. e ≡ Memory) }
@@ -441,10 +441,10 @@ impl<A: Allocator + Copy> Association<A> {
         &mut self,
         alloc: A,
         config: &Config,
-        pdv: &Pdv<A>,
+        pdv: Pdv<A>,
     ) -> Result<Effect<A, AwaitedRequest<A>>, SessionFault>
         requires roomy { IsRoomy self.old.established }
-        ensures reaction { IfOk result (λ effect. Indicated false config.now.offset (association_view self.old) pdv.now (next_of false true events.Data self.old.state) (reaction_of (association_view self.new) effect)) }
+        ensures reaction { IfOk result (λ effect. Indicated false config.now.offset (association_view self.old) pdv (next_of false true events.Data self.old.state) (reaction_of (association_view self.new) effect)) }
         ensures writable { IfOk result IsSendable }
         ensures roomy { OnOk result (IsRoomy self.new.established) }
         ensures memory { IfErr result (λ e. e ≡ Memory) }

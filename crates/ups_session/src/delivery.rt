@@ -469,10 +469,10 @@ impl<A: Allocator + Copy> Delivery<A> {
         alloc: A,
         released: bool,
         established: Established<A>,
-        pdv: &Pdv<A>,
+        pdv: Pdv<A>,
     ) -> Result<Effect<A, DeliveryCall>, SessionFault>
         requires roomy { 8 ≤ established.parameters.max }
-        ensures reaction { IfOk result (λ found. Assembles (delivery_view self.old) (established_view established) released (fed established.assembler.ids established.assembler.begun pdv.now) (delivery_reaction_of (delivery_view self.new) found)) }
+        ensures reaction { IfOk result (λ found. Assembles (delivery_view self.old) (established_view established) released (fed established.assembler.ids established.assembler.begun pdv) (delivery_reaction_of (delivery_view self.new) found)) }
         ensures writable { IfOk result IsSendableDelivery }
         ensures roomy { IsRoomy self.new.association.established }
         ensures memory { IfErr result (λ e. e ≡ Memory) }
@@ -498,10 +498,10 @@ impl<A: Allocator + Copy> Delivery<A> {
         &mut self,
         alloc: A,
         released: bool,
-        pdv: &Pdv<A>,
+        pdv: Pdv<A>,
     ) -> Result<Effect<A, DeliveryCall>, SessionFault>
         requires roomy { IsRoomy self.old.association.established }
-        ensures reaction { IfOk result (λ found. Receives (delivery_view self.old) (option_map established_view self.old.association.established) released pdv.now (delivery_reaction_of (delivery_view self.new) found)) }
+        ensures reaction { IfOk result (λ found. Receives (delivery_view self.old) (option_map established_view self.old.association.established) released pdv (delivery_reaction_of (delivery_view self.new) found)) }
         ensures writable { IfOk result IsSendableDelivery }
         ensures roomy { OnOk result (IsRoomy self.new.association.established) }
         ensures memory { IfErr result (λ e. e ≡ Memory) }
@@ -518,10 +518,10 @@ impl<A: Allocator + Copy> Delivery<A> {
     pub fn on_fragment(
         &mut self,
         alloc: A,
-        pdv: &Pdv<A>,
+        pdv: Pdv<A>,
     ) -> Result<Effect<A, DeliveryCall>, SessionFault>
         requires roomy { IsRoomy self.old.association.established }
-        ensures reaction { IfOk result (λ found. OnFragment (delivery_view self.old) pdv.now (next_of true true events.Data self.old.association.state) (delivery_reaction_of (delivery_view self.new) found)) }
+        ensures reaction { IfOk result (λ found. OnFragment (delivery_view self.old) pdv (next_of true true events.Data self.old.association.state) (delivery_reaction_of (delivery_view self.new) found)) }
         ensures writable { IfOk result IsSendableDelivery }
         ensures roomy { OnOk result (IsRoomy self.new.association.established) }
         ensures memory { IfErr result (λ e. e ≡ Memory) }

@@ -19,25 +19,25 @@ use crate::sending::send_command;
 use crate::watched_io::{WatchedReader, WatchedWriter};
 use std::alloc::Allocator;
 use std::io::{Read, Write};
-use ups_pdu::{Pdu, Pdv};
+use ups_pdu::{Pdu, Pdvs};
 use ups_service::Service;
 use ups_ulstate::UlEvent;
 
-/// Processes an indication: the party reacts, and what it sends is written, or the call that it makes is settled. The
-/// buffer is for the bytes of one PDU after the other, as in all functions here.
+/// Processes an indication, and takes what it holds: the party reacts, and what it sends is written, or the call that it
+/// makes is settled. The buffer is for the bytes of one PDU after the other, as in all functions here.
 ///
 /// Errors: a failed write; out of memory.
-fn process<A: Allocator + Copy, W: Write, S: Service<A>, G: Gate, P: Party<A>>(
+fn perform<A: Allocator + Copy, W: Write, S: Service<A>, G: Gate, P: Party<A>>(
     party: &mut P,
     writer: &mut WatchedWriter<W>,
     service: &mut S,
     gate: &mut G,
     buffer: &mut Vec<u8, A>,
-    indication: &UlIndication<A>,
+    indication: &mut UlIndication<A>,
 ) -> Result<(), SessionFault>
     requires ready { P.is_ready party.old }
-    requires comes { Comes (indication_of indication.now) }
-    ensures performed { Performed (Happens (P.side (P.setup party.old))) (indication_of indication.now ∷ []) (P.view party.old) (P.view party.new)
+    requires comes { Comes (indication_of indication.old) }
+    ensures performed { Performed (Happens (P.side (P.setup party.old))) (indication_of indication.old ∷ []) (P.view party.old) (P.view party.new)
         (world writer.old (G.told gate.old) (S.settings service.old) (S.others service.old) (S.caller service.old) (S.seen service.old))
         (world writer.new (G.told gate.new) (S.settings service.new) (S.others service.new) (S.caller service.new) (S.seen service.new)) result }
     ensures ready { OnOk result (P.is_ready party.new) }
@@ -58,6 +58,29 @@ fn process<A: Allocator + Copy, W: Write, S: Service<A>, G: Gate, P: Party<A>>(
     }
 }
 
+/// Processes an indication, as `perform` does.
+///
+/// Errors: a failed write; out of memory.
+fn process<A: Allocator + Copy, W: Write, S: Service<A>, G: Gate, P: Party<A>>(
+    party: &mut P,
+    writer: &mut WatchedWriter<W>,
+    service: &mut S,
+    gate: &mut G,
+    buffer: &mut Vec<u8, A>,
+    indication: UlIndication<A>,
+) -> Result<(), SessionFault>
+    requires ready { P.is_ready party.old }
+    requires comes { Comes (indication_of indication) }
+    ensures performed { Performed (Happens (P.side (P.setup party.old))) (indication_of indication ∷ []) (P.view party.old) (P.view party.new)
+        (world writer.old (G.told gate.old) (S.settings service.old) (S.others service.old) (S.caller service.old) (S.seen service.old))
+        (world writer.new (G.told gate.new) (S.settings service.new) (S.others service.new) (S.caller service.new) (S.seen service.new)) result }
+    ensures ready { OnOk result (P.is_ready party.new) }
+    ensures setup { P.setup party.new ≡ P.setup party.old }
+{
+    let mut indication = indication;
+    perform(party, writer, service, gate, buffer, &mut indication)
+}
+
 /// Processes the PDVs of a P-DATA-TF, in order (PS3.8 section 9.3.5).
 ///
 /// Errors: a failed write; out of memory.
@@ -67,18 +90,18 @@ fn process_fragments<A: Allocator + Copy, W: Write, S: Service<A>, G: Gate, P: P
     service: &mut S,
     gate: &mut G,
     buffer: &mut Vec<u8, A>,
-    pdvs: &[Pdv<A>],
+    pdvs: Pdvs<A>,
 ) -> Result<(), SessionFault>
     requires ready { P.is_ready party.old }
-    ensures performed { Performed (Happens (P.side (P.setup party.old))) (map presentation_data pdvs.now) (P.view party.old) (P.view party.new)
+    ensures performed { Performed (Happens (P.side (P.setup party.old))) (map presentation_data pdvs) (P.view party.old) (P.view party.new)
         (world writer.old (G.told gate.old) (S.settings service.old) (S.others service.old) (S.caller service.old) (S.seen service.old))
         (world writer.new (G.told gate.new) (S.settings service.new) (S.others service.new) (S.caller service.new) (S.seen service.new)) result }
     ensures ready { OnOk result (P.is_ready party.new) }
     ensures setup { P.setup party.new ≡ P.setup party.old }
 {
-    for pdv in pdvs {
+    for pdv in pdvs.into_vec() {
         let indication = UlIndication::Pdv(pdv);
-        process(party, writer, service, gate, buffer, &indication)?;
+        process(party, writer, service, gate, buffer, indication)?;
     }
     Ok(())
 }
@@ -92,11 +115,11 @@ fn process_pdu<A: Allocator + Copy, W: Write, S: Service<A>, G: Gate, P: Party<A
     service: &mut S,
     gate: &mut G,
     buffer: &mut Vec<u8, A>,
-    pdu: &Pdu<A>,
+    pdu: Pdu<A>,
 ) -> Result<(), SessionFault>
     requires ready { P.is_ready party.old }
-    requires spelled { (bytes : List ℕ) × SpellsPdu bytes pdu.now }
-    ensures performed { Performed (Happens (P.side (P.setup party.old))) (indications pdu.now) (P.view party.old) (P.view party.new)
+    requires spelled { (bytes : List ℕ) × SpellsPdu bytes pdu }
+    ensures performed { Performed (Happens (P.side (P.setup party.old))) (indications pdu) (P.view party.old) (P.view party.new)
         (world writer.old (G.told gate.old) (S.settings service.old) (S.others service.old) (S.caller service.old) (S.seen service.old))
         (world writer.new (G.told gate.new) (S.settings service.new) (S.others service.new) (S.caller service.new) (S.seen service.new)) result }
     ensures ready { OnOk result (P.is_ready party.new) }
@@ -104,15 +127,15 @@ fn process_pdu<A: Allocator + Copy, W: Write, S: Service<A>, G: Gate, P: Party<A
 {
     let event = match pdu {
         Pdu::Data(pdvs) => {
-            return process_fragments(party, writer, service, gate, buffer, pdvs.as_slice());
+            return process_fragments(party, writer, service, gate, buffer, pdvs);
         }
         Pdu::AssociateRq(request) => {
             let indication = UlIndication::AssociateRq(request);
-            return process(party, writer, service, gate, buffer, &indication);
+            return process(party, writer, service, gate, buffer, indication);
         }
         Pdu::AssociateAc(accept) => {
             let indication = UlIndication::AssociateAc(accept);
-            return process(party, writer, service, gate, buffer, &indication);
+            return process(party, writer, service, gate, buffer, indication);
         }
         Pdu::AssociateRj { .. } => UlEvent::AssociateRj,
         Pdu::ReleaseRq => UlEvent::ReleaseRq,
@@ -120,7 +143,7 @@ fn process_pdu<A: Allocator + Copy, W: Write, S: Service<A>, G: Gate, P: Party<A
         Pdu::Abort { .. } => UlEvent::Abort,
     };
     let indication = UlIndication::Event(event);
-    process(party, writer, service, gate, buffer, &indication)
+    process(party, writer, service, gate, buffer, indication)
 }
 
 /// Reads the next PDU, or the end of the input, and processes it.
@@ -143,14 +166,14 @@ fn process_next<A: Allocator + Copy, R: Read, W: Write, S: Service<A>, G: Gate, 
     ensures setup { P.setup party.new ≡ P.setup party.old }
 {
     match read_one(reader, buffer)? {
-        PduRead::Pdu(pdu) => process_pdu(party, writer, service, gate, buffer, &pdu),
+        PduRead::Pdu(pdu) => process_pdu(party, writer, service, gate, buffer, pdu),
         PduRead::Bad(fault) => {
             let indication = UlIndication::InvalidPdu(fault);
-            process(party, writer, service, gate, buffer, &indication)
+            process(party, writer, service, gate, buffer, indication)
         }
         PduRead::Closed => {
             let indication = UlIndication::Event(UlEvent::TransportClosed);
-            process(party, writer, service, gate, buffer, &indication)
+            process(party, writer, service, gate, buffer, indication)
         }
         PduRead::Cut | PduRead::Failed => Err(SessionFault::Read),
     }

@@ -75,17 +75,17 @@ pub(crate) trait Party<A: Allocator + Copy> {
         ensures ready { OnOk result (is_ready self.new) }
         ensures setup { setup self.new ≡ setup self.old };
 
-    /// Reacts to an indication, by the state transition table (PS3.8 section 9.2).
+    /// Reacts to an indication, by the state transition table (PS3.8 section 9.2). It takes what the indication holds.
     ///
     /// Errors: out of memory.
     fn react(
         &mut self,
         alloc: A,
-        indication: &UlIndication<A>,
+        indication: &mut UlIndication<A>,
     ) -> Result<Effect<A, Self::Call>, SessionFault>
         requires ready { is_ready self.old }
-        requires comes { Comes (indication_of indication.now) }
-        ensures reacts { IfOk result (λ effect. (side (setup self.old)).Reacts (view self.old) (indication_of indication.now) (reaction_with call_view (view self.new) effect)) }
+        requires comes { Comes (indication_of indication.old) }
+        ensures reacts { IfOk result (λ effect. (side (setup self.old)).Reacts (view self.old) (indication_of indication.old) (reaction_with call_view (view self.new) effect)) }
         ensures sendable { IfOk result (CanSend is_roomy) }
         ensures ready { OnOk result (is_ready self.new) }
         ensures setup { setup self.new ≡ setup self.old }

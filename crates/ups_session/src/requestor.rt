@@ -168,18 +168,18 @@ impl<'a, A: Allocator + Copy> Party<A> for Requestor<'a, A> {
     fn react(
         &mut self,
         alloc: A,
-        indication: &UlIndication<A>,
+        indication: &mut UlIndication<A>,
     ) -> Result<Effect<A, DeliveryCall>, SessionFault> {
         let delivery = &mut self.delivery;
-        match indication {
-            UlIndication::AssociateAc(answer) => delivery.on_answer(alloc, self.ae, answer),
+        match indication.take() {
+            UlIndication::AssociateAc(answer) => delivery.on_answer(alloc, self.ae, &answer),
             UlIndication::Pdv(pdv) => delivery.on_fragment(alloc, pdv),
             UlIndication::Event(event) => {
-                Ok(Effect::Send(delivery.on_event(alloc, UNEXPECTED, *event)?))
+                Ok(Effect::Send(delivery.on_event(alloc, UNEXPECTED, event)?))
             }
             UlIndication::InvalidPdu(fault) => Ok(Effect::Send(delivery.on_event(
                 alloc,
-                reason_of(*fault),
+                reason_of(fault),
                 UlEvent::Invalid,
             )?)),
             UlIndication::AssociateRq(_) => Ok(Effect::Send(delivery.on_event(

@@ -72,7 +72,7 @@ fn is_message(
 fn is_answered(
     rt: &impl AllocGlobal,
     assembler: &mut Assembler<Global>,
-    fragment: &Pdv<Global>,
+    fragment: Pdv<Global>,
     expected: &str,
 ) -> Result<bool, Fail> {
     match assembler.feed(fragment) {
@@ -93,7 +93,7 @@ fn is_step(
     step: &str,
 ) -> Result<bool, Fail> {
     let (text, expected) = cut(step, "=")?;
-    is_answered(rt, assembler, &fragment(rt, text)?, expected)
+    is_answered(rt, assembler, fragment(rt, text)?, expected)
 }
 
 /// An assembler where contexts 1 and 5 are accepted.
@@ -153,7 +153,7 @@ fn is_more(
     byte: u8,
 ) -> Result<bool, Fail> {
     let fragment = pdv(rt.alloc(), 255, control, &[byte])?;
-    Ok(assembler.feed(&fragment)?.is_none())
+    Ok(assembler.feed(fragment)?.is_none())
 }
 
 /// Feeds bytes in fragments of one byte each, with this control header but for the last, which has another; none makes a
@@ -198,15 +198,15 @@ fn fragments_of_one_byte_give_the_message(rt: HostRuntime) -> Result<(), Fail> {
 fn fault_at_the_end(rt: &impl AllocGlobal, more: usize) -> Result<Option<AssocFault>, Fail> {
     let zeros = [0; 16_384];
     let mut assembler = Assembler::new(rt.alloc(), &context(1))?;
-    let fragment = pdv(rt.alloc(), 1, 0, &zeros)?;
     let is_begun = is_step(rt, &mut assembler, "1 3 CREATE=more")?;
     for _ in 0..63 {
-        if !is_begun || assembler.feed(&fragment)?.is_some() {
+        let fragment = pdv(rt.alloc(), 1, 0, &zeros)?;
+        if !is_begun || assembler.feed(fragment)?.is_some() {
             return Err("a message before its end".into());
         }
     }
     let last = pdv(rt.alloc(), 1, 2, zeros.get(..more).ok_or("a part")?)?;
-    Ok(assembler.feed(&last).err())
+    Ok(assembler.feed(last).err())
 }
 
 #[test]

@@ -18,6 +18,21 @@ fn pdv_in(pdu: &Pdu<Global>) -> Result<&Pdv<Global>, Fail> {
     Ok(pdv)
 }
 
+/// The one fragment of a PDU, taken out of it.
+fn pdv_of(pdu: Pdu<Global>) -> Result<Pdv<Global>, Fail> {
+    let Pdu::Data(pdvs) = pdu else {
+        return Err("no P-DATA-TF".into());
+    };
+    let mut pdvs = pdvs.into_vec();
+    let Some(pdv) = pdvs.pop() else {
+        return Err("no fragment".into());
+    };
+    if !pdvs.is_empty() {
+        return Err("more than one fragment".into());
+    }
+    Ok(pdv)
+}
+
 /// Whether a PDU is as a text says: the length of its fragment, whether that is of the command, and whether it is the
 /// last.
 fn is_piece(rt: &impl AllocGlobal, pdu: &Pdu<Global>, expected: &str) -> Result<bool, Fail> {
@@ -139,11 +154,11 @@ fn the_longest_fragment_is_even(rt: HostRuntime) -> Result<(), Fail> {
 /// Whether a fragment makes a message whole, and it is this; an error where it is another.
 fn is_given(
     assembler: &mut Assembler<Global>,
-    pdu: &Pdu<Global>,
+    pdu: Pdu<Global>,
     command: &[u8],
     body: &[u8],
 ) -> Result<bool, Fail> {
-    let Some(message) = assembler.feed(pdv_in(pdu)?)? else {
+    let Some(message) = assembler.feed(pdv_of(pdu)?)? else {
         return Ok(false);
     };
     let is_so = match &message.body {
@@ -157,7 +172,7 @@ fn is_given(
 }
 
 /// Whether the last of some PDUs alone makes a message whole, and it is this.
-fn give(alloc: Global, pdus: &[Pdu<Global>], command: &[u8], body: &[u8]) -> Result<bool, Fail> {
+fn give(alloc: Global, pdus: Vec<Pdu<Global>>, command: &[u8], body: &[u8]) -> Result<bool, Fail> {
     let mut assembler = Assembler::new(alloc, &context(1))?;
     let mut found = false;
     for pdu in pdus {
@@ -172,7 +187,7 @@ fn give(alloc: Global, pdus: &[Pdu<Global>], command: &[u8], body: &[u8]) -> Res
 /// Whether a message that is cut for a peer is put together again.
 fn is_whole_again(rt: &impl AllocGlobal, command: &[u8], max: u32) -> Result<bool, Fail> {
     let pdus = cut_of(rt, CREATE, "\"0123456789\"", max)?;
-    give(rt.alloc(), &pdus, command, b"0123456789")
+    give(rt.alloc(), pdus, command, b"0123456789")
 }
 
 #[test]

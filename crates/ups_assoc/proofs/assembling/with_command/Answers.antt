@@ -5,10 +5,9 @@ use Rattle.ups_assoc.proofs.assembling.with_command.Goals as goal
 pub returns-in_err-bytes : goal.returns-in_err-bytes
 returns-in_err-bytes g c =
     let p = err_from_is_err_and c.from_residual.result c.from_residual.ensures.1 in
-    let h = rw c.as_slice.ensures at c.in_err-bytes.ensures.fault in
-    rw (p.1, p.2) (with_command_err g.row.A.Denot c.args.context c.args.bytes c.args.pdv.now c.in_err-bytes.field-0.0 h)
+    rw (p.1, p.2) (with_command_err g.row.A.Denot c.args.context c.args.bytes c.args.pdv c.in_err-bytes.field-0.0 c.in_err-bytes.ensures.fault)
 
 pub returns : goal.returns
 returns g c =
-    let h = rw c.as_slice.ensures at c.in_ok-bytes.ensures.appended in
-    with_command_ok g.row.A.Denot c.args.context c.args.bytes c.in_ok-bytes.bytes c.args.pdv.now c.command_end.result h.0 h.1 c.command_end.ensures
+    let h = c.in_ok-bytes.ensures.appended in
+    with_command_ok g.row.A.Denot c.args.context c.args.bytes c.in_ok-bytes.bytes c.args.pdv c.command_end.result h.0 h.1 c.command_end.ensures

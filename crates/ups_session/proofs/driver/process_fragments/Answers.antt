@@ -1,12 +1,13 @@
-use Rattle.std.proofs.Common.{rules, refl, [], ◌∷◌, ◌∙◌, List, map, subst}
-use Rattle.std.proofs.lemmas.List.{take_all}
+use Rattle.std.proofs.Common.{◌≡◌, refl, sym, ap, [], ◌∷◌, ◌++◌, ◌∙◌, List, map, subst}
+use Rattle.std.proofs.lemmas.List.{append-nil}
+use Rattle.std.specs.Vec.Iter.{into_iter_items}
 use Rattle.std.proofs.lemmas.Result.{err_from_is_err_and}
 use Rattle.ups_pdu.specs.declared.pdv.Pdv.{Pdv}
 use Rattle.ups_session.specs.Fold.{presentation_data, Happens}
 use Rattle.ups_session.specs.Session.{okay, failing}
 use Rattle.ups_session.specs.World.{world, Performed}
 use Rattle.ups_session.proofs.Going.{goes_nowhere}
-use Rattle.ups_session.proofs.Carrying.{fragments_on, fragments_cut}
+use Rattle.ups_session.proofs.Carrying.{taken_front, nothing_left, fragments_on, fragments_cut}
 use Rattle.ups_session.proofs.driver.process_fragments.Goals as goal
 
 pub loop-pdv-init : goal.loop-pdv-init
@@ -20,9 +21,14 @@ returns-in_err-process-clause-performed g c =
     let p = err_from_is_err_and c.from_residual.result c.from_residual.ensures.1 in
     let e = c.in_err-process.field-0.0 in
     let (ready, same, so_far) = c.loop-pdv.invariant in
+    let front = c.loop-pdv.yielded in
+    let rest = into_iter_items c.next.new.self in
+    let parts : c.args.pdvs ≡ front ++ c.in-Some.pdv ∷ rest =
+    sym c.into_vec-pdv-items.ensures ∙ (sym c.into_iter-pdv-iterator.ensures.into_iter_gives.0
+    ∙ (taken_front c.into_iter-pdv-iterator.result front c.loop-pdv.pdv-iterator c.loop-pdv.yielded_by ∙ ap (λ (ps : List (Pdv g.row.A.Denot)). front ++ ps) c.in-Some.ensures.steps.0)) in
     rw (p.1, p.2)
-    (fragments_cut (g.P.Party.side (g.P.Party.setup c.args.party.now)) c.loop-pdv.pdv-index c.args.pdvs.now c.pdv-item.result (g.P.Party.view c.args.party.now) (g.P.Party.view c.loop-pdv.party) (g.P.Party.view c.process.new.party) _ _ _ e c.loop-pdv-test.true c.pdv-item.is so_far
-    (subst (λ (s : g.P.Party.Setup). Performed (Happens (g.P.Party.side s)) (presentation_data c.pdv-item.result ∷ []) (g.P.Party.view c.loop-pdv.party) (g.P.Party.view c.process.new.party)
+    (fragments_cut (g.P.Party.side (g.P.Party.setup c.args.party.now)) c.args.pdvs front rest c.in-Some.pdv (g.P.Party.view c.args.party.now) (g.P.Party.view c.loop-pdv.party) (g.P.Party.view c.process.new.party) _ _ _ e parts so_far
+    (subst (λ (s : g.P.Party.Setup). Performed (Happens (g.P.Party.side s)) (presentation_data c.in-Some.pdv ∷ []) (g.P.Party.view c.loop-pdv.party) (g.P.Party.view c.process.new.party)
     (world c.loop-pdv.writer (g.G.Gate.told c.loop-pdv.gate) (g.S.Service.settings c.loop-pdv.service) (g.S.Service.others c.loop-pdv.service) (g.S.Service.caller c.loop-pdv.service) (g.S.Service.seen c.loop-pdv.service))
     (world c.process.new.writer (g.G.Gate.told c.process.new.gate) (g.S.Service.settings c.process.new.service) (g.S.Service.others c.process.new.service) (g.S.Service.caller c.process.new.service) (g.S.Service.seen c.process.new.service)) (failing e))
     same c.in_err-process.ensures.performed))
@@ -35,8 +41,8 @@ loop-pdv-preserved g c =
     let (ready, same, so_far) = c.loop-pdv.invariant in (
       c.in_ok-process.ensures.ready,
       c.in_ok-process.ensures.setup ∙ same,
-      fragments_on (g.P.Party.side (g.P.Party.setup c.args.party.now)) c.loop-pdv.pdv-index c.args.pdvs.now c.pdv-item.result (g.P.Party.view c.args.party.now) (g.P.Party.view c.loop-pdv.party) (g.P.Party.view c.process.new.party) _ _ _ c.loop-pdv-test.true c.pdv-item.is so_far
-          (subst (λ (s : g.P.Party.Setup). Performed (Happens (g.P.Party.side s)) (presentation_data c.pdv-item.result ∷ []) (g.P.Party.view c.loop-pdv.party) (g.P.Party.view c.process.new.party)
+      fragments_on (g.P.Party.side (g.P.Party.setup c.args.party.now)) c.loop-pdv.yielded c.in-Some.pdv (g.P.Party.view c.args.party.now) (g.P.Party.view c.loop-pdv.party) (g.P.Party.view c.process.new.party) _ _ _ so_far
+          (subst (λ (s : g.P.Party.Setup). Performed (Happens (g.P.Party.side s)) (presentation_data c.in-Some.pdv ∷ []) (g.P.Party.view c.loop-pdv.party) (g.P.Party.view c.process.new.party)
           (world c.loop-pdv.writer (g.G.Gate.told c.loop-pdv.gate) (g.S.Service.settings c.loop-pdv.service) (g.S.Service.others c.loop-pdv.service) (g.S.Service.caller c.loop-pdv.service) (g.S.Service.seen c.loop-pdv.service))
           (world c.process.new.writer (g.G.Gate.told c.process.new.gate) (g.S.Service.settings c.process.new.service) (g.S.Service.others c.process.new.service) (g.S.Service.caller c.process.new.service) (g.S.Service.seen c.process.new.service)) okay)
           same c.in_ok-process.ensures.performed),
@@ -44,7 +50,11 @@ loop-pdv-preserved g c =
 
 pub returns-clause-performed : goal.returns-clause-performed
 returns-clause-performed g c =
+    let front = c.loop-pdv.yielded in
+    let all : c.args.pdvs ≡ front =
+    sym c.into_vec-pdv-items.ensures ∙ (sym c.into_iter-pdv-iterator.ensures.into_iter_gives.0
+    ∙ (taken_front c.into_iter-pdv-iterator.result front c.loop-pdv.pdv-iterator c.loop-pdv.yielded_by ∙ (ap (λ (ps : List (Pdv g.row.A.Denot)). front ++ ps) (nothing_left c.loop-pdv.pdv-iterator c.in-None.ensures.steps.0) ∙ append-nil front))) in
     subst (λ (l : List (Pdv g.row.A.Denot)). Performed (Happens (g.P.Party.side (g.P.Party.setup c.args.party.now))) (map presentation_data l) (g.P.Party.view c.args.party.now) (g.P.Party.view c.loop-pdv.party)
     (world c.args.writer.now (g.G.Gate.told c.args.gate.now) (g.S.Service.settings c.args.service.now) (g.S.Service.others c.args.service.now) (g.S.Service.caller c.args.service.now) (g.S.Service.seen c.args.service.now))
     (world c.loop-pdv.writer (g.G.Gate.told c.loop-pdv.gate) (g.S.Service.settings c.loop-pdv.service) (g.S.Service.others c.loop-pdv.service) (g.S.Service.caller c.loop-pdv.service) (g.S.Service.seen c.loop-pdv.service)) okay)
-    (take_all c.loop-pdv.pdv-index c.args.pdvs.now (search rules)) c.loop-pdv.invariant.2
+    (sym all) c.loop-pdv.invariant.2

@@ -13,9 +13,9 @@ pub returns-in-Some-2-clause-reaction : goal.returns-in-Some-2-clause-reaction
 returns-in-Some-2-clause-reaction g c =
     let association = association_view c.args.self.now in
     let established = established_view c.in-Some.established in
-    let progress = fed c.in-Some.established.assembler.ids c.in-Some.established.assembler.begun c.args.pdv.now in
+    let progress = fed c.in-Some.established.assembler.ids c.in-Some.established.assembler.begun c.args.pdv in
     let mid : AssociationView g.row.A.Denot = record { state = association.state; established = Some (established_view c.on_pdv.new.established); ending = association.ending } in
-    subst (λ (o : Option (EstablishedView g.row.A.Denot)). Received false c.args.config.now.offset association o c.args.pdv.now (on_message_effect false mid (message_effect (Some c.in-Some-2.effect)))) (sym (ap (option_map established_view) c.in-Some.is))
+    subst (λ (o : Option (EstablishedView g.row.A.Denot)). Received false c.args.config.now.offset association o c.args.pdv (on_message_effect false mid (message_effect (Some c.in-Some-2.effect)))) (sym (ap (option_map established_view) c.in-Some.is))
     (subst (λ (found : Option (Effect g.row.A.Denot (AwaitedRequest g.row.A.Denot))). Continues false c.args.config.now.offset association established progress (on_message_effect false mid (message_effect found))) c.in-Some-2.is
     (c.in_ok-effect.ensures.effect association))
 
@@ -23,10 +23,10 @@ pub returns-in_ok-abort-in-None-clause-reaction : goal.returns-in_ok-abort-in-No
 returns-in_ok-abort-in-None-clause-reaction g c =
     let association = association_view c.args.self.now in
     let established = established_view c.in-Some.established in
-    let progress = fed c.in-Some.established.assembler.ids c.in-Some.established.assembler.begun c.args.pdv.now in
+    let progress = fed c.in-Some.established.assembler.ids c.in-Some.established.assembler.begun c.args.pdv in
     let mid : AssociationView g.row.A.Denot = record { state = association.state; established = Some (established_view c.on_pdv.new.established); ending = association.ending } in
     let reaction : ReactionOf g.row.A.Denot = sending (association_view c.abort.new.self) c.in_ok-abort-in-None.field-0.items in
-    subst (λ (o : Option (EstablishedView g.row.A.Denot)). Received false c.args.config.now.offset association o c.args.pdv.now reaction) (sym (ap (option_map established_view) c.in-Some.is))
+    subst (λ (o : Option (EstablishedView g.row.A.Denot)). Received false c.args.config.now.offset association o c.args.pdv reaction) (sym (ap (option_map established_view) c.in-Some.is))
     (subst (λ (t : ReactionOf g.row.A.Denot). Continues false c.args.config.now.offset association established progress t) (sym c.in_ok-abort-in-None.ensures.reaction)
     (subst (λ (found : Option (Effect g.row.A.Denot (AwaitedRequest g.row.A.Denot))). Continues false c.args.config.now.offset association established progress (on_message_effect false mid (message_effect found))) c.in-None.is
     (c.in_ok-effect.ensures.effect association)))

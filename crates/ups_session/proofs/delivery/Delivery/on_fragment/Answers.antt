@@ -9,5 +9,5 @@ use Rattle.ups_session.proofs.delivery.Delivery.on_fragment.Goals as goal
 
 pub returns-in_ok-on_action-in_default-action-clause-reaction : goal.returns-in_ok-on_action-in_default-action-clause-reaction
 returns-in_ok-on_action-in_default-action-clause-reaction g c =
-    not_received (delivery_view c.args.self.now) c.args.pdv.now (next_of true true events.Data c.args.self.now.association.state) c.in-Some.action c.in-Some.state (association_view c.transition.new.self) _
+    not_received (delivery_view c.args.self.now) c.args.pdv (next_of true true events.Data c.args.self.now.association.state) c.in-Some.action c.in-Some.state (association_view c.transition.new.self) _
     (cc) c.in_default-action.not-Dt2 c.in_default-action.not-Ar6 (ap association_view c.transition.ensures) c.in_ok-on_action-in_default-action.ensures.reaction

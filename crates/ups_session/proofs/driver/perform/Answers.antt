@@ -13,7 +13,7 @@ use Rattle.ups_session.specs.Visits.{SendsPdus}
 use Rattle.ups_session.specs.World.{world}
 use Rattle.ups_session.proofs.Going.{goes_short}
 use Rattle.ups_session.proofs.Settling.{performed_said, performed_called}
-use Rattle.ups_session.proofs.driver.process.Goals as goal
+use Rattle.ups_session.proofs.driver.perform.Goals as goal
 
 pub returns-in_err-said-clause-performed : goal.returns-in_err-said-clause-performed
 returns-in_err-said-clause-performed g c =
