@@ -3,6 +3,7 @@
 from __future__ import annotations
 
 import argparse
+import contextlib
 import dataclasses
 import multiprocessing
 import os
@@ -12,6 +13,7 @@ import signal
 import subprocess
 import threading
 import time
+from collections.abc import Iterator
 from multiprocessing.pool import ThreadPool
 from typing import Optional
 
@@ -102,12 +104,24 @@ def work_at_once(port: int, first: int, requests: int, seed: int, day: Day) -> N
         raise Fault(day.faults[0])
 
 
+@contextlib.contextmanager
+def hearing() -> Iterator[dict[str, Hearing]]:
+    """Watchers by their names, which listen meanwhile."""
+    watchers = {it: Hearing() for it in NAMES}
+    try:
+        yield watchers
+    finally:
+        for it in watchers.values():
+            it.close()
+
+
 def spend_day(program: list[str], file: str, given: argparse.Namespace) -> Day:
     """A day of so many requests: the watchers listen at first, and then no more."""
-    day, watchers = Day(), {it: Hearing() for it in NAMES}
-    for first, part, listening in ((0, HEARD, watchers), (10**6, 1 - HEARD, None)):
-        with Stored(program, file, "--keep", str(KEEP), *peers_of(listening)) as server:
-            if listening:
+    day = Day()
+    for first, part, hears in ((0, HEARD, True), (10**6, 1 - HEARD, False)):
+        listens = hearing() if hears else contextlib.nullcontext()
+        with listens as watchers, Stored(program, file, "--keep", str(KEEP), *peers_of(watchers)) as server:
+            if watchers:
                 client = Client(server.port)
                 for_all = client.subscribe(GLOBAL, b"W1", b"FALSE")
                 by_filter = client.subscribe(FILTERED, b"W3", b"FALSE", told(*PATIENT, b"LO", FILTER))
@@ -165,8 +179,7 @@ def await_quiet(watchers: dict[str, Hearing]) -> None:
 
 def picture_of(program: list[str], file: str, day: Day) -> Picture:
     """What a server shows that starts on a file; which is changed then."""
-    watchers = {it: Hearing() for it in NAMES}
-    with Stored(program, file, "--keep", str(KEEP), *peers_of(watchers)) as server:
+    with hearing() as watchers, Stored(program, file, "--keep", str(KEEP), *peers_of(watchers)) as server:
         await_quiet(watchers)
         await_swept(server)
         client = Client(server.port)

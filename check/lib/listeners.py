@@ -1,6 +1,7 @@
 """Watchers that listen for the associations of a server, each of which takes its reports in a way of its own."""
 
 import collections
+import contextlib
 import socket
 import struct
 import threading
@@ -77,8 +78,15 @@ class Counting:
         threading.Thread(target=self.listen, daemon=True).start()
 
     def listen(self):
-        while True:
-            threading.Thread(target=self.serve, args=(self.listener.accept()[0],), daemon=True).start()
+        with contextlib.suppress(OSError):  # until it is closed
+            while True:
+                threading.Thread(target=self.serve, args=(self.listener.accept()[0],), daemon=True).start()
+
+    def close(self):
+        """Listens no more."""
+        with contextlib.suppress(OSError):
+            self.listener.shutdown(socket.SHUT_RDWR)
+        self.listener.close()
 
     def serve(self, connected):
         with self.lock:
