@@ -86,19 +86,20 @@ fn keep_item<A: Allocator + Copy>(
     Ok(())
 }
 
-/// The set of the elements at the front, without group lengths, and what follows.
+/// The set of the elements at the front, without group lengths, and what follows. It begins with room for so many elements.
 #[cycle(building)]
 pub(crate) fn set_of<A: Allocator + Copy>(
     alloc: A,
     syntax: TransferSyntax,
     level: u8,
     reach: Reach,
+    room: usize,
     text: &[u8],
 ) -> Result<(DataSet<A>, &[u8]), SetFault>
     requires { level ≤ max_depth }
     ensures { BuildsOrFails result (λ x. BuildsElements syntax level reach 0 text.now x.0 x.1.now) (ElementsFail syntax level reach 0 text.now) }
 {
-    let mut elements = Vec::new(alloc);
+    let mut elements = Vec::with_capacity(alloc, room)?;
     let mut from = 0;
     let mut rest = text;
     loop {
@@ -135,7 +136,7 @@ fn items_of<A: Allocator + Copy>(
         }
         let (len, after) = item_at(level, rest)?;
         let (within, inner, behind) = opened(len, after);
-        let built = set_of(alloc, syntax, level + 1, within, inner)?;
+        let built = set_of(alloc, syntax, level + 1, within, 0, inner)?;
         rest = rest_behind(within, built.1, behind);
         keep_item(&mut sets, built.0)?;
     }

@@ -69,26 +69,28 @@ fn value_end(
     Ok(rest_behind(reach, left, behind))
 }
 
-/// What follows the elements at the front, which stand inside so many items.
+/// What follows the elements at the front, which stand inside so many items, and how many elements they are.
 #[cycle(passing)]
 pub(crate) fn elements_end(
     syntax: TransferSyntax,
     level: u8,
     reach: Reach,
     text: &[u8],
-) -> Result<&[u8], SetFault>
+) -> Result<(&[u8], usize), SetFault>
     requires { level ≤ max_depth }
-    ensures { MatchResult result (λ rest. (es : Elements) × SpellsElements syntax level reach 0 text.now es rest.now) (ElementsFail syntax level reach 0 text.now) }
+    ensures { MatchResult result (λ x. (es : Elements) × SpellsElements syntax level reach 0 text.now es x.0.now) (ElementsFail syntax level reach 0 text.now) }
 {
+    let mut count: usize = 0;
     let mut from = 0;
     let mut rest = text;
     loop {
         if let Some(end) = end_at(ITEM_DELIMITATION, reach, rest) {
-            return Ok(end);
+            return Ok((end, count));
         }
         let (tag, vr, len, after) = known_at(syntax, from, rest)?;
         rest = value_end(syntax, level, vr, len, after)?;
         from = u64::from(tag.number()) + 1;
+        count = count.saturating_add(1);
     }
 }
 
@@ -110,7 +112,7 @@ fn items_end(
         }
         let (len, after) = item_at(level, rest)?;
         let (within, inner, behind) = opened(len, after);
-        let left = elements_end(syntax, level + 1, within, inner)?;
+        let (left, _) = elements_end(syntax, level + 1, within, inner)?;
         rest = rest_behind(within, left, behind);
     }
 }

@@ -32,7 +32,7 @@ pub fn read_set<A: Allocator + Copy>(
     // What is spelled is read, unless memory runs out.
     ensures only { (set : List El) → SpellsSet syntax bytes.now set → MatchResult result (λ s. s ≡ set) (λ e. e ≡ Memory) }
 {
-    elements_end(syntax, 0, Reach::Filled, bytes)?;
-    let built = set_of(alloc, syntax, 0, Reach::Filled, bytes)?;
+    let passed = elements_end(syntax, 0, Reach::Filled, bytes)?;
+    let built = set_of(alloc, syntax, 0, Reach::Filled, passed.1, bytes)?;
     Ok(built.0)
 }

@@ -187,7 +187,7 @@ impl<A: Allocator + Copy> DataSet<A> {
         ensures { IfOk result (λ s. s ≡ filter (λ e. not (is_tag e.tag tag)) self.now) }
     {
         let alloc = *self.elements.allocator();
-        let mut elements = Vec::new(alloc);
+        let mut elements = Vec::with_capacity(alloc, self.elements.len())?;
         for element in &self.elements {
             if element.tag != tag {
                 elements.push(copy_element(alloc, element)?)?;

@@ -136,7 +136,8 @@ fn trim<A: Allocator + Copy>(buffer: &mut Vec<u8, A>)
     }
 }
 
-/// Makes the buffer a header, and room for the body that it announces.
+/// Makes the buffer a header, and room for the body that it announces. Bytes of an earlier PDU stay behind the header, until the
+/// body is read over them: filling all of it with zeros would take longer than to read it.
 ///
 /// Errors: out of memory.
 fn begin_pdu<A: Allocator + Copy>(
@@ -150,10 +151,8 @@ fn begin_pdu<A: Allocator + Copy>(
     ensures len { OnOk result (length buffer.new.items ≡ 6 + len) }
     ensures memory { IfErr result (λ e. e ≡ Memory) }
 {
-    buffer.clear();
-    buffer.reserve(HEADER_LENGTH + len)?;
-    buffer.extend_from_slice(header)?;
     buffer.resize(HEADER_LENGTH + len, 0)?;
+    buffer.as_mut_slice()[0..HEADER_LENGTH].copy_from_slice(header);
     Ok(())
 }
 
