@@ -92,7 +92,7 @@ fn mark_above(sorted: &mut [Attribute<'_>]) {
 /// The attributes that arguments and the words behind them give, in the order of a data set. Of two for one element the
 /// later one stands, also where one is a value and the other stands in an item.
 ///
-/// Errors: EmptyWord, Attribute or Escape where a word is no attribute; lack of memory.
+/// Errors: EmptyWord, Attribute or Escape where a word is not an attribute; lack of memory.
 pub fn attributes_of<'a, A: Allocator + Copy>(
     alloc: A,
     arguments: &[Option<Attribute<'a>>],

@@ -6,7 +6,7 @@ ghost use Rattle.ups_lines.specs.declared.fault.LineFault.TheVariants.{Malformed
 use std::alloc::{AllocError, AllocFailed};
 use thiserror::Error;
 
-/// Why a line is none of a script: it is too long, or what is wrong with the first of its words that is wrong.
+/// Why a line is invalid: it is too long, or what is wrong with the first of its words that is wrong.
 #[derive(Clone, Copy, Debug, PartialEq, Eq, Error)]
 pub enum LineReason {
     /// It has more than 16,777,216 bytes before its line feed.
@@ -19,28 +19,28 @@ pub enum LineReason {
     #[error("a word is missing")]
     MissingWord,
     /// It goes on behind the last word that its verb takes.
-    #[error("it has a word too many")]
+    #[error("it has too many words")]
     ExtraWord,
     /// Its moment is no number of seconds up to 253402250399.
-    #[error("its moment is none")]
+    #[error("its moment is not a number of seconds up to 253402250399")]
     Moment,
     /// Its title is none (PS3.5 section 6.2, AE).
-    #[error("its title is none")]
+    #[error("its title is not an AE title")]
     Title,
     /// Its verb is none.
-    #[error("its verb is none")]
+    #[error("its verb is unknown")]
     Verb,
     /// Two hex digits are missing behind a `%`.
     #[error("two hex digits are missing behind a %")]
     Escape,
     /// A word is no tag.
-    #[error("a word is no tag")]
+    #[error("a word is not a tag")]
     Tag,
     /// A word is no number in decimal digits, up to 18,446,744,073,709,551,615.
-    #[error("a word is no number")]
+    #[error("a word is not a number")]
     Number,
     /// A word is no attribute.
-    #[error("a word is no attribute")]
+    #[error("a word is not an attribute")]
     Attribute,
     /// Its attributes make more than 131,072 items.
     #[error("its attributes make more than 131,072 items")]

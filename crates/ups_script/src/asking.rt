@@ -127,7 +127,7 @@ fn tags_of<A: Allocator + Copy>(alloc: A, words: Words<'_>) -> Result<Tags<A>, L
 
 /// What a message with this operation asks, and with the attributes that arguments and the words behind them give.
 ///
-/// Errors: EmptyWord, Attribute or Escape where a word is no attribute; TooManyItems; lack of memory.
+/// Errors: EmptyWord, Attribute or Escape where a word is not an attribute; TooManyItems; lack of memory.
 fn message<'a, A: Allocator + Copy>(
     alloc: A,
     operation: Operation<A>,

@@ -21,11 +21,7 @@ pub struct BadLine {
 
 impl Display for BadLine {
     fn fmt<W: fmt::Write>(&self, f: &mut Formatter<W>) -> fmt::Result {
-        write!(
-            f,
-            "line {} is none of a script: {}",
-            self.number, self.reason
-        )?;
+        write!(f, "line {} is invalid: {}", self.number, self.reason)?;
         if self.ends_in_return {
             f.write_str(" (its last word ends in a carriage return)")?;
         }
