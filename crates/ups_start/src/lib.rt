@@ -22,4 +22,5 @@ pub use file::{FileLedger, FilePlace};
 pub use ledger::StoreLedger;
 pub use place::StorePlace;
 pub use shrinking::{Compacted, compact};
-pub use ups_store::Run;
+pub use ups_restore::CompactFault;
+pub use ups_store::{OpenFault, Run, StoreFault};

@@ -19,7 +19,10 @@ use ups_life::MAX_HISTORY;
 use ups_manager::Manager;
 use ups_net::moment_of;
 use ups_server::{StoreOpener, Unopened};
-use ups_start::{FileLedger, FilePlace, Run, StartFault, StoreLedger, StorePlace, begin, compact};
+use ups_start::{
+    CompactFault, FileLedger, FilePlace, OpenFault, Run, StartFault, StoreFault, StoreLedger,
+    StorePlace, begin, compact,
+};
 
 /// The ledger of a server of this program, in a store that lies in a file. It is a type of its own: over one that names its
 /// place as a type parameter, the proof of a server meets the prover's limit of steps.
@@ -70,9 +73,20 @@ fn tell_opened<R: Log>(telling: &R, requests: u64) {
     info!(telling; target: "upsd", "store: a server begins with {requests} requests");
 }
 
+/// Returns whether a start ended because memory ran out.
+fn is_memory(fault: &StartFault) -> bool {
+    match fault {
+        StartFault::Memory => true,
+        StartFault::Open(fault) => matches!(fault, OpenFault::Memory),
+        StartFault::Read(fault) | StartFault::Write(fault) => matches!(fault, StoreFault::Memory),
+        StartFault::Compact(fault) => matches!(fault, CompactFault::Memory),
+        StartFault::Restore(_) => false,
+    }
+}
+
 /// Tells why a store is not used.
 fn tell_unopened<R: Eprint>(rt: &R, file: &str, fault: &StartFault) -> Unopened {
-    if let StartFault::Memory = fault {
+    if is_memory(fault) {
         return Unopened::Memory;
     }
     let _ = eprintln!(rt; "upsd: the store {file}: {fault}");
