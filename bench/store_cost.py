@@ -2,7 +2,8 @@
 four associations, with a store and without one, and what a sync of this disk takes.
 
 In one kind each association is a process that sends a request and waits for its answer; in the other one it has some on the way.
-Servers with a store and without one are asked in turn.
+Servers with a store and without one are asked in turn. A slower disk is had by strace, which lets each sync take longer: the
+processor time that it takes itself counts too, so only the requests a second tell something then.
 """
 
 from __future__ import annotations
@@ -121,6 +122,13 @@ def measured(server: Server, pid: int, kind: str, count: int) -> Cost:
     return Cost(used / requests, system / requests, requests / seconds)
 
 
+def slowed(program: list[str], slow: int) -> list[str]:
+    """A program each of whose syncs takes so many microseconds longer."""
+    if not slow:
+        return program
+    return ["strace", "-f", "--seccomp-bpf", "-qq", "-o", "/dev/null", "-e", "trace=fdatasync", "-e", f"inject=fdatasync:delay_exit={slow}", *program]
+
+
 def one_run(program: list[str], folder: Optional[str], kind: str, count: int) -> Cost:
     """The same at a new server, on a store in a folder or without one."""
     if folder is None:
@@ -140,7 +148,7 @@ def told_of(cost: Cost) -> str:
 
 def run(program: list[str], given: argparse.Namespace, results: Results) -> None:
     with folder_for(given.folder) as folder:
-        sync = sync_time(folder)
+        sync = sync_time(folder) + given.slow / 1e6
         wanted = least_rate(sync)
         print(f"a sync of 4 KiB takes {sync * 1000:.3f} ms in the median; load {os.getloadavg()[0]:.1f} on {os.cpu_count()} processors")
         print(f"| {ASSOCIATIONS} associations | without a store, of the system | with one | times | a second without | with one |", flush=True)
@@ -150,17 +158,17 @@ def run(program: list[str], given: argparse.Namespace, results: Results) -> None
             without, stored = [], []
             for _ in range(given.rounds):
                 without.append(one_run(program, None, kind, given.requests))
-                stored.append(one_run(program, folder, kind, given.requests))
+                stored.append(one_run(slowed(program, given.slow), folder, kind, given.requests))
             one, other = min(without, key=lambda it: it.used), min(stored, key=lambda it: it.used)
             rates[kind], ratios[kind] = max(it.rate for it in stored), other.used / one.used
             print(f"| {kind} | {told_of(one)} | {told_of(other)} | {ratios[kind]:.2f} | {max(it.rate for it in without):,.0f} | "
                   f"{rates[kind]:,.0f} |", flush=True)
-        after = sync_time(folder)
+        after = sync_time(folder) + given.slow / 1e6
         print(f"a sync took {after * 1000:.3f} ms in the median behind it", flush=True)
     if not given.judge:
         results.tell("all was measured", None)
         return
-    for kind, it in ratios.items():
+    for kind, it in ratios.items() if not given.slow else ():
         results.tell(f"processor time, {kind}", None if it <= RATIO else f"it is {it:.2f} times that without a store")
     best = max(rates.values())
     results.tell("accepted requests a second", None if best >= wanted else f"{best:,.0f}, and {wanted:,.0f} are due by the time of a sync")

@@ -81,6 +81,7 @@ def arguments() -> argparse.Namespace:
     options_of(trials, "histories", stored_days.run_histories, ("histories", 1_000, "how many histories are compacted"),
                ("requests", 60, "how many requests each has, about"), ("beside", 32, "how many are tried at the same time"), positional=True)
     options_of(trials, "cost", store_cost.run, ("requests", 2_000, "how many requests each association asks"), ("rounds", 3, "how often"),
+               ("slow", 0, "by how many microseconds each sync of the server is slowed down, by strace"),
                flags=(("judge", "judge what is measured, on a machine that does nothing else"),))
     return asked.parse_args()
 
