@@ -32,8 +32,8 @@ MILLISECONDS = {"short"}
 # where each fact stands: a crate, and a constant in its sources
 CONSTANTS = {
     "keep": ("ups_args", "KEEP"), "offset": ("ups_args", "OFFSET"),
-    "max_workers": ("ups_args", "MAX_WORKERS"), "workers": ("ups_args", "WORKERS"),
-    "idle": ("ups_args", "IDLE"), "timeout": ("ups_args", "TIMEOUT"), "delivery_timeout": ("ups_args", "DELIVERY_TIMEOUT"),
+    "max_workers": ("ups_settings", "MAX_WORKERS"), "workers": ("ups_settings", "WORKERS"),
+    "idle": ("ups_settings", "IDLE"), "timeout": ("ups_settings", "TIMEOUT"), "delivery_timeout": ("ups_settings", "DELIVERY_TIMEOUT"),
     "version": ("ups_args", "VERSION"), "address": ("ups_args", "LOOPBACK"),
     "short": ("ups_net", "QUICK_OPENING"), "crowd": ("ups_net", "CROWD"), "group": ("ups_net", "GROUP"),
     "longest_pdu": ("ups_pdu", "MAX_DATA_LENGTH"), "longest_message": ("ups_assoc", "LONGEST_MESSAGE"),

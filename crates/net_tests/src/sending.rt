@@ -16,6 +16,7 @@ use ups_manager::Manager;
 use ups_net::{Account, ServerOptions, Tally, end_told, serve_one};
 use ups_service::SharedService;
 use ups_session::{End, SessionFault};
+use ups_settings::ServerLimits;
 use ups_turn::{Desk, Pass};
 
 /// A connection of a server, whose client has asked for an association with another application entity, and the client.
@@ -43,11 +44,13 @@ fn options_of(alloc: Global) -> Result<ServerOptions, Fail> {
             ae: title("UPSD")?,
             offset: 0,
         },
-        turns: 100,
-        idle: 10,
-        timeout: 10,
-        delivery_timeout: 10,
-        workers: 1,
+        limits: ServerLimits {
+            workers: 1,
+            turns: 100,
+            idle: 10,
+            timeout: 10,
+            delivery_timeout: 10,
+        },
         associations: 1,
         rounds: 1,
         verbose: true,

@@ -10,7 +10,8 @@ use Rattle.ups_settings.specs.declared.watcher.Watcher.{Watcher}
 use Rattle.ups_pdu.specs.Title.{SpellsAe}
 use Rattle.ups_args.specs.declared.fault.ArgumentFault.{ArgumentFault}
 use Rattle.ups_args.specs.declared.fault.ArgumentFault.TheVariants as faults
-use Rattle.ups_args.specs.Limits.{keep_seconds, local_offset, default_workers, delivery_seconds, idle_seconds, timeout_seconds, workers_limit}
+use Rattle.ups_settings.specs.Limits.{default_workers, delivery_seconds, idle_seconds, timeout_seconds, workers_limit}
+use Rattle.ups_args.specs.Limits.{keep_seconds, local_offset}
 
 -- a number of seconds below 2^32, in decimal digits, before which a + may stand
 pub record SaysSeconds (word : List ℕ) (seconds : ℕ) : Type 0 where

@@ -1,4 +1,4 @@
--- How many associations may be served, and how the service is set up where nothing else is said.
+-- How the service is set up where nothing else is said.
 use Rattle.std.specs.Prelude.{ℕ, ℤ, pos}
 
 -- the seconds for which a finished step is kept at least
@@ -8,23 +8,3 @@ keep_seconds = 60
 -- the offset of the local time from UTC, in minutes
 abbrev pub local_offset : ℤ
 local_offset = pos 0
-
--- the associations that may be served at the same time
-abbrev pub workers_limit : ℕ
-workers_limit = 1022
-
--- and those that are where nothing else is said
-abbrev pub default_workers : ℕ
-default_workers = 16
-
--- the seconds for which an association may be silent between two messages
-abbrev pub idle_seconds : ℕ
-idle_seconds = 60
-
--- the seconds that a peer may take for each message that it has begun to send, and to take each answer
-abbrev pub timeout_seconds : ℕ
-timeout_seconds = 60
-
--- the seconds for which a watcher is waited for at most, to connect to it and for each answer
-abbrev pub delivery_seconds : ℕ
-delivery_seconds = 5

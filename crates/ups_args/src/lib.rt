@@ -18,7 +18,7 @@ mod title;
 
 pub use compact::{CompactArguments, compact_arguments};
 pub use fault::ArgumentFault;
-pub use limits::{KEEP, MAX_WORKERS, OFFSET, limits_are_as_defined};
+pub use limits::{KEEP, OFFSET, limits_are_as_defined};
 pub use pipe::{PipeArguments, pipe_arguments};
 pub use program::{VERSION, command};
 pub use script::{ScriptArguments, script_arguments};

@@ -3,13 +3,13 @@
 ghost use Rattle.std.specs.Prelude.{◌≡◌, ◌≤◌, ℕ, [], codes, length, None, option_map, IfErr, IfOk, MatchResult, unwrap_or};
 ghost use Rattle.clap.specs.Matches.{first_value, found_of};
 ghost use Rattle.ups_args.specs.Arguments.{FailToAskServe, FailToLimit, IsFlag, NamePeers, NameWatchers, SaysBind, SaysDeliveryTimeout, SaysIdle, SaysKeep, SaysOffset, SaysPort, SaysTimeout, SaysWorkers, SaysWorkersOrNot, argument_words};
-ghost use Rattle.ups_args.specs.Limits.{workers_limit};
 ghost use Rattle.ups_life.specs.Limits.{history_limit, peer_limit};
+ghost use Rattle.ups_settings.specs.Limits.{turns_limit, workers_limit};
 ghost use Rattle.ups_settings.specs.Refusal.{refusal};
 ghost use Rattle.ups_pdu.specs.Title.{SpellsAe};
 
 use crate::fault::ArgumentFault;
-use crate::limits::{DELIVERY_TIMEOUT, IDLE, LOOPBACK, MAX_WORKERS, TIMEOUT, WORKERS};
+use crate::limits::LOOPBACK;
 use crate::options::{flag, worded};
 use crate::peers::{peer_words, watchers_of};
 use crate::script::script_arguments;
@@ -20,7 +20,9 @@ use clap::{ArgMatches, Command};
 use std::alloc::{AllocError, Global};
 use ups_life::Peer;
 use ups_pdu::Ae;
-use ups_settings::Watcher;
+use ups_settings::{
+    DELIVERY_TIMEOUT, IDLE, MAX_WORKERS, ServerLimits, TIMEOUT, TURNS, WORKERS, Watcher,
+};
 
 /// The options of a server that say where it listens.
 fn with_door<'a>(alloc: Global, command: Command<'a>) -> Result<Command<'a>, AllocError> {
@@ -172,20 +174,12 @@ fn bind_asked<'a>(word: Option<&'a str>) -> &'a str
     }
 }
 
-/// How a server serves: how many associations at the same time, and for how long it waits for each side, in seconds.
-#[derive(Clone, Copy)]
-struct Limits {
-    workers: u32,
-    idle: u32,
-    timeout: u32,
-    delivery_timeout: u32,
-}
-
-/// How a server serves, by what was found.
+/// What a server allows its peers, by what was found.
 ///
 /// Errors: Associations, Idle, Timeout or DeliveryTimeout by the first word of these that says nothing of its kind.
-fn limits_asked<'a>(matches: &ArgMatches<'a>) -> Result<Limits, ArgumentFault<'a>>
+fn limits_asked<'a>(matches: &ArgMatches<'a>) -> Result<ServerLimits, ArgumentFault<'a>>
     ensures workers { IfOk result (λ limits. SaysWorkersOrNot (first_value (found_of matches.now) (codes "associations")) limits.workers) }
+    ensures turns { IfOk result (λ limits. limits.turns ≡ turns_limit) }
     ensures idle { IfOk result (λ limits. SaysIdle (first_value (found_of matches.now) (codes "idle")) limits.idle) }
     ensures timeout { IfOk result (λ limits. SaysTimeout (first_value (found_of matches.now) (codes "timeout")) limits.timeout) }
     ensures delivery_timeout { IfOk result (λ limits. SaysDeliveryTimeout (first_value (found_of matches.now) (codes "delivery-timeout")) limits.delivery_timeout) }
@@ -193,8 +187,9 @@ fn limits_asked<'a>(matches: &ArgMatches<'a>) -> Result<Limits, ArgumentFault<'a
     ensures most { IfOk result (λ limits. limits.workers ≤ workers_limit) }
     ensures refused { IfErr result (FailToLimit (found_of matches.now)) }
 {
-    Ok(Limits {
+    Ok(ServerLimits {
         workers: workers_asked(matches.get_str("associations"))?,
+        turns: TURNS,
         idle: idle_asked(matches.get_str("idle"))?,
         timeout: timeout_asked(matches.get_str("timeout"))?,
         delivery_timeout: delivery_timeout_asked(matches.get_str("delivery-timeout"))?,
@@ -218,16 +213,8 @@ pub struct ServeArguments<'a> {
     pub keep: u32,
     /// The offset of the local time from UTC in minutes, above 0 east of it.
     pub offset: i16,
-    /// How many associations are served at the same time.
-    pub workers: u32,
-    /// For how many seconds an association may be silent between two messages; 0 stands for any time.
-    pub idle: u32,
-    /// For how many seconds a peer may take for each message that it has begun to send, and to take each answer; 0 stands for
-    /// any time.
-    pub timeout: u32,
-    /// For how many seconds a watcher is waited for at most, to connect to it and for each answer; 0 stands for an hour, and for
-    /// ten seconds of one that is neither away nor slow.
-    pub delivery_timeout: u32,
+    /// How many associations are served at the same time, how much one may ask, and how long each is waited for.
+    pub limits: ServerLimits,
     /// The file in which accepted requests are kept, where there is one.
     pub store: Option<&'a str>,
     /// Whether requests of the store that are not accepted with these settings are left out.
@@ -252,15 +239,16 @@ pub fn serve_arguments<'a>(
     ensures watchers { IfOk result (λ asked. NameWatchers (argument_words (found_of matches.now) (codes "peer")) asked.watchers.items) }
     ensures keep { IfOk result (λ asked. SaysKeep (first_value (found_of matches.now) (codes "keep")) asked.keep) }
     ensures offset { IfOk result (λ asked. SaysOffset (first_value (found_of matches.now) (codes "offset")) asked.offset) }
-    ensures workers { IfOk result (λ asked. SaysWorkersOrNot (first_value (found_of matches.now) (codes "associations")) asked.workers) }
-    ensures idle { IfOk result (λ asked. SaysIdle (first_value (found_of matches.now) (codes "idle")) asked.idle) }
-    ensures timeout { IfOk result (λ asked. SaysTimeout (first_value (found_of matches.now) (codes "timeout")) asked.timeout) }
-    ensures delivery_timeout { IfOk result (λ asked. SaysDeliveryTimeout (first_value (found_of matches.now) (codes "delivery-timeout")) asked.delivery_timeout) }
+    ensures workers { IfOk result (λ asked. SaysWorkersOrNot (first_value (found_of matches.now) (codes "associations")) asked.limits.workers) }
+    ensures turns { IfOk result (λ asked. asked.limits.turns ≡ turns_limit) }
+    ensures idle { IfOk result (λ asked. SaysIdle (first_value (found_of matches.now) (codes "idle")) asked.limits.idle) }
+    ensures timeout { IfOk result (λ asked. SaysTimeout (first_value (found_of matches.now) (codes "timeout")) asked.limits.timeout) }
+    ensures delivery_timeout { IfOk result (λ asked. SaysDeliveryTimeout (first_value (found_of matches.now) (codes "delivery-timeout")) asked.limits.delivery_timeout) }
     ensures store { IfOk result (λ asked. option_map (λ w. w.now) asked.store ≡ first_value (found_of matches.now) (codes "store")) }
     ensures leave_out { IfOk result (λ asked. IsFlag (found_of matches.now) (codes "store-leave-out") asked.leave_out) }
     ensures verbose { IfOk result (λ asked. IsFlag (found_of matches.now) (codes "verbose") asked.verbose) }
-    ensures some { IfOk result (λ asked. 1 ≤ asked.workers) }
-    ensures most { IfOk result (λ asked. asked.workers ≤ workers_limit) }
+    ensures some { IfOk result (λ asked. 1 ≤ asked.limits.workers) }
+    ensures most { IfOk result (λ asked. asked.limits.workers ≤ workers_limit) }
     ensures few { IfOk result (λ asked. length asked.peers.items ≤ peer_limit) }
     ensures allowed { IfOk result (λ asked. refusal asked.peers.items asked.offset history_limit ≡ None) }
     ensures refused { IfErr result (FailToAskServe (found_of matches.now)) }
@@ -278,10 +266,7 @@ pub fn serve_arguments<'a>(
         watchers,
         keep: service.keep,
         offset: service.offset,
-        workers: limits.workers,
-        idle: limits.idle,
-        timeout: limits.timeout,
-        delivery_timeout: limits.delivery_timeout,
+        limits,
         store: matches.get_str("store"),
         leave_out: matches.get_flag("store-leave-out"),
         verbose: matches.get_flag("verbose"),

@@ -42,8 +42,8 @@ module _ {A : Type 0} where
   told_rounds config turns aes (suc n) old new (between, before, last) = told_all config turns aes between new last ∙ told_rounds config turns aes n old between before
 
   works_here : (options : ServerOptions) (b : Bool) (old new : PassView A) → Works options b old new → new.table ≡ old.table
-  works_here options true old new w = stays options.config options.turns options.associations old new w
-  works_here options false old new w = told_rounds options.config options.turns _ options.rounds old new w
+  works_here options true old new w = stays options.config options.limits.turns options.associations old new w
+  works_here options false old new w = told_rounds options.config options.limits.turns _ options.rounds old new w
 
   each_here : (options : ServerOptions) (table : TableId) (olds news : List (PassView A)) → EndThreads options true olds news → All (λ (p : PassView A). p.table ≡ table) olds → All (λ (p : PassView A). p.table ≡ table) news
   each_here options table [] [] e h = h

@@ -10,12 +10,12 @@ use Rattle.ups_turn.specs.Pass.{PassView}
 
 -- a worker has served so many associations, and the deliverer has made so many rounds
 abbrev pub Works : {A : Type 0} → ServerOptions → Bool → PassView A → PassView A → Type 0
-Works options true old new = ServesAssociations options.config options.turns options.associations old new
-Works options false old new = DeliversRounds options.config options.turns (map (λ (w : Watcher). w.ae) options.watchers.items) options.rounds old new
+Works options true old new = ServesAssociations options.config options.limits.turns options.associations old new
+Works options false old new = DeliversRounds options.config options.limits.turns (map (λ (w : Watcher). w.ae) options.watchers.items) options.rounds old new
 
 -- a thread has done its job, which is a worker's where its number is one of a worker
 abbrev pub DoesJob : {A : Type 0} → ServerOptions → PassView A → PassView A → Type 0
-DoesJob options old new = Works options (nat_le old.number options.workers) old new
+DoesJob options old new = Works options (nat_le old.number options.limits.workers) old new
 
 -- what becomes of a thread's pass: it has done its job, or none was to begin, and it is as it was
 abbrev pub EndsThread : {A : Type 0} → ServerOptions → Bool → PassView A → PassView A → Type 0

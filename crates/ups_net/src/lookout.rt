@@ -122,7 +122,7 @@ impl Lookout {
     ) {
         let now = moment_of(rt);
         self.look_at_history(rt, entries, now);
-        premises.door.tell_taken(rt, options.workers);
+        premises.door.tell_taken(rt, options.limits.workers);
         tell_deliveries(rt, &premises.roster, &options.watchers);
         if self.minute.is_due(now) {
             premises.tally.end_minute(rt);
@@ -132,7 +132,7 @@ impl Lookout {
                 entries,
                 committed: premises.commits.kept(),
                 taken: premises.door.taken(),
-                workers: options.workers,
+                workers: options.limits.workers,
                 tally: &premises.tally,
                 roster: &premises.roster,
                 watchers: &options.watchers,

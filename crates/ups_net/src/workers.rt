@@ -39,7 +39,7 @@ pub fn work<M: SharedService<Global>, R: Wait + Clock + Log>(
     options: &ServerOptions,
 ) -> Pass<M, Global>
     requires here { pass.table ≡ desk.now.table }
-    ensures serves { ServesAssociations options.now.config options.now.turns options.now.associations pass result }
+    ensures serves { ServesAssociations options.now.config options.now.limits.turns options.now.associations pass result }
     ensures stays { result.table ≡ pass.table }
 {
     let door = &premises.door;
@@ -47,7 +47,7 @@ pub fn work<M: SharedService<Global>, R: Wait + Clock + Log>(
     let mut pass = pass;
     let mut in_row = 0;
     for _ in 0..options.associations {
-        let Caller { stream, address } = door.next_connection(rt, options.timeout);
+        let Caller { stream, address } = door.next_connection(rt, options.limits.timeout);
         let number = door.next_number();
         let account = Account::new(rt, options.alloc, number, address, options.verbose, tally);
         door.take_worker();
@@ -150,11 +150,11 @@ where
     requires here { pass.table ≡ desk.now.table }
     ensures works { EndsThread options.now true pass result }
 {
-    if pass.number() <= options.workers {
+    if pass.number() <= options.limits.workers {
         return work(rt, premises, desk, pass, options);
     }
     let roster = &premises.roster;
-    let share = roster.share_of(pass.number() - options.workers);
+    let share = roster.share_of(pass.number() - options.limits.workers);
     deliver_rounds(rt, desk, pass, roster, share, options, &premises.commits)
 }
 
@@ -318,7 +318,7 @@ where
 }
 
 /// Runs a server: of the passes the last sweeps, in this thread. Each other one has a thread of its own: those with the
-/// numbers up to `options.workers` are the workers', and those with greater numbers deliver event reports: half of them,
+/// numbers up to `options.limits.workers` are the workers', and those with greater numbers deliver event reports: half of them,
 /// rounded up, to the watchers that are quick, and the others to all; or one to all. The passes come
 /// back in their order: true, and each has done its job, as many associations or rounds of it as `options` says; or false,
 /// and each is as it was, since a thread could not be started, or memory ran out before. That a thread runs, and when, no

@@ -6,7 +6,6 @@ use Rattle.clap.specs.Matches.{first_value}
 use Rattle.clap.specs.declared.parser.matches.Found.{Found}
 use Rattle.ups_args.specs.Arguments.{IsFlag, NamePeers, NameWatchers, SaysDeliveryTimeout, SaysIdle, SaysKeep, SaysOffset, SaysTimeout, SaysWorkersOrNot, argument_words}
 use Rattle.ups_args.specs.declared.server.ServeArguments.{ServeArguments}
-use Rattle.ups_args.specs.Limits.{workers_limit}
 use Rattle.ups_ledger.specs.declared.keeper.Keeper.{Keeper}
 use Rattle.ups_ledger.specs.declared.ledger.Ledger.{Ghosts}
 use Rattle.ups_ledger.specs.Keeping.{IsKept}
@@ -17,8 +16,8 @@ use Rattle.ups_net.specs.Working.{Ran}
 use Rattle.ups_net.specs.declared.options.ServerOptions.{ServerOptions}
 use Rattle.ups_pdu.specs.Title.{SpellsAe}
 use Rattle.ups_service.specs.State.{State}
+use Rattle.ups_settings.specs.Limits.{turns_limit, workers_limit}
 use Rattle.ups_turn.specs.Pass.{PassView, passes_from}
-use Rattle.ups_server.specs.Limits.{turns_limit}
 
 -- how many deliver event reports beside so many workers: one for each watcher, eight at most; no more than the desk has
 -- seats for, and at least one
@@ -33,16 +32,12 @@ seats_of workers watchers = workers + deliverers_of workers watchers + 1
 abbrev pub settings_asked : ServeArguments → Settings
 settings_asked asked = record { peers = asked.peers.items; keep = asked.keep; offset = asked.offset; limit = history_limit }
 
--- how the threads of the server work: with its title, its local time, its limits, its workers and its watchers; each worker
+-- how the threads of the server work: with its title, its local time, its limits and its watchers; each worker
 -- has so many associations to serve, and the sweeper and each deliverer so many rounds to make
 pub record AreAsked (options : ServerOptions) (asked : ServeArguments) (to_serve to_make : ℕ) : Type 0 where
   pub ae : options.config.ae ≡ asked.ae
   pub offset : options.config.offset ≡ asked.offset
-  pub turns : options.turns ≡ turns_limit
-  pub idle : options.idle ≡ asked.idle
-  pub timeout : options.timeout ≡ asked.timeout
-  pub delivery_timeout : options.delivery_timeout ≡ asked.delivery_timeout
-  pub workers : options.workers ≡ asked.workers
+  pub limits : options.limits ≡ asked.limits
   pub watchers : options.watchers ≡ asked.watchers
   pub verbose : options.verbose ≡ asked.verbose
   pub associations : options.associations ≡ to_serve
@@ -64,10 +59,11 @@ pub record AreWords (found : Found) (asked : ServeArguments) : Type 0 where
   pub watchers : NameWatchers (argument_words found (codes "peer")) asked.watchers.items
   pub keep : SaysKeep (first_value found (codes "keep")) asked.keep
   pub offset : SaysOffset (first_value found (codes "offset")) asked.offset
-  pub workers : SaysWorkersOrNot (first_value found (codes "associations")) asked.workers
-  pub idle : SaysIdle (first_value found (codes "idle")) asked.idle
-  pub timeout : SaysTimeout (first_value found (codes "timeout")) asked.timeout
-  pub delivery_timeout : SaysDeliveryTimeout (first_value found (codes "delivery-timeout")) asked.delivery_timeout
+  pub workers : SaysWorkersOrNot (first_value found (codes "associations")) asked.limits.workers
+  pub turns : asked.limits.turns ≡ turns_limit
+  pub idle : SaysIdle (first_value found (codes "idle")) asked.limits.idle
+  pub timeout : SaysTimeout (first_value found (codes "timeout")) asked.limits.timeout
+  pub delivery_timeout : SaysDeliveryTimeout (first_value found (codes "delivery-timeout")) asked.limits.delivery_timeout
   pub verbose : IsFlag found (codes "verbose") asked.verbose
   pub store : option_map (λ w. w.now) asked.store ≡ first_value found (codes "store")
   pub leave_out : IsFlag found (codes "store-leave-out") asked.leave_out
@@ -79,4 +75,4 @@ pub record RanAsWords {A : Type 0} (found : Found) (associations rounds : ℕ) (
   pub words : AreWords found asked
   pub settings : opening.settings ≡ settings_asked asked
   pub empty : is_some asked.store ≡ false → opening.history ≡ []
-  pub ran : RanAsAsked asked associations rounds begun (passes_from table opening 1 (seats_of asked.workers (length asked.watchers.items))) news
+  pub ran : RanAsAsked asked associations rounds begun (passes_from table opening 1 (seats_of asked.limits.workers (length asked.watchers.items))) news

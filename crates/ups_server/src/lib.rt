@@ -2,11 +2,9 @@
 //! each of its threads has done as much as it is to do. What the words of the command line are is read by `ups_args`.
 #![tactic(auto)]
 
-mod limits;
 mod opener;
 mod serving;
 mod telling;
 
-pub use limits::{TURNS, limits_are_as_defined};
 pub use opener::{StoreOpener, Unopened};
 pub use serving::{RanServer, answer_network, serve_words};

@@ -2,16 +2,14 @@
 
 ghost use Rattle.std.specs.Prelude.{◌≡◌, ◌≤◌, ◌+◌, [], All, false, length, is_some, None, IfOk, IfSome};
 ghost use Rattle.clap.specs.Matches.{found_of};
-ghost use Rattle.ups_args.specs.Limits.{workers_limit};
+ghost use Rattle.ups_settings.specs.Limits.{workers_limit};
 ghost use Rattle.ups_settings.specs.Refusal.{refusal};
 ghost use Rattle.ups_life.specs.Limits.{history_limit, peer_limit};
 ghost use Rattle.ups_ledger.specs.Keeping.{AreKept};
 ghost use Rattle.ups_net.specs.Working.{seen_last};
 ghost use Rattle.ups_turn.specs.Pass.{passes_from};
-ghost use Rattle.ups_server.specs.Limits.{turns_limit};
 ghost use Rattle.ups_server.specs.Serving.{deliverers_of, seats_of, settings_asked, HasBegun, RanAsAsked, RanAsWords};
 
-use crate::limits::TURNS;
 use crate::opener::{StoreOpener, Unopened};
 use crate::telling::tell_settings;
 use clap::ArgMatches;
@@ -21,12 +19,13 @@ use std::sync::Wait;
 use std::thread::Threads;
 use std::time::Clock;
 use std::{io, str};
-use ups_args::{ArgumentFault, MAX_WORKERS, ServeArguments, serve_arguments};
+use ups_args::{ArgumentFault, ServeArguments, serve_arguments};
 use ups_assoc::Config;
 use ups_ledger::{Commits, Keeper, Ledger};
 use ups_life::MAX_HISTORY;
 use ups_manager::Manager;
 use ups_net::{Door, Network, Premises, ServerOptions, run};
+use ups_settings::MAX_WORKERS;
 use ups_turn::{Desk, Pass};
 
 /// What a server leaves: whether its threads began, its desk, the passes there, and its ledger.
@@ -60,7 +59,7 @@ fn listen<R: Network + Print + Log>(rt: &R, asked: &ServeArguments<'_>) -> io::R
         println!(rt; "{}", address.port())?;
     }
     let title = str::from_utf8(asked.ae.as_bytes()).unwrap_or("");
-    info!(rt; target: "upsd", "{title} listens on {address} with {} workers", asked.workers);
+    info!(rt; target: "upsd", "{title} listens on {address} with {} workers", asked.limits.workers);
     Ok(door)
 }
 
@@ -74,11 +73,7 @@ fn options_of(
 ) -> ServerOptions
     ensures ae { result.config.ae ≡ asked.entry.ae }
     ensures offset { result.config.offset ≡ asked.entry.offset }
-    ensures turns { result.turns ≡ turns_limit }
-    ensures idle { result.idle ≡ asked.entry.idle }
-    ensures timeout { result.timeout ≡ asked.entry.timeout }
-    ensures delivery_timeout { result.delivery_timeout ≡ asked.entry.delivery_timeout }
-    ensures workers { result.workers ≡ asked.entry.workers }
+    ensures limits { result.limits ≡ asked.entry.limits }
     ensures watchers { result.watchers ≡ asked.entry.watchers }
     ensures verbose { result.verbose ≡ asked.entry.verbose }
     ensures associations { result.associations ≡ associations }
@@ -87,10 +82,7 @@ fn options_of(
     let ServeArguments {
         ae,
         offset,
-        workers,
-        idle,
-        timeout,
-        delivery_timeout,
+        limits,
         watchers,
         verbose,
         ..
@@ -98,11 +90,7 @@ fn options_of(
     ServerOptions {
         alloc,
         config: Config { ae, offset },
-        turns: TURNS,
-        idle,
-        timeout,
-        delivery_timeout,
-        workers,
+        limits,
         associations,
         rounds,
         verbose,
@@ -195,23 +183,23 @@ fn serve_on<L: Ledger, R>(
 ) -> Result<RanServer<L>, AllocError>
 where
     R: Threads + Wait + Clock + Log + Sync + AllocGlobal + Network,
-    requires some { 1 ≤ asked.workers }
-    requires most { asked.workers ≤ workers_limit }
+    requires some { 1 ≤ asked.limits.workers }
+    requires most { asked.limits.workers ≤ workers_limit }
     requires keeps { is_some begun.keeper ≡ is_some asked.store }
     ensures opening { IfOk result (λ server. server.desk.opening ≡ begun.manager) }
-    ensures ran { IfOk result (λ server. RanAsAsked asked.entry associations rounds server.begun (passes_from server.desk.table server.desk.opening 1 (seats_of asked.entry.workers (length asked.entry.watchers.items))) server.passes.items) }
+    ensures ran { IfOk result (λ server. RanAsAsked asked.entry associations rounds server.begun (passes_from server.desk.table server.desk.opening 1 (seats_of asked.entry.limits.workers (length asked.entry.watchers.items))) server.passes.items) }
     ensures here { IfOk result (λ server. All (λ p. p.table ≡ server.desk.table) server.passes.items) }
     ensures kept { AreKept L.Ledger begun.keeper begun.manager.history → IfOk result (λ server. AreKept L.Ledger server.keeper (seen_last server.passes.items)) }
 {
     let alloc = rt.alloc();
     let Begun { manager, keeper } = begun;
     let watchers = asked.watchers.len();
-    let deliverers = deliverers_of(asked.workers, watchers);
+    let deliverers = deliverers_of(asked.limits.workers, watchers);
     let commits = commits_of(&keeper);
     let Ok(premises) = Premises::new(alloc, door, watchers, deliverers, commits) else {
         return Err(AllocError);
     };
-    let seats = asked.workers + deliverers + 1;
+    let seats = asked.limits.workers + deliverers + 1;
     let Ok((desk, passes)) = Desk::open(alloc, manager, seats) else {
         return Err(AllocError);
     };
@@ -243,13 +231,13 @@ pub fn answer_network<'a, L: Ledger, O: StoreOpener<'a, L>, R>(
 ) -> Result<Option<RanServer<L>>, AllocError>
 where
     R: Threads + Wait + Clock + Log + Sync + AllocGlobal + Print + Eprint + Network,
-    requires some { 1 ≤ asked.workers }
-    requires most { asked.workers ≤ workers_limit }
+    requires some { 1 ≤ asked.limits.workers }
+    requires most { asked.limits.workers ≤ workers_limit }
     requires few { length asked.peers.items ≤ peer_limit }
     requires allowed { refusal asked.peers.items asked.offset history_limit ≡ None }
     ensures settings { IfOk result (λ left. IfSome left (λ server. server.desk.opening.settings ≡ settings_asked asked.entry)) }
     ensures empty { IfOk result (λ left. IfSome left (λ server. is_some asked.entry.store ≡ false → server.desk.opening.history ≡ [])) }
-    ensures ran { IfOk result (λ left. IfSome left (λ server. RanAsAsked asked.entry associations rounds server.begun (passes_from server.desk.table server.desk.opening 1 (seats_of asked.entry.workers (length asked.entry.watchers.items))) server.passes.items)) }
+    ensures ran { IfOk result (λ left. IfSome left (λ server. RanAsAsked asked.entry associations rounds server.begun (passes_from server.desk.table server.desk.opening 1 (seats_of asked.entry.limits.workers (length asked.entry.watchers.items))) server.passes.items)) }
     ensures here { IfOk result (λ left. IfSome left (λ server. All (λ p. p.table ≡ server.desk.table) server.passes.items)) }
     ensures kept { IfOk result (λ left. IfSome left (λ server. AreKept L.Ledger server.keeper (seen_last server.passes.items))) }
 {

@@ -3,6 +3,7 @@
 use log::{Log, info};
 use std::str;
 use ups_args::{ServeArguments, VERSION};
+use ups_settings::ServerLimits;
 
 /// Tells the version and what is asked of a server, and where each watcher is: of the other peers, how many there are.
 pub(crate) fn tell_settings<R: Log>(rt: &R, asked: &ServeArguments<'_>) {
@@ -11,14 +12,18 @@ pub(crate) fn tell_settings<R: Log>(rt: &R, asked: &ServeArguments<'_>) {
         port,
         keep,
         offset,
-        workers,
-        idle,
-        timeout,
-        delivery_timeout,
+        limits,
         store,
         verbose,
         ..
     } = asked;
+    let ServerLimits {
+        workers,
+        idle,
+        timeout,
+        delivery_timeout,
+        ..
+    } = limits;
     let title = str::from_utf8(asked.ae.as_bytes()).unwrap_or("");
     let (peers, watchers) = (asked.peers.len(), asked.watchers.len());
     info!(rt; target: "upsd", "upsd {VERSION}: ae={title} bind={bind} port={port} associations={workers} idle={idle} timeout={timeout} delivery-timeout={delivery_timeout} keep={keep} offset={offset} verbose={verbose} peers={peers} watchers={watchers} store={}", store.unwrap_or("none"));

@@ -14,6 +14,7 @@ returns-clause-ran g c =
       keep = e.keep;
       offset = e.offset;
       workers = e.workers;
+      turns = e.turns;
       idle = e.idle;
       timeout = e.timeout;
       delivery_timeout = e.delivery_timeout;
