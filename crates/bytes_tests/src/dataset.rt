@@ -7,7 +7,7 @@ use ups_pdu::TransferSyntax;
 
 mod memory;
 
-/// The set that a text stands for.
+/// Returns the set encoded in the bytes of a text.
 fn set_read<A: Allocator + Copy>(
     rt: &impl AllocGlobal,
     alloc: A,
@@ -18,7 +18,7 @@ fn set_read<A: Allocator + Copy>(
     Ok(read_set(alloc, syntax, &bytes)?)
 }
 
-/// The bytes of a set that is not too large to be written.
+/// Encodes a set that is not too large to be written.
 fn written_bytes<A: Allocator + Copy>(
     alloc: A,
     syntax: TransferSyntax,
@@ -30,7 +30,7 @@ fn written_bytes<A: Allocator + Copy>(
     Ok(write_set(alloc, syntax, set)?)
 }
 
-/// Whether a set is written as these bytes.
+/// Returns whether a set is encoded as these bytes.
 fn is_written<A: Allocator + Copy>(
     alloc: A,
     syntax: TransferSyntax,
@@ -41,7 +41,7 @@ fn is_written<A: Allocator + Copy>(
     Ok(written.as_slice() == bytes)
 }
 
-/// The set is written as the bytes that a text stands for.
+/// Fails if the set is not encoded as the bytes of a text.
 fn check_written<A: Allocator + Copy>(
     rt: &impl AllocGlobal,
     alloc: A,
@@ -56,7 +56,7 @@ fn check_written<A: Allocator + Copy>(
     Ok(())
 }
 
-/// Whether a set is described so.
+/// Returns whether the text of a set, by `described`, is `wanted`.
 fn is_described<A: Allocator + Copy>(
     rt: &impl AllocGlobal,
     set: &DataSet<A>,
@@ -66,7 +66,7 @@ fn is_described<A: Allocator + Copy>(
     Ok(text.as_str() == wanted)
 }
 
-/// The set is described so.
+/// Fails if the text of a set is not `wanted`.
 fn check_described<A: Allocator + Copy>(
     rt: &impl AllocGlobal,
     set: &DataSet<A>,
@@ -82,7 +82,7 @@ fn check_described<A: Allocator + Copy>(
 const UNDEFINED: &str =
     r#"74001612 "SQ" 0000 ffffffff feff00e0 ffffffff 40005040 "DT" 0e00 "20240229120100" feff0de0 00000000 feffdde0 00000000"#;
 
-/// The same with lengths that are given.
+/// The same with defined lengths.
 const DEFINED: &str =
     r#"74001612 "SQ" 0000 1e000000 feff00e0 16000000 40005040 "DT" 0e00 "20240229120100""#;
 
@@ -90,7 +90,7 @@ const DEFINED: &str =
 const STEP: &str =
     r#"40000540 0e000000 "20240229120000" 40004140 06000000 "READY " 74000010 0a000000 "SCHEDULED " 74000012 06000000 "MEDIUM" 74000412 08000000 "CT READ ""#;
 
-/// Whether these are the bytes of a value.
+/// Returns whether these are the bytes of a value.
 fn has_bytes<A: Allocator + Copy>(value: &Value<A>, bytes: &[u8]) -> bool {
     match value {
         Value::Bytes(found) => found.as_slice() == bytes,
@@ -122,7 +122,7 @@ fn an_element_takes_the_place_of_its_tag(rt: HostRuntime) -> Result<(), Fail> {
     )
 }
 
-/// A tag of the group 0040.
+/// Returns a tag of the group 0040.
 fn tag_at(element: u16) -> Tag {
     Tag {
         group: 0x0040,
@@ -130,7 +130,7 @@ fn tag_at(element: u16) -> Tag {
     }
 }
 
-/// Whether a set has each even tag from 2 to 14 of the group 0040, and none between, below and above them.
+/// Returns whether a set has each even tag from 2 to 14 of the group 0040, and none between, below and above them.
 fn has_even_tags<A: Allocator + Copy>(set: &DataSet<A>) -> bool {
     for element in 0..=16u16 {
         let stands = element % 2 == 0 && element >= 2 && element <= 14;
@@ -163,7 +163,7 @@ fn each_tag_is_found_and_none_between(rt: HostRuntime) -> Result<(), Fail> {
     Ok(())
 }
 
-/// The elements of a set with these tags are described so.
+/// Fails if the text of the elements of a set with these tags is not `wanted`.
 fn check_projected<A: Allocator + Copy>(
     rt: &impl AllocGlobal,
     set: &DataSet<A>,
@@ -187,7 +187,7 @@ fn a_projection_has_the_listed_elements(rt: HostRuntime) -> Result<(), Fail> {
     check_projected(&rt, &set, &[], "")
 }
 
-/// A copy of a set is written as the bytes that a text stands for.
+/// Fails if a copy of a set is not encoded as the bytes of a text.
 fn check_copied<A: Allocator + Copy>(
     rt: &impl AllocGlobal,
     alloc: A,
@@ -204,7 +204,7 @@ fn a_copy_is_written_as_the_set(rt: HostRuntime) -> Result<(), Fail> {
     check_copied(&rt, rt.alloc(), &set, DEFINED)
 }
 
-/// One set laid over another is described so.
+/// Fails if the text of one set laid over another is not `wanted`.
 fn check_laid_over<A: Allocator + Copy>(
     rt: &impl AllocGlobal,
     above: &DataSet<A>,
@@ -241,7 +241,7 @@ fn a_set_laid_over_another_hides_what_both_have(rt: HostRuntime) -> Result<(), F
     )
 }
 
-/// A set of which the element of a tag is dropped is described so.
+/// Removes a tag from a copy of a set, and fails if the text of the rest is not `wanted`.
 fn check_removed<A: Allocator + Copy>(
     rt: &impl AllocGlobal,
     set: &DataSet<A>,
@@ -253,7 +253,8 @@ fn check_removed<A: Allocator + Copy>(
     check_described(rt, &rest, wanted)
 }
 
-/// A set without a tag has it no more, and is described so; so is one of which its element is dropped.
+/// Fails if a set without a tag still has it, or if its text is not `wanted`, or that of a set from which it is
+/// removed.
 fn check_without<A: Allocator + Copy>(
     rt: &impl AllocGlobal,
     set: &DataSet<A>,

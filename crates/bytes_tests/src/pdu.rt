@@ -6,12 +6,12 @@ use std::alloc::{Allocator, Global};
 use std::test::*;
 use ups_pdu::*;
 
-/// How many bytes of a PDU are read, or why none is.
+/// Returns how many bytes of a PDU are read, or why none are.
 fn taken<A: Allocator + Copy>(alloc: A, bytes: &[u8]) -> Result<usize, PduFault> {
     Ok(read_pdu(alloc, bytes)?.1)
 }
 
-/// Reads with each growth refused in turn, until none is: how many there are.
+/// Reads with each growth refused in turn, and returns their number.
 fn growths_of_reading(rt: &impl AllocGlobal, bytes: &[u8]) -> Result<u64, Fail> {
     let heap = Refusing::new(rt.alloc());
     for growth in 1..100 {
@@ -25,7 +25,7 @@ fn growths_of_reading(rt: &impl AllocGlobal, bytes: &[u8]) -> Result<u64, Fail> 
     Err("no end of growths".into())
 }
 
-/// Whether memory suffices to write a PDU, and what is written is these bytes.
+/// Returns whether a PDU is encoded as these bytes, or None if memory runs out.
 fn is_written<A: Allocator + Copy>(alloc: A, pdu: &Pdu<A>, bytes: &[u8]) -> Option<bool>
     requires { Fits pdu.now }
 {
@@ -33,7 +33,7 @@ fn is_written<A: Allocator + Copy>(alloc: A, pdu: &Pdu<A>, bytes: &[u8]) -> Opti
     Some(written.as_slice() == bytes)
 }
 
-/// Writes with each growth refused in turn, until none is: how many there are.
+/// Writes with each growth refused in turn, and returns their number.
 fn growths_of_writing<A: Allocator + Copy>(
     heap: &Refusing<Global>,
     alloc: A,
@@ -53,14 +53,14 @@ fn growths_of_writing<A: Allocator + Copy>(
     Err("no end of growths".into())
 }
 
-/// Reads, and then writes with each growth refused in turn: how many there are.
+/// Reads, then writes with each growth refused in turn, and returns their number.
 fn growths_of_writing_again(rt: &impl AllocGlobal, bytes: &[u8]) -> Result<u64, Fail> {
     let heap = Refusing::new(rt.alloc());
     let pdu = read_short(&heap, bytes)?;
     growths_of_writing(&heap, &heap, &pdu, bytes)
 }
 
-/// The PDU that a text stands for takes memory to be read, and to be written.
+/// Fails if the PDU of a text takes no memory to read, or none to write.
 fn check_growths(rt: &impl AllocGlobal, text: &str) -> Result<(), Fail> {
     let bytes = bytes_of(rt, text)?;
     if growths_of_reading(rt, &bytes)? == 0 || growths_of_writing_again(rt, &bytes)? == 0 {

@@ -1,7 +1,7 @@
 use fixtures::Refusing;
 use std::alloc::{AllocError, Allocator, Global};
 
-/// Whether the first growth of a list is refused, and not the second.
+/// Returns whether the first growth of a list is refused, and the second is not.
 fn is_first_refused(heap: &Refusing<Global>) -> bool {
     let mut values = Vec::new(heap);
     let was_armed = heap.is_armed();
@@ -19,7 +19,7 @@ fn refuses_the_first_growth_and_no_other(rt: HostRuntime) {
     assert!(rt; is_first_refused(&heap));
 }
 
-/// Whether the second growth is refused, which is that of another list, and neither the first nor the third.
+/// Returns whether the second growth is refused, which is that of another list, and neither the first nor the third.
 fn is_second_refused(heap: &Refusing<Global>) -> bool {
     let mut first = Vec::new(heap);
     let mut second = Vec::new(heap);
@@ -47,7 +47,7 @@ fn forgets_what_an_earlier_call_asked_for(rt: HostRuntime) {
     assert!(rt; !is_armed && values.push(7u64).is_ok());
 }
 
-/// Whether a block that grows, and one that shrinks, counts as a growth.
+/// Returns whether a block that grows, and one that shrinks, counts as a growth.
 fn are_changes_counted(heap: &Refusing<Global>) -> bool {
     let mut values: Vec<u64, &Refusing<Global>> = Vec::new(heap);
     let is_put = values.reserve_exact(1).is_ok() && values.push(7).is_ok();
@@ -81,13 +81,13 @@ fn copies<A: Allocator + Copy>(alloc: A) -> Result<Vec<u64, A>, AllocError> {
     Ok(copied)
 }
 
-/// Whether five numbers are copied; None where a growth is refused.
+/// Returns whether five numbers are copied, or None if a growth is refused.
 fn are_copied<A: Allocator + Copy>(alloc: A) -> Option<bool> {
     let copied = copies(alloc).ok()?;
     Some(copied.as_slice() == [0, 1, 2, 3, 4].as_slice())
 }
 
-/// Refuses each growth of `copies` in turn, and says how many there are.
+/// Refuses each growth of `copies` in turn, and returns their number.
 fn growths_of_copies(heap: &Refusing<Global>) -> u64 {
     for number in 1..100u64 {
         heap.refuse(number);

@@ -42,15 +42,15 @@ const ROWS: [(UlEvent, &str); 19] = [
     (UlEvent::Invalid,             "--- Aa1 Aa8 --- Aa8 Aa8 Aa8 Aa8 Aa8 Aa8  Aa8 Aa8 Aa7"),
 ];
 
-/// Each action with its next state, of AE-6 where the request is acceptable and of AR-8 on the side that
-/// requested the association (PS3.8 tables 9-6 to 9-9).
+/// Each action with its next state: that of AE-6 if the request is acceptable, and of AR-8 on the side that requested
+/// the association (PS3.8 tables 9-6 to 9-9).
 const NEXT_STATES: &str = "\
     Ae1:Sta4 Ae2:Sta5 Ae3:Sta6 Ae4:Sta1 Ae5:Sta2 Ae6:Sta3 Ae7:Sta6 Ae8:Sta13 \
     Dt1:Sta6 Dt2:Sta6 \
     Ar1:Sta7 Ar2:Sta8 Ar3:Sta1 Ar4:Sta13 Ar5:Sta1 Ar6:Sta7 Ar7:Sta8 Ar8:Sta9 Ar9:Sta11 Ar10:Sta12 \
     Aa1:Sta13 Aa2:Sta1 Aa3:Sta1 Aa4:Sta1 Aa5:Sta1 Aa6:Sta13 Aa7:Sta13 Aa8:Sta13";
 
-/// The words of a cell: the action and the next state.
+/// Returns the words of a cell: the action and the next state.
 fn words(cell: Option<(UlAction, UlState)>, rt: &impl AllocGlobal) -> Result<String, Fail> {
     Ok(match cell {
         Some((action, state)) => format!(in rt.alloc(); "{action:?}:{state:?}")?,
@@ -58,7 +58,7 @@ fn words(cell: Option<(UlAction, UlState)>, rt: &impl AllocGlobal) -> Result<Str
     })
 }
 
-/// The word of the list that begins with an action, or the dashes of an empty cell.
+/// Returns the word of the list that begins with an action, or the dashes of an empty cell.
 fn with_next_state<'a>(action: &'a str, list: &'a str) -> Result<&'a str, Fail> {
     if action == "---" {
         return Ok(action);

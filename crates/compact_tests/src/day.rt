@@ -13,11 +13,11 @@ use ups_life::{
 use ups_manager::*;
 use ups_pdu::Ae;
 
-/// A day, a request in each line: who asks and when, in seconds, and what, as `fixtures::words` has it; or an acknowledgement,
-/// or a sweep.
+/// A day, with a request in each line: who asks and when, in seconds, and what, as in `fixtures::words`; or an
+/// acknowledgement, or a sweep.
 ///
-/// Of three steps the first is claimed and goes on, the second is canceled and removed, and the third is new. The first watcher
-/// has acknowledged three of its events, the second all that it was told, and the third has none.
+/// Of three steps the first is claimed and goes on, the second is canceled and removed, and the third is new. The first
+/// watcher has acknowledged three of its events, the second all of its events, and the third has none.
 const DAY: &str = "\
 W1 0 3 global 00741234=W1 00741230=FALSE
 RIS 10 create 1.2.3.1 B
@@ -33,7 +33,7 @@ RIS 150 create 1.2.3.3 B
 RIS 200 sweep
 W1 210 ack 3";
 
-/// What is left of it, and behind it the moments of what is left, and how many entries that is of how many.
+/// What is left of the day, followed by the moments of what is left, and how many entries that is of how many.
 const LEFT: &str = "\
 W1 0 3 global 00741234=W1 00741230=FALSE
 RIS 10 create 1.2.3.1 B
@@ -46,8 +46,8 @@ RIS 150 create 1.2.3.3 B
 /// The peers; the first two may lock steps.
 const PEERS: [(&str, bool); 3] = [("W1", true), ("W2", true), ("W3", false)];
 
-/// What is pending for each peer: of the day, of what is left of it, how much of that is known, and what is pending behind the
-/// acknowledgements.
+/// What is pending for each peer: after the day, after what is left of it, how much of that is known, and what is
+/// pending after the acknowledgements.
 const PENDING: &str = "\
 W1 = 4p1 6s2 7s3 | 2s1 3p1 4s3 | 2 | 3p1 4s3
 W2 = | 2s1 3p1 | 3 |
@@ -64,7 +64,7 @@ const PAYS: &str = "\
 6 of 13: yes
 13 of 13: no";
 
-/// Returns the request that a text is.
+/// Returns the request of a text.
 fn request_of<A: Allocator + Copy>(alloc: A, text: &str) -> Result<Request<A>, Fail> {
     if text == "sweep" {
         return Ok(Request::Sweep);
@@ -80,7 +80,7 @@ fn request_of<A: Allocator + Copy>(alloc: A, text: &str) -> Result<Request<A>, F
     }
 }
 
-/// Returns the entry that a line is.
+/// Returns the entry of a line.
 fn entry_of<A: Allocator + Copy>(alloc: A, line: &str) -> Result<Entry<A>, Fail> {
     let (ae, moment, text) = cut_twice(line, " ", " ")?;
     let (ae, moment) = (title(ae)?, number(moment)?);
@@ -93,7 +93,7 @@ fn entry_of<A: Allocator + Copy>(alloc: A, line: &str) -> Result<Entry<A>, Fail>
     })
 }
 
-/// Submits what a line asks.
+/// Submits what a line asks for.
 fn submit(manager: &mut Manager<Global>, line: &str, alloc: Global) -> Result<Reply<Global>, Fail> {
     let entry = entry_of(alloc, line)?;
     if entry.moment > MAX_MOMENT {
@@ -102,7 +102,7 @@ fn submit(manager: &mut Manager<Global>, line: &str, alloc: Global) -> Result<Re
     Ok(manager.submit(entry))
 }
 
-/// Enters what each line asks.
+/// Enters what each line asks for.
 fn enter_all(manager: &mut Manager<Global>, lines: &str, alloc: Global) -> Result<(), Fail> {
     for line in lines.lines() {
         let entries = manager.history().len();
@@ -143,7 +143,7 @@ fn kept_by(manager: &Manager<Global>, alloc: Global) -> Result<KeptSteps<Global>
     Ok(KeptSteps::of(alloc, manager.held()?)?)
 }
 
-/// Returns those lines of which the requests stay.
+/// Returns the lines whose requests stay.
 fn lines_left(alloc: Global, kept: &KeptSteps<Global>, lines: &str) -> Result<String, Fail> {
     let mut left = String::new(alloc);
     for line in lines.lines() {
@@ -156,7 +156,7 @@ fn lines_left(alloc: Global, kept: &KeptSteps<Global>, lines: &str) -> Result<St
     Ok(left)
 }
 
-/// Returns the moments of those entries that stay, by the list of them.
+/// Returns the moments of the entries that stay in a list of them.
 fn moments_left(alloc: Global, kept: &KeptSteps<Global>, lines: &str) -> Result<String, Fail> {
     let mut entries = Vec::new(alloc);
     for line in lines.lines() {
@@ -183,7 +183,7 @@ fn left_by(
     Ok(text)
 }
 
-/// Enters the day: what is left of it is right.
+/// Enters the day, and fails if what is left of it is wrong.
 fn check_left(manager: &mut Manager<Global>, alloc: Global) -> Result<(), Fail> {
     enter_all(manager, DAY, alloc)?;
     let kept = kept_by(manager, alloc)?;
@@ -197,7 +197,7 @@ fn what_is_about_a_removed_step_goes(rt: HostRuntime) -> Result<(), Fail> {
     check_left(&mut manager, rt.alloc())
 }
 
-/// The first letter of the word of a kind.
+/// Returns the first letter of the word for a kind.
 fn letter_of(kind: EventKind) -> char {
     match kind {
         EventKind::StateReport => 's',
@@ -207,7 +207,7 @@ fn letter_of(kind: EventKind) -> char {
     }
 }
 
-/// Adds an event: its number, the letter of its kind, and the last digit of its step.
+/// Adds an event as text: its number, the letter of its kind, and the last digit of its step.
 fn add_event(text: &mut String, event: &Event) -> Result<(), Fail> {
     let letter = letter_of(event.kind);
     let uid = str::from_utf8(event.step.as_bytes()).ok().ok_or("a text")?;
@@ -248,7 +248,7 @@ fn told_of(alloc: Global, manager: &Manager<Global>, ae: Ae) -> Result<String, F
     told(alloc, reports.as_slice())
 }
 
-/// Returns the number to acknowledge, by events; where it is not the one by reports there is an error.
+/// Returns the number to acknowledge, by events; fails if it is not the one by reports.
 fn known_in(
     alloc: Global,
     kept: &KeptSteps<Global>,
@@ -264,7 +264,7 @@ fn known_in(
     Ok(by_events)
 }
 
-/// Returns the number that a peer is to acknowledge behind what is left.
+/// Returns the number that a peer is to acknowledge after what is left.
 fn known_of(
     alloc: Global,
     kept: &KeptSteps<Global>,
@@ -277,7 +277,7 @@ fn known_of(
     known_in(alloc, kept, old.as_slice(), fresh.as_slice())
 }
 
-/// Enters the acknowledgement of a peer, where there is one, and returns its number as a text.
+/// Enters the acknowledgement of a peer, if there is one, and returns its number as a text.
 fn acknowledge(
     alloc: Global,
     manager: &mut Manager<Global>,
@@ -345,7 +345,7 @@ fn add_row(
     Ok(())
 }
 
-/// Returns the lines of what is left, without what stands behind them.
+/// Returns the lines of what is left, without the line after them.
 fn left_lines() -> Result<&'static str, Fail> {
     let (lines, _) = LEFT.rsplit_once('\n').ok_or("lines")?;
     Ok(lines)
@@ -365,7 +365,7 @@ fn rows_of(
     Ok(rows)
 }
 
-/// Enters what is left of the day: what is pending then is right.
+/// Enters what is left of the day, and fails if what is pending then is wrong.
 fn check_pending(
     alloc: Global,
     day: &Manager<Global>,
@@ -376,13 +376,13 @@ fn check_pending(
     check_same("pending", rows.as_str(), PENDING)
 }
 
-/// The same beside a manager that has the day.
+/// The same with a new manager for what is left, beside one that has the day.
 fn check_beside(alloc: Global, day: &Manager<Global>) -> Result<(), Fail> {
     let mut left = manager_of(alloc)?;
     check_pending(alloc, day, &mut left)
 }
 
-/// Enters the day: what is pending of what is left of it is right.
+/// Enters the day, and fails if what is pending after what is left of it is wrong.
 fn check_day(alloc: Global, day: &mut Manager<Global>) -> Result<(), Fail> {
     enter_all(day, DAY, alloc)?;
     check_beside(alloc, day)
@@ -394,7 +394,7 @@ fn what_is_pending_stays_but_for_removed_steps(rt: HostRuntime) -> Result<(), Fa
     check_day(rt.alloc(), &mut day)
 }
 
-/// Enters lines, and returns the number of the status with which the removed step is created then.
+/// Enters lines, and returns the number of the status when the removed step is created then.
 fn created_again(alloc: Global, manager: &mut Manager<Global>, lines: &str) -> Result<u16, Fail> {
     enter_all(manager, lines, alloc)?;
     match submit(manager, "RIS 400 create 1.2.3.2 B", alloc)? {
@@ -403,7 +403,7 @@ fn created_again(alloc: Global, manager: &mut Manager<Global>, lines: &str) -> R
     }
 }
 
-/// The same by a manager without history.
+/// The same with a manager without history.
 fn created_after(alloc: Global, lines: &str) -> Result<u16, Fail> {
     let mut manager = manager_of(alloc)?;
     created_again(alloc, &mut manager, lines)
@@ -416,7 +416,7 @@ fn the_uid_of_a_removed_step_is_free_again(rt: HostRuntime) -> Result<(), Fail> 
     Ok(())
 }
 
-/// Whether a row of those on whether a compaction pays is so.
+/// Returns whether a compaction pays as a row says.
 fn is_so(row: &str) -> Result<bool, Fail> {
     let (left, all, says) = cut_twice(row, " of ", ": ")?;
     let (left, all) = (left.parse::<usize>()?, all.parse::<usize>()?);

@@ -5,7 +5,7 @@ use std::test::Fail;
 use ups_compact::KeptSteps;
 use ups_life::StepUid;
 
-/// The greatest number of growths that a test refuses in turn.
+/// The maximum number of growths that a test refuses in turn.
 const GROWTHS: u64 = 100;
 
 /// The steps that stay, one of them twice.
@@ -14,7 +14,7 @@ const STEPS: [&str; 4] = ["1.2.3.3", "1.2.3.1", "1.2.3.3", "1.2.3.20"];
 /// Steps that go.
 const OTHERS: [&str; 2] = ["1.2.3.2", "1.2.3"];
 
-/// Returns the step of a UID.
+/// Parses the UID of a step.
 fn step_of(text: &str) -> Result<StepUid, Fail> {
     Ok(StepUid::of(uid(text)?).ok_or("the UID of a step")?)
 }
@@ -29,7 +29,7 @@ fn steps_of<'a>(heap: &'a Refusing<Global>) -> Result<Vec<StepUid, &'a Refusing<
     Ok(steps)
 }
 
-/// Fails where one of those steps does not stay, or another one does.
+/// Fails if one of those steps does not stay, or another one does.
 fn check_kept<A: Allocator + Copy>(kept: &KeptSteps<A>) -> Result<(), Fail> {
     for step in STEPS {
         check(step, kept.has(step_of(step)?))?;
@@ -40,13 +40,13 @@ fn check_kept<A: Allocator + Copy>(kept: &KeptSteps<A>) -> Result<(), Fail> {
     Ok(())
 }
 
-/// Returns how many growths a list took, where it is the right one.
+/// Returns the number of growths that a list took, if it is the right one.
 fn count_of<A: Allocator + Copy>(kept: &KeptSteps<A>, growths: u64) -> Result<u64, Fail> {
     check_kept(kept)?;
     Ok(growths)
 }
 
-/// Makes the list with each growth refused in turn: how many growths that takes.
+/// Makes the list with each growth refused in turn, and returns the number of growths.
 fn made_in_turn(heap: &Refusing<Global>) -> Result<u64, Fail> {
     for growths in 0..GROWTHS {
         let steps = steps_of(heap)?;

@@ -1,4 +1,4 @@
-//! What happens in a day, by lines: the moment, the title of who asks, and the words of the request.
+//! What happens in a day, as lines: the moment, the title of who asks, and the words of the request.
 
 use crate::lines::{told, word_at};
 use fixtures::rows::{cut_twice, number};
@@ -12,7 +12,7 @@ use ups_life::{Ask, Entry, MAX_MOMENT, Peer, Reply, Request, StepUid, read_reque
 use ups_manager::*;
 use ups_match::{Keys, Probe};
 
-/// A short day. WATCH2 may lock, and does so until the sweep is past.
+/// A short day. WATCH2 may lock, and does so until after the sweep.
 const DAY: &str = "\
 1709208000 SCHED1 create 1.2.3.1 B 00741202=READS
 1709208005 WATCH1 3 global 00741234=WATCH1 00741230=FALSE
@@ -30,8 +30,8 @@ const DAY: &str = "\
 1709208150 SERVER sweep
 1709208160 WATCH2 4 1.2.3.1 00741234=WATCH2";
 
-/// The settings of a manager: its peers, of which the second may lock, for how long it keeps finished steps, in seconds,
-/// its offset from UTC in minutes, and how many requests it takes.
+/// The settings of a manager: its peers, of which the second may lock; how long it keeps finished steps, in seconds;
+/// its offset from UTC in minutes; and the limit of its history in requests.
 #[derive(Clone, Copy)]
 pub(crate) struct Settings<'a> {
     pub(crate) peers: &'a str,
@@ -40,7 +40,7 @@ pub(crate) struct Settings<'a> {
     pub(crate) limit: u64,
 }
 
-/// The settings by which the day goes well.
+/// The settings with which the day goes well.
 pub(crate) const SETTINGS: Settings<'static> = Settings {
     peers: "WATCH1,WATCH2,WATCH3",
     keep: 60,
@@ -48,7 +48,7 @@ pub(crate) const SETTINGS: Settings<'static> = Settings {
     limit: 1_000,
 };
 
-/// Returns the request that words are, whose keys are read by an offset.
+/// Returns the request of these words, whose keys are read with an offset.
 pub(crate) fn request_of<A: Allocator + Copy>(
     alloc: A,
     words: &str,
@@ -68,7 +68,7 @@ pub(crate) fn request_of<A: Allocator + Copy>(
     }
 }
 
-/// Returns the peers of these titles, of which the second may lock.
+/// Returns the peers with these titles, of which the second may lock.
 fn peers_of(alloc: Global, titles: &str) -> Result<Vec<Peer>, Fail> {
     let mut peers = Vec::new(alloc);
     for (place, text) in titles.split(',').enumerate() {
@@ -99,7 +99,7 @@ pub(crate) fn a_manager<A: Allocator + Copy>(
     )?)
 }
 
-/// Has a manager enter what a line says, as the caller with this number.
+/// Makes a manager enter what a line says, as the caller with this number.
 fn enter<A: Allocator + Copy>(
     alloc: A,
     manager: &mut Manager<A>,
@@ -125,7 +125,7 @@ fn enter<A: Allocator + Copy>(
     Ok(())
 }
 
-/// Has a manager enter each line, by callers numbered from 1.
+/// Makes a manager enter each line, by callers numbered from 1.
 pub(crate) fn go_on<A: Allocator + Copy>(
     alloc: A,
     manager: &mut Manager<A>,
@@ -151,7 +151,7 @@ fn records_of<A: Allocator + Copy>(
     Ok(records)
 }
 
-/// Has a manager enter the day, and returns the records of its history.
+/// Makes a manager enter the day, and returns the records of its history.
 fn records_after<A: Allocator + Copy>(
     alloc: A,
     manager: &mut Manager<A>,
@@ -169,7 +169,7 @@ pub(crate) fn a_day<A: Allocator + Copy>(
     records_after(alloc, &mut manager)
 }
 
-/// Puts the history of a manager, a record a line.
+/// Adds the history of a manager, a record a line.
 fn put_history<A: Allocator + Copy>(
     rt: &impl AllocGlobal,
     text: &mut String,
@@ -184,12 +184,12 @@ fn put_history<A: Allocator + Copy>(
     Ok(())
 }
 
-/// Puts the bytes of a text.
+/// Adds the bytes of a text.
 fn put_bytes(text: &mut String, bytes: &[u8]) -> Result<(), Fail> {
     Ok(text.push_str(str::from_utf8(bytes).ok().ok_or("a text")?)?)
 }
 
-/// Puts who holds a step: the number of the caller and its title, or a dash.
+/// Adds the holder of a step, by the number of the caller and its title, or a dash.
 fn put_holder<A: Allocator + Copy>(
     text: &mut String,
     manager: &Manager<A>,
@@ -207,7 +207,7 @@ fn put_holder<A: Allocator + Copy>(
     Ok(text.push('\n')?)
 }
 
-/// Puts sets, as they are described, one a line.
+/// Adds sets as text, one a line.
 fn put_sets<A: Allocator + Copy>(
     rt: &impl AllocGlobal,
     text: &mut String,
@@ -220,7 +220,7 @@ fn put_sets<A: Allocator + Copy>(
     Ok(())
 }
 
-/// Puts each step that is held, with its state.
+/// Adds each step that is held, with its state.
 fn put_worklist<A: Allocator + Copy>(
     rt: &impl AllocGlobal,
     text: &mut String,
@@ -238,7 +238,7 @@ fn universal_keys<A: Allocator + Copy>(alloc: A) -> Result<Keys<A>, Fail> {
     Ok(Keys::of(set_of(alloc, "00080018= 00741000=")?, 0)?)
 }
 
-/// Puts the events that are pending for a watcher: number, entry, kind and step.
+/// Adds the events that are pending for a watcher: number, entry, kind and step.
 fn put_pending<A: Allocator + Copy>(
     text: &mut String,
     manager: &Manager<A>,
@@ -260,7 +260,7 @@ fn put_pending<A: Allocator + Copy>(
     Ok(())
 }
 
-/// Returns what a manager tells of its steps and its watchers.
+/// Returns what a manager tells about its steps and its watchers.
 pub(crate) fn picture<A: Allocator + Copy>(
     rt: &impl AllocGlobal,
     alloc: A,
@@ -277,7 +277,7 @@ pub(crate) fn picture<A: Allocator + Copy>(
     Ok(text)
 }
 
-/// Returns all that a manager tells, with its history.
+/// Returns all that a manager tells, including its history.
 pub(crate) fn whole<A: Allocator + Copy>(
     rt: &impl AllocGlobal,
     alloc: A,
@@ -288,7 +288,7 @@ pub(crate) fn whole<A: Allocator + Copy>(
     Ok(text)
 }
 
-/// Has a manager enter the day, and returns all that it tells then.
+/// Makes a manager enter the day, and returns all that it tells then.
 fn told_after(rt: &impl AllocGlobal, manager: &mut Manager<Global>) -> Result<String, Fail> {
     go_on(rt.alloc(), manager, DAY)?;
     whole(rt, rt.alloc(), manager)

@@ -1,4 +1,4 @@
-//! Tests of the journal: what is recorded of a request, what is read of a record, and what records restore.
+//! Tests of the journal: what is recorded of a request, what is read from a record, and what records restore.
 #![tactic(auto)]
 
 #[cfg(test)]

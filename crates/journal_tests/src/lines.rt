@@ -1,9 +1,9 @@
 //! Records as lines.
 //!
 //! The words of a line are the columns of a record: the number of the caller, the title, the moment, the operation, the
-//! instance, the Transaction UID, the state, the receiver, the lock, the number and the offset. Behind a bar stand the bytes
-//! of the attributes, as `fixtures::bytes_of` has them. `-` stands for an empty column, `()` for an empty text, and in a word
-//! `_` for a space and `~` for a NUL.
+//! instance, the Transaction UID, the state, the receiver, the lock, the number and the offset. After a bar come the
+//! bytes of the attributes, as in `fixtures::bytes_of`. `-` stands for an empty column, `()` for an empty text, and in
+//! a word `_` for a space and `~` for a NUL.
 
 use fixtures::bytes_of;
 use fixtures::rows::{cut, number};
@@ -14,7 +14,7 @@ use ups_cycle::StepState;
 use ups_journal::{Columns, Operation, Record};
 use ups_pdu::Bytes;
 
-/// Returns the word at a place in a line; no text where there is none.
+/// Returns the word at a place in a line, or an empty text if there is none.
 pub(crate) fn word_at(line: &str, place: usize) -> &str {
     line.split(' ').nth(place).unwrap_or("")
 }
@@ -98,7 +98,7 @@ fn set_column<A: Allocator + Copy>(
     Ok(Some(Bytes::copy_of(alloc, &bytes)?))
 }
 
-/// Returns the columns of a line that are no texts, and no other.
+/// Returns the columns of a line that are not texts, and no others.
 fn plain_columns<A: Allocator + Copy>(alloc: A, line: &str) -> Result<Columns<A>, Fail> {
     let operation = operation_column(alloc, word_at(line, 3))?;
     let state = state_column(word_at(line, 6))?;
@@ -118,7 +118,7 @@ fn plain_columns<A: Allocator + Copy>(alloc: A, line: &str) -> Result<Columns<A>
     })
 }
 
-/// Puts the columns of a line that are texts.
+/// Sets the columns of a line that are texts.
 fn put_texts<A: Allocator + Copy>(
     alloc: A,
     columns: &mut Columns<A>,
@@ -143,7 +143,7 @@ fn columns_of<A: Allocator + Copy>(
     Ok(columns)
 }
 
-/// Returns the number of the caller that a line begins with.
+/// Returns the number of the caller, which a line begins with.
 pub(crate) fn caller_of(line: &str) -> Result<u32, Fail> {
     Ok(word_at(line, 0).parse::<u32>()?)
 }
@@ -153,7 +153,7 @@ pub(crate) fn moment_of(line: &str) -> Result<u64, Fail> {
     number(word_at(line, 2))
 }
 
-/// Returns the record that a line is.
+/// Returns the record of a line.
 pub(crate) fn record_of_line<A: Allocator + Copy>(
     rt: &impl AllocGlobal,
     alloc: A,
@@ -171,7 +171,7 @@ pub(crate) fn record_of_line<A: Allocator + Copy>(
     })
 }
 
-/// Puts bytes as hex digits.
+/// Adds bytes as hex digits.
 fn put_hex(text: &mut String, bytes: &[u8]) -> Result<(), Fail> {
     for byte in bytes {
         write!(text, "{byte:02X}")?;
@@ -179,7 +179,7 @@ fn put_hex(text: &mut String, bytes: &[u8]) -> Result<(), Fail> {
     Ok(())
 }
 
-/// Puts the bytes of a column in brackets, or a dash.
+/// Adds the bytes of a column in parentheses, or a dash.
 fn put_bytes<A: Allocator + Copy>(
     text: &mut String,
     column: &Option<Bytes<A>>,
@@ -194,7 +194,7 @@ fn put_bytes<A: Allocator + Copy>(
     }
 }
 
-/// Puts what a column shows, or a dash.
+/// Adds the value of a column, or a dash.
 fn put_shown<T: Display + Copy>(text: &mut String, column: Option<T>) -> Result<(), Fail> {
     match column {
         Some(value) => write!(text, " {value}")?,
@@ -203,7 +203,7 @@ fn put_shown<T: Display + Copy>(text: &mut String, column: Option<T>) -> Result<
     Ok(())
 }
 
-/// Puts the columns of a request.
+/// Adds the columns of a request.
 fn put_columns<A: Allocator + Copy>(text: &mut String, columns: &Columns<A>) -> Result<(), Fail> {
     write!(text, " {} {:?}", columns.operation, columns.state)?;
     put_shown(text, columns.lock)?;
@@ -215,7 +215,7 @@ fn put_columns<A: Allocator + Copy>(text: &mut String, columns: &Columns<A>) -> 
     put_bytes(text, &columns.attributes)
 }
 
-/// Returns a record as a text, in which bytes are hex digits.
+/// Returns a record as a text, with bytes as hex digits.
 pub(crate) fn told<A: Allocator + Copy>(
     rt: &impl AllocGlobal,
     stored: &Record<A>,

@@ -2,7 +2,7 @@ use fixtures::rows::{check, cut};
 use std::test::Fail;
 use ups_journal::Operation;
 
-/// The number of each operation and its name, as a store has them.
+/// The number and the name of each operation, as in a store.
 const OPERATIONS: &str = "\
 1 create
 2 change state
@@ -14,7 +14,7 @@ const OPERATIONS: &str = "\
 8 acknowledge
 9 sweep";
 
-/// Whether a number and a name stand for one operation, which has both and is shown by its name.
+/// Returns whether a number and a name are those of one operation, which is displayed by its name.
 fn is_so(rt: &impl AllocGlobal, row: &str) -> Result<bool, Fail> {
     let (digits, name) = cut(row, " ")?;
     let code = digits.parse::<u8>()?;
@@ -36,7 +36,7 @@ fn an_operation_has_a_number_and_a_name(rt: HostRuntime) -> Result<(), Fail> {
     Ok(())
 }
 
-/// Texts that name no operation: nothing, beginnings, padding, other letters.
+/// Texts that name no operation: nothing, parts of names, other letters.
 const NAMES: &str = "
 
 creat

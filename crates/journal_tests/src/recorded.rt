@@ -1,4 +1,4 @@
-//! What is recorded of requests, and read again.
+//! Requests that are recorded, and read again.
 
 use crate::days::request_of;
 use crate::lines::{caller_of, moment_of, record_of_line, told, word_at, word_bytes};
@@ -10,8 +10,8 @@ use ups_journal::{entry_of, record_of};
 use ups_life::Entry;
 use ups_pdu::Ae;
 
-/// What happens; the request, by the words of a message, whose keys are read by an offset of 60 minutes; and the record, as
-/// a line. The columns and the bytes were written by hand, by PS3.5 sections 7.1.2 and 7.5.
+/// What happens; the request, by the words of a message, whose keys are read with an offset of 60 minutes; and the
+/// record, as a line. The columns and the bytes were written by hand, from PS3.5 sections 7.1.2 and 7.5.
 pub(crate) const SECTIONS: &str =
     r#"A step is created: its instance, and its attributes by rising tag
 create 1.2.3.1 00741204=CT_READ_ 00741200=MEDIUM
@@ -77,7 +77,7 @@ ack 18446744073709551615
 sweep
 3 UPS_SERVER 253402250399 sweep - - - - - - - | -"#;
 
-/// Returns the entry of a request that who asks and when stand for in a line.
+/// Returns the entry of a request, with the caller, the title and the moment of a line.
 pub(crate) fn entry_of_words<A: Allocator + Copy>(
     alloc: A,
     words: &str,
@@ -93,27 +93,27 @@ pub(crate) fn entry_of_words<A: Allocator + Copy>(
     })
 }
 
-/// Returns the record that is made of an entry.
+/// Returns the record of an entry, as a text.
 fn recorded(rt: &impl AllocGlobal, words: &str, line: &str) -> Result<String, Fail> {
     let entry = entry_of_words(rt.alloc(), words, line)?;
     told(rt, &record_of(rt.alloc(), &entry)?)
 }
 
-/// Returns the record of the entry that the record of an entry is read as.
+/// Returns the record of the entry that is read from the record of an entry.
 fn recorded_twice(rt: &impl AllocGlobal, words: &str, line: &str) -> Result<String, Fail> {
     let entry = entry_of_words(rt.alloc(), words, line)?;
     let again = what_is_recorded_is_read_again(rt.alloc(), &entry)?;
     told(rt, &record_of(rt.alloc(), &again)?)
 }
 
-/// Returns the record of the entry that a line is read as.
+/// Returns the record of the entry that is read from a line.
 fn read(rt: &impl AllocGlobal, line: &str) -> Result<String, Fail> {
     let stored = record_of_line(rt, rt.alloc(), line)?;
     let entry = entry_of(rt.alloc(), &stored)?;
     told(rt, &record_of(rt.alloc(), &entry)?)
 }
 
-/// Returns the record that a line is.
+/// Returns the record of a line, as a text.
 fn written(rt: &impl AllocGlobal, line: &str) -> Result<String, Fail> {
     told(rt, &record_of_line(rt, rt.alloc(), line)?)
 }

@@ -1,4 +1,4 @@
-//! Managers that records restore.
+//! Managers restored from records.
 
 use crate::days::{
     SETTINGS, Settings, a_day, a_manager, go_on, number_at, picture, told_of_the_day, whole,
@@ -11,11 +11,12 @@ use ups_journal::{Record, record_of};
 use ups_manager::*;
 use ups_restore::{Restoration, Restored, restore, restore_each, restore_one};
 
-/// What a manager tells after the day: who holds each step, by the number of its caller; the steps held, with their states;
-/// and the events that are pending for each watcher, with their numbers and the places of their requests in the history.
+/// What a manager tells after the day: the holder of each step, by the number of its caller; the steps held, with their
+/// states; and the events that are pending for each watcher, with their numbers and the places of their requests in the
+/// history.
 ///
-/// WATCH1 has acknowledged two of its events; that of the claim is superseded by that of the completion. The step that the
-/// sweep has removed is still reported of.
+/// WATCH1 has acknowledged two of its events; that of the claim is superseded by that of the completion. The step that
+/// the sweep removed is still reported.
 const TOLD: &str = "\
 1.2.3.1 5 PERFORM1
 1.2.3.2 -
@@ -33,23 +34,23 @@ WATCH3 4 12 StateReport 1.2.3.3
 /// How records are entered, and what is told then.
 #[derive(Clone, Copy)]
 enum Way<'a> {
-    /// At once: all that the manager tells.
+    /// All at once: all that the manager tells.
     AtOnce,
     /// One by one: the same.
     OneByOne,
-    /// At once: what it tells of its steps and watchers.
+    /// All at once: what it tells about its steps and watchers.
     Picture,
-    /// At once, and then a creation: the same, and the offset in the record of the first request.
+    /// All at once, and then a creation: the same, and the offset in the record of the first request.
     Then(&'a str),
-    /// At once: why it stops, or a dash.
+    /// All at once: why it stops, or a dash.
     Stop,
-    /// One by one, where some may be left out: what becomes of each, and the counts.
+    /// One by one, if some may be left out: the outcome of each, and the counts.
     Outcomes,
-    /// At once, where some may be left out: the counts, or why it stops.
+    /// All at once, if some may be left out: the counts, or why it stops.
     Counts,
 }
 
-/// Has a manager enter records at once, and returns all that it tells then.
+/// Makes a manager enter all records at once, and returns all that it tells then.
 fn told_at_once(
     rt: &impl AllocGlobal,
     manager: &mut Manager<Global>,
@@ -59,7 +60,7 @@ fn told_at_once(
     whole(rt, rt.alloc(), manager)
 }
 
-/// Has a manager enter records one by one, and returns all that it tells then.
+/// Makes a manager enter records one by one, and returns all that it tells then.
 fn told_one_by_one(
     rt: &impl AllocGlobal,
     manager: &mut Manager<Global>,
@@ -71,7 +72,7 @@ fn told_one_by_one(
     whole(rt, rt.alloc(), manager)
 }
 
-/// Has a manager enter records at once, and returns what it tells then of its steps and watchers.
+/// Makes a manager enter all records at once, and returns what it tells then about its steps and watchers.
 fn picture_after(
     rt: &impl AllocGlobal,
     manager: &mut Manager<Global>,
@@ -81,14 +82,14 @@ fn picture_after(
     picture(rt, rt.alloc(), manager)
 }
 
-/// Returns the offset in the record of the first request that a manager has entered.
+/// Returns the offset in the record of the first request in a manager's history.
 fn first_offset(rt: &impl AllocGlobal, manager: &Manager<Global>) -> Result<Option<i16>, Fail> {
     let entry = manager.history().first().ok_or("an entry")?;
     Ok(record_of(rt.alloc(), entry)?.request.offset)
 }
 
-/// Has a manager enter records at once and then a creation, and returns what it tells then of its steps and watchers, and the
-/// offset in the record of its first request.
+/// Makes a manager enter all records at once and then a creation, and returns what it tells then about its steps and
+/// watchers, and the offset in the record of its first request.
 fn told_after(
     rt: &impl AllocGlobal,
     manager: &mut Manager<Global>,
@@ -103,7 +104,7 @@ fn told_after(
     Ok(text)
 }
 
-/// Returns why a manager doesn't enter all records; a dash where it does.
+/// Returns why a manager does not enter all records, or a dash if it does.
 fn stop_of(
     rt: &impl AllocGlobal,
     manager: &mut Manager<Global>,
@@ -115,7 +116,7 @@ fn stop_of(
     }
 }
 
-/// Has a manager take records one by one, of which some may be left out, and puts what becomes of each.
+/// Makes a manager take records one by one, of which some may be left out, and adds the outcome of each.
 fn put_outcomes(
     rt: &impl AllocGlobal,
     text: &mut String,
@@ -135,7 +136,7 @@ fn put_outcomes(
     Ok(write!(text, " {} {}", counts.entered, counts.left_out)?)
 }
 
-/// The same as a text.
+/// The same, as a text.
 fn outcomes_of(
     rt: &impl AllocGlobal,
     manager: &mut Manager<Global>,
@@ -146,7 +147,7 @@ fn outcomes_of(
     Ok(text)
 }
 
-/// Returns how many records a manager has entered and left out that takes all of them, or why it stops.
+/// Makes a manager take all records, and returns how many it entered and left out, or why it stops.
 fn counts_of(
     rt: &impl AllocGlobal,
     manager: &mut Manager<Global>,
@@ -158,7 +159,7 @@ fn counts_of(
     }
 }
 
-/// Has a manager enter records in a way, and returns what is told then.
+/// Makes a manager enter records in a way, and returns what is told then.
 fn told_by(
     rt: &impl AllocGlobal,
     manager: &mut Manager<Global>,
@@ -176,7 +177,7 @@ fn told_by(
     }
 }
 
-/// The same of a new manager with these settings.
+/// The same with a new manager that has these settings.
 fn told_anew(
     rt: &impl AllocGlobal,
     settings: Settings<'_>,
@@ -187,7 +188,7 @@ fn told_anew(
     told_by(rt, &mut manager, records, way)
 }
 
-/// Compares what is told of records that are entered in a way, by the settings of the day, with what is wanted.
+/// Compares what is told about records entered in a way, with the settings of the day, with what is wanted.
 fn compare_day(
     rt: &impl AllocGlobal,
     records: &[Record<Global>],
@@ -215,8 +216,8 @@ fn a_restored_manager_has_steps_holders_and_pending_events(rt: HostRuntime) -> R
     compare_day(&rt, &records, Way::Picture, TOLD)
 }
 
-/// Starts with other settings or with records that were changed: the peers, the time to keep and the limit; the number of a
-/// record, its column, and what stands there instead; and why the restoring stops.
+/// Starts with other settings or with records that were changed: the peers, the time to keep and the limit; the number
+/// of a record, its column, and what replaces it; and why the restoring stops.
 const STOPS: &str = "\
 WATCH1,WATCH2,WATCH3 60 1000 0 - - -> -
 WATCH2,WATCH1,WATCH3 60 1000 0 - - -> -
@@ -236,7 +237,7 @@ WATCH1,WATCH2,WATCH3 60 1000 5 instance 1.2.3.1~ -> request 5 (change state): th
 WATCH1,WATCH2,WATCH3 60 1000 10 attributes 00 -> request 10 (subscribe): the attributes are no data set in Explicit VR Little Endian as one is stored
 WATCH1,WATCH2,WATCH3 60 1000 10 attributes () -> request 10 (subscribe): the keys of the filter can't be read, or are all universal";
 
-/// Puts something else into a column of a record.
+/// Replaces a column of a record.
 fn spoil(
     rt: &impl AllocGlobal,
     stored: &mut Record<Global>,
@@ -260,7 +261,7 @@ fn spoil(
     Ok(())
 }
 
-/// Returns the records of the day, of which that with a row's number is spoilt.
+/// Returns the records of the day, with the one that a row names spoilt.
 fn spoilt_day(rt: &impl AllocGlobal, row: &str) -> Result<Vec<Record<Global>>, Fail> {
     let mut records = a_day(rt, rt.alloc())?;
     let number = number_at(row, 3)?;
@@ -282,7 +283,7 @@ fn settings_of(row: &str) -> Result<Settings<'_>, Fail> {
     })
 }
 
-/// Compares what a row says with what is told of its records, by its settings.
+/// Compares what a row says with what is told about its records, with its settings.
 fn compare_row(rt: &impl AllocGlobal, row: &str, way: Way<'_>) -> Result<(), Fail> {
     let (start, wanted) = cut(row, " -> ")?;
     let settings = settings_of(start)?;
@@ -302,8 +303,8 @@ fn restoring_stops_at_a_record_that_is_not_accepted(rt: HostRuntime) -> Result<(
     Ok(())
 }
 
-/// The same where records may be left out: a plus for each that is entered, a minus for each that is left out, and how many
-/// of each there are; or why the restoring stops.
+/// The same if records may be left out: a plus for each that is entered, a minus for each that is left out, and how
+/// many of each there are; or why the restoring stops.
 const LEFT_OUT: &str = "\
 WATCH1,WATCH2,WATCH3 60 1000 0 - - -> +++++++++++++++ 15 0
 WATCH1,SCHED1,WATCH3 60 1000 0 - - -> ++-+++++++++++- 13 2
@@ -323,7 +324,7 @@ fn what_is_not_accepted_may_be_left_out_and_is_counted(rt: HostRuntime) -> Resul
     Ok(())
 }
 
-/// The same rows with what comes of all records at once.
+/// Some of these rows with the outcome of all records at once.
 const COUNTS: &str = "\
 WATCH1,SCHED1,WATCH3 60 1000 0 - - -> 13 2
 WATCH1,WATCH2,WATCH3 60 1000 4 instance 1.2.3.1 -> 12 3
@@ -338,8 +339,8 @@ fn all_records_are_entered_left_out_or_told(rt: HostRuntime) -> Result<(), Fail>
     Ok(())
 }
 
-/// A filter that was made by an offset of 60 minutes east, by which its day begins at 23:00 UTC, an hour before midnight; a
-/// step that begins between the two; what is pending by a server whose offset is 0; and the offset in the record of the filter.
+/// A filter made with an offset of 60 minutes east, by which its day begins at 23:00 UTC, an hour before midnight; a
+/// step that begins between the two; what a server whose offset is 0 tells; and the offset in the record of the filter.
 const KEPT: &str =
     r#"0 WATCH1 1709208090 subscribe 1.2.840.10008.5.1.4.34.5.1 - - WATCH1 false - 60 | 40000540 "DT" 0A00 "20240301- "
 1709208100 SCHED1 create 1.2.3.1 B 00404005=20240229233000+0000
@@ -350,7 +351,7 @@ const KEPT: &str =
 WATCH1 1 1 StateReport 1.2.3.1
 Some(60)"#;
 
-/// Returns the one record of a line.
+/// Returns the single record of a line.
 fn records_of_line(rt: &impl AllocGlobal, line: &str) -> Result<Vec<Record<Global>>, Fail> {
     let mut records = Vec::new(rt.alloc());
     records.push(record_of_line(rt, rt.alloc(), line)?)?;

@@ -12,12 +12,12 @@ use ups_life::Entry;
 use ups_manager::*;
 use ups_restore::{Refusal, Restoration, RestoreRefusal};
 
-/// The greatest number of growths that a test refuses in turn.
+/// The maximum number of growths that a test refuses in turn.
 const GROWTHS: u64 = 100;
 
-/// Returns how many growths are refused before there is a record of an entry.
+/// Returns how many growths are refused in turn before an entry is recorded.
 ///
-/// Errors: where another fault than that of memory is told.
+/// Errors: if a fault other than lack of memory is reported.
 fn growths_of_recording<'a>(
     heap: &'a Refusing<Global>,
     entry: &Entry<&'a Refusing<Global>>,
@@ -35,21 +35,21 @@ fn growths_of_recording<'a>(
     Err("too many growths".into())
 }
 
-/// The same of the entry of words.
+/// The same for the entry of words.
 fn growths_of_words_in(heap: &Refusing<Global>, words: &str, line: &str) -> Result<u64, Fail> {
     let entry = entry_of_words(heap, words, line)?;
     growths_of_recording(heap, &entry)
 }
 
-/// The same in memory of its own.
+/// The same with its own memory.
 fn growths_of_words(rt: &impl AllocGlobal, words: &str, line: &str) -> Result<u64, Fail> {
     let heap = Refusing::new(rt.alloc());
     growths_of_words_in(&heap, words, line)
 }
 
-/// Returns how many growths are refused before a record is read.
+/// Returns how many growths are refused in turn before a record is read.
 ///
-/// Errors: where another fault than that of memory is told.
+/// Errors: if a fault other than lack of memory is reported.
 fn growths_of_reading<'a>(
     heap: &'a Refusing<Global>,
     stored: &Record<&'a Refusing<Global>>,
@@ -67,7 +67,7 @@ fn growths_of_reading<'a>(
     Err("too many growths".into())
 }
 
-/// The same of the record of a line.
+/// The same for the record of a line.
 fn growths_of_line_in(
     rt: &impl AllocGlobal,
     heap: &Refusing<Global>,
@@ -77,13 +77,13 @@ fn growths_of_line_in(
     growths_of_reading(heap, &stored)
 }
 
-/// The same in memory of its own.
+/// The same with its own memory.
 fn growths_of_line(rt: &impl AllocGlobal, line: &str) -> Result<u64, Fail> {
     let heap = Refusing::new(rt.alloc());
     growths_of_line_in(rt, &heap, line)
 }
 
-/// Whether a line has attributes, which take memory to read.
+/// Returns whether a line has attributes, which take memory to read.
 fn has_attributes(line: &str) -> bool {
     line.contains(" \"")
 }
@@ -101,7 +101,7 @@ fn nothing_but_want_of_memory_is_told_where_a_growth_is_refused(
     Ok(())
 }
 
-/// Whether a refusal tells of memory.
+/// Returns whether a refusal is for lack of memory.
 fn is_want(refusal: RestoreRefusal) -> bool {
     matches!(
         refusal,
@@ -109,8 +109,8 @@ fn is_want(refusal: RestoreRefusal) -> bool {
     )
 }
 
-/// Has a manager take a record, with each growth refused in turn until it is entered: whether want of memory is told each
-/// time, and neither the history nor a count changes.
+/// Makes a manager take a record, with each growth refused in turn until it is entered, and returns whether lack of
+/// memory is reported each time, and neither the history nor a count changes.
 fn is_taken<'a>(
     heap: &'a Refusing<Global>,
     manager: &mut Manager<&'a Refusing<Global>>,
@@ -135,7 +135,7 @@ fn is_taken<'a>(
     false
 }
 
-/// Has a manager take each record, with each growth refused in turn.
+/// Makes a manager take each record, with each growth refused in turn, and returns the counts.
 fn take_all<'a>(
     heap: &'a Refusing<Global>,
     manager: &mut Manager<&'a Refusing<Global>>,
@@ -150,7 +150,7 @@ fn take_all<'a>(
     Ok(counts)
 }
 
-/// Has a manager take each record, with each growth refused in turn, and returns all that it tells then.
+/// Makes a manager take each record, with each growth refused in turn, and returns all that it tells then.
 fn told_after<'a>(
     rt: &impl AllocGlobal,
     heap: &'a Refusing<Global>,
@@ -162,7 +162,7 @@ fn told_after<'a>(
     whole(rt, heap, manager)
 }
 
-/// The same of a new manager.
+/// The same with a new manager.
 fn told_anew<'a>(
     rt: &impl AllocGlobal,
     heap: &'a Refusing<Global>,
@@ -172,13 +172,13 @@ fn told_anew<'a>(
     told_after(rt, heap, &mut manager, records)
 }
 
-/// The same of records of the day.
+/// The same with the records of the day.
 fn told_of_records_in(rt: &impl AllocGlobal, heap: &Refusing<Global>) -> Result<String, Fail> {
     let records = a_day(rt, heap)?;
     told_anew(rt, heap, &records)
 }
 
-/// The same in memory of its own.
+/// The same with its own memory.
 fn told_of_records(rt: &impl AllocGlobal) -> Result<String, Fail> {
     let heap = Refusing::new(rt.alloc());
     told_of_records_in(rt, &heap)

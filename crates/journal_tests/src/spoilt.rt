@@ -1,12 +1,12 @@
-//! Records that stand for no request.
+//! Records that are not valid.
 
 use crate::lines::record_of_line;
 use fixtures::rows::{check_same, cut};
 use std::test::Fail;
 use ups_journal::entry_of;
 
-/// What is wrong; and records in which a column is as no request has it, each with the fault that it gets. Those that get
-/// none stand beside them.
+/// What is wrong; and records with a column that no request has, each with its fault. Records without a fault, marked
+/// `read`, are among them.
 const SECTIONS: &str = r#"Who asks has a title, without spaces at its ends
 0 SCHED1 1709208000 sweep - - - - - - - | - -> read
 0 () 1709208000 sweep - - - - - - - | - -> BadTitle
@@ -108,7 +108,7 @@ const SECTIONS: &str = r#"Who asks has a title, without spaces at its ends
 # A moment is any number: whether it has a date is asked where the record is restored
 0 WATCH1 18446744073709551615 sweep - - - - - - - | - -> read"#;
 
-/// Returns the fault that a line gets.
+/// Returns the fault of a line, or `read`.
 fn fault_of(rt: &impl AllocGlobal, line: &str) -> Result<String, Fail> {
     let stored = record_of_line(rt, rt.alloc(), line)?;
     match entry_of(rt.alloc(), &stored) {

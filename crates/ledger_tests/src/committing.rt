@@ -9,7 +9,7 @@ use ups_ledger::{CommitFault, Ledger, LedgerFault, commit};
 use ups_service::SharedService;
 use ups_turn::{Desk, Pass};
 
-/// A ledger that tells what is put into it, and takes nothing while it is full.
+/// A ledger that records what is appended to it, and accepts nothing while it is full.
 #[derive(Drop)]
 struct Slate {
     told: String,
@@ -42,7 +42,7 @@ impl Ledger for Slate {
     fn tidy(&mut self) {}
 }
 
-/// Commits what there is, at most so many at a time: how many are committed then.
+/// Commits at most `most` entries after the first `before`, and returns how many are committed then.
 fn committed<M: SharedService<Global>, R: Wait>(
     rt: &R,
     alloc: Global,
@@ -58,8 +58,8 @@ fn committed<M: SharedService<Global>, R: Wait>(
     commit(rt, alloc, desk, pass, slate, before, most)
 }
 
-/// What is told of two requests that the first pass enters, and the second commits: one by one, and when the ledger is full
-/// first.
+/// Returns what is recorded of two requests that the first pass enters and the second commits one by one, once the
+/// ledger is no longer full.
 fn told_at<M: SharedService<Global>, R: Wait>(
     rt: &R,
     alloc: Global,
@@ -91,7 +91,7 @@ fn told_at<M: SharedService<Global>, R: Wait>(
     Ok(told)
 }
 
-/// The same at a new desk.
+/// The same with a new desk.
 fn told<R: Wait>(rt: &R, alloc: Global) -> Result<String, Fail> {
     let Ok((desk, mut passes)) = Desk::open(alloc, empty(alloc)?, 2) else {
         return Err("no desk".into());

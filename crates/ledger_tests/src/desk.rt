@@ -1,4 +1,4 @@
-//! A desk with two passes, and what is asked there.
+//! A desk with two passes, and the requests that are made there.
 
 ghost use Rattle.std.specs.Prelude.{◌≡◌};
 
@@ -15,12 +15,12 @@ use ups_turn::{Desk, Pass};
 /// The moment of each request: 2024-02-29 12:00:00 UTC.
 pub(crate) const NOON: u64 = 1_709_208_000;
 
-/// The step.
+/// Returns the step.
 fn step() -> Result<StepUid, Fail> {
     Ok(StepUid::of(uid("1.2.3.1")?).ok_or("a step")?)
 }
 
-/// The request that creates it.
+/// Returns the request that creates the step.
 pub(crate) fn creation(alloc: Global) -> Result<Request<Global>, Fail> {
     Ok(Request::Create {
         step: step()?,
@@ -28,7 +28,7 @@ pub(crate) fn creation(alloc: Global) -> Result<Request<Global>, Fail> {
     })
 }
 
-/// The request that claims it.
+/// Returns the request that claims the step.
 pub(crate) fn claim() -> Result<Request<Global>, Fail> {
     Ok(Request::Change {
         step: Some(step()?),
@@ -37,12 +37,12 @@ pub(crate) fn claim() -> Result<Request<Global>, Fail> {
     })
 }
 
-/// A manager without history.
+/// Returns a manager without history.
 pub(crate) fn empty(alloc: Global) -> Result<Manager<Global>, Fail> {
     Ok(Manager::new(alloc, &[], 60, 0, 1_000)?)
 }
 
-/// Has a pass ask for something: the number of the status that it is answered with; FFFF where it is answered anything else.
+/// Makes a request at a pass, and returns the number of the status, or FFFF for any other reply.
 pub(crate) fn asked<M: SharedService<Global>, R: Wait>(
     rt: &R,
     desk: &Desk<M, Global>,

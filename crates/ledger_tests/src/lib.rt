@@ -1,4 +1,4 @@
-//! Tests of observers of a desk's history, and of ledgers into which it is committed.
+//! Tests of observers of a desk's history, and of ledgers to which it is committed.
 #![tactic(auto)]
 
 #[cfg(test)]

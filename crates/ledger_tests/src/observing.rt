@@ -8,14 +8,14 @@ use ups_life::Entry;
 use ups_service::{Observer, SharedService};
 use ups_turn::{Desk, Pass};
 
-/// Notes how many entries a history has, and the sum of the numbers of their callers.
+/// Records the number of entries in a history, and the sum of the numbers of their callers.
 #[derive(Drop)]
 struct Count {
     entries: usize,
     callers: u32,
 }
 
-/// The sum of the numbers of the callers of a history.
+/// Returns the sum of the numbers of the callers of a history.
 fn callers_of(history: &[Entry<Global>]) -> u32 {
     let mut callers: u32 = 0;
     for entry in history {
@@ -35,8 +35,8 @@ impl Observer<Global> for Count {
     }
 }
 
-/// What the second of two passes observes before the first asks for anything, when that has created a step, and when it has
-/// claimed it; and how many entries it has seen then.
+/// Returns what the second of two passes observes before the first asks for anything, after its creation of a step, and
+/// after its claim; and how many entries it has seen then.
 fn observed_at<M: SharedService<Global>, R: Wait>(
     rt: &R,
     alloc: Global,
@@ -61,7 +61,7 @@ fn observed_at<M: SharedService<Global>, R: Wait>(
     Ok((first, second, count, two.seen()))
 }
 
-/// The same at a new desk.
+/// The same with a new desk.
 fn observed<R: Wait>(rt: &R, alloc: Global) -> Result<(usize, usize, Count, u64), Fail> {
     let Ok((desk, mut passes)) = Desk::open(alloc, empty(alloc)?, 2) else {
         return Err("no desk".into());

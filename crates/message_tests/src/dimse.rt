@@ -1,4 +1,4 @@
-//! Command sets where memory is short. What they say is seen by the rows of `rows/command_sets.rows`.
+//! Command sets when memory is short. What they say is tested by the rows of `rows/command_sets.rows`.
 
 use fixtures::rows::{cut, number};
 use fixtures::{Refusing, bytes_of};
@@ -6,7 +6,8 @@ use std::alloc::Global;
 use std::test::Fail;
 use ups_dimse::*;
 
-/// In each row how many growths it takes to read a command set, and its bytes: only a list of attributes takes memory.
+/// Rows of the number of growths that reading a command set takes, and its bytes: only a list of attributes takes
+/// memory.
 const COMMANDS: &str =
     "0|00000000 04000000 5a000000 00000200 1a000000 PUSH 00000001 02000000 0001 00001001 02000000 0100 00000008 02000000 0100 00000010 08000000 \"1.2.3.4\" 00 00000210 02000000 0100
 0|00000000 04000000 64000000 00000200 1a000000 PUSH 00000001 02000000 0081 00002001 02000000 0100 00000008 02000000 0101 00000009 02000000 0000 00000010 08000000 \"1.2.3.4\" 00 00000210 02000000 0100
@@ -30,7 +31,7 @@ const COMMANDS: &str =
 
 type Heap<'a> = &'a Refusing<Global>;
 
-/// Reads with each growth refused in turn, which is lack of memory; the command, and how many were refused.
+/// Reads with each growth refused in turn, which is lack of memory; returns the command, and how many were refused.
 fn read_in_turn<'a>(heap: Heap<'a>, bytes: &[u8]) -> Result<(Command<Heap<'a>>, u64), Fail> {
     for growth in 1..100u64 {
         heap.refuse(growth);
@@ -45,7 +46,8 @@ fn read_in_turn<'a>(heap: Heap<'a>, bytes: &[u8]) -> Result<(Command<Heap<'a>>, 
     Err("never read".into())
 }
 
-/// Writes with each growth refused in turn; whether these bytes were written, and how many growths were refused.
+/// Writes with each growth refused in turn; returns whether these bytes were written, and how many growths were
+/// refused.
 fn write_in_turn<'a>(
     heap: Heap<'a>,
     command: &Command<Heap<'a>>,
@@ -65,8 +67,8 @@ fn write_in_turn<'a>(
     Err("never written".into())
 }
 
-/// How many growths are refused until bytes are read as a command, and until that is written; and whether the same bytes
-/// are written.
+/// Returns how many growths are refused until bytes are read as a command, and until that is written; and whether the
+/// same bytes are written.
 fn refused_growths(rt: &impl AllocGlobal, digits: &str) -> Result<(u64, u64, bool), Fail> {
     let bytes = bytes_of(rt, digits)?;
     let heap = Refusing::new(rt.alloc());
@@ -75,7 +77,7 @@ fn refused_growths(rt: &impl AllocGlobal, digits: &str) -> Result<(u64, u64, boo
     Ok((reading, writing, same))
 }
 
-/// Whether a row says how many growths it takes to read its command set. To write it takes one: room for all of it.
+/// Returns whether a row says how many growths reading its command set takes. Writing it takes one: room for all of it.
 fn is_refused_in_turn(rt: &impl AllocGlobal, row: &str) -> Result<bool, Fail> {
     let (growths, digits) = cut(row, "|")?;
     let (reading, writing, is_same) = refused_growths(rt, digits)?;

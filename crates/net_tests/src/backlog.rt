@@ -1,12 +1,12 @@
-//! How many connections wait, by lists of sockets.
+//! The number of connections that wait, from lists of sockets.
 
 use fixtures::rows::cut;
 use std::net::SocketAddr;
 use std::test::Fail;
 use ups_net::waiting_at;
 
-/// Sockets for TCP over IPv4, as a system listed them on 2026-11-26: with three connections that wait at port 11112 of
-/// 127.0.0.1, and none at port 11114 of each address.
+/// Sockets for TCP over IPv4, as a system listed them on 2026-11-26, with three connections that wait at port 11112 of
+/// 127.0.0.1, and none at port 11114 of any address.
 const LIST: &str =
     "  sl  local_address rem_address   st tx_queue rx_queue tr tm->when retrnsmt   uid  timeout inode
    0: 00000000:2B6A 00000000:0000 0A 00000000:00000000 00:00000000 00000000     0        0 22664 1 00000000956b5f9f 100 0 0 10 0
@@ -23,7 +23,7 @@ const LIST_6: &str =
    1: 00000000000000000000000001000000:2B69 00000000000000000000000001000000:B866 01 00000000:00000000 00:00000000 00000000     0        0 0 1 00000000fe1fdc80 20 0 0 10 -1
 ";
 
-/// Addresses, each with how many connections wait there: `-` where none of the sockets listens there.
+/// Addresses, each with the number of connections that wait there, or `-` if none of the sockets listens there.
 const ROWS: &str = "\
 127.0.0.1:11112 -> 3
 0.0.0.0:11114 -> 0
@@ -34,7 +34,7 @@ const ROWS: &str = "\
 [::1]:11112 -> -
 [::1]:47206 -> -";
 
-/// How many connections wait at an address, as a word.
+/// Returns as a word the number of connections that wait at an address.
 fn told_of(rt: &impl AllocGlobal, address: &str) -> Result<String, Fail> {
     let address = address.parse::<SocketAddr>()?;
     let list = if address.is_ipv4() { LIST } else { LIST_6 }.as_bytes();

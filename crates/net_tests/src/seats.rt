@@ -14,12 +14,12 @@ use ups_turn::{CloseFault, Desk, OpenFault, Pass};
 /// The moment of each request: 2024-02-29 12:00:00 UTC.
 const NOON: u64 = 1_709_208_000;
 
-/// The step.
+/// Returns the step.
 pub(crate) fn step() -> Result<StepUid, Fail> {
     Ok(StepUid::of(uid("1.2.3.1")?).ok_or("a step")?)
 }
 
-/// The request that creates it.
+/// Returns the request that creates the step.
 pub(crate) fn creation<A: Allocator + Copy>(alloc: A) -> Result<Request<A>, Fail> {
     Ok(Request::Create {
         step: step()?,
@@ -27,7 +27,7 @@ pub(crate) fn creation<A: Allocator + Copy>(alloc: A) -> Result<Request<A>, Fail
     })
 }
 
-/// The request that claims it, with a Transaction UID.
+/// Returns the request that claims the step, with a Transaction UID.
 fn claim(transaction: &str) -> Result<Request<Global>, Fail> {
     Ok(Request::Change {
         step: Some(step()?),
@@ -36,7 +36,7 @@ fn claim(transaction: &str) -> Result<Request<Global>, Fail> {
     })
 }
 
-/// The number of the status that a pass is answered with; FFFF where it is answered anything else.
+/// Makes a request at a pass, and returns the number of the status, or FFFF for any other reply.
 fn answered<M: SharedService<Global>, R: Wait>(
     rt: &R,
     desk: &Desk<M, Global>,
@@ -56,7 +56,7 @@ fn answered<M: SharedService<Global>, R: Wait>(
     }
 }
 
-/// The statuses of the step's creation by one pass, its claim by the other, and its claim by the one.
+/// Returns the statuses of the step's creation by one pass, its claim by the other, and its claim by the first.
 fn statuses<M: SharedService<Global>, R: Wait>(
     rt: &R,
     alloc: Global,
@@ -76,7 +76,7 @@ fn statuses<M: SharedService<Global>, R: Wait>(
     Ok((created, claimed, refused))
 }
 
-/// Closes a desk with all of its passes: what these share.
+/// Closes a desk with all of its passes, and returns what they share.
 fn closed<M: SharedService<Global>>(
     desk: Desk<M, Global>,
     passes: Vec<Pass<M, Global>, Global>,
@@ -89,7 +89,8 @@ fn closed<M: SharedService<Global>>(
     }
 }
 
-/// Closes a desk without its last pass, and then with it: what the first try is refused for, and what the passes share.
+/// Closes a desk without its last pass, and then with it; returns why the first attempt was refused, and what the
+/// passes share.
 fn closed_late<M: SharedService<Global>>(
     desk: Desk<M, Global>,
     passes: Vec<Pass<M, Global>, Global>,
@@ -105,8 +106,8 @@ fn closed_late<M: SharedService<Global>>(
     Ok((fault, closed(desk, passes)?))
 }
 
-/// What two passes come to: the statuses that they are answered with, how many entries both have seen once they met, and why
-/// the desk did not close without one of them.
+/// The outcome of two passes: the statuses that they get, the number of entries that both have seen once they met, and
+/// why the desk did not close without one of them.
 #[derive(Clone, Copy)]
 struct Outcome {
     statuses: (u16, u16, u16),
@@ -114,7 +115,7 @@ struct Outcome {
     fault: CloseFault,
 }
 
-/// Lets two passes of a desk call and meet, and closes the desk.
+/// Makes two passes of a desk call and meet, and closes the desk.
 fn outcome_at<M: SharedService<Global>, R: Wait>(
     rt: &R,
     alloc: Global,
@@ -138,7 +139,7 @@ fn outcome_at<M: SharedService<Global>, R: Wait>(
     Ok((outcome, shared))
 }
 
-/// The same at a new desk of two seats.
+/// The same with a new desk of two seats.
 fn outcome_over<M: SharedService<Global>, R: Wait>(
     rt: &R,
     alloc: Global,
@@ -156,7 +157,7 @@ fn outcome_over<M: SharedService<Global>, R: Wait>(
     outcome_at(rt, alloc, desk, one, two)
 }
 
-/// The callers of a history.
+/// Returns the callers of a history.
 fn callers_of(alloc: Global, manager: &Manager<Global>) -> Result<Vec<u32, Global>, Fail> {
     let mut callers = Vec::new(alloc);
     for entry in manager.history() {
@@ -165,7 +166,7 @@ fn callers_of(alloc: Global, manager: &Manager<Global>) -> Result<Vec<u32, Globa
     Ok(callers)
 }
 
-/// What two passes of a new manager come to, and the callers of its history.
+/// Returns the outcome of two passes with a new manager, and the callers of its history.
 fn outcome_of_two<R: Wait>(rt: &R, alloc: Global) -> Result<(Outcome, Vec<u32, Global>), Fail> {
     let manager = Manager::new(alloc, &[], 60, 0, 1_000)?;
     let (outcome, manager) = outcome_over(rt, alloc, manager)?;
@@ -191,7 +192,7 @@ pub(crate) fn enter<A: Allocator + Copy, M: SharedService<A>>(
     let _ = shared.answer_as(0, ae, NOON, &mut Some(Ask::Do(request)));
 }
 
-/// A manager that holds the step.
+/// Returns a manager that holds the step.
 fn with_a_step<A: Allocator + Copy>(alloc: A) -> Result<Manager<A>, Fail> {
     let ae = title("SCHED1")?;
     let request = creation(alloc)?;
@@ -200,8 +201,8 @@ fn with_a_step<A: Allocator + Copy>(alloc: A) -> Result<Manager<A>, Fail> {
     Ok(manager)
 }
 
-/// What comes of it to open a desk over what passes are to share, which has one entry: it opens, or that comes back as it was
-/// with a fault.
+/// Opens a desk over what passes are to share, which has one entry, and returns the outcome: it opens, or `shared` is
+/// returned unchanged with a fault.
 fn opening<A: Allocator + Copy, M: SharedService<A>>(
     alloc: A,
     shared: M,
@@ -217,7 +218,7 @@ fn opening<A: Allocator + Copy, M: SharedService<A>>(
     }
 }
 
-/// What comes of it to open a desk of two seats where one growth is refused, by the number of the growth.
+/// Opens a desk of two seats with each growth refused in turn, and returns the outcomes by the number of the growth.
 fn openings_in_turn(alloc: Global) -> Result<String, Fail> {
     let heap = Refusing::new(alloc);
     let mut told = String::new(alloc);

@@ -1,4 +1,4 @@
-//! An association whose last bytes can't be sent.
+//! An association whose last bytes cannot be sent.
 ghost use Rattle.std.specs.Prelude.{◌≡◌};
 
 use fixtures::vectors::REQUEST_OF_OTHER;
@@ -19,8 +19,8 @@ use ups_session::{End, SessionFault};
 use ups_settings::ServerLimits;
 use ups_turn::{Desk, Pass};
 
-/// A connection of a server, whose client has asked for an association with another application entity, and the client.
-/// Where it is cut, nothing can be sent to the client any more.
+/// Returns a server's connection, whose client has asked for an association with another application entity, and the
+/// client. If it is cut, nothing more can be sent to the client.
 fn asked_of_other<R>(rt: &R, is_cut: bool) -> Result<(TcpStream, TcpStream), Fail>
 where
     R: AllocGlobal + Net<Listener = TcpListener, Stream = TcpStream>,
@@ -36,7 +36,7 @@ where
     Ok((server, client))
 }
 
-/// The options of a server without watchers, which serves one association.
+/// Returns the options of a server without watchers that serves one association.
 fn options_of(alloc: Global) -> Result<ServerOptions, Fail> {
     Ok(ServerOptions {
         alloc,
@@ -58,7 +58,7 @@ fn options_of(alloc: Global) -> Result<ServerOptions, Fail> {
     })
 }
 
-/// What is told of an association on a connection of a server, which a pass serves.
+/// Serves an association on a server's connection by a pass, and returns its end as it is reported.
 fn told_by<M: SharedService<Global>, R: Wait + Clock + Log>(
     rt: &R,
     server: &TcpStream,
@@ -74,7 +74,7 @@ fn told_by<M: SharedService<Global>, R: Wait + Clock + Log>(
     end_told(ended, is_sent)
 }
 
-/// The same at a desk over what its passes share.
+/// The same at a desk whose passes share `shared`.
 fn told_over<M: SharedService<Global>, R: Wait + Clock + Log>(
     rt: &R,
     server: &TcpStream,
@@ -91,7 +91,7 @@ fn told_over<M: SharedService<Global>, R: Wait + Clock + Log>(
     Ok(told_by(rt, server, account, &desk, pass, options))
 }
 
-/// The same of a new manager.
+/// The same with a new manager.
 fn told_on<R: Wait + Clock + Log>(
     rt: &R,
     server: &TcpStream,
@@ -103,7 +103,7 @@ fn told_on<R: Wait + Clock + Log>(
     told_over(rt, server, &account, manager, options)
 }
 
-/// What is told of an association that is rejected, where the rejection can be sent, or can't.
+/// Returns the reported end of an association that is rejected, if the rejection can or cannot be sent.
 fn rejected<R>(rt: &R, is_cut: bool) -> Result<Result<End, SessionFault>, Fail>
 where
     R: AllocGlobal + Wait + Clock + Log + Net<Listener = TcpListener, Stream = TcpStream>,

@@ -1,5 +1,5 @@
-//! Two sessions side by side on one desk, over memory: the one is held before it writes its second PDU until the other one is
-//! done. So neither waits for the other.
+//! Two sessions side by side on one desk, over memory: the first is held before it writes its second PDU until the
+//! other is done. So a session that is held does not block another.
 ghost use Rattle.std.specs.Prelude.{◌≡◌};
 
 use crate::seats::{creation, enter, step};
@@ -22,36 +22,36 @@ use ups_service::{Service, SharedService};
 use ups_session::{CutReader, CutWriter, Gate, WatchedReader, WatchedWriter, deliver, serve};
 use ups_turn::{Desk, Pass};
 
-/// How far two sessions are: a word is 1 once that is so, and 0 before.
+/// The progress of two sessions: each field is 1 once this has happened, and 0 before.
 #[derive(Drop)]
 struct Stage {
-    /// The one session is about to write the PDU that is held.
+    /// The first session is about to write the PDU that is held.
     held: AtomicU64,
     /// The other session is done.
     done: AtomicU64,
 }
 
-/// How many times a gate looks whether the other session is so far.
+/// The number of times a gate looks whether the other session has come far enough.
 const LOOKS: u64 = 1_000_000;
 
-/// How many PDUs a session may have.
+/// The maximum number of PDUs in a session.
 const TURNS: u64 = 100;
 
-/// How many bytes a session may write.
+/// The maximum number of bytes that a session writes.
 const ROOM: usize = 10_000;
 
-/// A gate that holds one write until the other session is so far.
+/// A gate that holds one write until the other session has come far enough.
 #[derive(Drop)]
 struct HoldingGate<'a> {
-    /// How many PDUs are written before the one that is held, from now on.
+    /// The number of PDUs still to be written before the one that is held.
     before: u64,
-    /// What is told once that one is about to be written.
+    /// Set once that PDU is about to be written.
     tells: &'a AtomicU64,
-    /// What the gate waits for then.
+    /// What the gate then waits for.
     awaits: &'a AtomicU64,
 }
 
-/// Looks until a session is so far, or there were enough looks.
+/// Looks until a session has come far enough, or there were enough looks.
 fn look(awaited: &AtomicU64) {
     for _ in 0..LOOKS {
         if awaited.load(Ordering::SeqCst) == 1 {
@@ -86,15 +86,15 @@ const PULL_REQUEST: &str =
 const FIND: &str =
     "04 00 0000005c 00000058 01 03 00000000 04000000 4a000000 00000200 1a000000 PULL 00000001 02000000 2000 00001001 02000000 0500 00000007 02000000 0000 00000008 02000000 0100 04 00 00000020 0000001c 01 02 08001800 00000000 40000540 0a000000 \"20240229-\" 20";
 
-/// The answer that tells of the step 1.2.3.1.
+/// The response with the step 1.2.3.1.
 const FOUND: &str =
     "04 00 0000005c 00000058 01 03 00000000 04000000 4a000000 00000200 1a000000 PULL 00000001 02000000 2080 00002001 02000000 0500 00000008 02000000 0100 00000009 02000000 00ff 04 00 0000002c 00000028 01 02 08001800 08000000 \"1.2.3.1\" 00 40000540 0e000000 \"20240229120000\"";
 
-/// The last answer.
+/// The last response.
 const ALL_FOUND: &str =
     "04 00 0000005c 00000058 01 03 00000000 04000000 4a000000 00000200 1a000000 PULL 00000001 02000000 2080 00002001 02000000 0500 00000008 02000000 0101 00000009 02000000 0000";
 
-/// What a peer says in a session, and what is written to it.
+/// What a peer sends in a session, and what is written to it.
 #[derive(Drop)]
 struct Talk {
     said: Vec<u8>,
@@ -118,7 +118,7 @@ impl Talk {
         )
     }
 
-    /// A peer gets this step.
+    /// A peer gets the step 1.2.3.4.
     fn of_get(rt: &impl AllocGlobal) -> Result<Talk, Fail> {
         Talk::new(
             rt,
@@ -127,7 +127,7 @@ impl Talk {
         )
     }
 
-    /// A peer finds the step 1.2.3.1 alone.
+    /// A peer finds only the step 1.2.3.1.
     fn of_find(rt: &impl AllocGlobal) -> Result<Talk, Fail> {
         Talk::new(
             rt,
@@ -136,7 +136,7 @@ impl Talk {
         )
     }
 
-    /// The watcher W1 takes the report that this step is canceled.
+    /// The watcher W1 accepts the report that the step 1.2.3.1 is canceled.
     fn of_delivery(rt: &impl AllocGlobal) -> Result<Talk, Fail> {
         Talk::new(
             rt,
@@ -146,18 +146,18 @@ impl Talk {
     }
 }
 
-/// What is said in the two sessions.
+/// What is sent in the two sessions.
 #[derive(Drop)]
 struct Talks {
-    /// Whether the one delivers reports to the watcher W1.
+    /// Whether the first session delivers reports to the watcher W1.
     delivers: bool,
-    /// That of the one, whose second PDU is held before it is written.
+    /// The talk of the first session, whose second PDU is held before it is written.
     one: Talk,
-    /// That of the other.
+    /// The talk of the other session.
     other: Talk,
 }
 
-/// Serves a session over memory by a service; whether it ends without a fault.
+/// Serves a session over memory with a service, and returns whether it ends without a fault.
 fn is_served<S: Service<Global>>(
     alloc: Global,
     service: &mut S,
@@ -183,7 +183,7 @@ fn is_served<S: Service<Global>>(
     .is_ok()
 }
 
-/// Delivers reports to the watcher W1 over memory by a service; whether the session ends without a fault.
+/// Delivers reports to the watcher W1 over memory with a service, and returns whether the session ends without a fault.
 fn is_delivered<S: Service<Global>>(
     alloc: Global,
     service: &mut S,
@@ -210,7 +210,8 @@ fn is_delivered<S: Service<Global>>(
     .is_ok()
 }
 
-/// The session that is held until the other one is done; whether it was held so long, and was as it should be.
+/// Runs the session that is held until the other is done, and returns whether it was held that long, and was as it
+/// should be.
 fn holds<S: Service<Global>>(alloc: Global, service: &mut S, stage: &Stage, talks: &Talks) -> bool {
     let mut gate = HoldingGate {
         before: 1,
@@ -228,7 +229,7 @@ fn holds<S: Service<Global>>(alloc: Global, service: &mut S, stage: &Stage, talk
     is_good && is_held && taken.written() == talks.one.written.as_slice()
 }
 
-/// The other session, which begins once the one is held; whether it was as it should be.
+/// Runs the other session, which writes nothing before the first is held, and returns whether it was as it should be.
 fn goes_on<S: Service<Global>>(
     alloc: Global,
     service: &mut S,
@@ -250,7 +251,7 @@ fn goes_on<S: Service<Global>>(
     is_done
 }
 
-/// The session that is held, by a pass.
+/// Runs the session that is held, at a pass.
 fn holds_by<M: SharedService<Global>, R: Wait>(
     rt: &R,
     alloc: Global,
@@ -264,7 +265,7 @@ fn holds_by<M: SharedService<Global>, R: Wait>(
     holds(alloc, &mut desk.at(rt, &mut pass), stage, talks)
 }
 
-/// The other session, by another pass.
+/// Runs the other session, at another pass.
 fn goes_on_by<M: SharedService<Global>, R: Wait>(
     rt: &R,
     alloc: Global,
@@ -278,7 +279,7 @@ fn goes_on_by<M: SharedService<Global>, R: Wait>(
     goes_on(alloc, &mut desk.at(rt, &mut pass), stage, talks)
 }
 
-/// Runs both sessions, each in a thread of its own.
+/// Runs both sessions, each in its own thread.
 fn side_by_side<R: Threads + Wait + Sync>(
     rt: &R,
     alloc: Global,
@@ -298,7 +299,7 @@ fn side_by_side<R: Threads + Wait + Sync>(
     )
 }
 
-/// Runs both at a desk over what they share.
+/// Runs both sessions at a desk over what they share.
 fn outcome_over<R: Threads + Wait + Sync>(
     rt: &R,
     alloc: Global,
@@ -318,7 +319,7 @@ fn outcome_over<R: Threads + Wait + Sync>(
     Ok(side_by_side(rt, alloc, &desk, one, two, stage, talks))
 }
 
-/// What is entered of the step 1.2.3.1 before: it is created and canceled, and W1 subscribes to it.
+/// Enters the requests on the step 1.2.3.1 that come before: it is created and canceled, and W1 subscribes to it.
 fn prepare(alloc: Global, manager: &mut Manager<Global>) -> Result<(), Fail> {
     let scheduler = title("SCHED1")?;
     let receiver = title("W1")?;
@@ -335,7 +336,7 @@ fn prepare(alloc: Global, manager: &mut Manager<Global>) -> Result<(), Fail> {
     Ok(())
 }
 
-/// A manager that is so prepared.
+/// Returns a manager with these requests.
 fn prepared(alloc: Global) -> Result<Manager<Global>, Fail> {
     let watcher = Peer {
         ae: title("W1")?,
@@ -346,7 +347,7 @@ fn prepared(alloc: Global) -> Result<Manager<Global>, Fail> {
     Ok(manager)
 }
 
-/// Whether the session that is held, and the other one, are as they should be, over a manager that is so prepared.
+/// Returns whether the session that is held, and the other one, are as they should be, with such a manager.
 fn outcome<R: Threads + Wait + Sync + AllocGlobal>(
     rt: &R,
     talks: &Talks,

@@ -16,45 +16,45 @@ use ups_script::answer_lines;
 use ups_service::Service;
 use ups_turn::{Desk, Pass};
 
-/// How many steps there are.
+/// The number of steps.
 const STEPS: u32 = 100;
 
-/// For how many seconds a finished step is kept.
+/// The number of seconds for which a finished step is kept.
 const KEEP: u32 = 60;
 
-/// How many requests may be entered.
+/// The limit of the history in requests.
 const HISTORY: u64 = 1_000;
 
 /// The moment of each request: 2024-02-29 12:00:00 UTC.
 const NOON: u64 = 1_709_208_000;
 
-/// How the claims of a pass are answered.
+/// The numbers of a pass's claims by their answers.
 #[derive(Clone, Copy)]
 struct Claims {
-    /// With 0000.
+    /// Those answered with 0000.
     accepted: u64,
-    /// With C302.
+    /// Those answered with C302.
     refused: u64,
-    /// With anything else, or there was no memory for it.
+    /// Those answered with anything else, or for which there was no memory.
     other: u64,
 }
 
-/// What two passes come to.
+/// The outcome of two passes.
 #[derive(Clone, Copy)]
 struct Outcome {
-    /// How the claims of the pass 1 are answered.
+    /// The claims of pass 1.
     one: Claims,
-    /// How those of the pass 2 are.
+    /// The claims of pass 2.
     two: Claims,
-    /// How many entries both have seen once they met.
+    /// The number of entries that both have seen once they met.
     met: u64,
 }
 
-/// What a line of a script says behind the UID of a step that it creates.
+/// What a line of a script has after the UID of a step that it creates.
 const STEP: &str =
     "00404005=20240229120000 00404041=READY 00741000=SCHEDULED 00741200=MEDIUM 00741204=CT%20READ";
 
-/// The lines of a script that create the steps, each with its number.
+/// Returns the lines of a script that create the steps.
 ///
 /// Errors: lack of memory.
 fn creations(alloc: Global) -> io::Result<String> {
@@ -65,7 +65,7 @@ fn creations(alloc: Global) -> io::Result<String> {
     Ok(script)
 }
 
-/// The request that claims the step with a number, with the Transaction UID of the pass that claims it.
+/// Returns the request that claims the step with a number, with the Transaction UID of the pass that claims it.
 ///
 /// Errors: lack of memory.
 fn claim(alloc: Global, number: u32, claimant: u32) -> io::Result<Request<Global>> {
@@ -78,7 +78,7 @@ fn claim(alloc: Global, number: u32, claimant: u32) -> io::Result<Request<Global
     })
 }
 
-/// Has a manager answer a script.
+/// Makes a manager answer a script.
 ///
 /// Errors: lack of memory.
 fn answer(alloc: Global, manager: &mut Manager<Global>, script: &str) -> io::Result<()> {
@@ -90,7 +90,7 @@ fn answer(alloc: Global, manager: &mut Manager<Global>, script: &str) -> io::Res
     }
 }
 
-/// A manager that holds the steps, by requests of no pass.
+/// Returns a manager that holds the steps, created by no pass.
 ///
 /// Errors: lack of memory.
 fn with_steps(alloc: Global) -> io::Result<Manager<Global>> {
@@ -102,7 +102,7 @@ fn with_steps(alloc: Global) -> io::Result<Manager<Global>> {
     Ok(manager)
 }
 
-/// The number of the status that a pass is answered with; FFFF where it is answered anything else.
+/// Makes a request at a pass, and returns the number of the status, or FFFF for any other reply.
 fn answered<R: Wait>(
     rt: &R,
     desk: &Desk<Manager<Global>, Global>,
@@ -122,7 +122,7 @@ fn answered<R: Wait>(
     }
 }
 
-/// Claims the step with a number; FFFF where there is no memory for that.
+/// Claims the step with a number, and returns the number of the status, or FFFF if there is no memory for the request.
 fn claim_one<R: Wait>(
     rt: &R,
     alloc: Global,
@@ -140,7 +140,7 @@ fn claim_one<R: Wait>(
     }
 }
 
-/// Claims each step.
+/// Claims each step, and returns the pass with the numbers of claims by their answers.
 fn claim_all<R: Wait>(
     rt: &R,
     alloc: Global,
@@ -166,7 +166,7 @@ fn claim_all<R: Wait>(
     (pass, claims)
 }
 
-/// Two passes claim each step at the same time, each in a thread of its own.
+/// Makes two passes claim each step at the same time, each in its own thread.
 fn race<R: Threads + Wait + Sync>(
     rt: &R,
     alloc: Global,
@@ -190,7 +190,7 @@ fn race<R: Threads + Wait + Sync>(
     )
 }
 
-/// Closes a desk whose passes are these two: what they shared.
+/// Closes a desk with these two passes, and returns what they shared.
 ///
 /// Errors: lack of memory.
 fn closed(
@@ -211,8 +211,8 @@ fn closed(
     }
 }
 
-/// Lets two passes of a desk claim each step at the same time, and meet, and closes the desk: what they come to, and what
-/// they shared.
+/// Makes two passes of a desk claim each step at the same time, and meet, then closes the desk, and returns the outcome
+/// with what they shared.
 ///
 /// Errors: lack of memory.
 fn outcome_at<R: Threads + Wait + Sync>(
@@ -237,7 +237,7 @@ fn outcome_at<R: Threads + Wait + Sync>(
     Ok((outcome, manager))
 }
 
-/// The same at a new desk of two seats.
+/// The same with a new desk of two seats.
 ///
 /// Errors: lack of memory.
 fn outcome_over<R: Threads + Wait + Sync>(
@@ -258,7 +258,7 @@ fn outcome_over<R: Threads + Wait + Sync>(
     outcome_at(rt, alloc, ae, desk, one, two)
 }
 
-/// Tells whether a pass has as many entries as it had claims accepted.
+/// Prints whether a pass has as many entries as it had claims accepted.
 ///
 /// Errors: those of the output.
 fn tell_pass<R: Print>(rt: &R, number: u32, entries: u64, accepted: u64) -> io::Result<()> {
@@ -268,7 +268,7 @@ fn tell_pass<R: Print>(rt: &R, number: u32, entries: u64, accepted: u64) -> io::
     println!(rt; "pass {number}: {entries} entries, and {accepted} accepted claims")
 }
 
-/// Tells what two passes come to, and what the history has then.
+/// Prints the outcome of two passes, and what the history then has.
 ///
 /// Errors: those of the output.
 fn tell_outcome<R: Print>(rt: &R, outcome: Outcome, history: &[Entry<Global>]) -> io::Result<()> {
@@ -287,7 +287,7 @@ fn tell_outcome<R: Print>(rt: &R, outcome: Outcome, history: &[Entry<Global>]) -
     tell_pass(rt, 2, count_of(history, 2), two.accepted)
 }
 
-/// Has two passes claim each of a hundred steps at the same time, and tells what they come to.
+/// Makes two passes claim each of a hundred steps at the same time, and prints the outcome.
 ///
 /// Errors: those of the output; lack of memory.
 pub(crate) fn tell_claims<R: Threads + Wait + Sync + AllocGlobal + Print>(

@@ -1,11 +1,11 @@
-//! What the history of a manager has.
+//! The contents of a manager's history.
 
 use crate::texts::no_words;
 use std::alloc::Global;
 use std::{io, str};
 use ups_life::{Entry, Request};
 
-/// How many entries are of a caller: the number of a pass, or 0 for those that no pass has made.
+/// Returns the number of entries of a caller: the number of a pass, or 0 for the entries that no pass made.
 pub(crate) fn count_of(history: &[Entry<Global>], caller: u32) -> u64 {
     let mut count: u64 = 0;
     for entry in history {
@@ -16,7 +16,7 @@ pub(crate) fn count_of(history: &[Entry<Global>], caller: u32) -> u64 {
     count
 }
 
-/// What a request asks, in a word or two.
+/// Returns what a request asks, in a word or two.
 fn verb_of(request: &Request<Global>) -> &'static str {
     match request {
         Request::Create { .. } => "create",
@@ -31,7 +31,7 @@ fn verb_of(request: &Request<Global>) -> &'static str {
     }
 }
 
-/// Tells who has made an entry, by its number and by its title, and what it asks.
+/// Prints who made an entry, by number and title, and what it asks.
 ///
 /// Errors: those of the output.
 fn tell_entry<R: Print>(rt: &R, entry: &Entry<Global>) -> io::Result<()> {
@@ -45,7 +45,7 @@ fn tell_entry<R: Print>(rt: &R, entry: &Entry<Global>) -> io::Result<()> {
     }
 }
 
-/// Tells each entry of a history, in a line.
+/// Prints each entry of a history on a line.
 ///
 /// Errors: those of the output.
 pub(crate) fn tell_history<R: Print>(rt: &R, history: &[Entry<Global>]) -> io::Result<()> {

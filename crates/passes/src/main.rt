@@ -1,15 +1,15 @@
-//! `passes`: tells what the passes of a desk leave in its history, once their threads are done and the desk is closed. It is
-//! no part of the product.
+//! `passes`: tells what the passes of a desk leave in its history, once their threads are done and the desk is closed.
+//! It is not part of the product.
 //!
-//! By the word `claims` two passes, each in a thread of its own, claim each of a hundred steps at the same time. A line tells
-//! how the claims were answered, a second one how many entries both passes have seen once they met, a third one how many the
-//! history has, and how many of these no pass has made, and one for each pass whether it has as many as it had claims
-//! accepted.
+//! With the word `claims` two passes, each in its own thread, claim each of a hundred steps at the same time. A line
+//! tells how the claims were answered, a second one how many entries both passes have seen once they met, a third one
+//! how many the history has, and how many of these no pass made, and one for each pass whether it has as many as it had
+//! claims accepted.
 //!
-//! By any other words it is a server that comes to its end. The first two are how many associations each worker serves, and
-//! how many rounds the sweeper and each deliverer make, and those behind them a command line of `upsd serve`. With port 0 it
-//! prints its port first, as that does. A line then tells of each entry of the history the number of the pass that made it,
-//! the title by which it was asked, and what was asked.
+//! With any other words it is a server that ends. The first two are the number of associations that each worker serves
+//! and the number of rounds of the sweeper and of each deliverer; a command line of `upsd serve` follows. With port 0
+//! it prints its port first, as `upsd` does. Then a line for each entry of the history tells the number of the pass
+//! that made it, the title of the one who asked, and what was asked.
 #![tactic(auto)]
 
 mod claims;
@@ -28,9 +28,9 @@ use std::thread::Threads;
 use std::time::Clock;
 use ups_net::Network;
 
-/// Tells what words ask for, of which the first is the name of the program.
+/// Does what the words ask for, the first of which is the name of the program.
 ///
-/// Errors: InvalidInput where they ask for nothing; those of the network, and of the output; lack of memory.
+/// Errors: InvalidInput if the words are not valid; those of the network, and of the output; lack of memory.
 fn tell<R>(rt: &R, words: &[String]) -> io::Result<()>
 where
     R: Threads + Wait + Clock + Log + Sync + AllocGlobal + Print + Eprint + Network,
@@ -45,13 +45,13 @@ where
     tell_server(rt, &words[2..], associations, rounds)
 }
 
-/// The words of the command line.
+/// Returns the words of the command line.
 fn words(rt: &HostRuntime) -> io::Result<Vec<String>> {
     let words: Vec<String> = std::env::args(rt)?.collect(rt.alloc())?;
     Ok(words)
 }
 
-/// Says why nothing more is told, and gives the exit status: 3 where memory ran out, and else 2.
+/// Prints why the program failed, and returns the exit status: 3 if memory ran out, or else 2.
 fn status_of<R: Eprint>(rt: &R, error: ErrorKind) -> ExitCode {
     if error == ErrorKind::OutOfMemory {
         let _ = eprintln!(rt; "passes: out of memory");

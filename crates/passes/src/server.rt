@@ -1,4 +1,4 @@
-//! A server that comes to its end.
+//! A server that ends.
 
 ghost use Rattle.std.specs.Prelude.{◌≡◌, All};
 
@@ -17,7 +17,7 @@ use ups_manager::Manager;
 use ups_net::Network;
 use ups_server::{RanServer, StoreOpener, Unopened, serve_words};
 
-/// What opens no store: a server that comes to its end keeps nothing.
+/// Opens no store: a server that ends keeps nothing.
 #[derive(Clone, Copy)]
 struct NoStores;
 
@@ -32,7 +32,7 @@ impl<'a> StoreOpener<'a, NoLedger> for NoStores {
     }
 }
 
-/// The error of words that are refused, or of lack of memory.
+/// Returns the error for refused words, or for lack of memory.
 fn error_of(fault: ArgumentFault<'_>) -> io::Error {
     match fault {
         ArgumentFault::Memory => out_of_memory(),
@@ -40,10 +40,10 @@ fn error_of(fault: ArgumentFault<'_>) -> io::Error {
     }
 }
 
-/// Runs a server by the words behind `serve`, for so many associations of each worker, and so many rounds of the sweeper and of
-/// each deliverer; and tells its history, once its desk is closed.
+/// Runs a server with the words after `serve`, for a number of associations of each worker and of rounds of the sweeper
+/// and of each deliverer; then closes its desk, and prints its history.
 ///
-/// Errors: InvalidInput where it doesn't listen, or the words are refused; those of the output; lack of memory, or of a
+/// Errors: InvalidInput if it does not listen, or the words are refused; those of the output; lack of memory, or of a
 /// thread.
 fn tell_served<R>(
     rt: &R,
@@ -61,7 +61,7 @@ where
     }
 }
 
-/// Closes the desk of a server, and tells the history.
+/// Closes the desk of a server, and prints the history.
 ///
 /// Errors: those of the output; lack of memory, or of a thread.
 fn tell_left<R: Print>(rt: &R, server: RanServer<NoLedger>) -> io::Result<()>
@@ -82,10 +82,10 @@ fn tell_left<R: Print>(rt: &R, server: RanServer<NoLedger>) -> io::Result<()>
     }
 }
 
-/// Runs a server by a command line of `upsd serve`, of which the first word stands for the program, and tells what it leaves.
+/// Runs a server with a command line of `upsd serve`, whose first word stands for the program, and prints its history.
 ///
-/// Errors: InvalidInput where the words are no such command line, or it doesn't listen; those of the output; lack of memory, or
-/// of a thread.
+/// Errors: InvalidInput if the words are not such a command line, or it does not listen; those of the output; lack of
+/// memory, or of a thread.
 pub(crate) fn tell_server<R>(
     rt: &R,
     words: &[String],

@@ -1,4 +1,4 @@
-//! Commands: what they say, and the command sets that are written for them.
+//! Commands: what they say, and how they are written again.
 
 use crate::lines::{line_of, no_row, out_of_memory};
 use fixtures::add_bytes;
@@ -11,7 +11,7 @@ use ups_dimse::{
 };
 use ups_pdu::Uid;
 
-/// The command that bytes are, and what is written for it.
+/// Returns a line with the encoded command, and the command written again.
 ///
 /// Errors: lack of memory.
 pub(crate) fn command_line(alloc: Global, bytes: &[u8]) -> io::Result<String> {
@@ -21,10 +21,10 @@ pub(crate) fn command_line(alloc: Global, bytes: &[u8]) -> io::Result<String> {
     }
 }
 
-/// The response to the request that bytes are, and what is written for it. The words say the status, and whether a data
-/// set follows; where the request names no SOP class, that of the response is 1.2.
+/// Returns a line with the response to the encoded request, and the response written. The words are the status and
+/// whether a data set follows; if the request names no SOP class, that of the response is 1.2.
 ///
-/// Errors: InvalidData where there are no such words, or no request; lack of memory.
+/// Errors: InvalidData if the words are not valid or the bytes are not a request; lack of memory.
 pub(crate) fn answer_line(alloc: Global, words: &str, bytes: &[u8]) -> io::Result<String> {
     let Some((status, data)) = words.split_once(' ') else {
         return Err(no_row());
@@ -39,7 +39,7 @@ pub(crate) fn answer_line(alloc: Global, words: &str, bytes: &[u8]) -> io::Resul
     }
 }
 
-/// The response to a request, and what is written for it.
+/// Returns a line with the response to a request, and the response written.
 fn response_line(
     alloc: Global,
     request: &RequestCommand<Global>,
@@ -53,9 +53,9 @@ fn response_line(
     line_of_command(alloc, &Command::Response(answer))
 }
 
-/// A line that tells a fault, with the number of its element where it has one.
+/// Returns a line with a fault, with the number of its element if it has one.
 ///
-/// Errors: lack of memory, also where that is the fault.
+/// Errors: lack of memory, also if that is the fault.
 fn fault_line(alloc: Global, fault: DimseFault) -> io::Result<String> {
     let told = match fault {
         DimseFault::Missing(tag) => format!(in alloc; "Missing {:08x}", tag.number())?,
@@ -66,16 +66,16 @@ fn fault_line(alloc: Global, fault: DimseFault) -> io::Result<String> {
     line_of(alloc, told.as_str(), b"")
 }
 
-/// A line that tells a command.
+/// Returns a line with a command, and the command written.
 fn line_of_command(alloc: Global, command: &Command<Global>) -> io::Result<String> {
     let told = described(alloc, command)?;
     let written = written(alloc, command)?;
     line_of(alloc, told.as_str(), &written)
 }
 
-/// What is written for a command.
+/// Writes a command.
 ///
-/// Errors: InvalidData where it is too long to be written; lack of memory.
+/// Errors: InvalidData if it is too long to be written; lack of memory.
 fn written(alloc: Global, command: &Command<Global>) -> io::Result<Vec<u8>> {
     if !command.fits() {
         return Err(no_row());
@@ -83,7 +83,7 @@ fn written(alloc: Global, command: &Command<Global>) -> io::Result<Vec<u8>> {
     Ok(write_command(alloc, command)?)
 }
 
-/// What a command says, as a text.
+/// Returns what a command says, as a text.
 fn described(alloc: Global, command: &Command<Global>) -> Result<String, AllocError> {
     let told = told_of(command);
     let mut text = format!(in alloc; "{} {} data {}", told.message, told.id, told.has_data_set)?;
@@ -94,7 +94,7 @@ fn described(alloc: Global, command: &Command<Global>) -> Result<String, AllocEr
     Ok(text)
 }
 
-/// Adds a UID behind a word, or `-` where there is none.
+/// Adds a word and a UID, or `-` if there is none.
 fn add_uid(text: &mut String, word: &str, uid: Option<Uid>) -> Result<(), AllocError> {
     text.push_str(word)?;
     match uid {
@@ -103,7 +103,7 @@ fn add_uid(text: &mut String, word: &str, uid: Option<Uid>) -> Result<(), AllocE
     }
 }
 
-/// What a command says, but for its SOP class and what it lists.
+/// What a command says, except for its SOP class and the attributes that it lists.
 #[derive(Clone, Copy)]
 struct Told {
     message: &'static str,
@@ -173,7 +173,7 @@ fn told_of(command: &Command<Global>) -> Told {
     }
 }
 
-/// The SOP class of a command.
+/// Returns the SOP class of a command.
 fn class_of(command: &Command<Global>) -> Option<Uid> {
     match command {
         Command::Request(request) => request.sop_class,
@@ -182,7 +182,7 @@ fn class_of(command: &Command<Global>) -> Option<Uid> {
     }
 }
 
-/// The attributes that a command lists.
+/// Returns the attributes that a command lists.
 fn listed(command: &Command<Global>) -> &[Tag] {
     match command {
         Command::Request(request) => match &request.operation {

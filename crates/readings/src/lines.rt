@@ -1,22 +1,22 @@
-//! The lines that are read and told.
+//! The lines of input and output.
 
 use hex::FromHexError;
 use std::alloc::Global;
 use std::io::{self, ErrorKind};
 
-/// The error of a line that is none.
+/// Returns the error for an invalid line.
 pub(crate) fn no_row() -> io::Error {
     io::Error::from(ErrorKind::InvalidData)
 }
 
-/// The error of lack of memory.
+/// Returns the error for lack of memory.
 pub(crate) fn out_of_memory() -> io::Error {
     io::Error::from(ErrorKind::OutOfMemory)
 }
 
-/// The bytes of hex digits.
+/// Decodes hex digits.
 ///
-/// Errors: InvalidData where they are none; lack of memory.
+/// Errors: InvalidData if they are not hex digits; lack of memory.
 pub(crate) fn bytes_of(alloc: Global, digits: &str) -> io::Result<Vec<u8>> {
     match hex::decode(alloc, digits) {
         Ok(bytes) => Ok(bytes),
@@ -25,7 +25,7 @@ pub(crate) fn bytes_of(alloc: Global, digits: &str) -> io::Result<Vec<u8>> {
     }
 }
 
-/// A line: what is told, and the hex digits of what is written.
+/// Returns a line of output: a text, and the written bytes in hex digits.
 ///
 /// Errors: lack of memory.
 pub(crate) fn line_of(alloc: Global, told: &str, written: &[u8]) -> io::Result<String> {

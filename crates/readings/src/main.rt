@@ -1,8 +1,7 @@
-//! `readings`: tells of bytes what they are, so that rows of bytes are tried over a built program. It is no part of the
-//! product.
+//! `readings`: describes bytes, so that rows of bytes can be tried on a built program. It is not part of the product.
 //!
-//! A line of its input is a kind of bytes, a space, and their hex digits. A line of its output is what they are, or the
-//! fault that they have, and behind ` | ` the hex digits of what is written for them.
+//! A line of input is a kind of bytes, a space, and the bytes in hex digits. A line of output is what they are, or
+//! their fault, and after ` | ` the hex digits of what is written for them.
 #![tactic(auto)]
 
 mod commands;
@@ -24,9 +23,9 @@ use std::io::{self, BufRead, BufReader, ErrorKind};
 use std::process::ExitCode;
 use ups_pdu::TransferSyntax;
 
-/// What is told of bytes of a kind.
+/// Describes bytes of a kind.
 ///
-/// Errors: InvalidData where there is no such kind, or none such bytes; lack of memory.
+/// Errors: InvalidData if there is no such kind, or the bytes are not of it; lack of memory.
 fn line_of_kind(rt: &impl AllocGlobal, kind: &str, bytes: &[u8]) -> io::Result<String> {
     match kind {
         "uid" => uid_line(rt.alloc(), bytes),
@@ -65,9 +64,9 @@ fn line_of_kind(rt: &impl AllocGlobal, kind: &str, bytes: &[u8]) -> io::Result<S
     }
 }
 
-/// Tells of the bytes of a line.
+/// Describes the bytes of a line.
 ///
-/// Errors: InvalidData where it is none; those of the writer; lack of memory.
+/// Errors: InvalidData if it is not valid; those of the writer; lack of memory.
 fn tell<R: Print + AllocGlobal>(rt: &R, line: &str) -> io::Result<()> {
     let Some((kind, digits)) = line.rsplit_once(' ') else {
         return Err(no_row());
@@ -77,7 +76,7 @@ fn tell<R: Print + AllocGlobal>(rt: &R, line: &str) -> io::Result<()> {
     println!(rt; "{text}")
 }
 
-/// Tells of the bytes of each line of standard input.
+/// Describes the bytes of each line of standard input.
 ///
 /// Errors: those of a line, and of the reader.
 fn tell_all<R: Input + Print + AllocGlobal>(rt: &R) -> io::Result<()> {
@@ -88,7 +87,7 @@ fn tell_all<R: Input + Print + AllocGlobal>(rt: &R) -> io::Result<()> {
     Ok(())
 }
 
-/// Says why the lines are not all told of, and gives the exit status: 3 where memory ran out, and else 2.
+/// Prints why not all lines were described, and returns the exit status: 3 if memory ran out, or else 2.
 fn status_of<R: Eprint>(rt: &R, error: ErrorKind) -> ExitCode {
     if error == ErrorKind::OutOfMemory {
         let _ = eprintln!(rt; "readings: out of memory");

@@ -8,7 +8,7 @@ use ups_dataset::dictionary::DICTIONARY;
 use ups_dataset::{Tag, vr_of};
 use ups_pdu::{Ae, Uid, be_u32_at, without_padding};
 
-/// Whether bytes spell a UID, and that.
+/// Returns a line that says whether bytes encode a UID, with the UID.
 pub(crate) fn uid_line(alloc: Global, bytes: &[u8]) -> io::Result<String> {
     match Uid::of(bytes) {
         Some(uid) => line_of(alloc, "a UID", uid.as_bytes()),
@@ -16,7 +16,7 @@ pub(crate) fn uid_line(alloc: Global, bytes: &[u8]) -> io::Result<String> {
     }
 }
 
-/// Whether bytes spell a title, and that.
+/// Returns a line that says whether bytes encode a title, with the title.
 pub(crate) fn title_line(alloc: Global, bytes: &[u8]) -> io::Result<String> {
     match Ae::of(bytes) {
         Some(title) => line_of(alloc, "a title", title.as_bytes()),
@@ -24,14 +24,14 @@ pub(crate) fn title_line(alloc: Global, bytes: &[u8]) -> io::Result<String> {
     }
 }
 
-/// Bytes without the padding behind them.
+/// Returns a line with bytes without the padding after them.
 pub(crate) fn padded_line(alloc: Global, bytes: &[u8]) -> io::Result<String> {
     line_of(alloc, "bytes", without_padding(bytes))
 }
 
-/// The letters of the value representation that the dictionary gives the tag of a number.
+/// Returns a line with the letters of the value representation that the dictionary gives the tag with this number.
 ///
-/// Errors: InvalidData where there is no number of four bytes; lack of memory.
+/// Errors: InvalidData if there is no number of four bytes; lack of memory.
 pub(crate) fn tag_line(alloc: Global, bytes: &[u8]) -> io::Result<String> {
     let Some((number, _)) = be_u32_at(bytes) else {
         return Err(no_row());
@@ -43,15 +43,15 @@ pub(crate) fn tag_line(alloc: Global, bytes: &[u8]) -> io::Result<String> {
     line_of(alloc, "letters", &vr_of(tag).letters())
 }
 
-/// How many attributes the dictionary has.
+/// Returns a line with the number of attributes in the dictionary.
 pub(crate) fn dictionary_line(alloc: Global) -> io::Result<String> {
     let told = format!(in alloc; "{} attributes", DICTIONARY.len())?;
     line_of(alloc, told.as_str(), b"")
 }
 
-/// The SOP class of a UID, and its registered UID.
+/// Returns a line with the SOP class of a UID, and its registered UID.
 ///
-/// Errors: InvalidData where there is no UID; lack of memory.
+/// Errors: InvalidData if the bytes are not a UID; lack of memory.
 pub(crate) fn class_line(alloc: Global, bytes: &[u8]) -> io::Result<String> {
     let Some(uid) = Uid::of(bytes) else {
         return Err(no_row());
@@ -65,7 +65,7 @@ pub(crate) fn class_line(alloc: Global, bytes: &[u8]) -> io::Result<String> {
     }
 }
 
-/// Whether the bytes of a command set announce a data set.
+/// Returns a line that says whether the bytes of a command set announce a data set.
 pub(crate) fn announcing_line(alloc: Global, bytes: &[u8]) -> io::Result<String> {
     let told = if data_follows(bytes) { "yes" } else { "no" };
     line_of(alloc, told, b"")

@@ -1,4 +1,4 @@
-//! PDUs: what they say, and what is written for them.
+//! PDUs: what they say, and how they are written again.
 
 use crate::lines::{line_of, no_row, out_of_memory};
 use fixtures::{add_bytes, read_short};
@@ -6,9 +6,9 @@ use std::alloc::{AllocError, Global};
 use std::io;
 use ups_pdu::*;
 
-/// A line that tells a fault.
+/// Returns a line with a fault.
 ///
-/// Errors: lack of memory, also where that is the fault.
+/// Errors: lack of memory, also if that is the fault.
 pub(crate) fn fault_line(alloc: Global, fault: PduFault) -> io::Result<String> {
     if fault == PduFault::Memory {
         return Err(out_of_memory());
@@ -17,9 +17,9 @@ pub(crate) fn fault_line(alloc: Global, fault: PduFault) -> io::Result<String> {
     line_of(alloc, told.as_str(), b"")
 }
 
-/// How many bytes follow a header.
+/// Returns a line with the number of bytes that follow a header.
 ///
-/// Errors: InvalidData where it has not six bytes; lack of memory.
+/// Errors: InvalidData if the header is not six bytes long; lack of memory.
 pub(crate) fn header_line(alloc: Global, bytes: &[u8]) -> io::Result<String> {
     if bytes.len() != 6 {
         return Err(no_row());
@@ -33,7 +33,7 @@ pub(crate) fn header_line(alloc: Global, bytes: &[u8]) -> io::Result<String> {
     }
 }
 
-/// The PDU at the front of bytes, with how many of them it takes, and what is written for it.
+/// Returns a line with the PDU at the front of bytes and the number of bytes it takes, and the PDU written again.
 ///
 /// Errors: lack of memory.
 pub(crate) fn pdu_line(alloc: Global, bytes: &[u8]) -> io::Result<String> {
@@ -43,20 +43,20 @@ pub(crate) fn pdu_line(alloc: Global, bytes: &[u8]) -> io::Result<String> {
     }
 }
 
-/// What the PDU at the front of bytes says, and what is written for it. One that is too long for that counts as TooLong.
+/// Returns what the PDU at the front of bytes says, and the PDU written again. One too long for that counts as TooLong.
 fn told_and_written(alloc: Global, bytes: &[u8]) -> Result<(String, Vec<u8>), PduFault> {
     let (pdu, taken) = read_pdu(alloc, bytes)?;
     let told = described(alloc, &pdu, taken)?;
     Ok((told, written(alloc, bytes)?))
 }
 
-/// What is written for the PDU at the front of bytes.
+/// Writes again the PDU at the front of bytes.
 fn written(alloc: Global, bytes: &[u8]) -> Result<Vec<u8>, PduFault> {
     let pdu = read_short(alloc, bytes)?;
     Ok(write_pdu(alloc, &pdu)?)
 }
 
-/// What a PDU says, and how many bytes it takes, as a text.
+/// Returns what a PDU says and the number of bytes it takes, as a text.
 fn described(alloc: Global, pdu: &Pdu<Global>, taken: usize) -> Result<String, AllocError> {
     let kind = pdu.kind();
     let mut text = format!(in alloc; "{kind:?} of {taken} bytes:")?;
@@ -80,7 +80,7 @@ fn add_body(alloc: Global, text: &mut String, pdu: &Pdu<Global>) -> Result<(), A
     }
 }
 
-/// Adds bytes behind a word. A low line stands for a space or a NUL.
+/// Adds a word and bytes, with `_` for a space or a NUL.
 fn add_word(text: &mut String, word: &str, bytes: &[u8]) -> Result<(), AllocError> {
     text.push_str(word)?;
     add_bytes(text, bytes)
@@ -110,7 +110,7 @@ fn add_answer(text: &mut String, answer: &AssociateAc<Global>) -> Result<(), All
     add_user(text, &answer.user_information)
 }
 
-/// Adds presentation contexts that are proposed: the abstract syntax and the transfer syntaxes of each.
+/// Adds the proposed presentation contexts: the abstract syntax and the transfer syntaxes of each.
 fn add_proposed(text: &mut String, contexts: &[ProposedContext<Global>]) -> Result<(), AllocError> {
     for context in contexts {
         write!(text, " context {}", context.id)?;
@@ -128,7 +128,7 @@ fn add_syntaxes(text: &mut String, syntaxes: &[Uid]) -> Result<(), AllocError> {
     Ok(())
 }
 
-/// Adds presentation contexts that are answered: the transfer syntax of each, or the reason why it is refused.
+/// Adds the answered presentation contexts: the transfer syntax of each, or the reason for refusing it.
 fn add_answered(text: &mut String, contexts: &[AnsweredContext]) -> Result<(), AllocError> {
     for context in contexts {
         write!(text, " context {}", context.id)?;
@@ -140,7 +140,7 @@ fn add_answered(text: &mut String, contexts: &[AnsweredContext]) -> Result<(), A
     Ok(())
 }
 
-/// Adds user information. What it has not is left out.
+/// Adds user information, leaving out what is absent.
 fn add_user(text: &mut String, user: &UserInformation<Global>) -> Result<(), AllocError> {
     write!(text, " maximum {}", user.maximum_length)?;
     if let Some(class) = &user.implementation_class {
@@ -156,7 +156,7 @@ fn add_user(text: &mut String, user: &UserInformation<Global>) -> Result<(), All
     Ok(())
 }
 
-/// Adds roles: the SOP class of each, and whether it is taken as SCU and as SCP.
+/// Adds roles: the SOP class of each, and whether it is accepted as SCU and as SCP.
 fn add_roles(text: &mut String, roles: &[Role]) -> Result<(), AllocError> {
     for role in roles {
         add_word(text, " role ", role.sop_class.as_bytes())?;
@@ -173,7 +173,7 @@ fn add_fragments(alloc: Global, text: &mut String, pdvs: &[Pdv<Global>]) -> Resu
     Ok(())
 }
 
-/// Adds a fragment: its context, what it is of, whether it is the last, and the hex digits of its bytes.
+/// Adds a fragment: its context, its kind, whether it is the last, and its bytes in hex digits.
 fn add_fragment(alloc: Global, text: &mut String, pdv: &Pdv<Global>) -> Result<(), AllocError> {
     let kind = if pdv.command { "command" } else { "data" };
     let last = if pdv.last { "last" } else { "more" };

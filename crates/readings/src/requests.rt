@@ -1,4 +1,4 @@
-//! Association requests: what is answered to them.
+//! Association requests and the answers to them.
 
 use crate::lines::line_of;
 use crate::pdus::fault_line;
@@ -8,7 +8,7 @@ use std::io;
 use ups_assoc::{Config, Outcome, negotiate};
 use ups_pdu::{Ae, Pdu, PduFault, read_pdu, write_pdu};
 
-/// The outcome of an association request to the application entity UPSD, and what is answered.
+/// Returns the outcome of an association request to the application entity UPSD, and the answer.
 ///
 /// Errors: lack of memory.
 pub(crate) fn request_line(alloc: Global, bytes: &[u8]) -> io::Result<String> {
@@ -18,13 +18,13 @@ pub(crate) fn request_line(alloc: Global, bytes: &[u8]) -> io::Result<String> {
     }
 }
 
-/// The outcome of an association request as a text, and what is answered. Any other PDU counts as BadItem.
+/// Returns the outcome of an association request as a text, and the answer. Any other PDU counts as BadItem.
 fn outcome_and_answer(alloc: Global, bytes: &[u8]) -> Result<(String, Vec<u8>), PduFault> {
     let told = outcome_of(alloc, bytes)?;
     Ok((told, answer_to(alloc, bytes)?))
 }
 
-/// The application entity UPSD, in UTC.
+/// Returns the configuration of the application entity UPSD, in UTC.
 fn this_server() -> Result<Config, PduFault> {
     match Ae::of(b"UPSD") {
         Some(ae) => Ok(Config { ae, offset: 0 }),
@@ -32,7 +32,7 @@ fn this_server() -> Result<Config, PduFault> {
     }
 }
 
-/// The outcome of the association request that bytes are, as a text.
+/// Returns the outcome of the encoded association request, as a text.
 fn outcome_of(alloc: Global, bytes: &[u8]) -> Result<String, PduFault> {
     let (pdu, _) = read_pdu(alloc, bytes)?;
     let Pdu::AssociateRq(request) = pdu else {
@@ -44,7 +44,7 @@ fn outcome_of(alloc: Global, bytes: &[u8]) -> Result<String, PduFault> {
     }
 }
 
-/// An outcome as a text: the title, the maximum length and the contexts of an acceptance, or the rejection.
+/// Returns an outcome as a text: the title, the maximum length and the contexts of an acceptance, or the rejection.
 fn described(alloc: Global, outcome: &Outcome<Global>) -> Result<String, AllocError> {
     match outcome {
         Outcome::Accept(accepted) => {
@@ -57,7 +57,7 @@ fn described(alloc: Global, outcome: &Outcome<Global>) -> Result<String, AllocEr
     }
 }
 
-/// The bytes that are answered to the association request that bytes are.
+/// Returns the encoded answer to the encoded association request.
 fn answer_to(alloc: Global, bytes: &[u8]) -> Result<Vec<u8>, PduFault> {
     let (pdu, _) = read_pdu(alloc, bytes)?;
     let Pdu::AssociateRq(request) = pdu else {

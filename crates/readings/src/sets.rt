@@ -1,4 +1,4 @@
-//! Data sets: what they hold, and what is written for them.
+//! Data sets: what they hold, and how they are written again.
 
 use crate::lines::{line_of, no_row, out_of_memory};
 use fixtures::described;
@@ -7,7 +7,7 @@ use std::io;
 use ups_dataset::{DataSet, Element, SetFault, read_set, write_set};
 use ups_pdu::TransferSyntax;
 
-/// The set that bytes of one transfer syntax are, and what is written for it in another.
+/// Returns a line with the set encoded in one transfer syntax, and the set written in another.
 ///
 /// Errors: lack of memory.
 pub(crate) fn set_line(
@@ -26,9 +26,9 @@ pub(crate) fn set_line(
     }
 }
 
-/// A line that tells a fault.
+/// Returns a line with a fault.
 ///
-/// Errors: lack of memory, also where that is the fault.
+/// Errors: lack of memory, also if that is the fault.
 fn fault_line(alloc: Global, fault: SetFault) -> io::Result<String> {
     if fault == SetFault::Memory {
         return Err(out_of_memory());
@@ -37,7 +37,7 @@ fn fault_line(alloc: Global, fault: SetFault) -> io::Result<String> {
     line_of(alloc, told.as_str(), b"")
 }
 
-/// How many bytes a set takes in Explicit VR Little Endian, how deep its items nest, and what it holds.
+/// Returns the number of bytes of a set in Explicit VR Little Endian, how deep its items nest, and what it holds.
 fn told_of(rt: &impl AllocGlobal, set: &DataSet<Global>) -> Result<String, AllocError> {
     let text = described(set, rt)?;
     let depth = depth_of(set.elements());
@@ -48,7 +48,7 @@ fn told_of(rt: &impl AllocGlobal, set: &DataSet<Global>) -> Result<String, Alloc
     )
 }
 
-/// How deep the items of elements nest.
+/// Returns how deep the items of elements nest.
 fn depth_of(elements: &[Element<Global>]) -> u8 {
     let mut depth = 0u8;
     for element in elements {
@@ -57,9 +57,9 @@ fn depth_of(elements: &[Element<Global>]) -> u8 {
     depth
 }
 
-/// What is written for a set.
+/// Writes a set.
 ///
-/// Errors: InvalidData where it is too long to be written; lack of memory.
+/// Errors: InvalidData if it is too long to be written; lack of memory.
 fn written(alloc: Global, syntax: TransferSyntax, set: &DataSet<Global>) -> io::Result<Vec<u8>> {
     if set.size() >= 0x1_0000_0000 {
         return Err(no_row());

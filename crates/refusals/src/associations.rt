@@ -17,7 +17,7 @@ use ups_session::{
 /// 2024-02-29 12:00:00 UTC, and a minute later.
 const MOMENTS: [u64; 2] = [1_709_208_000, 1_709_208_060];
 
-/// How an association ends.
+/// Returns the end of an association.
 fn end_of(ended: Result<End, SessionFault>) -> PartEnd {
     match ended {
         Ok(End::Released) => PartEnd::Released,
@@ -32,7 +32,7 @@ fn end_of(ended: Result<End, SessionFault>) -> PartEnd {
     }
 }
 
-/// The title of this side, and the local time of a manager.
+/// Returns the configuration of this side, with the local time of a manager.
 fn config_of<A: Allocator + Copy>(manager: &Manager<A>) -> io::Result<Config> {
     Ok(Config {
         ae: title_of(b"UPSD")?,
@@ -40,7 +40,7 @@ fn config_of<A: Allocator + Copy>(manager: &Manager<A>) -> io::Result<Config> {
     })
 }
 
-/// How an association ends in which a peer asks this.
+/// Serves an association that a peer asks for, and returns how it ends.
 fn served<A: Allocator + Copy, R: Read + Drop, W: Write + Drop>(
     heap: A,
     manager: &mut Manager<A>,
@@ -63,7 +63,7 @@ fn served<A: Allocator + Copy, R: Read + Drop, W: Write + Drop>(
     )))
 }
 
-/// How an association ends that this side asks W1 for, and that W1 answers by this.
+/// Asks W1, whose answers are the bytes of the reader, for an association, and returns how it ends.
 fn delivered<A: Allocator + Copy, R: Read + Drop, W: Write + Drop>(
     heap: A,
     manager: &mut Manager<A>,
@@ -88,7 +88,8 @@ fn delivered<A: Allocator + Copy, R: Read + Drop, W: Write + Drop>(
     )))
 }
 
-/// How an association ends over devices that may fail. What is written to it goes to `taken`, as far as there is room.
+/// Runs an association over devices that may fail, and returns how it ends. `taken` gets what is written, as far as
+/// there is room.
 fn ended<A: Allocator + Copy>(
     heap: A,
     manager: &mut Manager<A>,
@@ -107,10 +108,10 @@ fn ended<A: Allocator + Copy>(
     }
 }
 
-/// Adds what comes of an association. Each request is made at a moment of the gate: 1970-01-01, 00:00 UTC, behind those
-/// that it is given.
+/// Runs an association, and adds its outcome. The moments of its requests come from the gate: first those that the gate
+/// is given, and then 1970-01-01, 00:00 UTC.
 ///
-/// Errors: InvalidData where a title is none, which does not happen; lack of memory.
+/// Errors: InvalidData if a title is not valid, which does not happen; lack of memory.
 pub(crate) fn add_association<A: Allocator + Copy>(
     alloc: Global,
     heap: A,
@@ -127,7 +128,7 @@ pub(crate) fn add_association<A: Allocator + Copy>(
     add_more(text, manager, part, gate.calls())
 }
 
-/// Adds what is told behind the end of an association.
+/// Adds what is reported after the end of an association.
 fn add_more<A: Allocator + Copy>(
     text: &mut String,
     manager: &Manager<A>,
@@ -152,7 +153,7 @@ fn add_calls(text: &mut String, calls: &[GateCall]) -> io::Result<()> {
     Ok(())
 }
 
-/// Adds of each entry who asked, by number and by title, and when.
+/// Adds the caller, the title and the moment of each entry.
 fn add_entries<A: Allocator + Copy>(text: &mut String, history: &[Entry<A>]) -> io::Result<()> {
     for entry in history {
         let Ok(title) = std::str::from_utf8(entry.ae.as_bytes()) else {
@@ -165,7 +166,7 @@ fn add_entries<A: Allocator + Copy>(text: &mut String, history: &[Entry<A>]) -> 
 
 /// Adds the numbers of the events that are pending for W1.
 ///
-/// Errors: lack of memory, also where the growth is withheld from the service.
+/// Errors: lack of memory, also if a growth of the service is refused.
 fn add_pending<A: Allocator + Copy>(text: &mut String, manager: &Manager<A>) -> io::Result<()> {
     text.push_str(", pending")?;
     let Reply::Reports(reports) = manager.pending(title_of(b"W1")?, u64::MAX) else {

@@ -1,4 +1,4 @@
-//! A course: parts that one service takes, one after the other.
+//! A course: parts that one service handles, one after the other.
 
 use crate::lines::{no_course, title_of};
 use crate::options::Settings;
@@ -9,12 +9,12 @@ use std::io;
 use ups_life::Peer;
 use ups_manager::Manager;
 
-/// For how many seconds a finished step is kept.
+/// The number of seconds for which a finished step is kept.
 const KEEP: u32 = 60;
 
-/// What comes of the course of a line, in which one growth of its service is refused.
+/// Runs the course of a line, refusing one growth of its service, and returns its outcome.
 ///
-/// Errors: InvalidData where the line is none; lack of memory elsewhere.
+/// Errors: InvalidData if the line is not valid; lack of memory elsewhere.
 pub(crate) fn course_of(alloc: Global, line: &str) -> io::Result<String> {
     let Some((first, parts)) = line.split_once(' ') else {
         return Err(no_course());
@@ -25,7 +25,7 @@ pub(crate) fn course_of(alloc: Global, line: &str) -> io::Result<String> {
     Ok(text)
 }
 
-/// Adds what comes of a course from which the growth that the settings name is withheld, and whether one was.
+/// Runs a course, refusing the growth that the settings name, and adds its outcome and whether a growth was refused.
 fn add_course(alloc: Global, text: &mut String, settings: Settings, parts: &str) -> io::Result<()> {
     let heap = Refusing::new(alloc);
     heap.refuse(settings.refused);
@@ -35,7 +35,8 @@ fn add_course(alloc: Global, text: &mut String, settings: Settings, parts: &str)
     Ok(())
 }
 
-/// Adds what comes of each part of a course with a new service; nothing where there is no memory for that.
+/// Runs each part of a course with a new service, and adds its outcome; adds nothing if there is no memory for a
+/// service.
 ///
 /// W1 may lock steps, and W2 may not.
 fn add_parts<A: Allocator + Copy>(
@@ -60,7 +61,7 @@ fn add_parts<A: Allocator + Copy>(
     }
 }
 
-/// Adds what comes of each part.
+/// Runs each part, and adds its outcome.
 fn add_each<A: Allocator + Copy>(
     alloc: Global,
     heap: A,

@@ -1,8 +1,8 @@
-//! Readers and writers whose calls a signal interrupts.
+//! Readers and writers whose calls are interrupted by a signal.
 
 use std::io::{self, Error, ErrorKind, Read, Write};
 
-/// A reader or a writer each call of which is interrupted once, where it `halts`.
+/// A reader or a writer whose calls are each interrupted once, if `halts` is set.
 #[derive(Drop)]
 pub(crate) struct Interrupted<D> {
     pub(crate) device: D,
@@ -11,7 +11,7 @@ pub(crate) struct Interrupted<D> {
 }
 
 impl<D> Interrupted<D> {
-    /// Stands before a reader or a writer.
+    /// Wraps a reader or a writer.
     pub(crate) fn new(device: D, halts: bool) -> Interrupted<D> {
         Interrupted {
             device,
@@ -20,7 +20,7 @@ impl<D> Interrupted<D> {
         }
     }
 
-    /// Counts a call, and fails where it is one to interrupt.
+    /// Counts a call, and fails if it is to be interrupted.
     fn call(&mut self) -> io::Result<()> {
         self.was = self.halts && !self.was;
         if self.was {

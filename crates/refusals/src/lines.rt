@@ -1,4 +1,4 @@
-//! The words of a line, and the errors of one that is none.
+//! The words of a line, and the errors for an invalid one.
 
 use hex::FromHexError;
 use std::alloc::Global;
@@ -6,14 +6,14 @@ use std::io::{self, ErrorKind};
 use ups_life::StepUid;
 use ups_pdu::{Ae, Uid};
 
-/// The error of a line that is none.
+/// Returns the error for an invalid line.
 pub(crate) fn no_course() -> io::Error {
     io::Error::from(ErrorKind::InvalidData)
 }
 
-/// The bytes of hex digits.
+/// Decodes hex digits.
 ///
-/// Errors: InvalidData where they are none; lack of memory.
+/// Errors: InvalidData if they are not hex digits; lack of memory.
 pub(crate) fn bytes_of(alloc: Global, digits: &str) -> io::Result<Vec<u8>> {
     match hex::decode(alloc, digits) {
         Ok(bytes) => Ok(bytes),
@@ -22,9 +22,9 @@ pub(crate) fn bytes_of(alloc: Global, digits: &str) -> io::Result<Vec<u8>> {
     }
 }
 
-/// The number that a text is.
+/// Parses a number.
 ///
-/// Errors: InvalidData where it is none up to 65,535.
+/// Errors: InvalidData if the text is not a number up to 65,535.
 pub(crate) fn number_of(text: &str) -> io::Result<u16> {
     match text.parse::<u16>() {
         Ok(number) => Ok(number),
@@ -32,9 +32,9 @@ pub(crate) fn number_of(text: &str) -> io::Result<u16> {
     }
 }
 
-/// The title of letters.
+/// Returns the title with these letters.
 ///
-/// Errors: InvalidData where they are none.
+/// Errors: InvalidData if they are not a title.
 pub(crate) fn title_of(letters: &[u8]) -> io::Result<Ae> {
     match Ae::of(letters) {
         Some(title) => Ok(title),
@@ -42,9 +42,9 @@ pub(crate) fn title_of(letters: &[u8]) -> io::Result<Ae> {
     }
 }
 
-/// The step of a UID.
+/// Returns the step with the UID of these letters.
 ///
-/// Errors: InvalidData where it is none.
+/// Errors: InvalidData if they are not the UID of a step.
 pub(crate) fn step_of(letters: &[u8]) -> io::Result<StepUid> {
     match Uid::of(letters) {
         Some(uid) => StepUid::of(uid).ok_or(no_course()),

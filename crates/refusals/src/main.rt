@@ -1,26 +1,26 @@
-//! `refusals`: tells what a service answers from which one growth of memory is withheld, so that each of its growths is
-//! refused in turn over a built program; and what it answers where its history or its devices are short. It is no part of
+//! `refusals`: tells what a service answers when one growth of memory is refused, so that each of its growths can be
+//! refused in turn in a built program; and what it answers when its history or its devices are short. It is not part of
 //! the product.
 //!
-//! A line of its input is the number of the growth that is refused, counted from 1, and behind it the parts of a course,
-//! each with a space before it, its kind, a colon and hex digits: what a peer asks in an association (`serve`), what the
-//! watcher W1 answers to the association that this side asks it for (`deliver`), or the lines of a script (`script`). One
-//! service takes all of them. With 0 nothing is refused.
+//! A line of input is the number of the growth to refuse, counted from 1, followed by the parts of a course, each with
+//! a space before it, its kind, a colon and hex digits: what a peer sends in an association (`serve`), what the watcher
+//! W1 answers in the association that this side asks it for (`deliver`), or the lines of a script (`script`). One
+//! service handles all of them. With 0 nothing is refused.
 //!
-//! The number and each kind may have options, each with a comma before it. Behind the number stand `history=N`, how many
-//! requests may be entered, and `offset=N`, the local time in minutes east of UTC. Behind a kind stand `turns=N`, how many
-//! PDUs or lines are read at most; and behind that of an association `room=N`, how many bytes are taken; `fails`, where the
-//! input fails behind its bytes, and does not end; `reads` and `writes`, where each read or each write is interrupted once;
-//! `timed`, where the first two moments are noon of 2024-02-29, UTC, and a minute later; `full`, by which the calls of the
-//! gate are told, and of each entry the caller, the title and the moment; and `pending`, by which the numbers of the events
-//! are told that are then pending for W1.
+//! The number and each kind may have options, each with a comma before it. After the number: `history=N`, the limit of
+//! the history in requests, and `offset=N`, the local time in minutes east of UTC. After a kind: `turns=N`, the maximum
+//! number of PDUs or lines to read; and after that of an association `room=N`, the number of bytes that the output
+//! accepts; `fails`, if the input fails after its bytes instead of ending; `reads` and `writes`, if each read or each
+//! write is interrupted once; `timed`, if the first two moments are noon of 2024-02-29, UTC, and a minute later;
+//! `full`, to report the calls of the gate and the caller, the title and the moment of each entry; and `pending`, to
+//! report the numbers of the events that are then pending for W1.
 //!
-//! Three kinds of parts ask nothing of the service: `plain`, what the plain programs list of its history, as the replies to
-//! `held`, and to `watches` of W1 and of W2; `due`, whether the plain program says that a step, whose UID stands behind a
-//! moment and a space, is due to be removed then; and `size`, how many bytes the row of a step takes, by its UID.
+//! Three kinds of parts ask nothing of the service: `plain`, what the plain programs list of its history, like the
+//! replies to `held`, and to `watches` of W1 and of W2; `due`, whether the plain program finds a step due to be
+//! removed, given the moment, a space and its UID; and `size`, the number of bytes of the row of a step, given its UID.
 //!
-//! A line of its output tells of each part the hex digits of what is written, how it ends, and how many requests the
-//! history then has, and behind these `refused`, or `all` where no growth was refused: there are not so many.
+//! A line of output has for each part the hex digits of what is written, how it ends, and the number of requests in the
+//! history then; and after all parts `refused`, or `all` if no growth was refused because there are fewer.
 #![tactic(auto)]
 
 mod associations;
@@ -35,7 +35,7 @@ use crate::courses::course_of;
 use std::io::{self, BufRead, BufReader, ErrorKind};
 use std::process::ExitCode;
 
-/// Tells of the course of each line of standard input.
+/// Runs the course of each line of standard input, and prints its outcome.
 ///
 /// Errors: those of a line, and of the reader.
 fn tell_all<R: Input + Print + AllocGlobal>(rt: &R) -> io::Result<()> {
@@ -46,15 +46,15 @@ fn tell_all<R: Input + Print + AllocGlobal>(rt: &R) -> io::Result<()> {
     Ok(())
 }
 
-/// Tells of the course of a line.
+/// Runs the course of a line, and prints its outcome.
 ///
-/// Errors: InvalidData where it is none; those of the writer; lack of memory.
+/// Errors: InvalidData if the line is not valid; those of the writer; lack of memory.
 fn tell<R: Print + AllocGlobal>(rt: &R, line: &str) -> io::Result<()> {
     let text = course_of(rt.alloc(), line)?;
     println!(rt; "{text}")
 }
 
-/// Says why the lines are not all told of, and gives the exit status: 3 where memory ran out, and else 2.
+/// Prints why not all lines were handled, and returns the exit status: 3 if memory ran out, or else 2.
 fn status_of<R: Eprint>(rt: &R, error: ErrorKind) -> ExitCode {
     if error == ErrorKind::OutOfMemory {
         let _ = eprintln!(rt; "refusals: out of memory");

@@ -1,13 +1,13 @@
-//! The options of a course and of a part, which stand behind its number or its kind.
+//! The options of a course and of a part, which follow its number or its kind.
 
 use crate::lines::{no_course, number_of};
 use std::io;
 use ups_life::MAX_HISTORY;
 
-/// How many PDUs are read in an association, and lines in a script, at most, where nothing else is said.
+/// The maximum number of PDUs read in an association, and of lines in a script, unless an option says otherwise.
 const TURNS: u16 = 60_000;
 
-/// Which growth is refused in a course, how many requests may be entered, and the local time.
+/// The growth that is refused in a course, the limit of the history in requests, and the local time.
 #[derive(Clone, Copy, Debug, PartialEq, Eq)]
 pub(crate) struct Settings {
     pub(crate) refused: u64,
@@ -17,9 +17,9 @@ pub(crate) struct Settings {
 }
 
 impl Settings {
-    /// The settings of the first word of a line.
+    /// Reads the settings from the first word of a line.
     ///
-    /// Errors: InvalidData where it has none.
+    /// Errors: InvalidData if the word is not valid.
     pub(crate) fn of(word: &str) -> io::Result<Settings> {
         let (number, options) = word.split_once(',').unwrap_or((word, ""));
         let Ok(refused) = number.parse::<u64>() else {
@@ -36,7 +36,7 @@ impl Settings {
         Ok(settings)
     }
 
-    /// Sets what an option says.
+    /// Applies an option.
     fn set(&mut self, option: &str) -> io::Result<()> {
         if let Some(number) = option.strip_prefix("history=") {
             self.history = u64::from(number_of(number)?);
@@ -51,25 +51,25 @@ impl Settings {
     }
 }
 
-/// What a part is.
+/// The kind of a part.
 #[derive(Clone, Copy, Debug, PartialEq, Eq)]
 pub(crate) enum Kind {
     /// A peer asks for an association.
     Serve,
-    /// This side asks W1 for one, and reports events over it.
+    /// This side asks W1 for an association, and sends event reports over it.
     Deliver,
     /// A script is answered.
     Script,
     /// The plain programs list the steps.
     Plain,
-    /// The plain program says whether a step is due.
+    /// The plain program tells whether a step is due.
     Due,
     /// The row of a step is measured.
     Size,
 }
 
 impl Kind {
-    /// The kind of a word; None where there is none.
+    /// Returns the kind that a word names, or None if it names none.
     fn of(word: &str) -> Option<Kind> {
         match word {
             "serve" => Some(Kind::Serve),
@@ -79,7 +79,7 @@ impl Kind {
         }
     }
 
-    /// The kind of a word that asks nothing of the service.
+    /// Returns the kind that a word names, of those that ask nothing of the service.
     fn of_question(word: &str) -> Option<Kind> {
         match word {
             "plain" => Some(Kind::Plain),
@@ -90,32 +90,32 @@ impl Kind {
     }
 }
 
-/// A part without its bytes: what it is, what may be read and written in it, how its devices fail, and what is told of it.
+/// A part without its bytes: its kind, its limits, how its devices fail, and what is reported of it.
 #[derive(Clone, Copy, Debug, PartialEq, Eq)]
 pub(crate) struct Part {
     pub(crate) kind: Kind,
-    /// How many PDUs or lines are read at most.
+    /// The maximum number of PDUs or lines to read.
     pub(crate) turns: u16,
-    /// How many bytes are taken.
+    /// The number of bytes that the output accepts.
     pub(crate) room: usize,
-    /// The input fails behind its bytes, and does not end.
+    /// Whether the input fails after its bytes instead of ending.
     pub(crate) fails: bool,
-    /// Each read is interrupted once.
+    /// Whether each read is interrupted once.
     pub(crate) reads: bool,
-    /// Each write is interrupted once.
+    /// Whether each write is interrupted once.
     pub(crate) writes: bool,
-    /// The gate gives two moments of 2024-02-29.
+    /// Whether the gate gives two moments of 2024-02-29.
     pub(crate) is_timed: bool,
-    /// The calls of the gate and the entries are told.
+    /// Whether the calls of the gate and the entries are reported.
     pub(crate) is_full: bool,
-    /// The events are told that are pending for W1.
+    /// Whether the events pending for W1 are reported.
     pub(crate) has_pending: bool,
 }
 
 impl Part {
-    /// The part of a word.
+    /// Reads a part from a word.
     ///
-    /// Errors: InvalidData where it says none.
+    /// Errors: InvalidData if the word is not valid.
     pub(crate) fn of(word: &str) -> io::Result<Part> {
         let (kind, options) = word.split_once(',').unwrap_or((word, ""));
         let Some(kind) = Kind::of(kind) else {
@@ -138,7 +138,7 @@ impl Part {
         Ok(part)
     }
 
-    /// Sets what an option says.
+    /// Applies an option.
     fn set(&mut self, option: &str) -> io::Result<()> {
         if self.sets_device(option) || self.sets_telling(option) {
             return Ok(());
@@ -146,7 +146,7 @@ impl Part {
         self.limit(option)
     }
 
-    /// Sets how a device fails; false where the option says nothing of that.
+    /// Sets how a device fails, or returns false if the option is not about that.
     fn sets_device(&mut self, option: &str) -> bool {
         match option {
             "fails" => self.fails = true,
@@ -157,7 +157,7 @@ impl Part {
         true
     }
 
-    /// Sets what the gate gives and what is told; false where the option says nothing of that.
+    /// Sets what the gate gives and what is reported, or returns false if the option is not about that.
     fn sets_telling(&mut self, option: &str) -> bool {
         match option {
             "timed" => self.is_timed = true,

@@ -1,5 +1,5 @@
-//! A part of a course: an association that a peer asks for, one that this side asks for, a script, or what is told of the
-//! service.
+//! A part of a course: an association that a peer asks for, one that this side asks for, a script, or a question about
+//! the service.
 
 use crate::associations::add_association;
 use crate::lines::{bytes_of, no_course};
@@ -10,7 +10,7 @@ use std::io;
 use ups_manager::Manager;
 use ups_script::{ScriptFault, answer_lines};
 
-/// How a part ends.
+/// The end of a part.
 #[derive(Clone, Copy, Debug, PartialEq, Eq)]
 pub(crate) enum PartEnd {
     Released,
@@ -18,18 +18,18 @@ pub(crate) enum PartEnd {
     AbortReceived,
     Closed,
     Rejected,
-    /// A script is answered to its end, or what was asked is told.
+    /// A script was answered to its end, or a question was answered.
     Done,
     Read,
     Write,
-    /// There are more PDUs or lines than are read at most.
+    /// There were more PDUs or lines than the part may read.
     Turns,
-    /// A script has a line that is none.
+    /// A script has an invalid line.
     Stopped,
     Memory,
 }
 
-/// How a script ends.
+/// Returns the end of a script.
 fn end_of_script(ended: Result<(), ScriptFault>) -> PartEnd {
     match ended {
         Ok(()) => PartEnd::Done,
@@ -41,7 +41,7 @@ fn end_of_script(ended: Result<(), ScriptFault>) -> PartEnd {
     }
 }
 
-/// Adds what is written to a part, how it ends, and how many requests there are in the history.
+/// Adds the output of a part, how it ends, and the number of requests in the history.
 pub(crate) fn add_end(
     alloc: Global,
     text: &mut String,
@@ -53,7 +53,7 @@ pub(crate) fn add_end(
     Ok(write!(text, "{digits} {end:?} {entries}")?)
 }
 
-/// Adds what comes of a script.
+/// Runs a script, and adds its outcome.
 fn add_script<A: Allocator + Copy>(
     alloc: Global,
     heap: A,
@@ -74,7 +74,7 @@ fn add_script<A: Allocator + Copy>(
     )
 }
 
-/// Adds what is told of the service.
+/// Adds the answer to a question about the service.
 fn add_told<A: Allocator + Copy>(
     alloc: Global,
     heap: A,
@@ -97,9 +97,9 @@ fn add_told<A: Allocator + Copy>(
     )
 }
 
-/// Adds what comes of a part.
+/// Runs a part, and adds its outcome.
 ///
-/// Errors: InvalidData where the word says none; lack of memory.
+/// Errors: InvalidData if the word is not valid; lack of memory.
 pub(crate) fn add_part<A: Allocator + Copy>(
     alloc: Global,
     heap: A,
@@ -116,7 +116,7 @@ pub(crate) fn add_part<A: Allocator + Copy>(
     Ok(text.push_str(" | ")?)
 }
 
-/// Adds what comes of a part by its kind.
+/// Runs a part of any kind, and adds its outcome.
 fn add_by_kind<A: Allocator + Copy>(
     alloc: Global,
     heap: A,

@@ -1,4 +1,4 @@
-//! What the plain programs tell of a history, and how large the row of a step is.
+//! The answers of the plain programs about a history, and the size of the row of a step.
 
 ghost use Rattle.std.specs.Prelude.{IfOk};
 ghost use Rattle.ups_life.specs.Settings.{IsOffset};
@@ -11,12 +11,12 @@ use ups_life::{Configuration, MAX_MOMENT, Reply, StepUid, Subscription};
 use ups_manager::Manager;
 use ups_plain::{is_due, plain_held, plain_watches};
 
-/// The error of a walk, which fails for lack of memory alone.
+/// Returns the error of a walk, which fails only for lack of memory.
 fn lacking() -> io::Error {
     io::Error::from(io::ErrorKind::OutOfMemory)
 }
 
-/// The settings of a manager.
+/// Returns the settings of a manager.
 fn settings_of<A: Allocator + Copy>(heap: A, manager: &Manager<A>) -> io::Result<Configuration<A>>
     ensures { IfOk result (λ settings. IsOffset settings.offset) }
 {
@@ -24,7 +24,8 @@ fn settings_of<A: Allocator + Copy>(heap: A, manager: &Manager<A>) -> io::Result
     Ok(Configuration::new(peers, manager.keep(), manager.offset(), manager.limit()))
 }
 
-/// The steps that are held, and those that W1 and W2 watch, as a script is replied to `held` and `watches`.
+/// Returns the steps that are held, and those that W1 and W2 watch, like the replies to `held` and `watches` in a
+/// script.
 pub(crate) fn lists_of<A: Allocator + Copy>(
     alloc: Global,
     heap: A,
@@ -86,7 +87,7 @@ fn add_watches<A: Allocator + Copy>(
     Ok(text.push('\n')?)
 }
 
-/// Whether a step is due to be removed at a moment: the moment, a space and the UID of the step are given.
+/// Returns whether a step is due to be removed at a moment, given the moment, a space and the UID of the step.
 pub(crate) fn due_of<A: Allocator + Copy>(
     alloc: Global,
     heap: A,
@@ -101,7 +102,7 @@ pub(crate) fn due_of<A: Allocator + Copy>(
     }
 }
 
-/// The moment and the step of a text.
+/// Reads the moment and the step of a text.
 fn moment_of(given: &[u8]) -> io::Result<(u64, StepUid)> {
     let Ok(text) = std::str::from_utf8(given) else {
         return Err(no_course());
@@ -113,7 +114,7 @@ fn moment_of(given: &[u8]) -> io::Result<(u64, StepUid)> {
     }
 }
 
-/// How many bytes are shown of a step; 0 where it is not shown.
+/// Returns the number of bytes that are shown of a step, or 0 if it is not shown.
 pub(crate) fn size_of<A: Allocator + Copy>(
     alloc: Global,
     manager: &Manager<A>,

@@ -1,4 +1,4 @@
-//! What event reports say, as bytes in Explicit VR Little Endian.
+//! The contents of event reports, encoded in Explicit VR Little Endian.
 
 use fixtures::rows::{behind, cut, cut_twice, number};
 use fixtures::{Refusing, bytes_of, title, uid};
@@ -10,7 +10,7 @@ use ups_life::{Entry, Event, EventKind, InputReadiness, Request, StepUid, Transa
 use ups_pdu::TransferSyntax;
 use ups_reports::{payload, type_id};
 
-/// The greatest number of growths that a test refuses in turn.
+/// The maximum number of growths that a test refuses in turn.
 const GROWTHS: u64 = 100;
 
 /// Words, and the bytes that each stands for.
@@ -41,8 +41,8 @@ HOSP: 40003640 "LO" 0400 "HOSP"
 HOME: 40003640 "LO" 0400 "HOME"
 NO_ORGANIZATION: 40003640 "LO" 0000"#;
 
-/// How many growths there are at least; the type of an event, the state of the step after it, and its readiness; the
-/// request of DOC that made the event; and what it says.
+/// The least number of growths; the type of an event, the state of the step after it, and its readiness; the request of
+/// DOC that caused the event; and what the event says.
 const ROWS: &str = "\
 # The state of a step is reported, and nothing that its creation sent beside
 1: 1|SCHEDULED|READY; create CONTACT CODE LABEL REASON -> READY SCHEDULED
@@ -83,7 +83,7 @@ fn bytes_by(rt: &impl AllocGlobal, words: &str) -> Result<Vec<u8>, Fail> {
     bytes_of(rt, text.as_str())
 }
 
-/// Returns the UID of the step that the events are of.
+/// Returns the UID of the step of the events.
 fn step_of_events() -> Result<StepUid, Fail> {
     Ok(StepUid::of(uid("1.2.3.4")?).ok_or("the UID of a step")?)
 }
@@ -163,7 +163,7 @@ fn entry_of<'a>(
     })
 }
 
-/// Returns what an event says, each growth refused in turn, and how many growths that takes.
+/// Returns the number of growths that the contents of an event take, each refused in turn, and the contents.
 fn told_in_turn<'a>(
     heap: &'a Refusing<Global>,
     event: &Event,
@@ -182,7 +182,7 @@ fn told_in_turn<'a>(
     Err("there are more growths".into())
 }
 
-/// Whether a set is written as these bytes.
+/// Returns whether a set is encoded as these bytes.
 fn is_written<A: Allocator + Copy>(set: &DataSet<A>, bytes: &[u8]) -> Result<bool, Fail> {
     if set.size() >= 0x1_0000_0000 {
         return Err("a set of 4 GB or more".into());
@@ -190,7 +190,7 @@ fn is_written<A: Allocator + Copy>(set: &DataSet<A>, bytes: &[u8]) -> Result<boo
     Ok(write_set(set.allocator(), TransferSyntax::Explicit, set)?.as_slice() == bytes)
 }
 
-/// Whether an event of an entry says these bytes, which takes so many growths at least.
+/// Returns whether an event of an entry says these bytes, with at least `least` growths.
 fn says<'a>(
     heap: &'a Refusing<Global>,
     event: &Event,
@@ -203,7 +203,7 @@ fn says<'a>(
     Ok(growths >= least && is_written(&set, bytes)?)
 }
 
-/// Whether an event of an entry says these bytes, by the words for the event and for the number of growths.
+/// Returns whether an event of an entry says these bytes, given the words for the event and for the number of growths.
 fn says_by_words<'a>(
     heap: &'a Refusing<Global>,
     event: &str,
@@ -215,7 +215,7 @@ fn says_by_words<'a>(
     says(heap, &event, entry, number(least)?, bytes)
 }
 
-/// Whether the event of a row says these bytes.
+/// Returns whether the event of a row says these bytes.
 fn is_said(
     rt: &impl AllocGlobal,
     heap: &Refusing<Global>,
@@ -227,7 +227,7 @@ fn is_said(
     says_by_words(heap, event, &entry, least, bytes)
 }
 
-/// Whether an event says what its row says.
+/// Returns whether an event says what its row says.
 fn is_so(rt: &impl AllocGlobal, heap: &Refusing<Global>, row: &str) -> Result<bool, Fail> {
     let (row, said) = cut(row, " ->")?;
     let bytes = bytes_by(rt, said)?;

@@ -15,7 +15,7 @@ mod reading;
 mod words;
 mod worklist;
 
-/// The greatest number of growths that a test refuses in turn.
+/// The maximum number of growths that a test refuses in turn.
 const GROWTHS: u64 = 100;
 
 /// The statuses in the order of their numbers.
@@ -54,7 +54,7 @@ const STATUSES: [Status; 32] = [
     Status::Pending,
 ];
 
-/// Their names and numbers.
+/// The names and numbers of the statuses.
 const NUMBERS: &str = "\
 Success 0000
 AttributesNotSupported 0001
@@ -101,7 +101,7 @@ fn each_status_has_its_number(rt: HostRuntime) -> Result<(), Fail> {
     Ok(())
 }
 
-/// A configuration with two peers, of which the first may lock steps.
+/// Returns a configuration with two peers, of which the first may lock steps.
 fn configured(alloc: Global) -> Result<Configuration<Global>, Fail> {
     let mut peers = Vec::new(alloc);
     for (ae, lock) in [("WATCH1", true), ("WATCH2", false)] {
@@ -142,7 +142,7 @@ fn a_configuration_has_what_it_was_given(rt: HostRuntime) -> Result<(), Fail> {
     )
 }
 
-/// Whether a UID is that of a step, and no other step's.
+/// Returns whether a UID is that of a step, and not that of another step.
 fn is_step(text: &str) -> Result<bool, Fail> {
     let uid = uid(text)?;
     let Some(step) = StepUid::of(uid) else {

@@ -7,8 +7,8 @@ use fixtures::rows::{cut_twice, number};
 use std::test::Fail;
 use ups_match::{read_dt, write_dt};
 
-/// Texts, the offset of the local time in minutes, and the first and the last moment that each stands for, in microseconds
-/// since 1970-01-01 UTC (PS3.5 section 6.2, DT).
+/// Texts, the offset of the local time in minutes, and the first and the last moment that each stands for, in
+/// microseconds since 1970-01-01 UTC (PS3.5 section 6.2, DT).
 const MOMENTS: &str = "\
 # A moment may be cut after each component
 2024 0 1704067200000000 1735689599999999
@@ -106,7 +106,7 @@ const MOMENTS: &str = "\
 99991231235959-1200 -300 253402343999000000 253402343999999999
 9999+0000 -300 253370764800000000 253402300799999999";
 
-/// Texts that stand for no moment.
+/// Texts that are not valid moments.
 const NO_MOMENTS: &str = r#"# No form has so many digits
 ""
 "2"
@@ -203,7 +203,7 @@ const WRITTEN: &str = "\
 1 -59 19691231230101-0059
 1735689600 0 20250101000000+0000";
 
-/// Reads the first or the last moment that a text stands for, and tells it as a number, or as `none`.
+/// Reads the first or the last moment that a text stands for, and returns it as a number, or `none`.
 fn told(rt: &impl AllocGlobal, text: &[u8], offset: i16, is_last: bool) -> Result<String, Fail> {
     Ok(match read_dt(text, offset, is_last) {
         Some(moment) => format!(in rt.alloc(); "{moment}")?,
@@ -219,7 +219,7 @@ fn row_of(rt: &impl AllocGlobal, text: &str, offset: &str) -> Result<String, Fai
     Ok(format!(in rt.alloc(); "{text} {offset} {first} {last}")?)
 }
 
-/// Whether a row says what is read.
+/// Returns whether a row says what is read.
 fn is_read_so(rt: &impl AllocGlobal, row: &str) -> Result<bool, Fail> {
     let (text, offset, _) = cut_twice(row, " ", " ")?;
     Ok(row_of(rt, text, offset)?.as_str() == row)
@@ -233,7 +233,7 @@ fn each_text_stands_for_its_first_and_its_last_moment(rt: HostRuntime) -> Result
     Ok(())
 }
 
-/// Whether a text stands for no moment.
+/// Returns whether a text is not a valid moment.
 fn is_none(rt: &impl AllocGlobal, text: &str) -> Result<bool, Fail> {
     let text = bytes_of(rt, text)?;
     Ok(read_dt(&text, 0, false).is_none() && read_dt(&text, 0, true).is_none())
@@ -247,7 +247,7 @@ fn other_texts_stand_for_no_moment(rt: HostRuntime) -> Result<(), Fail> {
     Ok(())
 }
 
-/// Whether a row says what is written.
+/// Returns whether a row says what is written.
 fn is_written_so(row: &str) -> Result<bool, Fail> {
     let (moment, offset, text) = cut_twice(row, " ", " ")?;
     let (moment, offset) = (number(moment)?, offset.parse::<i16>()?);

@@ -1,4 +1,4 @@
-//! The manager as code asks it: by numbers of callers, and as a service. Its rows for a service alone are scripts
+//! The manager as code uses it: by numbers of callers, and as a service. The rows only for a service are scripts
 //! (`rows/services.rows`).
 
 ghost use Rattle.std.specs.Prelude.{[], ◌∷◌};
@@ -26,7 +26,7 @@ mod starting;
 /// The steps that the tests create.
 const STEPS: [&str; 3] = ["1.2.3.1", "1.2.3.2", "1.2.3.3"];
 
-/// What is asked.
+/// The verb of a line.
 #[derive(Clone, Copy)]
 enum Verb {
     Create,
@@ -40,10 +40,10 @@ enum Verb {
 
 /// What a line asks, by whom and when.
 ///
-/// A line is the number of the caller, the title of the application entity, the moment, the verb, the step, its new state
-/// and the Transaction UID, `-` where there is none, and behind a bar the attributes: with a bar between two of them, and
-/// those of an item behind a slash. A new step has the usual attributes under them. Behind the verb `words` the step and
-/// what follows it say nothing, and behind the bar stand the words of a request, as the histories have them.
+/// A line is the number of the caller, the title of the application entity, the moment, the verb, the step, its new
+/// state and the Transaction UID, with `-` if there is none, and after a bar the attributes, separated by bars, with
+/// those of an item after a slash. A new step has them in addition to the usual ones. After the verb `words` the step
+/// and what follows it mean nothing, and after the bar come the words of a request, as in the histories.
 #[derive(Clone, Copy)]
 struct Line {
     caller: u32,
@@ -55,7 +55,7 @@ struct Line {
     transaction: Transaction,
 }
 
-/// Returns the verb that a word is.
+/// Returns the verb that a word names.
 fn verb_of(word: &str) -> Verb {
     match word {
         "create" => Verb::Create,
@@ -78,12 +78,12 @@ fn state_of(word: &str) -> StepState {
     }
 }
 
-/// Returns the UID of a step that a text is.
+/// Parses the UID of a step.
 fn step_uid(text: &str) -> Result<StepUid, Fail> {
     Ok(StepUid::of(uid(text)?).ok_or("the UID of a step")?)
 }
 
-/// Returns the Transaction UID that a text is.
+/// Parses a Transaction UID.
 fn transaction(text: &str) -> Transaction {
     match Uid::of(text.as_bytes()) {
         Some(uid) => Transaction::Proper(uid),
@@ -92,17 +92,17 @@ fn transaction(text: &str) -> Transaction {
     }
 }
 
-/// Returns the number of a caller that a word says.
+/// Parses the number of a caller.
 fn caller_of(word: Option<&str>) -> Result<u32, Fail> {
     Ok(word.unwrap_or("").parse::<u32>()?)
 }
 
-/// Returns the moment that a word says.
+/// Parses a moment.
 fn moment_of(word: Option<&str>) -> Result<u64, Fail> {
     Ok(word.unwrap_or("").parse::<u64>()?)
 }
 
-/// Reads the part of a line that stands before its attributes.
+/// Reads the part of a line before its attributes.
 fn line_of(front: &str) -> Result<Line, Fail> {
     let mut words = front.split(' ');
     Ok(Line {
@@ -116,7 +116,7 @@ fn line_of(front: &str) -> Result<Line, Fail> {
     })
 }
 
-/// Puts a value, which stands behind its tag and `=`.
+/// Inserts a value, which follows its tag and `=`.
 fn put_value<A: Allocator + Copy>(
     alloc: A,
     set: &mut DataSet<A>,
@@ -126,7 +126,7 @@ fn put_value<A: Allocator + Copy>(
     put_text(alloc, set, tag_of(tag)?, value.as_bytes())
 }
 
-/// Returns the item with these values, which commas part.
+/// Returns the item with these values, which are separated by commas.
 fn item_of<A: Allocator + Copy>(alloc: A, values: &str) -> Result<DataSet<A>, Fail> {
     let mut item = DataSet::new(alloc);
     for value in values.split_terminator(',') {
@@ -135,7 +135,7 @@ fn item_of<A: Allocator + Copy>(alloc: A, values: &str) -> Result<DataSet<A>, Fa
     Ok(item)
 }
 
-/// Puts an attribute: a value, or an item behind its tag and a slash.
+/// Inserts an attribute: a value, or an item after its tag and a slash.
 fn put_attribute<A: Allocator + Copy>(
     alloc: A,
     set: &mut DataSet<A>,
@@ -147,7 +147,7 @@ fn put_attribute<A: Allocator + Copy>(
     }
 }
 
-/// Returns a set with these attributes over its own.
+/// Returns a set with these attributes, which replace its own.
 pub(crate) fn with<A: Allocator + Copy>(
     alloc: A,
     mut set: DataSet<A>,
@@ -159,7 +159,7 @@ pub(crate) fn with<A: Allocator + Copy>(
     Ok(set)
 }
 
-/// Returns the keys that these attributes are. Those without a zone are in UTC.
+/// Returns the keys with these attributes. Those without a zone are in UTC.
 pub(crate) fn keys_of<A: Allocator + Copy>(alloc: A, attributes: &str) -> Result<Keys<A>, Fail> {
     Ok(Keys::of(with(alloc, DataSet::new(alloc), attributes)?, 0)?)
 }
@@ -203,7 +203,7 @@ fn ask_of<A: Allocator + Copy>(alloc: A, line: &Line, attributes: &str) -> Resul
     Ok(Ask::Do(request_of(line, with(alloc, own, attributes)?)))
 }
 
-/// Asks any service, by what it says of itself.
+/// Calls any service, knowing only the trait's contract.
 fn asked_of<A: Allocator + Copy, S: Service<A>>(
     service: &mut S,
     ae: Ae,
@@ -233,8 +233,8 @@ fn reply_to<A: Allocator + Copy>(
     })
 }
 
-/// Returns the number of the status of a reply; 0xFFFF where it tells that an acknowledgement is ahead or stale, which has
-/// none.
+/// Returns the number of the status of a reply, or 0xFFFF if it says that an acknowledgement is ahead or stale, which
+/// has no status.
 fn status_of<A: Allocator + Copy>(reply: &Reply<A>) -> u16 {
     match reply {
         Reply::Status(status) => status.code(),
@@ -244,7 +244,7 @@ fn status_of<A: Allocator + Copy>(reply: &Reply<A>) -> u16 {
     }
 }
 
-/// Puts a set behind a text, as it is described.
+/// Adds a space and a set as a text.
 fn put_set<A: Allocator + Copy>(
     rt: &impl AllocGlobal,
     text: &mut String,
@@ -255,7 +255,7 @@ fn put_set<A: Allocator + Copy>(
     Ok(())
 }
 
-/// Returns a reply as a text: its status, and the sets that it shows, or how many steps a sweep removes.
+/// Returns a reply as a text: its status, and the sets that it shows, or the number of steps that a sweep removes.
 fn told<A: Allocator + Copy>(rt: &impl AllocGlobal, reply: &Reply<A>) -> Result<String, Fail> {
     let mut text = format!(in rt.alloc(); "{:04X}", status_of(reply))?;
     match reply {
@@ -271,7 +271,7 @@ fn told<A: Allocator + Copy>(rt: &impl AllocGlobal, reply: &Reply<A>) -> Result<
     Ok(text)
 }
 
-/// Asks what a line says: the reply as a text.
+/// Asks what a line says, and returns the reply as a text.
 pub(crate) fn answer_to(
     rt: &impl AllocGlobal,
     manager: &mut Manager<Global>,
@@ -289,7 +289,7 @@ fn text_of(bytes: &[u8]) -> Result<&str, Fail> {
     Ok(std::str::from_utf8(bytes).ok().ok_or("a text")?)
 }
 
-/// Returns the bytes of a Transaction UID; a dash where there is none.
+/// Returns the bytes of a Transaction UID, or a dash if there is none.
 fn uid_in(transaction: &Transaction) -> &[u8] {
     match transaction {
         Transaction::Absent => b"-",
@@ -298,7 +298,7 @@ fn uid_in(transaction: &Transaction) -> &[u8] {
     }
 }
 
-/// Returns the verb of a request, the state and the Transaction UID; a dash where it has none.
+/// Returns the verb of a request, its state and its Transaction UID, with a dash for what it does not have.
 fn words_of<A: Allocator + Copy>(request: &Request<A>) -> (&'static str, &'static [u8], &[u8]) {
     let none = b"-".as_slice();
     match request {
@@ -314,7 +314,7 @@ fn words_of<A: Allocator + Copy>(request: &Request<A>) -> (&'static str, &'stati
     }
 }
 
-/// Returns the attributes of a request; none where it has none.
+/// Returns the attributes of a request, or None if it has none.
 fn attributes_in<A: Allocator + Copy>(request: &Request<A>) -> Option<&DataSet<A>> {
     match request {
         Request::Create { attributes, .. } | Request::Set { attributes, .. } => Some(attributes),
@@ -323,13 +323,13 @@ fn attributes_in<A: Allocator + Copy>(request: &Request<A>) -> Option<&DataSet<A
     }
 }
 
-/// Puts a word and a space.
+/// Adds a word and a space.
 fn put_bytes(text: &mut String, bytes: &[u8]) -> Result<(), Fail> {
     text.push_str(text_of(bytes)?)?;
     Ok(text.push(' ')?)
 }
 
-/// Puts what an entry asks for: its verb, its step, its state and its Transaction UID.
+/// Adds what an entry asks for: its verb, its step, its state and its Transaction UID.
 fn put_request<A: Allocator + Copy>(text: &mut String, request: &Request<A>) -> Result<(), Fail> {
     let (verb, state, uid) = words_of(request);
     let step = request.step();
@@ -343,7 +343,7 @@ fn put_request<A: Allocator + Copy>(text: &mut String, request: &Request<A>) -> 
     Ok(text.push_str(text_of(uid)?)?)
 }
 
-/// Puts an entry as a line, with its attributes as they are described.
+/// Adds an entry as a line, with its attributes as text.
 fn put_entry<A: Allocator + Copy>(
     rt: &impl AllocGlobal,
     text: &mut String,
@@ -360,7 +360,7 @@ fn put_entry<A: Allocator + Copy>(
     Ok(text.push('\n')?)
 }
 
-/// Returns who holds a step: the number of the caller and its title, or a dash.
+/// Returns the holder of a step, by the number of the caller and its title, or a dash.
 fn holder_of<A: Allocator + Copy>(
     rt: &impl AllocGlobal,
     manager: &Manager<A>,
@@ -375,7 +375,7 @@ fn holder_of<A: Allocator + Copy>(
     }
 }
 
-/// Returns who holds a step, and all that is shown of it.
+/// Returns the holder of a step, and all that is shown of it.
 fn step_of<A: Allocator + Copy>(
     rt: &impl AllocGlobal,
     manager: &Manager<A>,
@@ -387,7 +387,7 @@ fn step_of<A: Allocator + Copy>(
     Ok(format!(in rt.alloc(); "{holder}: {shown}\n")?)
 }
 
-/// Puts the history of a manager, an entry a line.
+/// Adds the history of a manager, an entry a line.
 fn put_history<A: Allocator + Copy>(
     rt: &impl AllocGlobal,
     text: &mut String,
@@ -399,7 +399,7 @@ fn put_history<A: Allocator + Copy>(
     Ok(())
 }
 
-/// Returns all that a manager tells: its history, who holds each step, and what is shown of it.
+/// Returns all that a manager tells: its history, the holder of each step, and what is shown of it.
 pub(crate) fn picture<A: Allocator + Copy>(
     rt: &impl AllocGlobal,
     manager: &Manager<A>,

@@ -10,7 +10,7 @@ use ups_keep::Final;
 use ups_life::{Row, StepUid};
 use ups_steps::{Held, Steps};
 
-/// What is held of a step that became final at a moment.
+/// Returns what is held of a step that became final at a moment.
 fn held_since<A: Allocator + Copy>(alloc: A, moment: u64) -> Held<A> {
     Held {
         row: Row {
@@ -23,7 +23,7 @@ fn held_since<A: Allocator + Copy>(alloc: A, moment: u64) -> Held<A> {
     }
 }
 
-/// Adds a step that is not held, for which room is made.
+/// Makes room for a step that is not held, and adds it.
 fn push<A: Allocator + Copy>(
     alloc: A,
     steps: &mut Steps<A>,
@@ -38,7 +38,7 @@ fn push<A: Allocator + Copy>(
     Ok(())
 }
 
-/// Puts a moment in the place of that of a step that is held.
+/// Replaces the moment of a step that is held.
 fn put<A: Allocator + Copy>(
     alloc: A,
     steps: &mut Steps<A>,
@@ -52,7 +52,7 @@ fn put<A: Allocator + Copy>(
     Ok(())
 }
 
-/// Removes the steps of these numbers.
+/// Removes the steps with these numbers.
 fn remove(alloc: Global, steps: &mut Steps<Global>, numbers: &str) -> Result<(), Fail> {
     let mut gone = Vec::new(alloc);
     for number in numbers.split(' ') {
@@ -81,14 +81,14 @@ fn act(alloc: Global, steps: &mut Steps<Global>, line: &str) -> Result<(), Fail>
     }
 }
 
-/// Adds a step: the moment since when it is final, and its digit.
+/// Adds a step as text: the moment since when it is final, and its digit.
 fn add_step(text: &mut String, step: StepUid, since: Option<u64>) -> Result<(), Fail> {
     let moment = since.ok_or("a moment")?;
     write!(text, " {moment}:{}", digit_of(step))?;
     Ok(())
 }
 
-/// The steps held, in the order of the walk over them.
+/// Returns the steps held, in the order of iteration.
 fn steps_held<A: Allocator + Copy>(alloc: Global, steps: &Steps<A>) -> Result<String, Fail> {
     let mut text = String::new(alloc);
     for (step, held) in steps.iter() {
@@ -97,7 +97,7 @@ fn steps_held<A: Allocator + Copy>(alloc: Global, steps: &Steps<A>) -> Result<St
     Ok(text)
 }
 
-/// The steps whose UIDs are listed, by what is found under them.
+/// Returns the steps whose UIDs are listed, each as it is looked up.
 fn steps_listed<A: Allocator + Copy>(
     alloc: Global,
     steps: &Steps<A>,
@@ -110,8 +110,8 @@ fn steps_listed<A: Allocator + Copy>(
     Ok(text)
 }
 
-/// What is done, one line after the other, and which steps are held then. Places are free after each removal but the second
-/// and the last, which close them up.
+/// What is done, one line after the other, and which steps are held then. Each removal leaves places free, except for
+/// the second and the last, which close them up.
 const CALLS: &str = "\
 push 1 10 = 10:1
 push 2 20 = 10:1 20:2
@@ -127,7 +127,7 @@ push 5 50 = 12:1 31:3 50:5
 remove 3 = 12:1 50:5
 remove 1 5 =";
 
-/// Does what a line says, and tells which steps are held then.
+/// Does what a line says, and returns the steps that are held then.
 fn told(alloc: Global, steps: &mut Steps<Global>, line: &str) -> Result<String, Fail> {
     act(alloc, steps, line)?;
     let held = steps_held(alloc, steps)?;
@@ -156,7 +156,8 @@ fn steps_stay_in_the_order_of_their_creation(rt: HostRuntime) -> Result<(), Fail
     rows_are_so(&rt, &mut steps)
 }
 
-/// Makes room and lists the steps with the growth of a number refused: whether none was, and the steps in any case.
+/// Makes room and lists the steps while the growth with this number is refused; returns whether both succeed, and the
+/// steps in either case.
 fn listed_in<'a>(
     alloc: Global,
     heap: &'a Refusing<Global>,
@@ -171,7 +172,7 @@ fn listed_in<'a>(
     Ok((is_reserved && is_listed, steps_held(alloc, steps)?))
 }
 
-/// The same of a new table.
+/// The same with a new table.
 fn listed_lacking(alloc: Global, growth: u64) -> Result<(bool, String), Fail> {
     let heap = Refusing::new(alloc);
     let mut steps = Steps::new(&heap);
@@ -188,7 +189,7 @@ fn steps_stay_where_a_growth_is_refused(rt: HostRuntime) -> Result<(), Fail> {
             refused = growth;
         }
     }
-    // the places grow, and the index over them
+    // the places grow, and their index
     assert!(rt; refused >= 2 && refused < 19, "{refused}");
     Ok(())
 }

@@ -9,7 +9,7 @@ use ups_index::{Index, Values};
 use ups_life::StepUid;
 use ups_match::Keys;
 
-/// Gives a step the values of a row, for which room is made.
+/// Makes room for the values of a row, and gives them to a step.
 fn put_row<A: Allocator + Copy>(
     alloc: A,
     index: &mut Index<A>,
@@ -22,7 +22,7 @@ fn put_row<A: Allocator + Copy>(
     Ok(())
 }
 
-/// Gives a step the values of a row that words make.
+/// Gives a step the values of a row, which is written as words.
 fn put<A: Allocator + Copy>(
     alloc: A,
     index: &mut Index<A>,
@@ -32,7 +32,7 @@ fn put<A: Allocator + Copy>(
     Ok(put_row(alloc, index, step, &set_of(alloc, row)?)?)
 }
 
-/// The candidates of a query by keys whose offset is 0.
+/// Returns the candidates of a query by keys whose offset is 0.
 fn candidates<A: Allocator + Copy>(
     alloc: A,
     index: &Index<A>,
@@ -42,7 +42,7 @@ fn candidates<A: Allocator + Copy>(
     Ok(index.candidates(&keys)?)
 }
 
-/// The digits of the candidates of a query.
+/// Returns the digits of the candidates of a query.
 fn digits<A: Allocator + Copy>(
     alloc: Global,
     own: A,
@@ -138,7 +138,7 @@ fn a_query_finds_the_steps_that_have_its_first_key(rt: HostRuntime) -> Result<()
     rows_are_so(rt.alloc(), &mut Index::new(rt.alloc(), 0))
 }
 
-/// Gives the step of a number a patient, one of three labels and a state.
+/// Gives the step with a number a patient, one of three labels and a state.
 fn put_numbered(
     rt: &impl AllocGlobal,
     index: &mut Index<Global>,
@@ -154,7 +154,7 @@ fn put_numbered(
     put(rt.alloc(), index, step, row.as_str())
 }
 
-/// Removes the step of a number.
+/// Removes the step with a number.
 fn remove_numbered(
     rt: &impl AllocGlobal,
     index: &mut Index<Global>,
@@ -164,7 +164,7 @@ fn remove_numbered(
     Ok(())
 }
 
-/// Gives steps to an index, so many that lists are merged; changes the state of each third, and removes each fourth.
+/// Gives steps to an index, enough that lists are merged; changes the state of every third, and removes every fourth.
 fn fill(rt: &impl AllocGlobal, index: &mut Index<Global>) -> Result<(), Fail> {
     for number in 0..2_000 {
         put_numbered(rt, index, number, "SCHEDULED")?;
@@ -178,7 +178,7 @@ fn fill(rt: &impl AllocGlobal, index: &mut Index<Global>) -> Result<(), Fail> {
     Ok(())
 }
 
-/// How many steps queries find in a large index.
+/// The numbers of steps that queries find in a large index.
 const MANY: &str = "\
 00080018= -> 1500
 00100020=P7 -> 8
@@ -189,14 +189,14 @@ const MANY: &str = "\
 00741000=SCHEDULED -> 1000
 00741000=IN_PROGRESS -> 0";
 
-/// Whether a query finds as many steps as a row says.
+/// Fails if a query does not find as many steps as a row says.
 fn finds_so_many(rt: &impl AllocGlobal, index: &Index<Global>, row: &str) -> Result<(), Fail> {
     let (keys, due) = cut(row, " -> ")?;
     let found = candidates(rt.alloc(), index, keys)?.len();
     check(row, format!(in rt.alloc(); "{found}")?.as_str() == due)
 }
 
-/// Fills an index, and compares how many steps queries find.
+/// Fills an index, and compares the numbers of steps that queries find.
 fn finds_in_a_large_one(rt: &impl AllocGlobal, index: &mut Index<Global>) -> Result<(), Fail> {
     fill(rt, index)?;
     for row in MANY.lines() {
@@ -210,7 +210,7 @@ fn a_large_index_finds_as_many(rt: HostRuntime) -> Result<(), Fail> {
     finds_in_a_large_one(&rt, &mut Index::new(rt.alloc(), 0))
 }
 
-/// Gives a step the values of a row with the growth of a number refused: whether none was.
+/// Gives a step the values of a row while the growth with this number is refused, and returns whether that succeeds.
 fn is_put<'a>(
     heap: &'a Refusing<Global>,
     index: &mut Index<&'a Refusing<Global>>,
@@ -224,7 +224,7 @@ fn is_put<'a>(
     is_put
 }
 
-/// The same of the second step.
+/// The same for the second step.
 fn second_is_put<'a>(
     alloc: Global,
     heap: &'a Refusing<Global>,
@@ -236,7 +236,8 @@ fn second_is_put<'a>(
     Ok(is_put(heap, index, step, &row, growth))
 }
 
-/// Gives one step values, and another ones with the growth of a number refused: whether none was, and what is found then.
+/// Gives one step values, and another while the growth with this number is refused; returns whether that succeeds, and
+/// what is found then.
 fn put_in<'a>(
     alloc: Global,
     heap: &'a Refusing<Global>,
@@ -248,7 +249,7 @@ fn put_in<'a>(
     Ok((is_put, digits(alloc, heap, index, "00741202=READS")?))
 }
 
-/// The same of a new index.
+/// The same with a new index.
 fn put_lacking(alloc: Global, growth: u64) -> Result<(bool, String), Fail> {
     let heap = Refusing::new(alloc);
     let mut index = Index::new(&heap, 0);
@@ -265,7 +266,7 @@ fn an_index_stays_where_a_growth_is_refused(rt: HostRuntime) -> Result<(), Fail>
             refused = growth;
         }
     }
-    // two texts and their list grow at least
+    // at least two texts and their list grow
     assert!(rt; refused >= 3 && refused < 19, "{refused}");
     Ok(())
 }

@@ -1,5 +1,5 @@
-//! Tests of the live tables: the steps held and the index of them, subscriptions, the queues of events, the steps that wait
-//! for their removal.
+//! Tests of the live tables: the steps held and their index, subscriptions, the queues of events, and the steps that
+//! wait to be removed.
 #![tactic(auto)]
 
 #[cfg(test)]

@@ -8,7 +8,7 @@ use ups_cycle::StepState;
 use ups_events::{AckFault, Queue, Queues};
 use ups_life::{Event, EventKind, Report};
 
-/// The kind of a word.
+/// Returns the kind that a word names.
 fn kind_of(word: &str) -> Result<EventKind, Fail> {
     match word {
         "state" => Ok(EventKind::StateReport),
@@ -19,7 +19,7 @@ fn kind_of(word: &str) -> Result<EventKind, Fail> {
     }
 }
 
-/// The first letter of the word of a kind.
+/// Returns the first letter of the word for a kind.
 fn letter_of(kind: EventKind) -> char {
     match kind {
         EventKind::StateReport => 's',
@@ -29,7 +29,7 @@ fn letter_of(kind: EventKind) -> char {
     }
 }
 
-/// A report of this kind of a step.
+/// Returns a report of this kind on a step.
 fn report_of(alloc: Global, kind: &str, step: &str) -> Result<Report, Fail> {
     Ok(Report {
         kind: kind_of(kind)?,
@@ -39,14 +39,14 @@ fn report_of(alloc: Global, kind: &str, step: &str) -> Result<Report, Fail> {
     })
 }
 
-/// Puts a report into a queue, for which room is made.
+/// Makes room for a report, and puts it into a queue.
 fn put<A: Allocator + Copy>(queue: &mut Queue<A>, report: Report) -> Result<(), Fail> {
     queue.reserve(1)?;
     queue.put(0, report);
     Ok(())
 }
 
-/// What an acknowledgement comes to.
+/// Returns the outcome of an acknowledgement.
 fn outcome(answer: Result<(), AckFault>) -> &'static str {
     match answer {
         Ok(()) => "done",
@@ -55,7 +55,7 @@ fn outcome(answer: Result<(), AckFault>) -> &'static str {
     }
 }
 
-/// Does what a line says: what it comes to.
+/// Does what a line says, and returns the outcome.
 fn act(alloc: Global, queue: &mut Queue<Global>, line: &str) -> Result<&'static str, Fail> {
     let (verb, word) = line.split_once(' ').ok_or("a verb")?;
     match verb {
@@ -67,7 +67,7 @@ fn act(alloc: Global, queue: &mut Queue<Global>, line: &str) -> Result<&'static 
     }
 }
 
-/// Adds an event: its number, the letter of its kind, and the digit of its step.
+/// Adds an event as text: its number, the letter of its kind, and the digit of its step.
 fn add_event(text: &mut String, event: &Event) -> Result<(), Fail> {
     let letter = letter_of(event.kind);
     let digit = digit_of(event.step);
@@ -75,7 +75,7 @@ fn add_event(text: &mut String, event: &Event) -> Result<(), Fail> {
     Ok(())
 }
 
-/// The first nine events that are pending.
+/// Returns the first nine events that are pending.
 fn events_of<A: Allocator + Copy>(alloc: Global, queue: &Queue<A>) -> Result<String, Fail> {
     let mut text = String::new(alloc);
     for event in &queue.pending(9)? {
@@ -84,7 +84,7 @@ fn events_of<A: Allocator + Copy>(alloc: Global, queue: &Queue<A>) -> Result<Str
     Ok(text)
 }
 
-/// What is done, one line after the other, what it comes to, and which events are pending then.
+/// What is done, one line after the other, its outcome, and which events are pending then.
 const CALLS: &str = "\
 state 1 = put 1s1
 cancel 1 = put 1s1 2c1
@@ -103,7 +103,7 @@ ack 8 = done
 ack 8 = stale
 state 2 = put 9s2";
 
-/// Does what a line says: what it comes to, and which events are pending then.
+/// Does what a line says, and returns the outcome and the events that are pending then.
 fn told(alloc: Global, queue: &mut Queue<Global>, line: &str) -> Result<String, Fail> {
     let outcome = act(alloc, queue, line)?;
     let events = events_of(alloc, queue)?;
@@ -126,8 +126,8 @@ fn a_later_state_report_supersedes_the_one_before(rt: HostRuntime) -> Result<(),
     rows_are_so(&rt, &mut queue)
 }
 
-/// Puts so many State Reports, of the steps 1 and 2 in turn, behind a request to cancel: which events are pending, and the
-/// greatest number.
+/// Puts `count` State Reports, of the steps 1 and 2 in turn, after a request to cancel; returns the events that are
+/// pending and the greatest number.
 fn many_in(alloc: Global, queue: &mut Queue<Global>, count: u64) -> Result<(String, u64), Fail> {
     let one = report_of(alloc, "state", "1")?;
     let other = report_of(alloc, "state", "2")?;
@@ -138,7 +138,7 @@ fn many_in(alloc: Global, queue: &mut Queue<Global>, count: u64) -> Result<(Stri
     Ok((events_of(alloc, queue)?, queue.made()))
 }
 
-/// The same of a new queue.
+/// The same with a new queue.
 fn many(alloc: Global, count: u64) -> Result<(String, u64), Fail> {
     let mut queue = Queue::new(alloc);
     many_in(alloc, &mut queue, count)
@@ -152,7 +152,7 @@ fn what_is_superseded_leaves_the_queue_however_much_it_is(rt: HostRuntime) -> Re
     Ok(())
 }
 
-/// The queues of two peers, of whom the second is told of two reports and acknowledges the first: the events of both.
+/// Returns the events of two peers, of which the second gets two reports and acknowledges the first.
 fn told_to_one(alloc: Global) -> Result<(String, String), Fail> {
     let reports = [
         report_of(alloc, "cancel", "1")?,
@@ -178,8 +178,8 @@ fn each_peer_has_a_queue_of_its_own(rt: HostRuntime) -> Result<(), Fail> {
     Ok(())
 }
 
-/// Makes room for an event and takes what is pending, with the growth of a number refused: whether none was, and what is
-/// pending in any case.
+/// Makes room for events and takes what is pending while the growth with this number is refused; returns whether both
+/// succeed, and what is pending in either case.
 fn pending_in<'a>(
     alloc: Global,
     heap: &'a Refusing<Global>,
@@ -194,7 +194,7 @@ fn pending_in<'a>(
     Ok((is_reserved && is_shown, events_of(alloc, queue)?))
 }
 
-/// The same of a new queue.
+/// The same with a new queue.
 fn pending_lacking(alloc: Global, growth: u64) -> Result<(bool, String), Fail> {
     let heap = Refusing::new(alloc);
     let mut queue = Queue::new(&heap);
@@ -211,7 +211,7 @@ fn a_queue_stays_where_a_growth_is_refused(rt: HostRuntime) -> Result<(), Fail> 
             refused = growth;
         }
     }
-    // the map of steps, the list of events and the list that is shown grow at least once each, and all that doesn't is whole
+    // the map of steps, the list of events and the returned list grow at least once each, and the rest succeeds
     assert!(rt; refused >= 3 && refused < 19, "{refused}");
     Ok(())
 }

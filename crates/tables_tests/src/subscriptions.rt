@@ -11,7 +11,7 @@ use ups_life::{Place, StepUid, Subscription};
 use ups_match::Keys;
 use ups_watch::{Cover, Watchers};
 
-/// The subscription of a letter: `L` with a deletion lock, `F` without.
+/// Returns the subscription that a letter stands for: `L` with a Deletion Lock, `F` without.
 fn subscription_of(letter: &str) -> Result<Subscription, Fail> {
     match letter {
         "L" => Ok(Subscription::Locked),
@@ -20,7 +20,7 @@ fn subscription_of(letter: &str) -> Result<Subscription, Fail> {
     }
 }
 
-/// The letter of a subscription; `-` where there is none.
+/// Returns the letter of a subscription, or `-` if there is none.
 fn letter_of(subscription: Option<Subscription>) -> char {
     match subscription {
         Some(Subscription::Locked) => 'L',
@@ -37,7 +37,7 @@ fn add_letters(text: &mut String, cells: &[Option<Subscription>]) -> Result<(), 
     Ok(())
 }
 
-/// How each peer is subscribed to the steps 1 and 2, as letters: none where a step isn't known.
+/// Returns how each peer is subscribed to the steps 1 and 2, as letters, with none for a step that is not known.
 fn letters_of<A: Allocator + Copy>(alloc: Global, watchers: &Watchers<A>) -> Result<String, Fail> {
     let mut text = String::new(alloc);
     add_letters(&mut text, watchers.of_step(step_of(alloc, "1")?))?;
@@ -46,7 +46,7 @@ fn letters_of<A: Allocator + Copy>(alloc: Global, watchers: &Watchers<A>) -> Res
     Ok(text)
 }
 
-/// The place of a peer.
+/// Returns the place of a peer.
 fn peer_of<A: Allocator + Copy>(watchers: &Watchers<A>, digits: &str) -> Result<usize, Fail>
     ensures { IfOk result (λ peer. peer < length watchers.now.covers) }
 {
@@ -57,7 +57,7 @@ fn peer_of<A: Allocator + Copy>(watchers: &Watchers<A>, digits: &str) -> Result<
     Ok(peer)
 }
 
-/// A step that is known.
+/// Returns a step that is known.
 fn known_step<A: Allocator + Copy>(
     alloc: Global,
     watchers: &Watchers<A>,
@@ -93,7 +93,7 @@ fn subscribe(alloc: Global, watchers: &mut Watchers<Global>, words: &str) -> Res
     Ok(())
 }
 
-/// Ends the subscription of a peer to a step, or with `all` each one.
+/// Ends the subscription of a peer to a step, or all of its subscriptions with `all`.
 fn unsubscribe(alloc: Global, watchers: &mut Watchers<Global>, words: &str) -> Result<(), Fail> {
     let (peer, place) = words.split_once(' ').ok_or("a peer")?;
     let peer = peer_of(watchers, peer)?;
@@ -105,7 +105,7 @@ fn unsubscribe(alloc: Global, watchers: &mut Watchers<Global>, words: &str) -> R
     Ok(())
 }
 
-/// Gives a peer a global subscription that takes in each step, those to come alone.
+/// Gives a peer a global subscription to each step to come.
 fn cover(watchers: &mut Watchers<Global>, words: &str) -> Result<(), Fail> {
     let (peer, letter) = words.split_once(' ').ok_or("a peer")?;
     let peer = peer_of(watchers, peer)?;
@@ -158,7 +158,7 @@ unsubscribe 2 all = ---,L--
 remove 1 = ,L--
 create 1 = ---,L--";
 
-/// Whether a row says how the peers are subscribed after what its line does.
+/// Returns whether a row says how the peers are subscribed after what its line does.
 fn is_so(alloc: Global, watchers: &mut Watchers<Global>, row: &str) -> Result<bool, Fail> {
     let (line, letters) = row.split_once(" = ").ok_or("letters")?;
     act(alloc, watchers, line)?;
@@ -182,8 +182,8 @@ fn peers_are_subscribed_as_they_ask(rt: HostRuntime) -> Result<(), Fail> {
     rows_are_so(&rt, &mut watchers)
 }
 
-/// Subscribes two peers to a step, the one with a deletion lock and the other without: how many locks there are, and
-/// whether the step is kept as it is, without the subscription of the one, and with a lock of the other.
+/// Subscribes two peers to a step, the first with a Deletion Lock and the second without; returns the number of locks,
+/// and whether the step is kept as it is, without the subscription of the first, and with a lock of the second.
 fn locks_in(
     alloc: Global,
     watchers: &mut Watchers<Global>,
@@ -202,7 +202,7 @@ fn locks_in(
     ))
 }
 
-/// The same of a new table.
+/// The same with a new table.
 fn locks_of(alloc: Global) -> Result<(usize, bool, bool, bool), Fail> {
     let mut watchers = Watchers::new(alloc, 2)?;
     locks_in(alloc, &mut watchers)
@@ -226,7 +226,7 @@ fn follow(alloc: Global, watchers: &mut Watchers<Global>, words: &str) -> Result
     Ok(())
 }
 
-/// Subscribes who begins to watch the second step where its attributes change.
+/// Subscribes those who begin to watch the second step when its attributes change.
 fn change(
     alloc: Global,
     watchers: &mut Watchers<Global>,
@@ -241,8 +241,8 @@ fn change(
     Ok(())
 }
 
-/// Creates a step with the attributes that a filter asks for, and one with others, which then get what the first has: the
-/// subscriptions before that and after it.
+/// Creates a step with the attributes that a filter asks for, and one with others, which then gets those of the first;
+/// returns the subscriptions before and after that.
 fn letters_around(
     alloc: Global,
     watchers: &mut Watchers<Global>,
@@ -257,7 +257,7 @@ fn letters_around(
     Ok(format!(in alloc; "{before} {after}")?)
 }
 
-/// The same of a table whose first peer has a filter.
+/// The same with a table whose first peer has a filter.
 fn filtered_in(alloc: Global, watchers: &mut Watchers<Global>) -> Result<String, Fail> {
     follow(alloc, watchers, "00741202=READS")?;
     let reads = words::set_of(alloc, "00741202=READS")?;
@@ -265,7 +265,7 @@ fn filtered_in(alloc: Global, watchers: &mut Watchers<Global>) -> Result<String,
     letters_around(alloc, watchers, &reads, &other)
 }
 
-/// The same of a new table of one peer.
+/// The same with a new table of one peer.
 fn filtered(alloc: Global) -> Result<String, Fail> {
     let mut watchers = Watchers::new(alloc, 1)?;
     filtered_in(alloc, &mut watchers)
@@ -278,7 +278,7 @@ fn a_filter_follows_a_change(rt: HostRuntime) -> Result<(), Fail> {
     Ok(())
 }
 
-/// Locks the first step, which is created, for the second peer.
+/// Creates the first step, and locks it for the second peer.
 fn lock_step<A: Allocator + Copy>(
     alloc: Global,
     watchers: &mut Watchers<A>,
@@ -291,8 +291,8 @@ fn lock_step<A: Allocator + Copy>(
     Ok(())
 }
 
-/// Makes room for two steps behind a first with the growth of a number refused: whether that was made, and how the peers
-/// are subscribed to the step that was there before in any case.
+/// Makes room for two steps after a first while the growth with this number is refused; returns whether that succeeds,
+/// and in either case how the peers are subscribed to the first.
 fn reserved_in<'a>(
     alloc: Global,
     heap: &'a Refusing<Global>,
@@ -309,7 +309,7 @@ fn reserved_in<'a>(
     Ok((is_reserved, letters_of(alloc, watchers)?))
 }
 
-/// The same of a new table of three peers.
+/// The same with a new table of three peers.
 fn reserved_lacking(alloc: Global, growth: u64) -> Result<(bool, String), Fail> {
     let heap = Refusing::new(alloc);
     let mut watchers = Watchers::new(&heap, 3)?;
@@ -326,12 +326,12 @@ fn a_table_stays_where_a_growth_is_refused(rt: HostRuntime) -> Result<(), Fail> 
             refused = growth;
         }
     }
-    // two rows are made at least, and all that doesn't grow is whole
+    // at least two rows are made, and the rest succeeds
     assert!(rt; refused >= 2 && refused < 19, "{refused}");
     Ok(())
 }
 
-/// Whether a table of three peers is made with the growth of a number refused.
+/// Returns whether a table of three peers is made while the growth with this number is refused.
 fn is_made(alloc: Global, growth: u64) -> bool {
     let heap = Refusing::new(alloc);
     heap.refuse(growth);

@@ -8,7 +8,7 @@ use std::process::Abort;
 use std::test::Fail;
 use ups_keep::{Due, Final};
 
-/// A step that is final since a moment.
+/// Returns a step that has been final since a moment.
 fn final_of(alloc: Global, words: &str) -> Result<Final, Fail> {
     let (moment, step) = words.split_once(' ').ok_or("a moment")?;
     Ok(Final {
@@ -17,7 +17,7 @@ fn final_of(alloc: Global, words: &str) -> Result<Final, Fail> {
     })
 }
 
-/// Adds a step, for which room is made.
+/// Makes room for a step, and adds it.
 fn add<A: Allocator + Copy>(due: &mut Due<A>, step: Final) -> Result<(), Fail> {
     due.reserve(1)?;
     due.add(step);
@@ -41,14 +41,14 @@ fn act(alloc: Global, due: &mut Due<Global>, line: &str) -> Result<(), Fail> {
     }
 }
 
-/// Adds a step: the moment since when it is final, and its digit.
+/// Adds a step as text: the moment since when it is final, and its digit.
 fn add_step(text: &mut String, step: &Final) -> Result<(), Fail> {
     let digit = digit_of(step.step);
     write!(text, " {}:{digit}", step.moment)?;
     Ok(())
 }
 
-/// The steps that are final since a moment or longer.
+/// Returns the steps that have been final since a moment or longer.
 fn steps_up_to<A: Allocator + Copy>(
     alloc: Global,
     due: &Due<A>,
@@ -77,7 +77,7 @@ sweep 11 = 12:2 /
 add 9 5 = 9:5 12:2 / 9:5
 sweep 12 = /";
 
-/// Does what a line says, and tells which steps wait then.
+/// Does what a line says, and returns the steps that wait then.
 fn told(alloc: Global, due: &mut Due<Global>, line: &str) -> Result<String, Fail> {
     act(alloc, due, line)?;
     let all = steps_up_to(alloc, due, alloc, u64::MAX)?;
@@ -104,8 +104,8 @@ fn steps_wait_in_the_order_of_their_ends(rt: HostRuntime) -> Result<(), Fail> {
     rows_are_so(&rt, &mut due)
 }
 
-/// Merges so many steps, the last of them the oldest, into a list of one; then keeps those that are not final since an odd
-/// moment.
+/// Merges `count` steps, the last of which is the oldest, into a list of one; then keeps those that are final since an
+/// even moment, and returns them.
 fn merged(alloc: Global, count: u64) -> Result<String, Fail> {
     let mut due = Due::new(alloc);
     add(&mut due, final_of(alloc, "50 1")?)?;
@@ -133,7 +133,8 @@ fn few_and_many_are_merged_in_order(rt: HostRuntime) -> Result<(), Fail> {
     Ok(())
 }
 
-/// Makes room and lists the steps with the growth of a number refused: whether none was, and the steps in any case.
+/// Makes room and lists the steps while the growth with this number is refused; returns whether both succeed, and the
+/// steps in either case.
 fn listed_in<'a>(
     alloc: Global,
     heap: &'a Refusing<Global>,
@@ -148,7 +149,7 @@ fn listed_in<'a>(
     Ok((is_reserved && is_listed, steps_up_to(alloc, due, heap, 10)?))
 }
 
-/// The same of a new list.
+/// The same with a new list.
 fn listed_lacking(alloc: Global, growth: u64) -> Result<(bool, String), Fail> {
     let heap = Refusing::new(alloc);
     let mut due = Due::new(&heap);
@@ -165,7 +166,7 @@ fn a_list_stays_where_a_growth_is_refused(rt: HostRuntime) -> Result<(), Fail> {
             refused = growth;
         }
     }
-    // the list itself grows once; the one that is handed out makes do where its first growth is refused
+    // the list itself grows once; the one that is returned does without its first growth if that is refused
     assert!(rt; refused >= 1 && refused < 19, "{refused}");
     Ok(())
 }

@@ -1,4 +1,4 @@
-//! What is asked of `compact`.
+//! The arguments of `compact`.
 
 ghost use Rattle.std.specs.Prelude.{◌≡◌, ◌≤◌, [], codes, length, None, IfErr, IfOk, unwrap_or};
 ghost use Rattle.clap.specs.Matches.{first_value, found_of};
@@ -15,7 +15,7 @@ use clap::{ArgMatches, Command};
 use std::alloc::{AllocError, Global};
 use ups_life::Peer;
 
-/// The command line of `upsd compact`.
+/// Returns the command line of `upsd compact`.
 pub(crate) fn compact_command<'a>(alloc: Global) -> Result<Command<'a>, AllocError> {
     let command = Command::new(alloc, "compact")
         .about("takes out of a store what is about steps that are no longer held")
@@ -25,26 +25,26 @@ pub(crate) fn compact_command<'a>(alloc: Global) -> Result<Command<'a>, AllocErr
         .arg(peer_words(alloc))
 }
 
-/// What a command line asks of `compact`.
+/// The arguments of `compact`.
 #[derive(Drop)]
 pub struct CompactArguments<'a> {
     /// The file of the store.
     pub store: &'a str,
     /// Whether requests of the store that are not accepted with these settings are left out.
     pub leave_out: bool,
-    /// Who may watch steps.
+    /// The peers that may watch steps.
     pub peers: Vec<Peer>,
-    /// For how many seconds a finished step is kept at least.
+    /// The minimum number of seconds for which a finished step is kept.
     pub keep: u32,
-    /// The offset of the local time from UTC in minutes, above 0 east of it.
+    /// The offset of the local time from UTC in minutes, positive east of it.
     pub offset: i16,
 }
 
-/// Reads what a command line asks of `compact`.
+/// Parses the arguments of `compact`.
 ///
 /// # Errors
 ///
-/// Those of its words, as [`ArgumentFault`] has them.
+/// Those of the words, as in [`ArgumentFault`].
 pub fn compact_arguments<'a>(
     alloc: Global,
     matches: &ArgMatches<'a>,

@@ -1,4 +1,4 @@
-//! Why words are refused.
+//! Why arguments are refused.
 
 ghost use Rattle.std.specs.Prelude.{◌≡◌};
 ghost use Rattle.ups_args.specs.declared.fault.ArgumentFault.TheVariants.{Memory};
@@ -9,37 +9,37 @@ use thiserror::Error;
 /// Why the words of a command line are refused.
 #[derive(Clone, Copy, Debug, PartialEq, Eq, Error)]
 pub enum ArgumentFault<'a> {
-    /// The word behind `--ae` is not a title.
+    /// The word after `--ae` is not a title.
     #[error("--ae takes the title of an application entity: 1 to 16 printable characters without a backslash")]
     Ae,
-    /// This word names no peer.
+    /// This word does not name a peer.
     #[error("{0:?} is no PEER: AE=host:port or AE=host:port,lock")]
     Peer(&'a str),
-    /// A title is named by two words.
+    /// Two words name the same title.
     #[error("a PEER is named twice")]
     Doubled,
-    /// More peers than may be named.
+    /// Too many peers are named.
     #[error("more than 1,000 PEERs are named")]
     TooMany,
-    /// The word behind `--keep` is no number of seconds.
+    /// The word after `--keep` is not a number of seconds.
     #[error("--keep takes a number of seconds, from 0 to 4294967295")]
     Keep,
-    /// The word behind `--offset` is no offset from UTC.
+    /// The word after `--offset` is not an offset from UTC.
     #[error("--offset takes a number of minutes, from -720 to 840")]
     Offset,
-    /// The word behind `--port` is no number of a port.
+    /// The word after `--port` is not the number of a port.
     #[error("--port takes the number of a port, from 0 to 65535; 0 stands for any that is free")]
     Port,
-    /// The word behind `--associations` is no number of associations.
+    /// The word after `--associations` is not a number of associations.
     #[error("--associations takes a number from 1 to 1022")]
     Associations,
-    /// The word behind `--idle` is no number of seconds.
+    /// The word after `--idle` is not a number of seconds.
     #[error("--idle takes a number of seconds, from 0 to 4294967295; 0 stands for no limit")]
     Idle,
-    /// The word behind `--timeout` is no number of seconds.
+    /// The word after `--timeout` is not a number of seconds.
     #[error("--timeout takes a number of seconds, from 0 to 4294967295; 0 stands for no limit")]
     Timeout,
-    /// The word behind `--delivery-timeout` is no number of seconds.
+    /// The word after `--delivery-timeout` is not a number of seconds.
     #[error("--delivery-timeout takes a number of seconds, from 0 to 4294967295; 0 stands for an hour")]
     DeliveryTimeout,
     /// Memory ran out.

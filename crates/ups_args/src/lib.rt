@@ -1,5 +1,5 @@
-//! Reads what the words of a command line ask of `upsd`, into titles, numbers, peers and watchers, and may not know what is
-//! done with them: it makes no manager, no session and no connection, reads no input and writes no output.
+//! Parses the words of the command line of `upsd` into titles, numbers, peers and watchers. This crate may not know
+//! what is done with them: it makes no manager, session or connection, reads no input and writes no output.
 #![tactic(auto)]
 
 mod addresses;

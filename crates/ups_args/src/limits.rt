@@ -1,18 +1,18 @@
-//! How the service is set up where nothing else is said.
+//! The defaults of the service.
 
 ghost use Rattle.std.specs.Prelude.{◌≡◌};
 ghost use Rattle.ups_args.specs.Limits.{keep_seconds, local_offset};
 
-/// For how many seconds a finished step is kept at least, where nothing else is said.
+/// The default minimum number of seconds for which a finished step is kept.
 pub const KEEP: u32 = 60;
 
-/// The offset of the local time from UTC in minutes, where nothing else is said.
+/// The default offset of the local time from UTC, in minutes.
 pub const OFFSET: i16 = 0;
 
-/// The address to listen on, where nothing else is said: this machine's own.
+/// The default address to listen on: the loopback address.
 pub(crate) const LOOPBACK: &str = "127.0.0.1";
 
-/// The limits are those of the definitions.
+/// Does nothing at run time: its contract tells a proof that the defaults are those of the definitions.
 pub fn limits_are_as_defined()
     ensures keep { KEEP ≡ keep_seconds }
     ensures offset { OFFSET ≡ local_offset }

@@ -1,9 +1,9 @@
-//! Options of a command line.
+//! The options of a command line.
 
 use clap::{Arg, ArgAction};
 use std::alloc::Global;
 
-/// An option with a word behind it.
+/// Returns an option with a value.
 pub(crate) fn worded<'a>(alloc: Global, name: &'a str, value: &'a str, help: &'a str) -> Arg<'a> {
     Arg::new(alloc, name)
         .long(name)
@@ -12,7 +12,7 @@ pub(crate) fn worded<'a>(alloc: Global, name: &'a str, value: &'a str, help: &'a
         .action(ArgAction::Set)
 }
 
-/// An option without a word.
+/// Returns an option without a value.
 pub(crate) fn flag<'a>(alloc: Global, name: &'a str, help: &'a str) -> Arg<'a> {
     Arg::new(alloc, name)
         .long(name)

@@ -14,7 +14,7 @@ use ups_life::{MAX_PEERS, Peer};
 use ups_pdu::Ae;
 use ups_settings::Watcher;
 
-/// The words that name peers.
+/// Returns the argument for the words that name peers.
 pub(crate) fn peer_words<'a>(alloc: Global) -> Arg<'a> {
     Arg::new(alloc, "peer")
         .value_name("PEER")
@@ -24,8 +24,8 @@ pub(crate) fn peer_words<'a>(alloc: Global) -> Arg<'a> {
         .action(ArgAction::Append)
 }
 
-/// The address of a peer, and whether the peer may lock steps: `,lock` behind the address says so. None where the text is
-/// no address.
+/// Returns the address of a peer, and whether the peer may lock steps: `,lock` after the address allows that. Returns
+/// None if the text is not an address.
 fn lock_of<'a>(text: &'a str) -> Option<(Address<'a>, bool)>
     ensures { MatchOption result ((lock : Bool) → SaysLock text.now lock → ⊥) (λ r. SaysPlace text.now r.0.host.now r.0.port r.1) }
 {
@@ -44,8 +44,7 @@ struct PeerWord<'a> {
     address: Address<'a>,
 }
 
-/// The peer that a word names, and where it listens, as `AE=host:port` or `AE=host:port,lock`. The first `=` ends the
-/// title.
+/// Parses a peer and where it listens, as `AE=host:port` or `AE=host:port,lock`. The first `=` ends the title.
 fn peer_word_of<'a>(word: &'a str) -> Option<PeerWord<'a>>
     ensures { MatchOption result ((peer : Peer) → NamesPeer word.now peer → ⊥) (λ p. NamesPlace word.now p.peer p.address.host.now p.address.port) }
 {
@@ -58,10 +57,10 @@ fn peer_word_of<'a>(word: &'a str) -> Option<PeerWord<'a>>
     })
 }
 
-/// The peers that words name.
+/// Parses the words that name peers.
 ///
-/// Errors: TooMany where there are more than 1,000 words; else by the first word that is wrong: Peer where it names none,
-/// Doubled where a word before it names one of the same title; lack of memory.
+/// Errors: TooMany if there are more than 1,000 words; else for the first wrong word: Peer if it names none, Doubled if
+/// an earlier word has the same title; lack of memory.
 #[tactic(auto, using(crate::proofs::Naming::twice_on))]
 pub(crate) fn peers_of<'a, A: Allocator + Copy>(
     alloc: A,
@@ -88,16 +87,16 @@ pub(crate) fn peers_of<'a, A: Allocator + Copy>(
     Ok(peers)
 }
 
-/// Whether one of the peers has this title.
+/// Returns whether one of the peers has this title.
 fn is_named(peers: &[Peer], ae: Ae) -> bool
     ensures { result ≡ is_named ae peers.now }
 {
     peers.iter().any(|peer| peer.ae == ae)
 }
 
-/// The watchers that words name: the titles of the peers, and where they listen.
+/// Parses the words that name peers as watchers: the titles of the peers, and where they listen.
 ///
-/// Errors: Peer by the first word that names none; out of memory.
+/// Errors: Peer for the first word that names none; lack of memory.
 pub(crate) fn watchers_of<'a>(
     alloc: Global,
     words: &[&'a str],

@@ -1,4 +1,4 @@
-//! What is asked of `pipe`.
+//! The arguments of `pipe`.
 
 ghost use Rattle.std.specs.Prelude.{◌≡◌, ◌≤◌, [], codes, length, None, IfErr, IfOk, unwrap_or};
 ghost use Rattle.clap.specs.Matches.{first_value, found_of};
@@ -17,7 +17,7 @@ use std::alloc::{AllocError, Global};
 use ups_life::Peer;
 use ups_pdu::Ae;
 
-/// The command line of `upsd pipe`.
+/// Returns the command line of `upsd pipe`.
 pub(crate) fn pipe_command<'a>(alloc: Global) -> Result<Command<'a>, AllocError> {
     let hex = "read hex digits, and write each PDU as a line of them";
     Command::new(alloc, "pipe")
@@ -27,22 +27,22 @@ pub(crate) fn pipe_command<'a>(alloc: Global) -> Result<Command<'a>, AllocError>
         .arg(peer_words(alloc))
 }
 
-/// What a command line asks of `pipe`.
+/// The arguments of `pipe`.
 #[derive(Drop)]
 pub struct PipeArguments {
     /// The title of this application entity.
     pub ae: Ae,
-    /// Whether both sides are hex digits.
+    /// Whether input and output are hex digits.
     pub hex: bool,
-    /// Who may watch steps.
+    /// The peers that may watch steps.
     pub peers: Vec<Peer>,
 }
 
-/// Reads what a command line asks of `pipe`.
+/// Parses the arguments of `pipe`.
 ///
 /// # Errors
 ///
-/// Those of its words, as [`ArgumentFault`] has them.
+/// Those of the words, as in [`ArgumentFault`].
 #[tactic(auto, using(crate::proofs::Naming::unrefused))]
 pub fn pipe_arguments<'a>(
     alloc: Global,

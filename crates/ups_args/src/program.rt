@@ -7,10 +7,10 @@ use crate::server::serve_command;
 use clap::Command;
 use std::alloc::{AllocError, Global};
 
-/// The version of `upsd`, which its implementation version name ends in too (`ups_assoc::version_name`).
+/// The version of `upsd`, with which its implementation version name ends too (`ups_assoc::version_name`).
 pub const VERSION: &str = "0.2.0";
 
-/// A command line with another command; or that lacked memory.
+/// Adds a subcommand, unless memory ran out while it was made.
 fn with_command<'a>(
     command: Command<'a>,
     other: Result<Command<'a>, AllocError>,
@@ -18,7 +18,7 @@ fn with_command<'a>(
     command.subcommand(other?)
 }
 
-/// The command line of `upsd`: what is asked of it by `pipe`, `script`, `serve` or `compact`.
+/// Returns the command line of `upsd`, with the subcommands `pipe`, `script`, `serve` and `compact`.
 ///
 /// # Errors
 ///

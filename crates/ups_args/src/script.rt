@@ -1,4 +1,4 @@
-//! What is asked of `script`.
+//! The arguments of `script`.
 
 ghost use Rattle.std.specs.Prelude.{◌≡◌, ◌≤◌, codes, length, None, IfErr, IfOk};
 ghost use Rattle.clap.specs.Matches.{first_value, found_of};
@@ -13,7 +13,7 @@ use clap::{ArgMatches, Command};
 use std::alloc::{AllocError, Global};
 use ups_life::Peer;
 
-/// The command line of `upsd script`.
+/// Returns the command line of `upsd script`.
 pub(crate) fn script_command<'a>(alloc: Global) -> Result<Command<'a>, AllocError> {
     let command = Command::new(alloc, "script").about(
         "answers a script from standard input, a line for each of its lines",
@@ -21,22 +21,22 @@ pub(crate) fn script_command<'a>(alloc: Global) -> Result<Command<'a>, AllocErro
     with_times(alloc, command)?.arg(peer_words(alloc))
 }
 
-/// What a command line asks of `script`.
+/// The arguments of `script`.
 #[derive(Drop)]
 pub struct ScriptArguments {
-    /// Who may watch steps.
+    /// The peers that may watch steps.
     pub peers: Vec<Peer>,
-    /// For how many seconds a finished step is kept at least.
+    /// The minimum number of seconds for which a finished step is kept.
     pub keep: u32,
-    /// The offset of the local time from UTC in minutes, above 0 east of it.
+    /// The offset of the local time from UTC in minutes, positive east of it.
     pub offset: i16,
 }
 
-/// Reads what a command line asks of `script`.
+/// Parses the arguments of `script`.
 ///
 /// # Errors
 ///
-/// Those of its words, as [`ArgumentFault`] has them.
+/// Those of the words, as in [`ArgumentFault`].
 #[tactic(auto, using(crate::proofs::Naming::unrefused_at))]
 pub fn script_arguments<'a>(
     alloc: Global,

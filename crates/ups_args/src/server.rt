@@ -1,4 +1,4 @@
-//! What is asked of `serve`.
+//! The arguments of `serve`.
 
 ghost use Rattle.std.specs.Prelude.{◌≡◌, ◌≤◌, ℕ, [], codes, length, None, option_map, IfErr, IfOk, MatchResult, unwrap_or};
 ghost use Rattle.clap.specs.Matches.{first_value, found_of};
@@ -24,7 +24,7 @@ use ups_settings::{
     DELIVERY_TIMEOUT, IDLE, MAX_WORKERS, ServerLimits, TIMEOUT, TURNS, WORKERS, Watcher,
 };
 
-/// The options of a server that say where it listens.
+/// Adds the options for the address that a server listens on.
 fn with_door<'a>(alloc: Global, command: Command<'a>) -> Result<Command<'a>, AllocError> {
     let port = worded(
         alloc,
@@ -38,7 +38,7 @@ fn with_door<'a>(alloc: Global, command: Command<'a>) -> Result<Command<'a>, All
         .arg(worded(alloc, "bind", "ADDRESS", bind))
 }
 
-/// The options of a server that say how it serves.
+/// Adds the options for the associations that a server serves.
 fn with_workers<'a>(alloc: Global, command: Command<'a>) -> Result<Command<'a>, AllocError> {
     let associations = "how many associations are served at the same time [default: 16]";
     let idle = "how long an association may be silent, 0 for any time [default: 60]";
@@ -47,7 +47,7 @@ fn with_workers<'a>(alloc: Global, command: Command<'a>) -> Result<Command<'a>, 
         .arg(worded(alloc, "idle", "SECONDS", idle))
 }
 
-/// The options of a server that say how long a peer may take, and a watcher.
+/// Adds the options for how long a peer or a watcher may take.
 fn with_limits<'a>(alloc: Global, command: Command<'a>) -> Result<Command<'a>, AllocError> {
     let timeout =
         "how long a peer may take to send a message, or to take an answer, 0 for any time [default: 60]";
@@ -58,14 +58,14 @@ fn with_limits<'a>(alloc: Global, command: Command<'a>) -> Result<Command<'a>, A
         .arg(worded(alloc, "delivery-timeout", "SECONDS", delivery))
 }
 
-/// The options of a server: where it listens, how it serves and delivers, and what it tells.
+/// Adds the options of a server for its address, its associations and deliveries, and its log.
 fn with_network<'a>(alloc: Global, command: Command<'a>) -> Result<Command<'a>, AllocError> {
     let verbose = "tell of each association whether it is accepted, and of each request";
     let command = with_workers(alloc, with_door(alloc, command)?)?;
     with_limits(alloc, command)?.arg(flag(alloc, "verbose", verbose))
 }
 
-/// The command line of `upsd serve`.
+/// Returns the command line of `upsd serve`.
 pub(crate) fn serve_command<'a>(alloc: Global) -> Result<Command<'a>, AllocError> {
     let command = Command::new(alloc, "serve")
         .about("answers associations over TCP, and delivers event reports")
@@ -74,9 +74,9 @@ pub(crate) fn serve_command<'a>(alloc: Global) -> Result<Command<'a>, AllocError
     with_store(alloc, command)?.arg(peer_words(alloc))
 }
 
-/// The number of the port that a word says; 0 stands for any that is free.
+/// Parses the number of a port; 0 means any free port.
 ///
-/// Errors: Port where it says none from 0 to 65535.
+/// Errors: Port if it is not a number from 0 to 65535.
 fn port_of(word: &str) -> Result<u16, ArgumentFault<'_>>
     ensures said { MatchResult result (SaysPort word.now) (λ _. (port : ℕ) → SaysPort word.now port → ⊥) }
     ensures fault { IfErr result (λ fault. fault ≡ ArgumentFault.Port) }
@@ -87,9 +87,9 @@ fn port_of(word: &str) -> Result<u16, ArgumentFault<'_>>
     }
 }
 
-/// How many associations are served at the same time, by a word.
+/// Parses the number of associations that are served at the same time.
 ///
-/// Errors: Associations where it says no number from 1 to 1,022.
+/// Errors: Associations if it is not a number from 1 to 1,022.
 fn workers_of(word: &str) -> Result<u32, ArgumentFault<'_>>
     ensures said { MatchResult result (SaysWorkers word.now) (λ _. (count : ℕ) → SaysWorkers word.now count → ⊥) }
     ensures fault { IfErr result (λ fault. fault ≡ ArgumentFault.Associations) }
@@ -100,7 +100,8 @@ fn workers_of(word: &str) -> Result<u32, ArgumentFault<'_>>
     }
 }
 
-/// How many associations are served at the same time, by the word behind `--associations`, or 16 where there is none.
+/// Returns the number of associations that are served at the same time, from the word after `--associations`, or 16
+/// without one.
 ///
 /// Errors: those of `workers_of`.
 fn workers_asked(word: Option<&str>) -> Result<u32, ArgumentFault<'_>>
@@ -113,10 +114,10 @@ fn workers_asked(word: Option<&str>) -> Result<u32, ArgumentFault<'_>>
     }
 }
 
-/// For how many seconds an association may be silent between two messages, by the word behind `--idle`, or 60 where there is
-/// none; 0 stands for any time.
+/// Returns how many seconds an association may be silent between two messages, from the word after `--idle`, or 60
+/// without one; 0 means no limit.
 ///
-/// Errors: Idle where the word says no number of seconds.
+/// Errors: Idle if the word is not a number of seconds.
 fn idle_asked(word: Option<&str>) -> Result<u32, ArgumentFault<'_>>
     ensures said { MatchResult result (SaysIdle (option_map (λ w. w.now) word.entry)) (λ _. (idle : ℕ) → SaysIdle (option_map (λ w. w.now) word.entry) idle → ⊥) }
     ensures fault { IfErr result (λ fault. fault ≡ ArgumentFault.Idle) }
@@ -130,10 +131,10 @@ fn idle_asked(word: Option<&str>) -> Result<u32, ArgumentFault<'_>>
     }
 }
 
-/// For how many seconds a peer may take for each message that it has begun to send, and to take each answer, by the word
-/// behind `--timeout`, or 60 where there is none; 0 stands for any time.
+/// Returns how many seconds a peer may take for each message that it has begun to send, and to take each answer, from
+/// the word after `--timeout`, or 60 without one; 0 means no limit.
 ///
-/// Errors: Timeout where the word says no number of seconds.
+/// Errors: Timeout if the word is not a number of seconds.
 fn timeout_asked(word: Option<&str>) -> Result<u32, ArgumentFault<'_>>
     ensures said { MatchResult result (SaysTimeout (option_map (λ w. w.now) word.entry)) (λ _. (timeout : ℕ) → SaysTimeout (option_map (λ w. w.now) word.entry) timeout → ⊥) }
     ensures fault { IfErr result (λ fault. fault ≡ ArgumentFault.Timeout) }
@@ -147,10 +148,10 @@ fn timeout_asked(word: Option<&str>) -> Result<u32, ArgumentFault<'_>>
     }
 }
 
-/// For how many seconds a watcher is waited for at most, by the word behind `--delivery-timeout`, or 5 where there is none;
-/// 0 stands for an hour for each answer, and for ten seconds of one that is neither away nor slow.
+/// Returns how many seconds to wait for a watcher at most, from the word after `--delivery-timeout`, or 5 without one;
+/// 0 means an hour for each answer, and ten seconds for a watcher that is neither away nor slow.
 ///
-/// Errors: DeliveryTimeout where the word says no number of seconds.
+/// Errors: DeliveryTimeout if the word is not a number of seconds.
 fn delivery_timeout_asked(word: Option<&str>) -> Result<u32, ArgumentFault<'_>>
     ensures said { MatchResult result (SaysDeliveryTimeout (option_map (λ w. w.now) word.entry)) (λ _. (timeout : ℕ) → SaysDeliveryTimeout (option_map (λ w. w.now) word.entry) timeout → ⊥) }
     ensures fault { IfErr result (λ fault. fault ≡ ArgumentFault.DeliveryTimeout) }
@@ -164,7 +165,7 @@ fn delivery_timeout_asked(word: Option<&str>) -> Result<u32, ArgumentFault<'_>>
     }
 }
 
-/// The address to listen on: the word behind `--bind`, or 127.0.0.1 where there is none.
+/// Returns the address to listen on, from the word after `--bind`, or 127.0.0.1 without one.
 fn bind_asked<'a>(word: Option<&'a str>) -> &'a str
     ensures { SaysBind (option_map (λ w. w.now) word.entry) result.now }
 {
@@ -174,9 +175,9 @@ fn bind_asked<'a>(word: Option<&'a str>) -> &'a str
     }
 }
 
-/// What a server allows its peers, by what was found.
+/// Returns what a server allows its peers.
 ///
-/// Errors: Associations, Idle, Timeout or DeliveryTimeout by the first word of these that says nothing of its kind.
+/// Errors: Associations, Idle, Timeout or DeliveryTimeout for the first of these words that is invalid.
 fn limits_asked<'a>(matches: &ArgMatches<'a>) -> Result<ServerLimits, ArgumentFault<'a>>
     ensures workers { IfOk result (λ limits. SaysWorkersOrNot (first_value (found_of matches.now) (codes "associations")) limits.workers) }
     ensures turns { IfOk result (λ limits. limits.turns ≡ turns_limit) }
@@ -196,38 +197,39 @@ fn limits_asked<'a>(matches: &ArgMatches<'a>) -> Result<ServerLimits, ArgumentFa
     })
 }
 
-/// What a command line asks of `serve`.
+/// The arguments of `serve`.
 #[derive(Drop)]
 pub struct ServeArguments<'a> {
     /// The title of this application entity.
     pub ae: Ae,
     /// The address to listen on.
     pub bind: &'a str,
-    /// The port to listen on; 0 stands for any that is free.
+    /// The port to listen on; 0 means any free port.
     pub port: u16,
-    /// Who may watch steps.
+    /// The peers that may watch steps.
     pub peers: Vec<Peer>,
     /// Where each of the peers gets its event reports.
     pub watchers: Vec<Watcher>,
-    /// For how many seconds a finished step is kept at least.
+    /// The minimum number of seconds for which a finished step is kept.
     pub keep: u32,
-    /// The offset of the local time from UTC in minutes, above 0 east of it.
+    /// The offset of the local time from UTC in minutes, positive east of it.
     pub offset: i16,
-    /// How many associations are served at the same time, how much one may ask, and how long each is waited for.
+    /// The number of associations that are served at the same time, the number of PDUs of each, and how long each is
+    /// waited for.
     pub limits: ServerLimits,
-    /// The file in which accepted requests are kept, where there is one.
+    /// The file in which accepted requests are kept, if there is one.
     pub store: Option<&'a str>,
     /// Whether requests of the store that are not accepted with these settings are left out.
     pub leave_out: bool,
-    /// Whether the log tells of each association how it is answered, and of each request.
+    /// Whether to log how each association is answered, and each request.
     pub verbose: bool,
 }
 
-/// Reads what a command line asks of `serve`.
+/// Parses the arguments of `serve`.
 ///
 /// # Errors
 ///
-/// Those of its words, as [`ArgumentFault`] has them.
+/// Those of the words, as in [`ArgumentFault`].
 pub fn serve_arguments<'a>(
     alloc: Global,
     matches: &ArgMatches<'a>,

@@ -5,7 +5,7 @@ use clap::builder::ValueParser;
 use clap::{Arg, Command};
 use std::alloc::{AllocError, Global};
 
-/// The options of a server that say where accepted requests are kept.
+/// Adds the options for the store of a server.
 pub(crate) fn with_store<'a>(
     alloc: Global,
     command: Command<'a>,
@@ -17,7 +17,7 @@ pub(crate) fn with_store<'a>(
         .arg(leave_out_flag(alloc).requires_arg("store")?)
 }
 
-/// The word that names the file of a store.
+/// Returns the argument that names the file of a store.
 pub(crate) fn store_word<'a>(alloc: Global) -> Arg<'a> {
     let word = Arg::new(alloc, "store")
         .value_name("FILE")
@@ -26,12 +26,12 @@ pub(crate) fn store_word<'a>(alloc: Global) -> Arg<'a> {
     naming_file(word)
 }
 
-/// An argument whose word names a file, and so is not empty.
+/// Returns an argument that names a file, and so is not empty.
 fn naming_file<'a>(arg: Arg<'a>) -> Arg<'a> {
     arg.value_parser(ValueParser::NonEmptyString)
 }
 
-/// The option that lets requests be left out.
+/// Returns the option that allows leaving requests out.
 pub(crate) fn leave_out_flag<'a>(alloc: Global) -> Arg<'a> {
     let leave_out =
         "leave out requests of the store that these settings do not accept, in place of ending at the first";

@@ -10,7 +10,7 @@ use clap::Command;
 use std::alloc::{AllocError, Global};
 use ups_life::{MAX_OFFSET, MIN_OFFSET};
 
-/// The options of the history: how long a finished step is kept, and the local time.
+/// Adds the options for how long a finished step is kept, and for the local time.
 pub(crate) fn with_times<'a>(
     alloc: Global,
     command: Command<'a>,
@@ -21,9 +21,9 @@ pub(crate) fn with_times<'a>(
     command.arg(worded(alloc, "keep", "N", keep))?.arg(offset)
 }
 
-/// How many seconds a word says.
+/// Parses a number of seconds.
 ///
-/// Errors: Keep where it says none, or 2^32 or more.
+/// Errors: Keep if it is not a number below 2^32.
 pub(crate) fn keep_of(word: &str) -> Result<u32, ArgumentFault<'_>>
     ensures said { MatchResult result (SaysSeconds word.now) (λ _. (seconds : ℕ) → SaysSeconds word.now seconds → ⊥) }
     ensures fault { IfErr result (λ fault. fault ≡ ArgumentFault.Keep) }
@@ -34,9 +34,9 @@ pub(crate) fn keep_of(word: &str) -> Result<u32, ArgumentFault<'_>>
     }
 }
 
-/// The offset from UTC in minutes that a word says (PS3.5 section 6.2, DT).
+/// Parses an offset from UTC in minutes (PS3.5 section 6.2, DT).
 ///
-/// Errors: Offset where it says none from -720 to 840.
+/// Errors: Offset if it is not a number from -720 to 840.
 fn offset_of(word: &str) -> Result<i16, ArgumentFault<'_>>
     ensures said { MatchResult result (SaysMinutes word.now) (λ _. (offset : ℤ) → SaysMinutes word.now offset → ⊥) }
     ensures fault { IfErr result (λ fault. fault ≡ ArgumentFault.Offset) }
@@ -47,7 +47,8 @@ fn offset_of(word: &str) -> Result<i16, ArgumentFault<'_>>
     }
 }
 
-/// For how many seconds a finished step is kept at least, by the word behind `--keep`, or 60 where there is none.
+/// Returns the minimum number of seconds for which a finished step is kept, from the word after `--keep`, or 60 without
+/// one.
 ///
 /// Errors: those of `keep_of`.
 pub(crate) fn keep_asked(word: Option<&str>) -> Result<u32, ArgumentFault<'_>>
@@ -60,7 +61,7 @@ pub(crate) fn keep_asked(word: Option<&str>) -> Result<u32, ArgumentFault<'_>>
     }
 }
 
-/// The offset of the local time from UTC in minutes, by the word behind `--offset`, or 0 where there is none.
+/// Returns the offset of the local time from UTC in minutes, from the word after `--offset`, or 0 without one.
 ///
 /// Errors: those of `offset_of`.
 pub(crate) fn offset_asked(word: Option<&str>) -> Result<i16, ArgumentFault<'_>>

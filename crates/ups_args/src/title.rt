@@ -1,4 +1,4 @@
-//! The title of the application entity that the program is.
+//! The title of this application entity.
 
 ghost use Rattle.std.specs.Prelude.{◌≡◌, ℕ, List, IfErr, MatchResult};
 ghost use Rattle.ups_pdu.specs.Title.{SpellsAe};
@@ -9,14 +9,14 @@ use clap::Arg;
 use std::alloc::Global;
 use ups_pdu::Ae;
 
-/// The option whose word is the title.
+/// Returns the option for the title.
 pub(crate) fn ae_word<'a>(alloc: Global) -> Arg<'a> {
     worded(alloc, "ae", "AE", "the title of this application entity").required(true)
 }
 
-/// The title that a word is (PS3.5 section 6.2, AE).
+/// Parses a title (PS3.5 section 6.2, AE).
 ///
-/// Errors: Ae where it is none.
+/// Errors: Ae if the word is not a title.
 pub(crate) fn ae_of(word: &str) -> Result<Ae, ArgumentFault<'_>>
     ensures spelled { MatchResult result (SpellsAe word.now) (λ _. (title : List ℕ) → SpellsAe word.now title → ⊥) }
     ensures fault { IfErr result (λ fault. fault ≡ ArgumentFault.Ae) }

@@ -1,4 +1,4 @@
-//! Putting messages together from the fragments that PDUs hold (PS3.8 annex E, PS3.7 section 6.3.1).
+//! Assembling messages from the fragments in PDUs (PS3.8 annex E, PS3.7 section 6.3.1).
 
 ghost use Rattle.std.specs.Prelude.{◌≡◌, ◌↔◌, ◌+◌, ◌≤◌, ◌++◌, List, ℕ, Some, length, map, IsTrue, IfOk, IfErr};
 ghost use Rattle.ups_pdu.specs.declared.pdv.Pdv.{Pdv};
@@ -20,30 +20,30 @@ use std::marker::Model;
 use std::mem;
 use ups_pdu::{Bytes, Pdv};
 
-/// What has come of a message.
+/// The part of a message that has arrived.
 #[derive(Drop)]
 pub enum Begun<A: Allocator + Copy> {
     /// None of its fragments.
     Nothing,
-    /// Some of its command, on this presentation context.
+    /// Some of its command set, on this presentation context.
     Command {
         context: u8,
         bytes: Bytes<A>,
     },
-    /// Its whole command, which announces a data set, and some of that.
+    /// Its whole command set, which announces a data set, and what has arrived of that data set.
     Body {
         context: u8,
         command: Bytes<A>,
         bytes: Bytes<A>,
     },
-    /// A fragment was not taken: no more messages come.
+    /// A fragment was not taken, so that no more messages follow.
     Failed,
 }
 
-/// What a fragment makes of a message.
+/// The state of a message after a fragment.
 #[derive(Drop)]
 enum Taken<A: Allocator + Copy> {
-    /// It is still not whole.
+    /// It is not yet whole.
     More(Begun<A>),
     /// It is whole.
     Whole(RawMessage<A>),
@@ -57,7 +57,7 @@ impl<A: Allocator + Copy> Begun<A> {
     }
 }
 
-/// Whether three lengths together are no longer than a message may be.
+/// Returns whether three lengths together are no longer than a message may be.
 fn is_within(first: usize, second: usize, third: usize) -> bool
     ensures { IsTrue result ↔ (first + second + third ≤ longest_message) }
 {
@@ -66,8 +66,8 @@ fn is_within(first: usize, second: usize, third: usize) -> bool
         && third <= LONGEST_MESSAGE - first - second
 }
 
-/// More bytes at the end of those of a message, of which this many stand elsewhere. Behind no bytes they stand where they
-/// are, and it takes no memory.
+/// Appends `more` to the bytes of a message that has `elsewhere` other bytes. If `bytes` is empty, returns `more`
+/// itself, without allocating memory.
 ///
 /// Errors: TooLong, Memory.
 fn appended<A: Allocator + Copy>(
@@ -89,7 +89,7 @@ fn appended<A: Allocator + Copy>(
     Ok(Bytes::from_vec(vec))
 }
 
-/// What the bytes of a command make of a message, at the last fragment of the command or before.
+/// Returns the state of a message with these bytes of its command set, which is complete if `last`.
 fn command_end<A: Allocator + Copy>(alloc: A, context: u8, bytes: Bytes<A>, last: bool) -> Taken<A>
     ensures { ReturnsFed (command_end context bytes last) result }
 {
@@ -110,7 +110,7 @@ fn command_end<A: Allocator + Copy>(alloc: A, context: u8, bytes: Bytes<A>, last
     })
 }
 
-/// What the bytes of a data set make of a message, at its last fragment or before.
+/// Returns the state of a message with these bytes of its data set, which is complete if `last`.
 fn body_end<A: Allocator + Copy>(
     context: u8,
     command: Bytes<A>,
@@ -133,7 +133,7 @@ fn body_end<A: Allocator + Copy>(
     })
 }
 
-/// What a fragment of the command makes of a message.
+/// Adds a fragment of the command set to a message.
 ///
 /// Errors: TooLong, Memory.
 fn with_command<A: Allocator + Copy>(
@@ -148,7 +148,7 @@ fn with_command<A: Allocator + Copy>(
     Ok(command_end(alloc, context, bytes, pdv.last))
 }
 
-/// What a fragment of the data set makes of a message.
+/// Adds a fragment of the data set to a message.
 ///
 /// Errors: TooLong, Memory.
 fn with_data<A: Allocator + Copy>(
@@ -164,9 +164,9 @@ fn with_data<A: Allocator + Copy>(
     Ok(body_end(context, command, bytes, pdv.last))
 }
 
-/// What a fragment on an accepted context makes of what has come of a message.
+/// Adds a fragment on an accepted presentation context to the part of a message that has arrived.
 ///
-/// Errors: MixedContext, DataWithoutCommand, TooLong, Memory; Failed where one came before.
+/// Errors: MixedContext, DataWithoutCommand, TooLong, Memory; Failed after an earlier error.
 fn take_fragment<A: Allocator + Copy>(
     alloc: A,
     begun: Begun<A>,
@@ -204,7 +204,7 @@ fn take_fragment<A: Allocator + Copy>(
     }
 }
 
-/// The ids of presentation contexts.
+/// Returns the ids of presentation contexts.
 ///
 /// Errors: lack of memory.
 fn ids_of<A: Allocator + Copy>(
@@ -220,8 +220,8 @@ fn ids_of<A: Allocator + Copy>(
     Ok(ids)
 }
 
-/// Puts messages together, fragment by fragment. A contract sees it as the ids of the accepted presentation
-/// contexts and what has come of the next message.
+/// An assembler of messages from fragments. Contracts see it as the ids of the accepted presentation contexts and the
+/// part of the next message that has arrived.
 #[derive(Drop)]
 pub struct Assembler<A: Allocator + Copy> {
     alloc: A,
@@ -238,9 +238,11 @@ impl<A: Allocator + Copy> Model for Assembler<A> {
 }
 
 impl<A: Allocator + Copy> Assembler<A> {
-    /// An assembler of the messages on these presentation contexts, to which no fragment has come.
+    /// Returns an assembler of the messages on these presentation contexts, before any fragment.
     ///
-    /// Errors: Memory.
+    /// # Errors
+    ///
+    /// `Memory` if memory runs out.
     pub fn new(alloc: A, contexts: &[AcceptedContext]) -> Result<Assembler<A>, AssocFault>
         ensures made { IfOk result (λ a. (a.ids ≡ map (λ c. c.id) contexts.now) × (a.begun ≡ Nothing)) }
         ensures memory { IfErr result (λ e. e ≡ Memory) }
@@ -253,10 +255,12 @@ impl<A: Allocator + Copy> Assembler<A> {
         })
     }
 
-    /// Takes the next fragment, and answers the message that it makes whole, if any.
+    /// Takes the next fragment, and returns the message that it completes, if any.
     ///
-    /// Errors, the first that applies: UnknownContext, MixedContext, DataWithoutCommand, TooLong, Memory. After an
-    /// error each later call answers Failed.
+    /// # Errors
+    ///
+    /// The first that applies: `UnknownContext`, `MixedContext`, `DataWithoutCommand`, `TooLong`, `Memory`. After an
+    /// error each later call returns `Failed`.
     pub fn feed(&mut self, pdv: Pdv<A>) -> Result<Option<RawMessage<A>>, AssocFault>
         ensures ids { self.new.ids ≡ self.old.ids }
         ensures feeds { Feeds (fed self.old.ids self.old.begun pdv) self.new.begun result }
@@ -281,13 +285,15 @@ impl<A: Allocator + Copy> Assembler<A> {
     }
 }
 
-/// However messages are cut into fragments, the fragments give just these messages, one by one.
+/// Does nothing at run time: its contract tells a proof that fragments give the messages that were cut into them, one
+/// by one, however they were cut.
 pub fn every_cut_gives_its_messages<A: Allocator + Copy>()
     ensures { (ids : List ℕ) → (pdvs : List (Pdv A)) → (messages : List (RawMessage A)) → (begun : Begun A)
         → AreFragments ids pdvs messages begun → feeds ids pdvs Nothing ≡ Some (messages, begun) }
 {}
 
-/// Where fragments give messages, one by one, these are the messages of which they are the fragments.
+/// Does nothing at run time: its contract tells a proof that if fragments give messages, one by one, they are the
+/// fragments of these messages.
 pub fn every_message_is_of_its_fragments<A: Allocator + Copy>()
     ensures { (ids : List ℕ) → (pdvs : List (Pdv A)) → (messages : List (RawMessage A)) → (begun : Begun A)
         → feeds ids pdvs Nothing ≡ Some (messages, begun) → AreFragments ids pdvs messages begun }

@@ -19,8 +19,8 @@ use crate::negotiating::counted;
 use std::alloc::{AllocError, Allocator};
 use ups_pdu::{Bytes, Pdu, PduKind, Pdv, Pdvs};
 
-/// How many bytes of a message stand in one PDU at most, where a peer announces this maximum length: the largest
-/// even number that leaves room for the length, the context id and the control header of the fragment.
+/// Returns the maximum number of bytes of a message in one PDU for a peer that announces the maximum length `max`:
+/// the largest even number that leaves room for the length, the context id and the control header of the fragment.
 pub fn room(max: u32) -> usize
     requires { (max ≡ 0) ⊎ (8 ≤ max) }
     ensures room { result ≡ room max }
@@ -31,7 +31,7 @@ pub fn room(max: u32) -> usize
     len / 2 * 2
 }
 
-/// One fragment, in a PDU of its own.
+/// Returns a PDU with one fragment.
 ///
 /// Errors: lack of memory.
 fn fragment<A: Allocator + Copy>(
@@ -54,16 +54,18 @@ fn fragment<A: Allocator + Copy>(
     Ok(Pdu::Data(Pdvs::from_vec(pdvs)))
 }
 
-/// The message control header (PS3.8 annex E.2).
+/// Returns the message control header of a PDV (PS3.8 annex E.2).
 fn control_of(command: bool, last: bool) -> u8
     ensures { result ≡ (if command then 1 else 0) + (if last then 2 else 0) }
 {
     u8::from(command) + if last { 2 } else { 0 }
 }
 
-/// Writes one fragment at the end, as the bytes of a P-DATA-TF of its own (PS3.8 sections 9.3.5 and 9.3.5.1).
+/// Appends one fragment, as the bytes of a P-DATA-TF of its own (PS3.8 sections 9.3.5 and 9.3.5.1).
 ///
-/// Errors: lack of memory.
+/// # Errors
+///
+/// If memory runs out.
 pub fn put_fragment<A: Allocator + Copy>(
     out: &mut Vec<u8, A>,
     context: u8,
@@ -84,8 +86,8 @@ pub fn put_fragment<A: Allocator + Copy>(
     Ok(())
 }
 
-/// Puts the fragments of a command or of a data set at the end, each in a PDU of its own. All but the last have
-/// this many bytes.
+/// Appends the fragments of a command set or of a data set, each in a PDU of its own. All but the last have `size`
+/// bytes.
 ///
 /// Errors: lack of memory.
 fn put_run<A: Allocator + Copy>(
@@ -109,7 +111,7 @@ fn put_run<A: Allocator + Copy>(
     Ok(())
 }
 
-/// Puts the fragments of a data set at the end, where there is one.
+/// Appends the fragments of a data set, if there is one.
 ///
 /// Errors: lack of memory.
 fn put_body<A: Allocator + Copy>(
@@ -128,7 +130,7 @@ fn put_body<A: Allocator + Copy>(
     }
 }
 
-/// In how many PDUs a message stands, at most.
+/// Returns an upper bound on the number of PDUs that a message takes.
 fn count(size: usize, command: &[u8], body: Option<&[u8]>) -> usize
     requires { 0 < size }
 {
@@ -139,10 +141,12 @@ fn count(size: usize, command: &[u8], body: Option<&[u8]>) -> usize
     }
 }
 
-/// A message as PDUs, for a peer that announces this maximum length: the fragments of its command, then those of
-/// its data set where there is one, each in a PDU of its own.
+/// Cuts a message into PDUs for a peer that announces the maximum length `max`: the fragments of its command set,
+/// then those of its data set if there is one, each in a PDU of its own.
 ///
-/// Errors: Memory.
+/// # Errors
+///
+/// `Memory` if memory runs out.
 pub fn cut<A: Allocator + Copy>(
     alloc: A,
     context: u8,
@@ -162,8 +166,9 @@ pub fn cut<A: Allocator + Copy>(
     Ok(pdus)
 }
 
-/// What a message is cut into gives that message, where its data set is there just as its command announces one, and
-/// it is no longer than a message may be.
+/// Does nothing at run time: its contract tells a proof that the PDUs into which a message on an accepted
+/// presentation context is cut give that message again, if it has a data set exactly when its command set announces
+/// one and is no longer than a message may be.
 pub fn a_cut_message_is_whole_again<A: Allocator + Copy>()
     ensures { (ids : List ℕ) → (max : ℕ) → (message : RawMessage A) → ((max ≡ 0) ⊎ (8 ≤ max)) → is_accepted ids message.context ≡ true
         → is_some message.body ≡ data_follows message.command → length message.command + length (unwrap_or message.body []) ≤ longest_message

@@ -1,4 +1,4 @@
-//! Why no message comes of fragments.
+//! The reasons why fragments do not make a message.
 
 ghost use Rattle.std.specs.Prelude.{◌≡◌};
 ghost use Rattle.ups_assoc.specs.declared.fault.AssocFault.TheVariants.{Memory};
@@ -6,17 +6,18 @@ ghost use Rattle.ups_assoc.specs.declared.fault.AssocFault.TheVariants.{Memory};
 use std::alloc::{AllocError, AllocFailed};
 use thiserror::Error;
 
-/// Why a fragment is not taken: the first of the tests that fails, in this order (PS3.8 annex E).
+/// The reason why a fragment was not taken: `Failed`, or else the first check that failed, in this order (PS3.8 annex
+/// E).
 #[derive(Clone, Copy, Debug, PartialEq, Eq, Error)]
 pub enum AssocFault {
-    /// An unknown presentation context: the one of the fragment was not accepted.
+    /// The fragment is on a presentation context that was not accepted.
     #[error("the PDV is on a presentation context that was not accepted")]
     UnknownContext,
-    /// The fragment is on another presentation context than the message that was begun, or it is of a command
-    /// where the data set of a command is due.
+    /// The fragment is on another presentation context than the message that was begun, or it belongs to a command
+    /// set when a data set is expected.
     #[error("the PDV is of another message than the one that was begun")]
     MixedContext,
-    /// The fragment is of a data set, and no whole command awaits one.
+    /// The fragment belongs to a data set, and no whole command set announced one.
     #[error("the PDV is of a data set, and no whole command announced one")]
     DataWithoutCommand,
     /// The message would be longer than 1,048,576 bytes.

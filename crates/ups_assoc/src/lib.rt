@@ -1,5 +1,5 @@
-//! Associations of DICOM (PS3.8): what is answered to an association request, how messages are put together
-//! from the fragments that PDUs hold, and how they are cut into such fragments.
+//! DICOM associations (PS3.8): answering association requests, assembling messages from the fragments in PDUs, and
+//! cutting messages into such fragments.
 #![tactic(auto)]
 
 mod assembling;

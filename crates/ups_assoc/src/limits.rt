@@ -3,10 +3,10 @@
 ghost use Rattle.std.specs.Prelude.{◌≡◌};
 ghost use Rattle.ups_assoc.specs.Limits.{longest_message};
 
-/// How many bytes a message that is read has at most, its command set and its data set together.
+/// The maximum number of bytes of a message that is read, its command set and its data set together.
 pub const LONGEST_MESSAGE: usize = 1_048_576;
 
-/// The limit is that of the profile of this service.
+/// Does nothing at run time: its contract tells a proof that the limit is that of the profile of this service.
 pub fn limits_are_those_of_the_profile()
     ensures { LONGEST_MESSAGE ≡ longest_message }
 {}

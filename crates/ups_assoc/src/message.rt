@@ -10,6 +10,6 @@ pub struct RawMessage<A: Allocator + Copy> {
     pub context: u8,
     /// The bytes of the command set.
     pub command: Bytes<A>,
-    /// The bytes of the data set, where the command announces one.
+    /// The bytes of the data set, if the command set announces one.
     pub body: Option<Bytes<A>>,
 }

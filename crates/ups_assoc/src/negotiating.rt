@@ -1,4 +1,4 @@
-//! The answer to an association request (PS3.8 sections 7.1, 9.3.2 to 9.3.4; PS3.7 annex D.3.3).
+//! Answering association requests (PS3.8 sections 7.1, 9.3.2 to 9.3.4; PS3.7 annex D.3.3).
 
 ghost use Rattle.std.specs.Prelude.{◌≡◌, ◌<◌, ◌++◌, [], ◌∷◌, List, ℕ, IfOk, IfErr, OnOk, OnErr, map, option_to_list};
 ghost use Rattle.std.specs.List.{flat_map, AllByRecursion};
@@ -19,33 +19,33 @@ use ups_pdu::{
     MAX_DATA_LENGTH, ProposedContext, RegisteredUid, Roles, TransferSyntax, Uid, UserInformation,
 };
 
-/// The result for a context whose abstract syntax isn't supported (PS3.8 section 9.3.3.2).
+/// The result for a presentation context whose abstract syntax is not supported (PS3.8 section 9.3.3.2).
 const ABSTRACT_SYNTAX_NOT_SUPPORTED: u8 = 3;
 
-/// The result for a context of whose transfer syntaxes none is supported (PS3.8 section 9.3.3.2).
+/// The result for a presentation context with no supported transfer syntax (PS3.8 section 9.3.3.2).
 const TRANSFER_SYNTAXES_NOT_SUPPORTED: u8 = 4;
 
-/// What a session of this application entity is given.
+/// The configuration of a session of this application entity.
 #[derive(Clone, Copy)]
 pub struct Config {
     /// The title of this application entity.
     pub ae: Ae,
-    /// The minutes by which local time is east of UTC, -720 to 840.
+    /// The offset of local time from UTC in minutes, -720 to 840, positive to the east.
     pub offset: i16,
 }
 
-/// A presentation context that was accepted (PS3.8 section 9.3.3.2).
+/// An accepted presentation context (PS3.8 section 9.3.3.2).
 #[derive(Clone, Copy, Debug, PartialEq, Eq)]
 pub struct AcceptedContext {
     /// The presentation context id.
     pub id: u8,
     /// The SOP class that is its abstract syntax.
     pub sop_class: SopClass,
-    /// How its data sets are laid out.
+    /// The transfer syntax of its data sets.
     pub transfer_syntax: TransferSyntax,
 }
 
-/// Accepted presentation contexts, in order. A contract sees them as a list.
+/// Accepted presentation contexts, in order. Contracts see them as a list.
 #[derive(Drop)]
 pub struct AcceptedContexts<A: Allocator + Copy> {
     contexts: Vec<AcceptedContext, A>,
@@ -61,11 +61,11 @@ impl<A: Allocator + Copy> Model for AcceptedContexts<A> {
 }
 
 impl<A: Allocator + Copy> AcceptedContexts<A> {
-    /// The list of one context.
+    /// Returns a list of one presentation context.
     ///
     /// # Errors
     ///
-    /// Where memory runs out.
+    /// If memory runs out.
     pub fn of(alloc: A, context: AcceptedContext) -> Result<AcceptedContexts<A>, AllocError>
         ensures { IfOk result (λ c. c ≡ context ∷ []) }
     {
@@ -74,7 +74,7 @@ impl<A: Allocator + Copy> AcceptedContexts<A> {
         Ok(AcceptedContexts { contexts })
     }
 
-    /// The list, lent.
+    /// Returns the list as a slice.
     pub fn as_slice(&self) -> &[AcceptedContext]
         ensures { result.now ≡ self.now }
     {
@@ -82,7 +82,7 @@ impl<A: Allocator + Copy> AcceptedContexts<A> {
     }
 }
 
-/// An association that is accepted.
+/// An accepted association.
 #[derive(Drop)]
 pub struct Acceptance<A: Allocator + Copy> {
     /// The answer to the request.
@@ -91,11 +91,11 @@ pub struct Acceptance<A: Allocator + Copy> {
     pub ae: Ae,
     /// The accepted presentation contexts, in the order of the request.
     pub contexts: AcceptedContexts<A>,
-    /// The longest P-DATA-TF that the peer receives, at most 16,384; one without limit counts as 16,384.
+    /// The maximum length of a P-DATA-TF that the peer receives, in bytes: at most 16,384, also if it has no limit.
     pub max: u32,
 }
 
-/// Why an association is rejected (PS3.8 section 9.3.4).
+/// The reason why an association is rejected (PS3.8 section 9.3.4).
 #[derive(Clone, Copy, Debug, PartialEq, Eq)]
 pub enum Rejection {
     /// Version 1 of the protocol is not among those that the request names.
@@ -106,19 +106,20 @@ pub enum Rejection {
     CalledAeNotRecognized,
     /// The calling title is blank or malformed.
     CallingAeNotRecognized,
-    /// The longest P-DATA-TF that the peer receives, of 1 to 7 bytes, has no room for a fragment of two bytes.
+    /// The maximum length of a P-DATA-TF that the peer receives, 1 to 7 bytes, has no room for a fragment of two
+    /// bytes.
     NoReason,
 }
 
 impl Rejection {
-    /// The result: always 1, rejected permanently.
+    /// Returns the result: always 1, rejected permanently.
     pub fn result(self) -> u8
         ensures { result ≡ number_result self }
     {
         1
     }
 
-    /// The source: 1, the service user, or 2, the service provider (ACSE related function).
+    /// Returns the source: 1, the service user, or 2, the service provider (ACSE related function).
     pub fn source(self) -> u8
         ensures { result ≡ number_source self }
     {
@@ -128,7 +129,7 @@ impl Rejection {
         }
     }
 
-    /// The reason, which has a meaning of its own for each source.
+    /// Returns the reason, which has a meaning of its own for each source.
     pub fn reason(self) -> u8
         ensures { result ≡ number_reason self }
     {
@@ -142,37 +143,37 @@ impl Rejection {
     }
 }
 
-/// What is answered to an association request.
+/// The answer to an association request.
 #[derive(Drop)]
 pub enum Outcome<A: Allocator + Copy> {
-    /// It is accepted.
+    /// The association is accepted.
     Accept(Acceptance<A>),
-    /// It is rejected.
+    /// The association is rejected.
     Reject(Rejection),
 }
 
-/// Whether version 1 is among the versions of the protocol, each of which is a bit.
+/// Returns whether version 1 is among the versions of the protocol, each of which is a bit.
 fn has_version_1(versions: u16) -> bool
     ensures { result ≡ has_version_1 versions }
 {
     versions % 2 == 1
 }
 
-/// Whether an application context is that of DICOM (PS3.8 annex A.2.1).
+/// Returns whether the application context is that of DICOM (PS3.8 annex A.2.1).
 fn is_dicom(application_context: &Uid) -> bool
     ensures { result ≡ is_dicom application_context.now }
 {
     application_context.as_bytes() == RegisteredUid::ApplicationContext.text()
 }
 
-/// The title that the bytes of an association request are.
+/// Reads a title field of an association request, or returns None if it encodes no title.
 fn title_of(bytes: &[u8]) -> Option<Ae>
     ensures { result ≡ title bytes.now }
 {
     Ae::of(bytes)
 }
 
-/// Whether the bytes of an association request are the title of this application entity.
+/// Returns whether a title field of an association request is the title of this application entity.
 fn is_title(ae: Ae, bytes: &[u8]) -> bool
     ensures { result ≡ is_this_title ae bytes.now }
 {
@@ -182,7 +183,7 @@ fn is_title(ae: Ae, bytes: &[u8]) -> bool
     }
 }
 
-/// The transfer syntax of a UID, where it is one of those that are read and written.
+/// Returns the transfer syntax with this UID, if it is one that is read and written.
 fn syntax_of(uid: &Uid) -> Option<TransferSyntax>
     ensures { result ≡ known_syntax uid.now }
 {
@@ -195,7 +196,7 @@ fn syntax_of(uid: &Uid) -> Option<TransferSyntax>
     }
 }
 
-/// The first of the UIDs that is of a transfer syntax that is read and written.
+/// Returns the first transfer syntax among the UIDs that is read and written.
 fn first_syntax(uids: &[Uid]) -> Option<TransferSyntax>
     ensures { result ≡ first_syntax uids.now }
 {
@@ -216,7 +217,7 @@ fn syntax_uid(syntax: TransferSyntax) -> Uid
     }
 }
 
-/// The answer to a context of this SOP class and with this transfer syntax, as far as there are any.
+/// Returns the answer to a presentation context, given its SOP class and transfer syntax if they are supported.
 fn answer_of(sop_class: Option<SopClass>, transfer_syntax: Option<TransferSyntax>) -> ContextAnswer
     ensures { result ≡ answer_of sop_class transfer_syntax }
 {
@@ -227,7 +228,7 @@ fn answer_of(sop_class: Option<SopClass>, transfer_syntax: Option<TransferSyntax
     }
 }
 
-/// The answer to a proposed presentation context.
+/// Returns the answer to a proposed presentation context.
 #[tactic(auto, unfolding(crate::specs::Contexts::context_answer))]
 fn context_answer<A: Allocator + Copy>(proposed: &ProposedContext<A>) -> ContextAnswer
     ensures { result ≡ context_answer proposed.now }
@@ -238,7 +239,7 @@ fn context_answer<A: Allocator + Copy>(proposed: &ProposedContext<A>) -> Context
     )
 }
 
-/// The accepted context of this id, where there are a SOP class and a transfer syntax.
+/// Returns the accepted presentation context with this id, if there are a SOP class and a transfer syntax.
 fn context_of(
     id: u8,
     sop_class: Option<SopClass>,
@@ -256,7 +257,7 @@ fn context_of(
     }
 }
 
-/// The context that is accepted for a proposed one, where it is.
+/// Returns the accepted presentation context for a proposed one, if it is accepted.
 #[tactic(auto, unfolding(crate::specs::Contexts::accepted))]
 fn accepted<A: Allocator + Copy>(proposed: &ProposedContext<A>) -> Option<AcceptedContext>
     ensures { result ≡ accepted proposed.now }
@@ -268,7 +269,7 @@ fn accepted<A: Allocator + Copy>(proposed: &ProposedContext<A>) -> Option<Accept
     )
 }
 
-/// An answer to the context of this id.
+/// Returns an answer to the presentation context with this id.
 fn answer_at(id: u8, answer: ContextAnswer) -> AnsweredContext
     ensures answer { result ≡ record { id = id; answer = answer } }
     ensures small { result.id < 256 }
@@ -276,7 +277,7 @@ fn answer_at(id: u8, answer: ContextAnswer) -> AnsweredContext
     AnsweredContext { id, answer }
 }
 
-/// The answers to the proposed contexts.
+/// Returns the answers to the proposed presentation contexts.
 ///
 /// Errors: lack of memory.
 fn answers_to<A: Allocator + Copy>(
@@ -293,7 +294,7 @@ fn answers_to<A: Allocator + Copy>(
     Ok(AnsweredContexts::from_vec(answers))
 }
 
-/// Puts an accepted context at the end, where there is one.
+/// Appends an accepted presentation context, if there is one.
 ///
 /// Errors: lack of memory.
 fn put_accepted<A: Allocator + Copy>(
@@ -308,7 +309,7 @@ fn put_accepted<A: Allocator + Copy>(
     Ok(())
 }
 
-/// The contexts that are accepted for the proposed ones.
+/// Returns the presentation contexts that are accepted among the proposed ones.
 ///
 /// Errors: lack of memory.
 fn accepted_of<A: Allocator + Copy>(
@@ -324,7 +325,8 @@ fn accepted_of<A: Allocator + Copy>(
     Ok(AcceptedContexts { contexts })
 }
 
-/// A peer's maximum length as it counts: 0 is none, and no more than 16,384 is used.
+/// Returns the maximum length to use for a peer that announces `max`: at most 16,384, also if `max` is 0, for no
+/// limit.
 pub(crate) fn counted(max: u32) -> u32
     ensures { result ≡ counted max }
 {
@@ -335,23 +337,25 @@ pub(crate) fn counted(max: u32) -> u32
     }
 }
 
-/// Whether a maximum length has no room for a fragment of two bytes.
+/// Returns whether a maximum length has no room for a fragment of two bytes.
 fn is_too_small(max: u32) -> bool
     ensures { result ≡ is_too_small max }
 {
     max > 0 && max < 8
 }
 
-/// The implementation version name (PS3.7 annex D.3.3.2.4): `UPSD_` and the version of the program.
+/// Returns the implementation version name (PS3.7 annex D.3.3.2.4): `UPSD_` and the version of the program.
 ///
-/// Errors: lack of memory.
+/// # Errors
+///
+/// If memory runs out.
 pub fn version_name<A: Allocator + Copy>(alloc: A) -> Result<Bytes<A>, AllocError>
     ensures { IfOk result (λ name. name ≡ version_name) }
 {
     Bytes::copy_of(alloc, b"UPSD_0.2.0")
 }
 
-/// What is said of this server (PS3.7 annex D.3.3.2).
+/// Returns the user information of this server (PS3.7 annex D.3.3.2).
 ///
 /// Errors: lack of memory.
 fn this_server<A: Allocator + Copy>(alloc: A) -> Result<UserInformation<A>, AllocError>
@@ -367,7 +371,7 @@ fn this_server<A: Allocator + Copy>(alloc: A) -> Result<UserInformation<A>, Allo
     })
 }
 
-/// The acceptance of a request by this calling application entity.
+/// Returns the acceptance of a request from the calling application entity `ae`.
 ///
 /// Errors: lack of memory.
 #[tactic(auto, unfolding(crate::specs::Negotiation::acceptance))]
@@ -398,10 +402,12 @@ fn accept_request<A: Allocator + Copy>(
     })
 }
 
-/// What is answered to an association request: the first of the rejections that has a reason, else the acceptance,
-/// in which each presentation context is accepted or refused by itself.
+/// Returns the answer to an association request: the first rejection that applies, or else an acceptance, in which
+/// each presentation context is accepted or refused by itself.
 ///
-/// Errors: Memory.
+/// # Errors
+///
+/// `Memory` if memory runs out.
 pub fn negotiate<A: Allocator + Copy>(
     alloc: A,
     config: &Config,
@@ -409,7 +415,7 @@ pub fn negotiate<A: Allocator + Copy>(
 ) -> Result<Outcome<A>, AssocFault>
     ensures outcome { IfOk result (λ o. o ≡ outcome config.now.ae request.now) }
     ensures memory { IfErr result (λ e. e ≡ Memory) }
-    // Memory is wanted only for an acceptance.
+    // Only an acceptance needs memory.
     ensures only_accepting { OnErr result ((accepted : Acceptance A) × (outcome config.now.ae request.now ≡ Accept accepted)) }
     // An answer to a request that was read can be written.
     ensures fits { (bytes : List ℕ) → SpellsPdu bytes (RequestPdu request.now) → IfOk result IsWritable }

@@ -7,7 +7,7 @@ ghost use Rattle.ups_assoc.specs.Same.{is_same};
 
 use ups_pdu::{RegisteredUid, Uid};
 
-/// The SOP classes for which a presentation context may be accepted (PS3.6 annex A, PS3.4 annexes A and CC).
+/// A SOP class for which a presentation context may be accepted (PS3.6 annex A, PS3.4 annexes A and CC).
 #[derive(Clone, Copy, Debug, PartialEq, Eq)]
 pub enum SopClass {
     /// Verification.
@@ -23,7 +23,7 @@ pub enum SopClass {
 }
 
 impl SopClass {
-    /// The UID of the SOP class.
+    /// Returns the UID of the SOP class.
     pub fn registered(self) -> RegisteredUid
         ensures { result ≡ registered_of self }
     {
@@ -36,14 +36,14 @@ impl SopClass {
         }
     }
 
-    /// Whether a UID is that of the SOP class.
+    /// Returns whether the UID is that of the SOP class.
     fn has_uid(self, uid: &Uid) -> bool
         ensures { result ≡ is_same uid.now (uid_of self) }
     {
         uid.as_bytes() == self.registered().text()
     }
 
-    /// The SOP class of a UID; None where it is of none of the five.
+    /// Returns the SOP class with this UID, or None if it is none of the five.
     pub fn of(uid: &Uid) -> Option<SopClass>
         ensures class { result ≡ class_of uid.now }
         ensures both_ways { MatchOption result ((class : SopClass) → uid_of class ≡ uid.now → ⊥) (λ class. uid_of class ≡ uid.now) }

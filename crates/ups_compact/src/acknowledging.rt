@@ -1,4 +1,4 @@
-//! What a watcher knows of what a compact history has pending, and whether a compaction pays.
+//! What a watcher knows of the pending events of a compact history, and whether a compaction pays.
 
 ghost use Rattle.std.specs.Prelude.{◌≡◌, ◌-◌, nat_lt};
 ghost use Rattle.ups_compact.specs.Compacting.{events_of, known_up_to};
@@ -6,11 +6,11 @@ ghost use Rattle.ups_compact.specs.Compacting.{events_of, known_up_to};
 use std::alloc::Allocator;
 use ups_life::{Event, EventReport};
 
-/// The number up to which a watcher knows these events, where the last `untold` of them are still to be told; None where it knows
-/// none of them.
+/// Returns the number up to which a watcher knows these events if the last `untold` of them are still to be told, or
+/// None if it knows none of them.
 ///
-/// Let the events be all that is pending for a watcher in a compact history, and `untold` how many events of the steps held
-/// were pending for it in the history that was compacted: then this is the number to acknowledge.
+/// If the events are all that are pending for a watcher in a compact history, and `untold` is the number of events of
+/// the held steps that were pending for it in the history that was compacted, this is the number to acknowledge.
 pub fn known_up_to(untold: usize, events: &[Event]) -> Option<u64>
     ensures { result ≡ known_up_to untold events.now }
 {
@@ -20,7 +20,7 @@ pub fn known_up_to(untold: usize, events: &[Event]) -> Option<u64>
     Some(event.number)
 }
 
-/// The same of events that stand with what is told of each, as a manager replies.
+/// Does the same as `known_up_to` for event reports, with which a manager replies.
 pub fn reports_known_up_to<A: Allocator + Copy>(
     untold: usize,
     reports: &[EventReport<A>],
@@ -33,7 +33,7 @@ pub fn reports_known_up_to<A: Allocator + Copy>(
     Some(report.event.number)
 }
 
-/// Whether a compaction pays, where so many of all entries stay: fewer stay than go.
+/// Returns whether a compaction pays if `left` of `all` entries stay: fewer stay than go.
 pub fn pays(left: usize, all: usize) -> bool
     ensures { result ≡ nat_lt left (all - left) }
 {

@@ -1,4 +1,5 @@
-//! What a compact history says as the history did: laws, each the contract of a function that does nothing.
+//! The laws of compact histories, which say the same as the original ones. Each is the contract of a function that does
+//! nothing.
 
 ghost use Rattle.std.specs.Prelude.{◌≡◌, ◌≤◌, ◌<◌, ℕ, List, Option, length, true, false};
 ghost use Rattle.ups_dataset.specs.declared.tag.Tag.{Tag};
@@ -16,8 +17,9 @@ ghost use Rattle.ups_compact.specs.Compacting.{compact, told_to, told_of_steps, 
 use std::alloc::Allocator;
 use ups_life::laws::a_removed_step_stays_away;
 
-/// Of each step held a compact history says what the history said: its attributes and its state, who holds it, when it
-/// became final, who watches it and how, and so whether a sweep removes it.
+/// Does nothing at run time: its contract tells a proof that a compact history says of each held step what the history
+/// said: its attributes and its state, who holds it, when it became final, who watches it and how, and so whether a
+/// sweep removes it.
 pub fn what_is_held_of_a_step_stays<A: Allocator + Copy>()
     ensures row { (s : Settings) → (es : List (Entry A)) → (u : List ℕ) → is_held s es u ≡ true → row_of s (compact s es) u ≡ row_of s es u }
     ensures holder { (s : Settings) → (es : List (Entry A)) → (u : List ℕ) → is_held s es u ≡ true → holder (compact s es) u ≡ holder es u }
@@ -25,36 +27,39 @@ pub fn what_is_held_of_a_step_stays<A: Allocator + Copy>()
     ensures due { (s : Settings) → (es : List (Entry A)) → (u : List ℕ) → (moment : ℕ) → is_held s es u ≡ true → is_due s (compact s es) moment u ≡ is_due s es moment u }
 {}
 
-/// Each global subscription is what it was, for the steps that are yet to be created.
+/// Does nothing at run time: its contract tells a proof that each global subscription stays as it was, for the steps
+/// that are yet to be created.
 pub fn global_subscriptions_stay<A: Allocator + Copy>()
     ensures cover { (s : Settings) → (es : List (Entry A)) → (w : List ℕ) → (attributes : List El) → cover s.peers (compact s es) w attributes ≡ cover s.peers es w attributes }
     ensures filter { (s : Settings) → (es : List (Entry A)) → (w : List ℕ) → filter_now (compact s es) w ≡ filter_now es w }
 {}
 
-/// The steps held are the same, in the same order.
+/// Does nothing at run time: its contract tells a proof that the held steps are the same, in the same order.
 pub fn the_steps_held_stay<A: Allocator + Copy>()
     ensures { (s : Settings) → (es : List (Entry A)) → legal s es ≡ true → held s (compact s es) ≡ held s es }
 {
     a_removed_step_stays_away::<A>();
 }
 
-/// A compact history is legal: each of its entries is accepted after those before it.
+/// Does nothing at run time: its contract tells a proof that a compact history is legal: each of its entries is
+/// accepted after those before it.
 pub fn a_compact_history_is_legal<A: Allocator + Copy>()
     ensures { (s : Settings) → (es : List (Entry A)) → legal s es ≡ true → legal s (compact s es) ≡ true }
 {
     a_removed_step_stays_away::<A>();
 }
 
-/// A compact history tells each watcher, of the steps held, what the history told, in the same order, and nothing of any
-/// other step.
+/// Does nothing at run time: its contract tells a proof that a compact history tells each watcher what the history told
+/// of the held steps, in the same order, and nothing of any other step.
 pub fn of_the_steps_held_the_same_is_told<A: Allocator + Copy>()
     ensures { (s : Settings) → (es : List (Entry A)) → (w : List ℕ) → legal s es ≡ true → told_to s (compact s es) w ≡ told_of_steps (held s es) (told_to s es w) }
 {
     a_removed_step_stays_away::<A>();
 }
 
-/// Behind a compact history acknowledgements change nothing of what is held, of subscriptions and of which steps a sweep removes:
-/// with them it says of each step held what the history said, and of each global subscription.
+/// Does nothing at run time: its contract tells a proof that acknowledgments after a compact history change nothing
+/// about held steps, subscriptions and the steps that a sweep removes. With them it still says of each held step, and
+/// of each global subscription, what the history said.
 pub fn what_is_held_stays_behind_acknowledgements<A: Allocator + Copy>()
     ensures row { (caller moment : ℕ) → (s : Settings) → (es : List (Entry A)) → (u : List ℕ) → is_held s es u ≡ true → row_of s (compacted caller moment s es) u ≡ row_of s es u }
     ensures holder { (caller moment : ℕ) → (s : Settings) → (es : List (Entry A)) → (u : List ℕ) → is_held s es u ≡ true → holder (compacted caller moment s es) u ≡ holder es u }
@@ -64,7 +69,8 @@ pub fn what_is_held_stays_behind_acknowledgements<A: Allocator + Copy>()
     ensures filter { (caller moment : ℕ) → (s : Settings) → (es : List (Entry A)) → (w : List ℕ) → filter_now (compacted caller moment s es) w ≡ filter_now es w }
 {}
 
-/// The steps held are the same, in the same order, and what was told of them too, with acknowledgements behind a compact history.
+/// Does nothing at run time: its contract tells a proof that, with acknowledgments after a compact history, the held
+/// steps are the same, in the same order, and so is what was told of them.
 pub fn the_steps_held_stay_behind_acknowledgements<A: Allocator + Copy>()
     ensures held { (caller moment : ℕ) → (s : Settings) → (es : List (Entry A)) → legal s es ≡ true → held s (compacted caller moment s es) ≡ held s es }
     ensures told { (caller moment : ℕ) → (s : Settings) → (es : List (Entry A)) → (w : List ℕ) → legal s es ≡ true → told_to s (compacted caller moment s es) w ≡ told_of_steps (held s es) (told_to s es w) }
@@ -72,8 +78,8 @@ pub fn the_steps_held_stay_behind_acknowledgements<A: Allocator + Copy>()
     a_removed_step_stays_away::<A>();
 }
 
-/// With acknowledgements too it is legal, and it is no longer than the history was: each of these takes the place of one that the
-/// peer had made.
+/// Does nothing at run time: its contract tells a proof that a compact history with acknowledgments is legal too, and
+/// no longer than the history was: each of them takes the place of one that the peer had made.
 pub fn a_compacted_history_is_legal<A: Allocator + Copy>()
     ensures length { (caller moment : ℕ) → (s : Settings) → (es : List (Entry A)) → legal s es ≡ true → has_title_twice s.peers ≡ false → length (compacted caller moment s es) ≤ length es }
     ensures legal { (caller moment : ℕ) → (s : Settings) → (es : List (Entry A)) → legal s es ≡ true → has_title_twice s.peers ≡ false → legal s (compacted caller moment s es) ≡ true }
@@ -81,8 +87,9 @@ pub fn a_compacted_history_is_legal<A: Allocator + Copy>()
     a_removed_step_stays_away::<A>();
 }
 
-/// No watcher is told anew what it has acknowledged, and none loses what it has not, of steps that are held: with acknowledgements
-/// what is pending for a peer behind a compact history is, without numbers, what was pending for it of the steps held, in order.
+/// Does nothing at run time: its contract tells a proof that no watcher is told again what it has acknowledged of the
+/// held steps, and none loses what it has not: the events pending for a peer after a compact history with
+/// acknowledgments are, without numbers, those of the held steps that were pending for it, in order.
 pub fn what_is_pending_stays<A: Allocator + Copy>()
     ensures { (caller moment : ℕ) → (s : Settings) → (es : List (Entry A)) → (w : List ℕ) → legal s es ≡ true → has_title_twice s.peers ≡ false → is_peer s.peers w ≡ true
         → to_tell s (compacted caller moment s es) w ≡ told_of_steps (held s es) (to_tell s es w) }
@@ -90,9 +97,9 @@ pub fn what_is_pending_stays<A: Allocator + Copy>()
     a_removed_step_stays_away::<A>();
 }
 
-/// After a compaction each request is answered as before it, where the history was not full: but for acknowledgements, since
-/// events have other numbers, and for the creation of a step under the UID of a removed one. What an N-GET and a query are
-/// answered is the same (PS3.4 CC.2.7, CC.2.8).
+/// Does nothing at run time: its contract tells a proof that, if the history was not full, each request is answered
+/// after a compaction as before it, except acknowledgments, since events have other numbers, and the creation of a step
+/// under the UID of a removed one. The answers to an N-GET and a query are the same (PS3.4 CC.2.7, CC.2.8).
 pub fn a_request_is_answered_as_before<A: Allocator + Copy>()
     ensures reply { (caller moment : ℕ) → (s : Settings) → (es : List (Entry A)) → (e : Entry A) → legal s es ≡ true → has_title_twice s.peers ≡ false → length es < s.limit
         → is_answered_alike s es e.request ≡ true → reply s (compacted caller moment s es) e ≡ reply s es e }
@@ -102,7 +109,8 @@ pub fn a_request_is_answered_as_before<A: Allocator + Copy>()
     a_removed_step_stays_away::<A>();
 }
 
-/// What a compaction forgets: a UID is used if it is that of a step held, and that of each removed step is free again.
+/// Does nothing at run time: its contract tells a proof that a compaction forgets removed steps: a UID is used if it is
+/// that of a held step, and that of each removed step is free again.
 pub fn the_uids_of_removed_steps_are_free_again<A: Allocator + Copy>()
     ensures { (caller moment : ℕ) → (s : Settings) → (es : List (Entry A)) → (u : List ℕ) → used (compacted caller moment s es) u ≡ is_held s es u }
 {}

@@ -1,5 +1,5 @@
-//! A history without what is about steps that are no longer held, and without what watchers were told: its definition, what it
-//! says as the history did, and what makes it of entries.
+//! Compact histories, without the entries about steps that are no longer held and without what watchers were told:
+//! their definition, the laws that they obey, and how they are made of entries.
 #![tactic(auto)]
 
 mod acknowledging;

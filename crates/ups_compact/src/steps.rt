@@ -11,7 +11,7 @@ use std::collections::BTreeSet;
 use std::marker::Model;
 use ups_life::{Entry, Event, EventReport, Request, StepUid};
 
-/// The steps that a compact history keeps, with their UIDs in order, so that one is looked up without going through all of
+/// The steps that a compact history keeps, with their UIDs in order, so that one is found without going through all of
 /// them. A contract sees the list of the steps.
 #[derive(Drop)]
 pub struct KeptSteps<A: Allocator + Copy> {
@@ -32,11 +32,11 @@ impl<A: Allocator + Copy> Model for KeptSteps<A> {
 }
 
 impl<A: Allocator + Copy> KeptSteps<A> {
-    /// These steps, as `Manager::held` lists those held.
+    /// Returns the kept steps, as `Manager::held` lists them.
     ///
     /// # Errors
     ///
-    /// Where memory runs out.
+    /// If memory runs out.
     pub fn of(alloc: A, steps: Vec<StepUid, A>) -> Result<KeptSteps<A>, AllocError>
         ensures { IfOk result (λ kept. kept ≡ steps.items) }
     {
@@ -44,14 +44,15 @@ impl<A: Allocator + Copy> KeptSteps<A> {
         Ok(KeptSteps { steps, uids })
     }
 
-    /// Whether a step is one of them.
+    /// Returns whether a step is one of them.
     pub fn has(&self, step: StepUid) -> bool
         ensures { result ≡ is_among step self.now }
     {
         self.uids.contains(step.as_bytes())
     }
 
-    /// Whether a request stays in a compact history: it names one of the steps, or none, and is no acknowledgement and no sweep.
+    /// Returns whether a request stays in a compact history: it names one of the steps, or none, and is neither an
+    /// acknowledgment nor a sweep.
     pub fn is_left(&self, request: &Request<A>) -> bool
         ensures { result ≡ is_left self.now request.now }
     {
@@ -64,14 +65,15 @@ impl<A: Allocator + Copy> KeptSteps<A> {
         }
     }
 
-    /// Takes out of a list of entries what does not stay in a compact history. What stays keeps its order. It takes no memory.
+    /// Removes from a list of entries those that do not stay in a compact history. The others keep their order. It
+    /// takes no memory.
     pub fn retain_left(&self, entries: &mut Vec<Entry<A>, A>)
         ensures { entries.new.items ≡ left self.now entries.old.items }
     {
         entries.retain(|entry| self.is_left(&entry.request));
     }
 
-    /// How many of these entries stay in a compact history.
+    /// Returns the number of these entries that stay in a compact history.
     pub fn count_left(&self, entries: &[Entry<A>]) -> usize
         ensures { result ≡ length (left self.now entries.now) }
     {
@@ -81,14 +83,15 @@ impl<A: Allocator + Copy> KeptSteps<A> {
             .count()
     }
 
-    /// How many of these events are of one of the steps: of what is pending for a watcher, how much is still to be told.
+    /// Returns the number of these events that are of one of the steps: of those pending for a watcher, how many are
+    /// still to be told.
     pub fn count_events(&self, events: &[Event]) -> usize
         ensures { result ≡ length (of_steps self.now events.now) }
     {
         events.iter().filter(|event| self.has(event.step)).count()
     }
 
-    /// How many of these events are of one of the steps, where each stands with what is told of it, as a manager replies.
+    /// Returns the number of these event reports, with which a manager replies, that are of one of the steps.
     pub fn count_reports(&self, reports: &[EventReport<A>]) -> usize
         ensures { result ≡ length (of_steps self.now (events_of reports.now)) }
     {
@@ -96,7 +99,7 @@ impl<A: Allocator + Copy> KeptSteps<A> {
     }
 }
 
-/// How many of these reports are of one of the steps.
+/// Returns the number of these event reports that are of one of the steps.
 fn count_of<A: Allocator + Copy>(kept: &KeptSteps<A>, reports: &[EventReport<A>]) -> usize
     ensures { result ≡ length (filter (λ report. is_among report.event.step kept.now) reports.now) }
 {
@@ -106,9 +109,9 @@ fn count_of<A: Allocator + Copy>(kept: &KeptSteps<A>, reports: &[EventReport<A>]
         .count()
 }
 
-/// The UIDs of steps, in order.
+/// Returns the UIDs of steps, in order.
 ///
-/// Errors: where memory runs out.
+/// Errors: if memory runs out.
 fn uids_of<A: Allocator + Copy>(
     alloc: A,
     steps: &[StepUid],
@@ -122,9 +125,9 @@ fn uids_of<A: Allocator + Copy>(
     Ok(uids)
 }
 
-/// Puts a UID among others, where it is not there yet.
+/// Inserts a UID if it is not there yet.
 ///
-/// Errors: where memory runs out.
+/// Errors: if memory runs out.
 fn put_uid<A: Allocator + Copy>(
     alloc: A,
     uids: &mut BTreeSet<Vec<u8, A>, A>,

@@ -1,4 +1,4 @@
-//! Which changes of state a step takes.
+//! The changes of state that a step accepts.
 
 ghost use Rattle.std.specs.Prelude.{◌≡◌};
 ghost use Rattle.ups_cycle.specs.Cycle.{claim_status, complete_status, discontinue_status, wrong_status, cancel_status, set_status};
@@ -8,7 +8,7 @@ use crate::status::Status;
 
 // THE LIFE CYCLE (PS3.4 CC.1.1, CC.2.1, CC.2.2): each function is a row of its table, each arm a cell.
 
-/// To IN PROGRESS, with a proper Transaction UID.
+/// Returns the status of a change to IN PROGRESS, with a proper Transaction UID.
 pub fn claim_status(state: StepState) -> Status
     ensures { result ≡ claim_status state }
 {
@@ -20,7 +20,8 @@ pub fn claim_status(state: StepState) -> Status
     }
 }
 
-/// To COMPLETED, with the right Transaction UID; `performed`: what COMPLETED needs is there.
+/// Returns the status of a change to COMPLETED, with the right Transaction UID; `performed` is whether the requirements
+/// of COMPLETED are met.
 pub fn complete_status(performed: bool, state: StepState) -> Status
     ensures { result ≡ complete_status performed state }
 {
@@ -33,7 +34,8 @@ pub fn complete_status(performed: bool, state: StepState) -> Status
     }
 }
 
-/// To CANCELED, with the right Transaction UID; `discontinued`: what CANCELED needs is there.
+/// Returns the status of a change to CANCELED, with the right Transaction UID; `discontinued` is whether the
+/// requirements of CANCELED are met.
 pub fn discontinue_status(discontinued: bool, state: StepState) -> Status
     ensures { result ≡ discontinue_status discontinued state }
 {
@@ -46,7 +48,8 @@ pub fn discontinue_status(discontinued: bool, state: StepState) -> Status
     }
 }
 
-/// To a final state, with another Transaction UID or none; `proper`: it is a UID.
+/// Returns the status of a change to a final state, with a wrong Transaction UID or none; `proper` is whether it is a
+/// UID.
 pub fn wrong_status(proper: bool, state: StepState) -> Status
     ensures { result ≡ wrong_status proper state }
 {
@@ -59,7 +62,7 @@ pub fn wrong_status(proper: bool, state: StepState) -> Status
     }
 }
 
-/// A request to cancel.
+/// Returns the status of a request to cancel.
 pub fn cancel_status(state: StepState) -> Status
     ensures { result ≡ cancel_status state }
 {
@@ -71,7 +74,8 @@ pub fn cancel_status(state: StepState) -> Status
     }
 }
 
-/// An N-SET, by its Transaction UID: whether it is that of the claim, and whether there is one.
+/// Returns the status of an N-SET; `right` is whether its Transaction UID is that of the claim, `given` whether it has
+/// one.
 pub fn set_status(right: bool, given: bool, state: StepState) -> Status
     ensures { result ≡ set_status right given state }
 {

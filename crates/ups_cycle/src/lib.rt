@@ -1,5 +1,5 @@
-//! The life cycle of a step: its states, which changes of state it takes, and how each request is answered (PS3.4 CC.1.1,
-//! CC.2.1, CC.2.2).
+//! The life cycle of a step: its states, the changes of state that it accepts, and how each request is answered (PS3.4
+//! CC.1.1, CC.2.1, CC.2.2).
 #![tactic(auto)]
 
 mod cycle;

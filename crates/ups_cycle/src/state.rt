@@ -13,14 +13,14 @@ pub enum StepState {
     Scheduled,
     /// IN PROGRESS: a performer has claimed it.
     InProgress,
-    /// COMPLETED: it was done. Final.
+    /// COMPLETED: it was done. This state is final.
     Completed,
-    /// CANCELED: it was given up. Final.
+    /// CANCELED: it was given up. This state is final.
     Canceled,
 }
 
 impl StepState {
-    /// Whether no request changes it any more: COMPLETED and CANCELED.
+    /// Returns whether the state is final: no request changes COMPLETED or CANCELED.
     pub fn is_final(self) -> bool
         ensures { result ≡ is_final self }
     {
@@ -30,7 +30,7 @@ impl StepState {
         }
     }
 
-    /// Its text, without padding (PS3.3 C.30.1).
+    /// Returns the text of the state, without padding (PS3.3 C.30.1).
     pub fn text(self) -> &'static [u8]
         ensures { result.now ≡ state_text self }
     {
@@ -42,7 +42,7 @@ impl StepState {
         }
     }
 
-    /// The state that a value names, which may be padded; None where it names none.
+    /// Returns the state that a value names, which may be padded, or None if it names none.
     pub fn of(value: &[u8]) -> Option<StepState>
         ensures { result ≡ state_of value.now }
     {

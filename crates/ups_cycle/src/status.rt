@@ -1,81 +1,82 @@
-//! Statuses.
+//! The statuses of responses.
 
 ghost use Rattle.std.specs.Prelude.{◌≡◌};
 ghost use Rattle.ups_cycle.specs.Statuses.{code};
 ghost use Rattle.ups_cycle.specs.Statuses.{is_done};
 
-/// How a request was answered (PS3.7 annex C, PS3.4 CC.2.1 to CC.2.7 and section C.4.1.1.4). It was accepted after
-/// Success, and after B301.
+/// The answer to a request (PS3.7 annex C, PS3.4 CC.2.1 to CC.2.7 and section C.4.1.1.4). Success and B301 mean that it
+/// was accepted.
 #[derive(Clone, Copy, Debug, PartialEq, Eq)]
 pub enum Status {
-    /// 0000: done as asked.
+    /// 0000: done as requested.
     Success,
-    /// 0001: attributes were asked for that the step does not have; the others follow.
+    /// 0001: the step does not have some of the requested attributes; the others follow.
     AttributesNotSupported,
-    /// 0106: an attribute may not have this value.
+    /// 0106: an attribute has a value that is not allowed.
     InvalidAttributeValue,
     /// 0110: the data set could not be read.
     ProcessingFailure,
     /// 0111: a step with this instance UID was created before.
     DuplicateSopInstance,
-    /// 0114: an argument that is required was not given.
+    /// 0114: a required argument is missing.
     NoSuchArgument,
-    /// 0115: an argument has a value that it may not have.
+    /// 0115: an argument has a value that is not allowed.
     InvalidArgumentValue,
     /// 0117: the instance UID is absent, malformed, or has another meaning.
     InvalidObjectInstance,
-    /// 0118: the SOP class is not one that may be named here.
+    /// 0118: the SOP class may not be named here.
     NoSuchSopClass,
     /// 0120: a required attribute is missing.
     MissingAttribute,
     /// 0121: a required attribute has no value.
     MissingAttributeValue,
-    /// 0123: the type of the action isn't one of the SOP class.
+    /// 0123: the SOP class has no action of this type.
     NoSuchActionType,
-    /// 0211: the service isn't one of the SOP class.
+    /// 0211: the SOP class does not have this service.
     UnrecognizedOperation,
     /// 0213: there is no room.
     ResourceLimitation,
-    /// A700: there is no room to find what matches.
+    /// A700: there is no room to find the matches.
     OutOfResources,
     /// A900: the keys of a query can't be read.
     IdentifierMismatch,
-    /// B301: done as asked, but without the deletion lock, to which the receiving AE has no right.
+    /// B301: done as requested, but without the Deletion Lock, to which the Receiving AE has no right.
     DeletionLockNotGranted,
-    /// B304: the step is CANCELED already, as was asked.
+    /// B304: the step is already CANCELED, as requested.
     AlreadyCanceled,
-    /// B306: the step is COMPLETED already, as was asked.
+    /// B306: the step is already COMPLETED, as requested.
     AlreadyCompleted,
     /// C000: the data set of a query could not be read.
     UnableToProcess,
-    /// C300: the step may no longer be updated.
+    /// C300: the step can no longer be updated.
     NoLongerUpdatable,
     /// C301: the correct Transaction UID was not given.
     WrongTransactionUid,
-    /// C302: the step is IN PROGRESS already.
+    /// C302: the step is already IN PROGRESS.
     AlreadyInProgress,
-    /// C303: a step becomes SCHEDULED by its creation alone.
+    /// C303: a step becomes SCHEDULED only by its creation.
     ScheduledByCreateAlone,
-    /// C304: what the final state needs is not there.
+    /// C304: the requirements of the final state are not met.
     FinalStateNotMet,
     /// C307: no step with this instance UID is held.
     UnknownInstance,
-    /// C308: the receiving AE is none of the peers.
+    /// C308: the Receiving AE is not one of the peers.
     UnknownReceivingAe,
-    /// C309: a step has to be created as SCHEDULED.
+    /// C309: a step must be created as SCHEDULED.
     NotScheduled,
     /// C310: the step is not yet IN PROGRESS.
     NotInProgress,
-    /// C311: the step is COMPLETED, and can't be canceled any more.
+    /// C311: the step is COMPLETED, and can no longer be canceled.
     TooLateToCancel,
-    /// C314: the action does not go with this instance.
+    /// C314: the action does not apply to this instance.
     ActionNotAppropriate,
-    /// FF00: this matches, and there may be more.
+    /// FF00: this is a match, and there may be more.
     Pending,
 }
 
 impl Status {
-    /// Whether a request with this status was accepted: it is done, if perhaps without the deletion lock that it asks for.
+    /// Returns whether a request with this status was accepted: it is done, though perhaps without the Deletion Lock
+    /// that it asks for.
     pub fn is_done(self) -> bool
         ensures { result ≡ is_done self }
     {
@@ -85,7 +86,7 @@ impl Status {
         }
     }
 
-    /// The number that stands for it in a response (PS3.7 annex C).
+    /// Returns the code of the status in a response (PS3.7 annex C).
     pub fn code(self) -> u16
         ensures { result ≡ code self }
     {

@@ -1,4 +1,4 @@
-//! Building a set from bytes that spell one.
+//! Building a data set from the bytes that encode it.
 
 ghost use Rattle.std.specs.Prelude.{◌≡◌, ◌<◌, ◌≤◌, ◌++◌, ◌∷◌, [], false, length, map, OnOk, IfErr};
 ghost use Rattle.ups_dataset.specs.declared.fault.SetFault.TheVariants.{Memory};
@@ -19,7 +19,7 @@ use crate::vr::Vr;
 use std::alloc::Allocator;
 use ups_pdu::{Bytes, TransferSyntax};
 
-/// The value behind a header, the representation that it is kept under, and what follows.
+/// Reads the value that follows a header, and returns it with the VR to keep it under and the bytes that follow.
 #[cycle(building)]
 fn value_of<A: Allocator + Copy>(
     alloc: A,
@@ -51,7 +51,7 @@ fn value_of<A: Allocator + Copy>(
     ))
 }
 
-/// Adds an element, unless it is a group length. The first one takes the room of one: many items hold no more.
+/// Adds an element, unless it is a group length. The first one reserves room for one: many items hold no more.
 fn keep<A: Allocator + Copy>(
     elements: &mut Vec<Element<A>, A>,
     tag: Tag,
@@ -71,7 +71,7 @@ fn keep<A: Allocator + Copy>(
     Ok(())
 }
 
-/// Adds an item. The first one takes the room of one: many sequences hold no more.
+/// Adds an item. The first one reserves room for one: many sequences hold no more.
 fn keep_item<A: Allocator + Copy>(
     sets: &mut Vec<DataSet<A>, A>,
     set: DataSet<A>,
@@ -86,7 +86,8 @@ fn keep_item<A: Allocator + Copy>(
     Ok(())
 }
 
-/// The set of the elements at the front, without group lengths, and what follows. It begins with room for so many elements.
+/// Reads the elements at the front, and returns their data set, without group lengths, and the bytes that follow. The
+/// data set begins with room for `room` elements.
 #[cycle(building)]
 pub(crate) fn set_of<A: Allocator + Copy>(
     alloc: A,
@@ -115,7 +116,7 @@ pub(crate) fn set_of<A: Allocator + Copy>(
     }
 }
 
-/// The items at the front, and what follows.
+/// Reads the items at the front, and returns them with the bytes that follow.
 #[cycle(building)]
 fn items_of<A: Allocator + Copy>(
     alloc: A,

@@ -1,4 +1,4 @@
-//! Copies of data sets.
+//! Copying data sets.
 
 ghost use Rattle.std.specs.Prelude.{◌≡◌, IfOk};
 ghost use Rattle.ups_dataset.specs.View.{element_view, value_view};
@@ -7,7 +7,7 @@ use crate::set::{DataSet, Element, Value};
 use std::alloc::{AllocError, Allocator};
 use ups_pdu::Bytes;
 
-/// A copy of a set.
+/// Copies a data set.
 #[cycle(copying)]
 pub(crate) fn copy_set<A: Allocator + Copy>(
     alloc: A,
@@ -22,7 +22,7 @@ pub(crate) fn copy_set<A: Allocator + Copy>(
     Ok(DataSet::from_vec(elements))
 }
 
-/// A copy of an element.
+/// Copies an element.
 #[cycle(copying)]
 pub(crate) fn copy_element<A: Allocator + Copy>(
     alloc: A,
@@ -38,7 +38,7 @@ pub(crate) fn copy_element<A: Allocator + Copy>(
     })
 }
 
-/// A copy of a value.
+/// Copies a value.
 #[cycle(copying)]
 pub(crate) fn copy_value<A: Allocator + Copy>(
     alloc: A,

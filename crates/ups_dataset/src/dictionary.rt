@@ -1,4 +1,4 @@
-//! The attributes that the service speaks of, with their tags and value representations (PS3.6 section 6).
+//! The attributes that the service knows, with their tags and value representations (PS3.6 section 6).
 
 ghost use Rattle.std.specs.Prelude.{◌≡◌, ◌∷◌, [], map};
 ghost use Rattle.ups_dataset.specs.Dictionary.{dictionary, vr_in, vr_of};
@@ -351,7 +351,7 @@ pub const REASON_FOR_CANCELLATION: Tag = Tag {
     element: 0x1238,
 };
 
-/// The dictionary: each attribute that this program knows, by rising tag.
+/// The dictionary: each attribute that this program knows, in ascending order of tags.
 pub const DICTIONARY: [Attribute; 67] = [
     Attribute {
         tag: SPECIFIC_CHARACTER_SET,
@@ -623,7 +623,7 @@ pub const DICTIONARY: [Attribute; 67] = [
     },
 ];
 
-/// The value representation that a table gives a tag, or Unknown.
+/// Returns the VR of a tag in a table, or Unknown if it is not there.
 fn vr_in(attributes: &[Attribute], tag: Tag) -> Vr
     ensures { result ≡ vr_in attributes.now tag }
 {
@@ -635,14 +635,15 @@ fn vr_in(attributes: &[Attribute], tag: Tag) -> Vr
     Vr::Un
 }
 
-/// The value representation of a tag by the dictionary, or Unknown.
+/// Returns the VR of a tag in the dictionary, or Unknown if it is not there.
 pub fn vr_of(tag: Tag) -> Vr
     ensures { result ≡ vr_of tag }
 {
     vr_in(&DICTIONARY, tag)
 }
 
-/// The tags and the value representations are those of PS3.6 section 6.
+/// Does nothing at run time: its contract tells a proof that the tags and the value representations are those of
+/// PS3.6 section 6.
 pub fn the_dictionary_is_that_of_the_standard()
     ensures attributes { DICTIONARY ≡ dictionary }
     ensures tags { SPECIFIC_CHARACTER_SET ∷ SOP_CLASS_UID ∷ SOP_INSTANCE_UID ∷ ACCESSION_NUMBER ∷

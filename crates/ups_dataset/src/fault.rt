@@ -1,4 +1,4 @@
-//! Why bytes are no data set.
+//! The reasons why bytes are not a data set.
 
 ghost use Rattle.std.specs.Prelude.{◌≡◌};
 ghost use Rattle.ups_dataset.specs.declared.fault.SetFault.TheVariants.{Memory};
@@ -6,7 +6,7 @@ ghost use Rattle.ups_dataset.specs.declared.fault.SetFault.TheVariants.{Memory};
 use std::alloc::{AllocError, AllocFailed};
 use thiserror::Error;
 
-/// Why no data set was read: the fault at the first place, and there the first of the tests that fails.
+/// The reason why no data set was read: at the first place with a fault, the first check that failed.
 #[derive(Clone, Copy, Debug, PartialEq, Eq, Error)]
 pub enum SetFault {
     /// The bytes end inside a header or a value.
@@ -18,13 +18,14 @@ pub enum SetFault {
     /// A tag is not above the one before it (PS3.5 section 7.1).
     #[error("the tags do not rise")]
     TagOrder,
-    /// Two letters stand for no value representation (PS3.5 section 6.2).
+    /// Two letters are not a value representation (PS3.5 section 6.2).
     #[error("no value representation has these letters")]
     BadVr,
     /// Items nest more than 8 deep.
     #[error("items nest more than 8 deep")]
     Depth,
-    /// An item or an end is not where it has to be (PS3.5 section 7.5).
+    /// An item or an end is missing or misplaced, or a value other than items has an undefined length (PS3.5 section
+    /// 7.5).
     #[error("an item or an end is not one that may stand there")]
     BadItem,
     /// Memory ran out.

@@ -1,4 +1,4 @@
-//! What elements and items begin with (PS3.5 sections 7.1.2, 7.1.3 and 7.5).
+//! The headers of elements and items (PS3.5 sections 7.1.2, 7.1.3 and 7.5).
 
 ghost use Rattle.std.specs.Prelude.{◌≡◌, ◌<◌, ◌∷◌, ◌++◌, ℕ, List, ◌⊎◌, Option, None, Some, length, MatchOption, MatchResult};
 ghost use Rattle.std.specs.Int.{w16, to_le_bytes};
@@ -14,28 +14,28 @@ use crate::tag::{ITEM, Tag};
 use crate::vr::Vr;
 use ups_pdu::{TransferSyntax, le_u16_at, le_u32_at};
 
-/// How far a set, or the items of a sequence, go: they fill their bytes, or a mark stands at their end.
+/// The extent of a data set or of the items of a sequence: they fill their bytes, or a mark ends them.
 #[derive(Clone, Copy, Debug, PartialEq, Eq)]
 pub(crate) enum Reach {
-    /// The length is given, and they fill it.
+    /// The length is defined, and they fill it.
     Filled,
-    /// The length is undefined, and a mark stands at the end.
+    /// The length is undefined, and a mark ends them.
     Ended,
 }
 
-/// What stands at the front, where an element is due.
+/// The header at the front of bytes, where an element is expected.
 #[derive(Clone, Copy, Debug, PartialEq, Eq)]
 pub(crate) enum Head {
     /// The header of an element: its tag, its value representation and its length.
     Known(Tag, Vr, u32),
-    /// A tag, with letters that stand for no value representation.
+    /// A tag, with letters that are not a value representation.
     Strange(Tag),
     /// An item or an end (group FFFE): its tag and its length.
     Mark(Tag, u32),
 }
 
-/// The value representation of an element without letters: the dictionary's, or Unknown for a value that
-/// is longer than the dictionary's representation allows.
+/// Returns the VR of an element without letters: that of the dictionary, or Unknown for a value that is longer than
+/// that VR allows.
 fn implicit_vr(tag: Tag, len: u32) -> Vr
     ensures { result ≡ implicit_vr tag len }
 {
@@ -46,7 +46,7 @@ fn implicit_vr(tag: Tag, len: u32) -> Vr
     vr
 }
 
-/// Whether items stand behind the header: those of a sequence, or of an unknown value of undefined length.
+/// Returns whether items follow the header: those of a sequence, or of an unknown value of undefined length.
 pub(crate) fn is_sequence(vr: Vr, len: u32) -> bool
     ensures { result ≡ is_sequence vr len }
 {
@@ -57,7 +57,7 @@ pub(crate) fn is_sequence(vr: Vr, len: u32) -> bool
     }
 }
 
-/// A tag, a length and the rest.
+/// Reads a tag and a length, and returns them with the bytes that follow.
 pub(crate) fn mark_at(text: &[u8]) -> Option<(Tag, u32, &[u8])>
     ensures { MatchOption result (length text.now < 8) (λ x. IsMark text.now x.0 x.1 x.2.now) }
 {
@@ -66,7 +66,7 @@ pub(crate) fn mark_at(text: &[u8]) -> Option<(Tag, u32, &[u8])>
     Some((tag, len, rest))
 }
 
-/// Two bytes, the number in the two after them, and the rest.
+/// Reads two bytes and a number of two bytes, and returns them with the bytes that follow.
 fn letters_at(text: &[u8]) -> Option<(u8, u8, u16, &[u8])>
     ensures { MatchOption result (length text.now < 4) (λ x. text.now ≡ x.0 ∷ x.1 ∷ (to_le_bytes w16 x.2 ++ x.3.now)) }
 {
@@ -77,7 +77,7 @@ fn letters_at(text: &[u8]) -> Option<(u8, u8, u16, &[u8])>
     Some((*first, *second, number, rest))
 }
 
-/// A header with letters, and the rest.
+/// Reads a header with letters, and returns it with the bytes that follow.
 fn explicit_at(text: &[u8]) -> Option<(Head, &[u8])>
     ensures { MatchOption result
         ((tag : Tag) → (vr : Vr) → (len : ℕ) → (rest : List ℕ) → (IsShortHead text.now tag vr len rest → ⊥) × (IsLongHead text.now tag vr len rest → ⊥) × (IsStrange text.now tag rest → ⊥))
@@ -96,7 +96,7 @@ fn explicit_at(text: &[u8]) -> Option<(Head, &[u8])>
     Some((Head::Known(tag, vr, len), rest))
 }
 
-/// A header, and the rest.
+/// Reads a header, and returns it with the bytes that follow.
 fn head_at(syntax: TransferSyntax, text: &[u8]) -> Option<(Head, &[u8])>
     ensures { MatchOption result ((head : Head) → (rest : List ℕ) → IsHead syntax text.now head rest → ⊥) (λ x. IsHead syntax text.now x.0 x.1.now) }
 {
@@ -113,7 +113,7 @@ fn head_at(syntax: TransferSyntax, text: &[u8]) -> Option<(Head, &[u8])>
     }
 }
 
-/// The first fault of a given length with so many bytes behind it.
+/// Returns the first fault of a defined length that `room` bytes follow.
 fn length_fault(len: u32, room: usize) -> Option<SetFault>
     ensures { result ≡ length_fault len room }
 {
@@ -126,7 +126,7 @@ fn length_fault(len: u32, room: usize) -> Option<SetFault>
     None
 }
 
-/// The first fault of a header with so many bytes behind it, where tags from `from` on may stand.
+/// Returns the first fault of a header that `room` bytes follow. A tag below `from` is a fault.
 fn head_fault(from: u64, head: Head, room: usize) -> Option<SetFault>
     ensures { result ≡ head_fault from head room }
 {
@@ -153,7 +153,7 @@ fn head_fault(from: u64, head: Head, room: usize) -> Option<SetFault>
     }
 }
 
-/// The first fault of an item's header with so many bytes behind it, inside so many items.
+/// Returns the first fault of the header of an item that `room` bytes follow, inside `level` items.
 fn item_fault(level: u8, len: u32, room: usize) -> Option<SetFault>
     ensures { result ≡ item_fault level len room }
 {
@@ -171,7 +171,7 @@ fn item_fault(level: u8, len: u32, room: usize) -> Option<SetFault>
     Some(SetFault::Depth)
 }
 
-/// The tag, the representation, the length and what follows, of the element at the front.
+/// Reads the header of the element at the front, and returns its tag, VR and length with the bytes that follow.
 pub(crate) fn known_at(
     syntax: TransferSyntax,
     from: u64,
@@ -192,7 +192,7 @@ pub(crate) fn known_at(
     }
 }
 
-/// The length and what follows, of the item at the front.
+/// Reads the header of the item at the front, and returns its length with the bytes that follow.
 pub(crate) fn item_at(level: u8, text: &[u8]) -> Result<(u32, &[u8]), SetFault>
     ensures { MatchResult result (λ x. IsSequenceItem level text.now x.0 x.1.now) (ItemHeadFails level text.now) }
 {
@@ -208,7 +208,7 @@ pub(crate) fn item_at(level: u8, text: &[u8]) -> Result<(u32, &[u8]), SetFault>
     Ok((len, rest))
 }
 
-/// What follows the end, where it stands at the front.
+/// Returns the bytes that follow the end, if the end is at the front.
 pub(crate) fn end_at(mark: Tag, reach: Reach, text: &[u8]) -> Option<&[u8]>
     ensures { MatchOption result ((rest : List ℕ) → Ends mark reach text.now rest → ⊥) (λ x. Ends mark reach text.now x.now) }
 {

@@ -1,4 +1,4 @@
-//! DICOM data sets (PS3.5): their elements, their bytes, read and written exactly.
+//! DICOM data sets (PS3.5): their elements and their bytes, which are read and written exactly.
 #![tactic(auto)]
 
 mod building;

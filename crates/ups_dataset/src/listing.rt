@@ -1,4 +1,4 @@
-//! Which tags are listed, found in a sorted list of their numbers.
+//! Finding tags in a sorted list of their numbers.
 
 ghost use Rattle.std.specs.Prelude.{◌≡◌, List, IfOk};
 ghost use Rattle.std.specs.List.Sorted.{IsNonDecreasing};
@@ -10,7 +10,7 @@ ghost use Rattle.ups_dataset.specs.Data.{is_listed};
 use crate::tag::Tag;
 use std::alloc::{AllocError, Allocator};
 
-/// The number of a tag. A proof learns here that its parts have two bytes each.
+/// Returns the number of a tag. Its contract tells a proof that the parts of the tag have two bytes each.
 fn number_of(tag: Tag) -> u32
     ensures number { result ≡ number tag }
     ensures fits { IsTag tag }
@@ -18,7 +18,7 @@ fn number_of(tag: Tag) -> u32
     tag.number()
 }
 
-/// The numbers of these tags, in order.
+/// Returns the numbers of these tags, in ascending order.
 pub(crate) fn sorted_numbers<A: Allocator + Copy>(
     alloc: A,
     tags: &[Tag],
@@ -33,7 +33,7 @@ pub(crate) fn sorted_numbers<A: Allocator + Copy>(
     Ok(numbers)
 }
 
-/// Whether a tag is one of those that the numbers stand for.
+/// Returns whether the number of a tag is among `numbers`.
 pub(crate) fn is_listed(numbers: &[u32], tag: Tag) -> bool
     requires { IsNonDecreasing numbers.now }
     ensures { (tags : List Tag) → Lists tags numbers.now → result ≡ is_listed tag tags }

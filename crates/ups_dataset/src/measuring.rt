@@ -1,4 +1,4 @@
-//! How deep items nest.
+//! The nesting depth of items.
 
 ghost use Rattle.std.specs.Prelude.{◌≡◌, ◌≤◌};
 ghost use Rattle.ups_dataset.specs.Data.{elements_of};
@@ -10,7 +10,7 @@ use crate::limits::MAX_DEPTH;
 use crate::set::{DataSet, Value};
 use std::alloc::Allocator;
 
-/// How deep the items of a set nest.
+/// Returns how deep the items of a data set nest.
 #[cycle(measuring)]
 fn set_depth<A: Allocator + Copy>(set: &DataSet<A>) -> u8
     ensures depth { result ≡ depth_elements (elements_of set.now) }
@@ -23,7 +23,7 @@ fn set_depth<A: Allocator + Copy>(set: &DataSet<A>) -> u8
     deepest
 }
 
-/// How deep the items of a value nest.
+/// Returns how deep the items of a value nest.
 #[cycle(measuring)]
 pub(crate) fn value_depth<A: Allocator + Copy>(value: &Value<A>) -> u8
     ensures { result ≡ depth_data (value_view value.now) }

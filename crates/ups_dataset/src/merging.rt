@@ -1,4 +1,4 @@
-//! One data set laid over another.
+//! Laying one data set over another.
 
 ghost use Rattle.std.specs.Prelude.{◌≡◌, [], map, MatchOption, IfOk};
 ghost use Rattle.ups_dataset.specs.Data.{laid_over};
@@ -11,7 +11,7 @@ use crate::set::Element;
 use crate::trimming::trim;
 use std::alloc::{AllocError, Allocator};
 
-/// The element with the lowest tag, the upper one where both have it, and what is left of the two.
+/// Returns the element with the lowest tag, from `above` if both have it, and the rest of the two lists.
 fn next<'a, A: Allocator + Copy>(
     above: &'a [Element<A>],
     below: &'a [Element<A>],
@@ -39,7 +39,7 @@ fn next<'a, A: Allocator + Copy>(
     Some((upper, above_left, below))
 }
 
-/// Copies of the elements of the first, and of those of the second whose tags the first has not.
+/// Copies the elements of `above`, and those of `below` whose tags `above` does not have.
 pub(crate) fn merged<A: Allocator + Copy>(
     alloc: A,
     above: &[Element<A>],

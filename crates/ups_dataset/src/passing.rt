@@ -1,4 +1,4 @@
-//! The first fault of bytes, found without taking memory.
+//! Finding the first fault of bytes, without allocating memory.
 
 ghost use Rattle.std.specs.Prelude.{◌≡◌, ◌<◌, ◌≤◌, false, length, MatchResult};
 ghost use Rattle.ups_dataset.specs.Data.{Data, Items, Elements};
@@ -14,7 +14,7 @@ use crate::tag::{ITEM_DELIMITATION, SEQUENCE_DELIMITATION};
 use crate::vr::Vr;
 use ups_pdu::TransferSyntax;
 
-/// The syntax of the items behind a header.
+/// Returns the transfer syntax of the items that follow a header.
 pub(crate) fn inside(syntax: TransferSyntax, vr: Vr) -> TransferSyntax
     ensures { result ≡ inside syntax vr }
 {
@@ -24,7 +24,8 @@ pub(crate) fn inside(syntax: TransferSyntax, vr: Vr) -> TransferSyntax
     }
 }
 
-/// How far the inside of a length goes, its bytes, and what follows them.
+/// Returns the reach of the content after a length, its bytes, and the bytes that follow. For an undefined length,
+/// both are `after`.
 pub(crate) fn opened(len: u32, after: &[u8]) -> (Reach, &[u8], &[u8])
     requires { IsLength len (length after.now) }
     ensures { IsDelimited len after.now result.0 result.1.now result.2.now }
@@ -36,7 +37,7 @@ pub(crate) fn opened(len: u32, after: &[u8]) -> (Reach, &[u8], &[u8])
     (Reach::Filled, inner, behind)
 }
 
-/// What follows the inside of a length, of which `left` is left.
+/// Returns the bytes that follow the content after a length, of which `left` is left over.
 pub(crate) fn rest_behind<'a>(reach: Reach, left: &'a [u8], behind: &'a [u8]) -> &'a [u8]
     ensures { result.now ≡ rest_behind reach left.now behind.now }
 {
@@ -46,7 +47,7 @@ pub(crate) fn rest_behind<'a>(reach: Reach, left: &'a [u8], behind: &'a [u8]) ->
     }
 }
 
-/// What follows the value behind a header.
+/// Passes over the value that follows a header, and returns the bytes that follow.
 #[cycle(passing)]
 fn value_end(
     syntax: TransferSyntax,
@@ -69,7 +70,8 @@ fn value_end(
     Ok(rest_behind(reach, left, behind))
 }
 
-/// What follows the elements at the front, which stand inside so many items, and how many elements they are.
+/// Passes over the elements at the front, inside `level` items, and returns the bytes that follow and the number of
+/// elements.
 #[cycle(passing)]
 pub(crate) fn elements_end(
     syntax: TransferSyntax,
@@ -94,7 +96,7 @@ pub(crate) fn elements_end(
     }
 }
 
-/// What follows the items at the front, which stand inside so many others.
+/// Passes over the items at the front, inside `level` others, and returns the bytes that follow.
 #[cycle(passing)]
 fn items_end(
     syntax: TransferSyntax,

@@ -1,4 +1,4 @@
-//! Where an element stands in a data set.
+//! The place of an element in a data set.
 
 ghost use Rattle.std.specs.Prelude.{◌≡◌, map, OnOk, OnErr};
 ghost use Rattle.ups_dataset.specs.Data.{place_in, stands_at, put};
@@ -9,8 +9,7 @@ use crate::set::Element;
 use crate::tag::Tag;
 use std::alloc::{AllocError, Allocator};
 
-/// How many elements stand before the first whose tag is not below: found by halves, since tags rise (PS3.5
-/// section 7.1).
+/// Returns the number of elements with tags below `tag`, by binary search, since tags ascend (PS3.5 section 7.1).
 pub(crate) fn place_of<A: Allocator + Copy>(elements: &[Element<A>], tag: Tag) -> usize
     requires { IsDataSet (map element_view elements.now) }
     ensures { result ≡ place_in tag (map element_view elements.now) }
@@ -18,7 +17,7 @@ pub(crate) fn place_of<A: Allocator + Copy>(elements: &[Element<A>], tag: Tag) -
     elements.partition_point(|element| element.tag.number() < tag.number())
 }
 
-/// Whether an element with this tag stands at this place.
+/// Returns whether an element with this tag is at index `place`.
 pub(crate) fn stands_at<A: Allocator + Copy>(
     elements: &[Element<A>],
     place: usize,
@@ -29,7 +28,7 @@ pub(crate) fn stands_at<A: Allocator + Copy>(
     place < elements.len() && elements[place].tag == tag
 }
 
-/// Puts an element over the one with its tag, or else between the lower and the higher ones.
+/// Inserts an element in the order of tags, replacing the element with the same tag if there is one.
 pub(crate) fn put<A: Allocator + Copy>(
     elements: &mut Vec<Element<A>, A>,
     element: Element<A>,

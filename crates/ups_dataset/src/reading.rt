@@ -14,22 +14,24 @@ use crate::set::DataSet;
 use std::alloc::Allocator;
 use ups_pdu::TransferSyntax;
 
-/// The set that the bytes spell (PS3.5 section 7). Group lengths are read and not kept.
+/// Reads the data set encoded in the bytes (PS3.5 section 7). Group lengths are read but not kept.
 ///
 /// # Errors
 ///
-/// The fault at the first place, and there the first in this order: the header is cut short; the tag is not
-/// above the one before it (or is that of an item or an end: `BadItem`); no representation has the letters; the
-/// length is odd; the value is cut short; items nest too deep; an item or an end is not one that may stand there.
-/// `Memory` comes only for bytes that spell a set.
+/// The fault at the first place that has one. At an element, the first of these: the header is cut short (`Short`),
+/// the tag is that of an item or an end (`BadItem`) or not above the one before it (`TagOrder`), no VR has the
+/// letters (`BadVr`), a value other than items has an undefined length (`BadItem`), the length is odd (`OddLength`),
+/// the value is cut short (`Short`). At an item: the header is cut short, the tag is another one (`BadItem`), the
+/// length is odd, the item is cut short, items nest too deep (`Depth`). `Memory` is returned only for bytes that do
+/// encode a data set.
 pub fn read_set<A: Allocator + Copy>(
     alloc: A,
     syntax: TransferSyntax,
     bytes: &[u8],
 ) -> Result<DataSet<A>, SetFault>
-    // The set is spelled; or this is the first fault; or memory ran out, for bytes that do spell a set.
+    // The bytes encode the data set; or this is their first fault; or memory ran out, for bytes that do encode one.
     ensures found { MatchResult result (SpellsSet syntax bytes.now) (SetFails syntax bytes.now) }
-    // What is spelled is read, unless memory runs out.
+    // A data set that the bytes encode is read, unless memory runs out.
     ensures only { (set : List El) → SpellsSet syntax bytes.now set → MatchResult result (λ s. s ≡ set) (λ e. e ≡ Memory) }
 {
     let passed = elements_end(syntax, 0, Reach::Filled, bytes)?;

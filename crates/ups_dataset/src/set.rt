@@ -12,11 +12,11 @@ use std::alloc::{AllocError, Allocator};
 use std::marker::Model;
 use ups_pdu::{Bytes, TransferSyntax};
 
-/// What an element holds: bytes, or the items of a sequence (PS3.5 section 7.5).
+/// The value of an element: bytes, or the items of a sequence (PS3.5 section 7.5).
 #[derive(Drop)]
 #[cycle(set)]
 pub enum Value<A: Allocator + Copy> {
-    /// The bytes of a value, as they stand in a message.
+    /// The bytes of a value, as they are encoded in a message.
     Bytes(Bytes<A>),
     /// The items of a sequence.
     Items(Vec<DataSet<A>, A>),
@@ -26,16 +26,16 @@ pub enum Value<A: Allocator + Copy> {
 #[derive(Drop)]
 #[cycle(set)]
 pub struct Element<A: Allocator + Copy> {
-    /// Which attribute it is.
+    /// The tag of the attribute.
     pub tag: Tag,
-    /// Its value representation.
+    /// The value representation (VR).
     pub vr: Vr,
-    /// Its value.
+    /// The value.
     pub value: Value<A>,
 }
 
-/// A data set (PS3.5 section 7): elements with rising tags. A contract sees it as the list of the elements,
-/// of which it is always known that it is a data set.
+/// A data set (PS3.5 section 7): elements in strictly ascending order of tags. Contracts see it as the list of its
+/// elements, which always form a data set.
 #[derive(Drop)]
 #[cycle(set)]
 pub struct DataSet<A: Allocator + Copy> {
@@ -77,7 +77,7 @@ impl<A: Allocator + Copy> DataSet<A> {
     ghost use Rattle.ups_dataset.specs.Valid.{IsDataSet, IsElement};
     ghost use Rattle.ups_dataset.specs.Written.{written};
 
-    /// A data set without elements. It takes no memory.
+    /// Returns an empty data set, without allocating memory.
     pub fn new(alloc: A) -> DataSet<A>
         ensures { result ≡ [] }
     {
@@ -86,7 +86,7 @@ impl<A: Allocator + Copy> DataSet<A> {
         }
     }
 
-    /// A data set of these elements.
+    /// Returns the data set of these elements.
     pub(crate) fn from_vec(elements: Vec<Element<A>, A>) -> DataSet<A>
         requires { IsDataSet (map element_view elements.items) }
         ensures { result ≡ map element_view elements.items }
@@ -94,26 +94,26 @@ impl<A: Allocator + Copy> DataSet<A> {
         DataSet { elements }
     }
 
-    /// A proof learns here that what a contract sees is a data set. It does nothing.
+    /// Does nothing at run time: its contract tells a proof that the elements are a data set.
     pub fn is_a_data_set(&self)
         ensures { IsDataSet self.now }
     {
         let _ = &self.elements;
     }
 
-    /// What gives it memory.
+    /// Returns the allocator of the data set.
     pub fn allocator(&self) -> A {
         *self.elements.allocator()
     }
 
-    /// The elements, in the order of their tags.
+    /// Returns the elements, in the order of their tags.
     pub fn elements(&self) -> &[Element<A>]
         ensures { map element_view result.now ≡ self.now }
     {
         self.elements.as_slice()
     }
 
-    /// The element of a tag.
+    /// Returns the element with this tag, if there is one.
     pub fn get(&self, tag: Tag) -> Option<&Element<A>>
         ensures { MatchOption result (element_at tag self.now ≡ None) (λ e. element_at tag self.now ≡ Some (element_view e.now)) }
     {
@@ -124,19 +124,19 @@ impl<A: Allocator + Copy> DataSet<A> {
         Some(&self.elements[place])
     }
 
-    /// How many bytes it takes in Explicit VR Little Endian, or the greatest number.
+    /// Returns the number of bytes of the data set in Explicit VR Little Endian, or the greatest `u64` if there are
+    /// more.
     pub fn size(&self) -> u64
         ensures { result ≡ min (length (written Explicit self.now)) u64.MAX }
     {
         set_size(TransferSyntax::Explicit, self)
     }
 
-    /// Puts an element in the place of its tag: over the element with that tag, or else between the lower and the
-    /// higher ones.
+    /// Inserts an element in the order of tags, replacing the element with the same tag if there is one.
     ///
     /// # Errors
     ///
-    /// Where memory runs out. The set is then as it was.
+    /// If memory runs out. The data set is then unchanged.
     pub fn replace(&mut self, element: Element<A>) -> Result<(), AllocError>
         requires { IsElement (element_view element) }
         ensures ok { OnOk result (self.new ≡ put (element_view element) self.old) }
@@ -146,11 +146,11 @@ impl<A: Allocator + Copy> DataSet<A> {
         put(&mut self.elements, element)
     }
 
-    /// This set laid over another: copies of its elements, and of those of the other whose tags it has not.
+    /// Lays this data set over another: returns copies of its elements, and of those in `below` with other tags.
     ///
     /// # Errors
     ///
-    /// Where memory runs out.
+    /// If memory runs out.
     pub fn laid_over(&self, below: &DataSet<A>) -> Result<DataSet<A>, AllocError>
         ensures { IfOk result (λ s. s ≡ laid_over self.now below.now) }
     {
@@ -159,11 +159,11 @@ impl<A: Allocator + Copy> DataSet<A> {
         Ok(DataSet::from_vec(elements))
     }
 
-    /// A copy of the elements with these tags.
+    /// Returns a copy of the elements with these tags.
     ///
     /// # Errors
     ///
-    /// Where memory runs out.
+    /// If memory runs out.
     pub fn project(&self, tags: &[Tag]) -> Result<DataSet<A>, AllocError>
         ensures { IfOk result (λ s. s ≡ filter (λ e. is_listed e.tag tags.now) self.now) }
     {
@@ -178,11 +178,11 @@ impl<A: Allocator + Copy> DataSet<A> {
         Ok(DataSet::from_vec(elements))
     }
 
-    /// A copy of the elements with other tags than this one.
+    /// Returns a copy of the elements with other tags than this one.
     ///
     /// # Errors
     ///
-    /// Where memory runs out.
+    /// If memory runs out.
     pub fn without(&self, tag: Tag) -> Result<DataSet<A>, AllocError>
         ensures { IfOk result (λ s. s ≡ filter (λ e. not (is_tag e.tag tag)) self.now) }
     {
@@ -196,14 +196,14 @@ impl<A: Allocator + Copy> DataSet<A> {
         Ok(DataSet::from_vec(elements))
     }
 
-    /// Drops the element of a tag, where there is one. It takes no memory.
+    /// Removes the element with this tag, if there is one, without allocating memory.
     pub fn remove(&mut self, tag: Tag)
         ensures { self.new ≡ filter (λ e. not (is_tag e.tag tag)) self.old }
     {
         self.elements.retain(|element| element.tag != tag);
     }
 
-    /// What this set answers where an element asks for its tag: a copy of its own, or else that element without a value.
+    /// Returns a copy of the element with the tag of `key`, or `key` without a value if there is no such element.
     fn answer_to(&self, key: &Element<A>) -> Result<Element<A>, AllocError>
         ensures { IfOk result (λ e. element_view e ≡ answer_to self.now (element_view key.now)) }
     {
@@ -214,12 +214,12 @@ impl<A: Allocator + Copy> DataSet<A> {
         }
     }
 
-    /// What this set answers to one that asks: for each of its elements the one of this set with the same tag, or where
-    /// it has none that one without a value (PS3.4 section C.4.1.1.3.2).
+    /// Returns the answer of this data set to a request: for each element of `keys`, a copy of the element with the
+    /// same tag, or the key without a value if there is none (PS3.4 section C.4.1.1.3.2).
     ///
     /// # Errors
     ///
-    /// Where memory runs out.
+    /// If memory runs out.
     pub fn answer(&self, keys: &DataSet<A>) -> Result<DataSet<A>, AllocError>
         ensures { IfOk result (λ s. s ≡ answer self.now keys.now) }
     {
@@ -231,11 +231,11 @@ impl<A: Allocator + Copy> DataSet<A> {
         Ok(DataSet::from_vec(elements))
     }
 
-    /// A copy.
+    /// Returns a copy of the data set.
     ///
     /// # Errors
     ///
-    /// Where memory runs out.
+    /// If memory runs out.
     pub fn copy(&self) -> Result<DataSet<A>, AllocError>
         ensures { IfOk result (λ s. s ≡ self.now) }
     {
@@ -249,7 +249,7 @@ impl<A: Allocator + Copy> Element<A> {
     ghost use Rattle.ups_dataset.specs.Data.{bytes, items, items_of, without_value};
     ghost use Rattle.ups_dataset.specs.View.{element_view, value_view};
 
-    /// An element that holds bytes.
+    /// Returns an element that holds bytes.
     pub fn of_bytes(tag: Tag, vr: Vr, value: Bytes<A>) -> Element<A>
         ensures { element_view result ≡ record { tag = tag; vr = vr; value = bytes value } }
     {
@@ -260,7 +260,7 @@ impl<A: Allocator + Copy> Element<A> {
         }
     }
 
-    /// A sequence of these items.
+    /// Returns a sequence of these items.
     pub fn of_items(tag: Tag, sets: Vec<DataSet<A>, A>) -> Element<A>
         ensures { element_view result ≡ record { tag = tag; vr = Sq; value = items (items_of sets.items) } }
     {
@@ -271,7 +271,7 @@ impl<A: Allocator + Copy> Element<A> {
         }
     }
 
-    /// This element without a value: no bytes, or a sequence without items. It takes no memory.
+    /// Returns this element without a value (no bytes, or a sequence without items), without allocating memory.
     pub(crate) fn without_value(&self, alloc: A) -> Element<A>
         ensures { element_view result ≡ record { tag = self.now.tag; vr = self.now.vr; value = without_value (value_view self.now.value) } }
     {
@@ -293,21 +293,21 @@ impl<A: Allocator + Copy> Value<A> {
     ghost use Rattle.ups_dataset.specs.Valid.{depth_data, HoldsSets};
     ghost use Rattle.ups_dataset.specs.View.{value_view};
 
-    /// The value of a sequence of these items.
+    /// Returns the value of a sequence of these items.
     pub(crate) fn of_items(sets: Vec<DataSet<A>, A>) -> Value<A>
         ensures { value_view result ≡ items (items_of sets.items) }
     {
         Value::Items(sets)
     }
 
-    /// How deep its items nest: 0 for bytes, 1 for items that have none, and so on.
+    /// Returns how deep the items nest: 0 for bytes or no items, 1 for items without further items, and so on.
     pub fn depth(&self) -> u8
         ensures { result ≡ depth_data (value_view self.now) }
     {
         value_depth(self)
     }
 
-    /// A proof learns here that the items are data sets. It changes nothing.
+    /// Changes nothing: its contract tells a proof that the items are data sets.
     pub(crate) fn items_are_sets(&self)
         ensures { HoldsSets (value_view self.now) }
     {

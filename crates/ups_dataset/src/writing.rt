@@ -1,4 +1,4 @@
-//! Writing data sets, with lengths that are given (PS3.5 sections 7.1 and 7.5).
+//! Writing data sets, with defined lengths (PS3.5 sections 7.1 and 7.5).
 
 ghost use Rattle.std.specs.Prelude.{◌≡◌, ◌<◌, ◌^◌, ◌++◌, length, min, OnOk, IfOk};
 ghost use Rattle.ups_pdu.specs.declared.syntax.TransferSyntax.TheVariants.{Explicit};
@@ -14,7 +14,7 @@ use crate::vr::Vr;
 use std::alloc::{AllocError, Allocator};
 use ups_pdu::TransferSyntax;
 
-/// How long a header is.
+/// Returns the number of bytes of a header.
 fn head_size(syntax: TransferSyntax, vr: Vr) -> u64
     ensures { result ≡ length (written_head syntax item_tag vr 0) }
 {
@@ -29,7 +29,7 @@ fn head_size(syntax: TransferSyntax, vr: Vr) -> u64
     }
 }
 
-/// How many bytes a set takes, or the greatest number.
+/// Returns the number of bytes of a data set, or the greatest `u64` if there are more.
 #[cycle(sizing)]
 pub(crate) fn set_size<A: Allocator + Copy>(syntax: TransferSyntax, set: &DataSet<A>) -> u64
     ensures { result ≡ min (length (written syntax set.now)) 18446744073709551615 }
@@ -41,7 +41,7 @@ pub(crate) fn set_size<A: Allocator + Copy>(syntax: TransferSyntax, set: &DataSe
     total
 }
 
-/// How many bytes an element takes, or the greatest number.
+/// Returns the number of bytes of an element, or the greatest `u64` if there are more.
 #[cycle(sizing)]
 fn element_size<A: Allocator + Copy>(syntax: TransferSyntax, element: &Element<A>) -> u64
     ensures { result ≡ min (length (written_element syntax (element_view element.now))) 18446744073709551615 }
@@ -49,7 +49,7 @@ fn element_size<A: Allocator + Copy>(syntax: TransferSyntax, element: &Element<A
     head_size(syntax, element.vr).saturating_add(value_size(syntax, &element.value))
 }
 
-/// How many bytes a value takes, or the greatest number.
+/// Returns the number of bytes of a value, or the greatest `u64` if there are more.
 #[cycle(sizing)]
 fn value_size<A: Allocator + Copy>(syntax: TransferSyntax, value: &Value<A>) -> u64
     ensures { result ≡ min (length (written_data syntax (value_view value.now))) 18446744073709551615 }
@@ -66,7 +66,7 @@ fn value_size<A: Allocator + Copy>(syntax: TransferSyntax, value: &Value<A>) -> 
     }
 }
 
-/// Writes the length that stands behind the letters.
+/// Appends the length that follows the letters of a VR.
 fn put_length<A: Allocator + Copy>(out: &mut Vec<u8, A>, vr: Vr, len: u32) -> Result<(), AllocError>
     ensures { OnOk result (out.new.items ≡ out.old.items ++ written_length (is_long vr) len) }
 {
@@ -81,7 +81,7 @@ fn put_length<A: Allocator + Copy>(out: &mut Vec<u8, A>, vr: Vr, len: u32) -> Re
     Ok(())
 }
 
-/// Writes a header.
+/// Appends the header of an element.
 fn put_head<A: Allocator + Copy>(
     out: &mut Vec<u8, A>,
     syntax: TransferSyntax,
@@ -102,7 +102,7 @@ fn put_head<A: Allocator + Copy>(
     Ok(())
 }
 
-/// Writes a set at the end.
+/// Appends a data set.
 #[cycle(putting)]
 fn put_set<A: Allocator + Copy>(
     out: &mut Vec<u8, A>,
@@ -118,7 +118,7 @@ fn put_set<A: Allocator + Copy>(
     Ok(())
 }
 
-/// Writes an element at the end.
+/// Appends an element.
 #[cycle(putting)]
 fn put_element<A: Allocator + Copy>(
     out: &mut Vec<u8, A>,
@@ -133,7 +133,7 @@ fn put_element<A: Allocator + Copy>(
     put_value(out, syntax, &element.value)
 }
 
-/// Writes an item at the end.
+/// Appends an item.
 #[cycle(putting)]
 fn put_item<A: Allocator + Copy>(
     out: &mut Vec<u8, A>,
@@ -149,7 +149,7 @@ fn put_item<A: Allocator + Copy>(
     put_set(out, syntax, set)
 }
 
-/// Writes a value at the end.
+/// Appends a value.
 #[cycle(putting)]
 fn put_value<A: Allocator + Copy>(
     out: &mut Vec<u8, A>,
@@ -170,12 +170,12 @@ fn put_value<A: Allocator + Copy>(
     }
 }
 
-/// The bytes of a set, with lengths that are given and without group lengths. Where its size in Explicit is known
-/// to be below 2^32, so is its size in Implicit.
+/// Encodes a data set, with defined lengths and without group lengths. If its size in Explicit VR is known to be
+/// below 2^32 bytes, so is its size in Implicit VR.
 ///
 /// # Errors
 ///
-/// Where memory runs out.
+/// If memory runs out.
 pub fn write_set<A: Allocator + Copy>(
     alloc: A,
     syntax: TransferSyntax,
@@ -183,7 +183,7 @@ pub fn write_set<A: Allocator + Copy>(
 ) -> Result<Vec<u8, A>, AllocError>
     requires { length (written Explicit set.now) < 2 ^ 32 }
     ensures written { IfOk result (λ v. v.items ≡ written syntax set.now) }
-    // The bytes spell the set again; in Implicit where a reading gives each tag the representation that it has.
+    // Reading the bytes gives the data set again; in Implicit VR only if reading gives each tag the VR that it has.
     ensures again { KeepsVrs syntax set.now → IfOk result (λ v. SpellsSet syntax v.items set.now) }
 {
     set.is_a_data_set();

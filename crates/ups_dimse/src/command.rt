@@ -1,4 +1,4 @@
-//! Commands.
+//! The commands of messages.
 
 use crate::limits::MAX_ATTRIBUTES;
 use crate::message::Message;
@@ -7,7 +7,7 @@ use crate::tag_list::Tags;
 use std::alloc::Allocator;
 use ups_pdu::Uid;
 
-/// What a command set says (PS3.7 section 6.3.1).
+/// The command encoded in a command set (PS3.7 section 6.3.1).
 #[derive(Drop)]
 pub enum Command<A: Allocator + Copy> {
     /// The command of a request (PS3.7 sections 9.3 and 10.3).
@@ -21,55 +21,55 @@ pub enum Command<A: Allocator + Copy> {
 /// The command of a request.
 #[derive(Drop)]
 pub struct RequestCommand<A: Allocator + Copy> {
-    /// The SOP class, Affected or Requested as the operation has it; None where it is absent or malformed.
+    /// The Affected or Requested SOP Class UID, whichever the operation has; None if it is absent or malformed.
     pub sop_class: Option<Uid>,
     /// Message ID (0000,0110).
     pub message_id: u16,
     /// Whether a data set follows the command, by Command Data Set Type (0000,0800).
     pub has_data_set: bool,
-    /// What is requested.
+    /// The requested operation.
     pub operation: Operation<A>,
 }
 
-/// What a request asks for, with what is its own in the command.
+/// The operation that a request asks for, with its own elements of the command.
 #[derive(Drop)]
 pub enum Operation<A: Allocator + Copy> {
-    /// N-EVENT-REPORT (PS3.7 section 10.3.1). The report is the data set.
+    /// N-EVENT-REPORT (PS3.7 section 10.3.1). The data set is the report.
     EventReport {
-        /// Affected SOP Instance UID (0000,1000); None where it is absent or malformed.
+        /// Affected SOP Instance UID (0000,1000); None if it is absent or malformed.
         instance: Option<Uid>,
         /// Event Type ID (0000,1002).
         event: u16,
     },
     /// N-CREATE (PS3.7 section 10.3.5).
     Create {
-        /// Affected SOP Instance UID (0000,1000); None where it is absent or malformed.
+        /// Affected SOP Instance UID (0000,1000); None if it is absent or malformed.
         instance: Option<Uid>,
     },
     /// N-GET (PS3.7 section 10.3.2).
     Get {
-        /// Requested SOP Instance UID (0000,1001); None where it is absent or malformed.
+        /// Requested SOP Instance UID (0000,1001); None if it is absent or malformed.
         instance: Option<Uid>,
-        /// Attribute Identifier List (0000,1005); no tags where it is absent.
+        /// Attribute Identifier List (0000,1005); no tags if it is absent.
         attributes: Tags<A>,
     },
     /// N-SET (PS3.7 section 10.3.3).
     Set {
-        /// Requested SOP Instance UID (0000,1001); None where it is absent or malformed.
+        /// Requested SOP Instance UID (0000,1001); None if it is absent or malformed.
         instance: Option<Uid>,
     },
     /// N-ACTION (PS3.7 section 10.3.4).
     Action {
-        /// Requested SOP Instance UID (0000,1001); None where it is absent or malformed.
+        /// Requested SOP Instance UID (0000,1001); None if it is absent or malformed.
         instance: Option<Uid>,
         /// Action Type ID (0000,1008).
         action: u16,
     },
-    /// C-ECHO (PS3.7 section 9.3.5): whether the other side answers. It has no instance.
+    /// C-ECHO (PS3.7 section 9.3.5), which asks whether the peer answers. It has no instance.
     Echo,
-    /// C-FIND (PS3.7 section 9.3.2): what matches an identifier, which is the data set. It has no instance.
+    /// C-FIND (PS3.7 section 9.3.2), which asks for the matches of an identifier, the data set. It has no instance.
     Find {
-        /// Priority (0000,0700), whatever its number; None where it is absent.
+        /// Priority (0000,0700), whatever its number; None if it is absent.
         priority: Option<u16>,
     },
 }
@@ -77,7 +77,7 @@ pub enum Operation<A: Allocator + Copy> {
 /// The command of a response.
 #[derive(Clone, Copy)]
 pub struct ResponseCommand {
-    /// Affected SOP Class UID (0000,0002); None where it is absent or malformed.
+    /// Affected SOP Class UID (0000,0002); None if it is absent or malformed.
     pub sop_class: Option<Uid>,
     /// Message ID Being Responded To (0000,0120).
     pub responded_to: u16,
@@ -85,38 +85,38 @@ pub struct ResponseCommand {
     pub has_data_set: bool,
     /// Status (0000,0900) (PS3.7 annex C).
     pub status: u16,
-    /// What it responds to.
+    /// The result of the operation.
     pub result: OperationResult,
 }
 
-/// What a response answers, with what is its own in the command.
+/// The operation that a response answers, with its own elements of the command.
 #[derive(Clone, Copy)]
 pub enum OperationResult {
     /// N-EVENT-REPORT (PS3.7 section 10.3.1.2).
     EventReport {
-        /// Affected SOP Instance UID (0000,1000); None where it is absent or malformed.
+        /// Affected SOP Instance UID (0000,1000); None if it is absent or malformed.
         instance: Option<Uid>,
-        /// Event Type ID (0000,1002); None where it is absent, which is allowed where no event reply is.
+        /// Event Type ID (0000,1002); None if it is absent, which is allowed if there is no event reply.
         event: Option<u16>,
     },
     /// N-CREATE (PS3.7 section 10.3.5.2).
     Create {
-        /// Affected SOP Instance UID (0000,1000); None where it is absent or malformed.
+        /// Affected SOP Instance UID (0000,1000); None if it is absent or malformed.
         instance: Option<Uid>,
     },
     /// N-GET (PS3.7 section 10.3.2.2).
     Get {
-        /// Affected SOP Instance UID (0000,1000); None where it is absent or malformed.
+        /// Affected SOP Instance UID (0000,1000); None if it is absent or malformed.
         instance: Option<Uid>,
     },
     /// N-SET (PS3.7 section 10.3.3.2).
     Set {
-        /// Affected SOP Instance UID (0000,1000); None where it is absent or malformed.
+        /// Affected SOP Instance UID (0000,1000); None if it is absent or malformed.
         instance: Option<Uid>,
     },
     /// N-ACTION (PS3.7 section 10.3.4.2).
     Action {
-        /// Affected SOP Instance UID (0000,1000); None where it is absent or malformed.
+        /// Affected SOP Instance UID (0000,1000); None if it is absent or malformed.
         instance: Option<Uid>,
         /// Action Type ID (0000,1008).
         action: u16,
@@ -127,12 +127,12 @@ pub enum OperationResult {
     Find,
 }
 
-/// The command of a C-CANCEL: a request that an operation be given up.
+/// The command of a C-CANCEL, a request to cancel an operation.
 #[derive(Clone, Copy)]
 pub struct CancelCommand {
     /// Message ID Being Responded To (0000,0120): the Message ID of the operation.
     pub responded_to: u16,
-    /// Whether a data set follows the command, by Command Data Set Type (0000,0800). The standard lets none follow.
+    /// Whether a data set follows the command, by Command Data Set Type (0000,0800). The standard allows none.
     pub has_data_set: bool,
 }
 
@@ -140,8 +140,8 @@ impl<A: Allocator + Copy> Command<A> {
     ghost use Rattle.std.specs.Prelude.{◌↔◌, IsTrue};
     ghost use Rattle.ups_dimse.specs.Written.{FitsCommand};
 
-    /// Whether the length of its elements fits Command Group Length (0000,0000), which every command does but a request
-    /// for about 2^30 attributes.
+    /// Returns whether the length of its elements fits Command Group Length (0000,0000), as it does for every command
+    /// except a request for about 2^30 attributes.
     pub fn fits(&self) -> bool
         ensures { IsTrue result ↔ FitsCommand self.now }
     {
@@ -158,7 +158,7 @@ impl<A: Allocator + Copy> Operation<A> {
     ghost use Rattle.ups_dimse.specs.Commands.{request_of, class_element};
     ghost use Rattle.ups_dimse.specs.Written.{tags_of, priority_of};
 
-    /// The message that requests it.
+    /// Returns the message that requests the operation.
     pub(crate) fn message(&self) -> Message
         ensures { result ≡ request_of self.now }
     {
@@ -173,7 +173,7 @@ impl<A: Allocator + Copy> Operation<A> {
         }
     }
 
-    /// The number of the element that names the SOP class of the request.
+    /// Returns the number of the element that names the SOP class of the request.
     pub(crate) fn class_element(&self) -> u16
         ensures { result ≡ class_element self.now }
     {
@@ -188,7 +188,7 @@ impl<A: Allocator + Copy> Operation<A> {
         }
     }
 
-    /// Priority (0000,0700), where there is one.
+    /// Returns Priority (0000,0700), if there is one.
     pub(crate) fn priority(&self) -> Option<u16>
         ensures { result ≡ priority_of self.now }
     {
@@ -198,7 +198,7 @@ impl<A: Allocator + Copy> Operation<A> {
         }
     }
 
-    /// How many attributes are listed.
+    /// Returns the number of attributes listed.
     fn attributes(&self) -> usize
         ensures { result ≡ length (tags_of self.now) }
     {
@@ -213,7 +213,7 @@ impl OperationResult {
     ghost use Rattle.std.specs.Prelude.{◌≡◌};
     ghost use Rattle.ups_dimse.specs.Commands.{response_of};
 
-    /// The message that responds with it.
+    /// Returns the message that responds with the result.
     pub(crate) fn message(self) -> Message
         ensures { result ≡ response_of self }
     {
@@ -234,8 +234,8 @@ impl<A: Allocator + Copy> RequestCommand<A> {
     ghost use Rattle.std.specs.Option.{unwrap_or};
     ghost use Rattle.ups_dimse.specs.Commands.{result_of};
 
-    /// The response to this request: of its SOP class, or of the one that is given where it names none; with its
-    /// message ID, its operation, its instance and its event type or action type.
+    /// Returns the response to this request, with its SOP class, or `sop_class` if it names none, and its Message ID,
+    /// operation, instance and event type or action type.
     pub fn answered(&self, sop_class: Uid, status: u16, has_data_set: bool) -> ResponseCommand
         ensures class { result.sop_class ≡ Some (unwrap_or self.now.sop_class sop_class) }
         ensures responded_to { result.responded_to ≡ self.now.message_id }

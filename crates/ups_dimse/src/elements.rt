@@ -1,5 +1,5 @@
-//! The elements of a command set (PS3.7 section 6.3.1): in Implicit VR Little Endian, each is its tag, the length of
-//! its value in four bytes, and its value.
+//! The elements of a command set (PS3.7 section 6.3.1). In Implicit VR Little Endian, each consists of its tag, the
+//! length of its value in four bytes, and its value.
 
 ghost use Rattle.std.specs.Prelude.{◌≡◌, ◌↔◌, ◌%◌, ℕ, List, [], None, Some, length, IsTrue, IfOk, MatchOption, MatchResult};
 ghost use Rattle.ups_pdu.specs.Each.{Each};
@@ -15,10 +15,10 @@ use std::alloc::{AllocError, Allocator};
 use ups_dataset::{Tag, UNDEFINED_LENGTH};
 use ups_pdu::{Uid, le_u32_at};
 
-/// How many bytes the header of an element takes: its tag, and the length of its value.
+/// The length of the header of an element, in bytes: its tag and the length of its value.
 const HEADER_LEN: usize = 8;
 
-/// The number and the value of the element at the front, and the rest.
+/// Reads the element at the front and returns its number, its value and the rest, or None if there is none.
 #[inline(always)]
 fn element_at(bytes: &[u8]) -> Option<(u16, &[u8], &[u8])>
     ensures { MatchOption result
@@ -37,7 +37,7 @@ fn element_at(bytes: &[u8]) -> Option<(u16, &[u8], &[u8])>
     Some((tag.element, value, rest))
 }
 
-/// Whether the bytes are elements with rising tags, and nothing else.
+/// Returns whether the bytes are elements with rising tags, and nothing else.
 pub(crate) fn are_elements(bytes: &[u8]) -> bool
     ensures { IsTrue result ↔ AreCommandElements 0 bytes.now }
 {
@@ -56,7 +56,8 @@ pub(crate) fn are_elements(bytes: &[u8]) -> bool
     true
 }
 
-/// The value of an element, in bytes that are elements. Their tags rise, so behind a greater one it is not looked for.
+/// Returns the value of an element, in bytes that are elements. Since their tags rise, the search stops at a greater
+/// one.
 #[inline(always)]
 fn value_of(bytes: &[u8], number: u16) -> Option<&[u8]>
     ensures { (elements : List CommandElement) → SpellsCommandElements 0 bytes.now elements [] → MatchOption result (value_in number elements ≡ None) (λ v. value_in number elements ≡ Some v.now) }
@@ -74,7 +75,7 @@ fn value_of(bytes: &[u8], number: u16) -> Option<&[u8]>
     None
 }
 
-/// The number in an element with the value representation US (PS3.5 section 6.2).
+/// Returns the number in an element with the value representation US (PS3.5 section 6.2).
 pub(crate) fn us_of(bytes: &[u8], number: u16) -> Result<u16, DimseFault>
     ensures { (elements : List CommandElement) → SpellsCommandElements 0 bytes.now elements [] → MatchResult result (HasUs elements number) (UsFails elements number) }
 {
@@ -84,7 +85,7 @@ pub(crate) fn us_of(bytes: &[u8], number: u16) -> Result<u16, DimseFault>
     Ok(value)
 }
 
-/// The number in an element with the value representation US, which may be absent.
+/// Returns the number in an element with the value representation US, or None if there is no such element.
 #[inline(always)]
 pub(crate) fn optional_us_of(bytes: &[u8], number: u16) -> Result<Option<u16>, DimseFault>
     ensures { (elements : List CommandElement) → SpellsCommandElements 0 bytes.now elements [] → MatchResult result (MayHaveUs elements number) (PresentUsFails elements number) }
@@ -98,21 +99,22 @@ pub(crate) fn optional_us_of(bytes: &[u8], number: u16) -> Result<Option<u16>, D
     Ok(Some(u16::from_le_bytes([value[0], value[1]])))
 }
 
-/// The UID in an element with the value representation UI (PS3.5 section 6.2).
+/// Returns the UID in an element with the value representation UI (PS3.5 section 6.2), or None if it is absent or
+/// malformed.
 pub(crate) fn uid_of(bytes: &[u8], number: u16) -> Option<Uid>
     ensures { (elements : List CommandElement) → SpellsCommandElements 0 bytes.now elements [] → HasUid elements number result }
 {
     Uid::of(value_of(bytes, number)?)
 }
 
-/// Whether a data set follows the command (PS3.7 annex E.1, Command Data Set Type).
+/// Returns whether a data set follows the command (PS3.7 annex E.1, Command Data Set Type).
 pub(crate) fn has_data_set(bytes: &[u8]) -> Result<bool, DimseFault>
     ensures { (elements : List CommandElement) → SpellsCommandElements 0 bytes.now elements [] → MatchResult result (HasDataSet elements) (UsFails elements 0x0800) }
 {
     Ok(us_of(bytes, DATA_SET_TYPE)? != 0x0101)
 }
 
-/// The tags that the bytes are.
+/// Returns the tags that the bytes encode.
 fn tags_in<A: Allocator + Copy>(alloc: A, bytes: &[u8]) -> Result<Tags<A>, AllocError>
     requires { length bytes.now % 4 ≡ 0 }
     ensures read { IfOk result (Each IsTagAt bytes.now) }
@@ -127,7 +129,8 @@ fn tags_in<A: Allocator + Copy>(alloc: A, bytes: &[u8]) -> Result<Tags<A>, Alloc
     Ok(Tags::from_vec(tags))
 }
 
-/// The tags in an element with the value representation AT (PS3.5 section 6.2); none where there is no such element.
+/// Returns the tags in an element with the value representation AT (PS3.5 section 6.2), or none if there is no such
+/// element.
 pub(crate) fn tags_of<A: Allocator + Copy>(
     alloc: A,
     bytes: &[u8],

@@ -1,4 +1,4 @@
-//! The commands of DICOM messages (PS3.7), and the command sets that spell them, read and written exactly.
+//! The commands of DICOM messages (PS3.7), and the exact reading and writing of the command sets that encode them.
 #![tactic(auto)]
 
 mod command;

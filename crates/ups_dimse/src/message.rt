@@ -1,4 +1,4 @@
-//! Which message a command set is of.
+//! The messages that command sets belong to.
 
 ghost use Rattle.std.specs.Prelude.{◌≡◌, MatchOption};
 ghost use Rattle.ups_dimse.specs.declared.message.Message.{Message};
@@ -73,7 +73,7 @@ mod field {
 }
 
 impl Message {
-    /// The value of its Command Field.
+    /// Returns the value of its Command Field.
     pub(crate) fn field(self) -> u16
         ensures { result ≡ field_of self }
     {
@@ -96,7 +96,7 @@ impl Message {
         }
     }
 
-    /// The message whose Command Field has this value.
+    /// Returns the message with this value of Command Field, or None if there is none.
     pub(crate) fn of(field: u16) -> Option<Message>
         ensures { MatchOption result ((message : Message) → field_of message ≡ field → ⊥) (λ message. field_of message ≡ field) }
     {

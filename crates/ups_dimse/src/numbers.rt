@@ -1,4 +1,4 @@
-//! The numbers of the elements of a command set (PS3.7 annex E.1). All are of group 0000.
+//! The numbers of the elements of a command set (PS3.7 annex E.1), all of group 0000.
 
 ghost use Rattle.std.specs.Prelude.{◌≡◌};
 ghost use Rattle.ups_dimse.specs.Elements.{command_tag};
@@ -34,7 +34,7 @@ pub(crate) const ATTRIBUTES: u16 = 0x1005;
 /// Action Type ID, US.
 pub(crate) const ACTION_TYPE: u16 = 0x1008;
 
-/// The tag of an element of a command set.
+/// Returns the tag of an element of a command set.
 pub(crate) fn command_tag(number: u16) -> Tag
     ensures { result ≡ command_tag number }
 {

@@ -24,7 +24,7 @@ use crate::numbers::{
 };
 use std::alloc::Allocator;
 
-/// N-EVENT-REPORT-RQ (PS3.7 section 10.3.1.1).
+/// Reads an N-EVENT-REPORT-RQ (PS3.7 section 10.3.1.1).
 fn event_report_request<A: Allocator + Copy>(bytes: &[u8]) -> Result<RequestCommand<A>, DimseFault>
     ensures { (elements : List CommandElement) → SpellsCommandElements 0 bytes.now elements [] → HasUs elements 0x0100 (field_of EventReportRequest)
         → MatchResult result (IsRequest elements) (FirstFails elements (needs EventReportRequest)) }
@@ -40,7 +40,7 @@ fn event_report_request<A: Allocator + Copy>(bytes: &[u8]) -> Result<RequestComm
     })
 }
 
-/// N-GET-RQ (PS3.7 section 10.3.2.1).
+/// Reads an N-GET-RQ (PS3.7 section 10.3.2.1).
 fn get_request<A: Allocator + Copy>(alloc: A, bytes: &[u8]) -> Result<RequestCommand<A>, DimseFault>
     ensures { (elements : List CommandElement) → SpellsCommandElements 0 bytes.now elements [] → HasUs elements 0x0100 (field_of GetRequest)
         → ReadsOrFails (IsRequest elements) (FirstFails elements (needs GetRequest)) result }
@@ -56,7 +56,7 @@ fn get_request<A: Allocator + Copy>(alloc: A, bytes: &[u8]) -> Result<RequestCom
     })
 }
 
-/// N-ACTION-RQ (PS3.7 section 10.3.4.1).
+/// Reads an N-ACTION-RQ (PS3.7 section 10.3.4.1).
 fn action_request<A: Allocator + Copy>(bytes: &[u8]) -> Result<RequestCommand<A>, DimseFault>
     ensures { (elements : List CommandElement) → SpellsCommandElements 0 bytes.now elements [] → HasUs elements 0x0100 (field_of ActionRequest)
         → MatchResult result (IsRequest elements) (FirstFails elements (needs ActionRequest)) }
@@ -72,7 +72,7 @@ fn action_request<A: Allocator + Copy>(bytes: &[u8]) -> Result<RequestCommand<A>
     })
 }
 
-/// C-FIND-RQ (PS3.7 section 9.3.2.1).
+/// Reads a C-FIND-RQ (PS3.7 section 9.3.2.1).
 fn find_request<A: Allocator + Copy>(bytes: &[u8]) -> Result<RequestCommand<A>, DimseFault>
     ensures { (elements : List CommandElement) → SpellsCommandElements 0 bytes.now elements [] → HasUs elements 0x0100 (field_of FindRequest)
         → MatchResult result (IsRequest elements) (FirstFails elements (needs FindRequest)) }
@@ -87,7 +87,7 @@ fn find_request<A: Allocator + Copy>(bytes: &[u8]) -> Result<RequestCommand<A>, 
     })
 }
 
-/// C-CANCEL-RQ (PS3.7 section 9.3.2.3).
+/// Reads a C-CANCEL-RQ (PS3.7 section 9.3.2.3).
 fn cancel_request(bytes: &[u8]) -> Result<CancelCommand, DimseFault>
     ensures { (elements : List CommandElement) → SpellsCommandElements 0 bytes.now elements [] → HasUs elements 0x0100 (field_of CancelRequest)
         → MatchResult result (IsCancel elements) (FirstFails elements (needs CancelRequest)) }
@@ -98,7 +98,7 @@ fn cancel_request(bytes: &[u8]) -> Result<CancelCommand, DimseFault>
     })
 }
 
-/// The request for this operation, whose own elements were read (PS3.7 sections 9.3 and 10.3).
+/// Reads the request for an operation whose own elements have been read (PS3.7 sections 9.3 and 10.3).
 fn request<A: Allocator + Copy>(
     bytes: &[u8],
     operation: Operation<A>,
@@ -114,7 +114,7 @@ fn request<A: Allocator + Copy>(
     })
 }
 
-/// N-EVENT-REPORT-RSP (PS3.7 section 10.3.1.2).
+/// Reads an N-EVENT-REPORT-RSP (PS3.7 section 10.3.1.2).
 fn event_report_response(bytes: &[u8]) -> Result<ResponseCommand, DimseFault>
     ensures { (elements : List CommandElement) → SpellsCommandElements 0 bytes.now elements [] → HasUs elements 0x0100 (field_of EventReportResponse)
         → MatchResult result (IsResponse elements) (FirstFails elements (needs EventReportResponse)) }
@@ -131,7 +131,7 @@ fn event_report_response(bytes: &[u8]) -> Result<ResponseCommand, DimseFault>
     })
 }
 
-/// N-ACTION-RSP (PS3.7 section 10.3.4.2).
+/// Reads an N-ACTION-RSP (PS3.7 section 10.3.4.2).
 fn action_response(bytes: &[u8]) -> Result<ResponseCommand, DimseFault>
     ensures { (elements : List CommandElement) → SpellsCommandElements 0 bytes.now elements [] → HasUs elements 0x0100 (field_of ActionResponse)
         → MatchResult result (IsResponse elements) (FirstFails elements (needs ActionResponse)) }
@@ -148,7 +148,7 @@ fn action_response(bytes: &[u8]) -> Result<ResponseCommand, DimseFault>
     })
 }
 
-/// The response with this result, whose own elements were read (PS3.7 sections 9.3 and 10.3).
+/// Reads the response with a result whose own elements have been read (PS3.7 sections 9.3 and 10.3).
 fn response(bytes: &[u8], outcome: OperationResult) -> Result<ResponseCommand, DimseFault>
     ensures { (elements : List CommandElement) → SpellsCommandElements 0 bytes.now elements [] → HasUs elements 0x0100 (field_of (response_of outcome))
         → HasResult elements outcome → MatchResult result (λ r. IsResponse elements r × (r.result ≡ outcome)) (FirstFails elements (needs (response_of outcome))) }
@@ -162,7 +162,7 @@ fn response(bytes: &[u8], outcome: OperationResult) -> Result<ResponseCommand, D
     })
 }
 
-/// The command of a message.
+/// Reads the command of a message.
 fn command_of<A: Allocator + Copy>(
     alloc: A,
     bytes: &[u8],
@@ -210,20 +210,20 @@ fn command_of<A: Allocator + Copy>(
     }
 }
 
-/// The command that a command set spells (PS3.7 section 6.3.1): the bytes of all the command fragments of a message.
-/// Elements that the message does not name are passed over, and Command Group Length is not looked at.
+/// Reads the command encoded in a command set (PS3.7 section 6.3.1): the bytes of all command fragments of a message.
+/// It skips elements that the message does not name, and ignores the value of Command Group Length.
 ///
 /// # Errors
 ///
-/// The first of these, in this order. `BadValue` of (0000,0000): the bytes are no elements of group 0000 with rising
-/// tags. `Missing` or `BadValue` of Command Field (0000,0100). `UnknownField`: no known message has that field. `Missing`
-/// or `BadValue` of the message's elements, by rising tag: a number that is missing (but for Priority (0000,0700), which
-/// may be) or has other than two bytes, or a list of tags whose length is no multiple of four. `Memory`: the bytes spell
-/// a command, and memory ran out.
+/// The first of these, in this order. `BadValue` of (0000,0000): the bytes are not elements of group 0000 with rising
+/// tags. `Missing` or `BadValue` of Command Field (0000,0100). `UnknownField`: no known message has that field.
+/// `Missing` or `BadValue` of an element of the message, by rising tag: a number is missing (except Priority
+/// (0000,0700), and Event Type ID (0000,1002) of an N-EVENT-REPORT-RSP, which are optional) or does not have two bytes,
+/// or the length of a list of tags is not a multiple of four. `Memory`: the bytes encode a command, and memory ran out.
 pub fn read_command<A: Allocator + Copy>(alloc: A, bytes: &[u8]) -> Result<Command<A>, DimseFault>
-    // What is read is spelled.
+    // The bytes encode the command that is read.
     ensures found { IfOk result (SpellsCommand bytes.now) }
-    // What is spelled is read, unless memory runs out.
+    // A command that the bytes encode is read, unless memory runs out.
     ensures only { (command : Command A) → SpellsCommand bytes.now command → MatchResult result (λ c. c ≡ command) (λ e. e ≡ Memory) }
     // A fault is the first one.
     ensures fault { IfErr result (IsCommandFault A bytes.now) }
@@ -238,13 +238,13 @@ pub fn read_command<A: Allocator + Copy>(alloc: A, bytes: &[u8]) -> Result<Comma
     command_of(alloc, bytes, message)
 }
 
-/// Bytes spell one command at most. It does nothing: its contract is that law.
+/// Does nothing at run time: its contract tells a proof that bytes encode at most one command.
 pub fn command_is_unique<A: Allocator + Copy>()
     ensures { (bytes : List ℕ) → (c : Command A) → (d : Command A) → SpellsCommand bytes c → SpellsCommand bytes d → c ≡ d }
 {}
 
-/// Bytes have one first fault at most, and none where they spell a command, but that memory may run out. It does
-/// nothing: its contract is that law.
+/// Does nothing at run time: its contract tells a proof that bytes have at most one first fault, and none if they
+/// encode a command, except that memory may run out.
 pub fn fault_is_unique<A: Allocator + Copy>()
     ensures { (bytes : List ℕ) → (f : DimseFault) → (g : DimseFault) → IsCommandFault A bytes f → IsCommandFault A bytes g → f ≡ g }
 {}

@@ -1,4 +1,4 @@
-//! Tags on the heap, which contracts see as a list.
+//! Lists of tags on the heap.
 
 ghost use Rattle.std.specs.Prelude.{◌≡◌, []};
 
@@ -6,7 +6,7 @@ use std::alloc::Allocator;
 use std::marker::Model;
 use ups_dataset::Tag;
 
-/// Tags, as an Attribute Identifier List names them (PS3.7 section 10.1.2.1.6). A contract sees them as their list.
+/// Tags, as in an Attribute Identifier List (PS3.7 section 10.1.2.1.6). A contract sees them as a list.
 #[derive(Drop)]
 pub struct Tags<A: Allocator + Copy> {
     tags: Vec<Tag, A>,
@@ -22,7 +22,7 @@ impl<A: Allocator + Copy> Model for Tags<A> {
 }
 
 impl<A: Allocator + Copy> Tags<A> {
-    /// No tags. It takes no memory.
+    /// Returns a list without tags. It takes no memory.
     pub fn new(alloc: A) -> Tags<A>
         ensures { result ≡ [] }
     {
@@ -31,14 +31,14 @@ impl<A: Allocator + Copy> Tags<A> {
         }
     }
 
-    /// The tags of a vector. It takes no memory.
+    /// Returns the tags of a vector. It takes no memory.
     pub fn from_vec(tags: Vec<Tag, A>) -> Tags<A>
         ensures { result ≡ tags.items }
     {
         Tags { tags }
     }
 
-    /// The tags, lent.
+    /// Returns the tags as a slice.
     pub fn as_slice(&self) -> &[Tag]
         ensures { result.now ≡ self.now }
     {

@@ -22,11 +22,10 @@ use std::alloc::{AllocError, Allocator};
 use ups_dataset::Tag;
 use ups_pdu::Uid;
 
-/// How many bytes a command has at most where it has no attribute list, and no more than two UIDs: room for them is taken at
-/// once.
+/// The room taken at once for a command, in bytes: enough for any without an attribute list and with at most two UIDs.
 const USUAL_LEN: usize = 256;
 
-/// Writes the header of an element at the end: its tag, and the length of its value.
+/// Appends the header of an element: its tag and the length of its value.
 fn put_header<A: Allocator + Copy>(
     out: &mut Vec<u8, A>,
     number: u16,
@@ -40,7 +39,7 @@ fn put_header<A: Allocator + Copy>(
     Ok(())
 }
 
-/// Writes a number at the end.
+/// Appends a number.
 fn put_us<A: Allocator + Copy>(
     out: &mut Vec<u8, A>,
     number: u16,
@@ -54,7 +53,7 @@ fn put_us<A: Allocator + Copy>(
     Ok(())
 }
 
-/// Writes a number at the end, where there is one.
+/// Appends a number, if there is one.
 fn put_optional_us<A: Allocator + Copy>(
     out: &mut Vec<u8, A>,
     number: u16,
@@ -69,7 +68,7 @@ fn put_optional_us<A: Allocator + Copy>(
     }
 }
 
-/// Writes Command Data Set Type (0000,0800) at the end.
+/// Appends Command Data Set Type (0000,0800).
 fn put_data_set<A: Allocator + Copy>(
     out: &mut Vec<u8, A>,
     has_data_set: bool,
@@ -80,7 +79,7 @@ fn put_data_set<A: Allocator + Copy>(
     put_us(out, DATA_SET_TYPE, value)
 }
 
-/// Writes a UID at the end, where there is one.
+/// Appends a UID, if there is one.
 fn put_uid<A: Allocator + Copy>(
     out: &mut Vec<u8, A>,
     number: u16,
@@ -102,7 +101,7 @@ fn put_uid<A: Allocator + Copy>(
     Ok(())
 }
 
-/// Writes a tag at the end.
+/// Appends a tag.
 fn put_tag<A: Allocator + Copy>(out: &mut Vec<u8, A>, tag: Tag) -> Result<(), AllocError>
     ensures wrote { OnOk result (out.new.items ≡ out.old.items ++ tag_bytes tag) }
     ensures held { IsHeldTag tag }
@@ -110,7 +109,7 @@ fn put_tag<A: Allocator + Copy>(out: &mut Vec<u8, A>, tag: Tag) -> Result<(), Al
     tag.put(out)
 }
 
-/// Writes tags at the end, where there are any.
+/// Appends tags, if there are any.
 fn put_tags<A: Allocator + Copy>(
     out: &mut Vec<u8, A>,
     number: u16,
@@ -130,7 +129,7 @@ fn put_tags<A: Allocator + Copy>(
     Ok(())
 }
 
-/// Writes the elements that are an operation's own at the end.
+/// Appends the elements that are specific to an operation.
 fn put_operation<A: Allocator + Copy>(
     out: &mut Vec<u8, A>,
     operation: &Operation<A>,
@@ -162,7 +161,7 @@ fn put_operation<A: Allocator + Copy>(
     Ok(())
 }
 
-/// Writes the elements of a request at the end.
+/// Appends the elements of a request.
 fn put_request<A: Allocator + Copy>(
     out: &mut Vec<u8, A>,
     request: &RequestCommand<A>,
@@ -181,7 +180,7 @@ fn put_request<A: Allocator + Copy>(
     Ok(())
 }
 
-/// Writes the elements that are a result's own at the end.
+/// Appends the elements that are specific to a result.
 fn put_result<A: Allocator + Copy>(
     out: &mut Vec<u8, A>,
     outcome: &OperationResult,
@@ -206,7 +205,7 @@ fn put_result<A: Allocator + Copy>(
     Ok(())
 }
 
-/// Writes the elements of a response at the end.
+/// Appends the elements of a response.
 fn put_response<A: Allocator + Copy>(
     out: &mut Vec<u8, A>,
     response: &ResponseCommand,
@@ -223,7 +222,7 @@ fn put_response<A: Allocator + Copy>(
     Ok(())
 }
 
-/// Writes the elements of a C-CANCEL at the end.
+/// Appends the elements of a C-CANCEL.
 fn put_cancel<A: Allocator + Copy>(
     out: &mut Vec<u8, A>,
     cancel: &CancelCommand,
@@ -237,7 +236,7 @@ fn put_cancel<A: Allocator + Copy>(
     Ok(())
 }
 
-/// Writes the elements of a command at the end, without Command Group Length.
+/// Appends the elements of a command, without Command Group Length.
 fn put_elements<A: Allocator + Copy>(
     out: &mut Vec<u8, A>,
     command: &Command<A>,
@@ -253,7 +252,7 @@ fn put_elements<A: Allocator + Copy>(
     }
 }
 
-/// Writes a number over the four bytes at a place, the lowest first.
+/// Writes a number over the four bytes at `at`, in little-endian order.
 fn set_u32<A: Allocator + Copy>(out: &mut Vec<u8, A>, at: usize, number: u32)
     requires { at + 4 ≤ length out.now.items }
     ensures { out.new.items ≡ take at out.old.items ++ (to_le_bytes w32 number ++ drop (at + 4) out.old.items) }
@@ -261,19 +260,19 @@ fn set_u32<A: Allocator + Copy>(out: &mut Vec<u8, A>, at: usize, number: u32)
     out.as_mut_slice()[at..at + 4].copy_from_slice(&number.to_le_bytes());
 }
 
-/// Writes the one spelling of a command at the end, as `write_command` does.
+/// Appends the encoding of a command that `write_command` returns.
 ///
 /// # Errors
 ///
-/// Memory ran out. It is not said what the vector then holds.
+/// If memory runs out. The contents of the vector are then unspecified.
 pub fn write_command_into<A: Allocator + Copy>(
     out: &mut Vec<u8, A>,
     command: &Command<A>,
 ) -> Result<(), AllocError>
     requires { FitsCommand command.now }
-    // The one spelling is written.
+    // The bytes are the one encoding of the command.
     ensures written { OnOk result (out.new.items ≡ out.old.items ++ written_command command.now) }
-    // What is written is read again as the same command.
+    // They are read back as the same command.
     ensures again { OnOk result (SpellsCommand (written_command command.now) command.now) }
 {
     put_header(out, GROUP_LENGTH, 4)?;
@@ -286,20 +285,20 @@ pub fn write_command_into<A: Allocator + Copy>(
     Ok(())
 }
 
-/// The one spelling of a command that is written: Command Group Length (0000,0000) with the exact length of the rest,
-/// and then the elements by rising tag (PS3.7 section 6.3.1). Absent UIDs and an empty attribute list have no element.
+/// Encodes a command: Command Group Length (0000,0000) with the exact length of the rest, and then the elements by
+/// rising tag (PS3.7 section 6.3.1). Absent UIDs and an empty attribute list have no element.
 ///
 /// # Errors
 ///
-/// Memory ran out.
+/// If memory runs out.
 pub fn write_command<A: Allocator + Copy>(
     alloc: A,
     command: &Command<A>,
 ) -> Result<Vec<u8, A>, AllocError>
     requires { FitsCommand command.now }
-    // The one spelling is written.
+    // The bytes are the one encoding of the command.
     ensures written { IfOk result (λ v. v.items ≡ written_command command.now) }
-    // What is written is read again as the same command.
+    // They are read back as the same command.
     ensures again { IfOk result (λ v. SpellsCommand v.items command.now) }
 {
     let mut out = Vec::with_capacity(alloc, USUAL_LEN)?;

@@ -12,8 +12,9 @@ use std::marker::Model;
 use ups_life::{Event, Report};
 
 /// The events that a watcher has not acknowledged, oldest first, without each State Report that a later one of the same
-/// step supersedes (PS3.4 CC.2.4). They are numbered from 1, and numbers keep their gaps. A contract sees the greatest
-/// number made, the greatest acknowledged, the events, and for how many more there is room.
+/// step supersedes (PS3.4 CC.2.4). They are numbered from 1, and are not renumbered when others leave. A contract sees
+/// the greatest number assigned, the greatest number acknowledged, the events, and the number of further events for
+/// which there is room.
 #[derive(Drop)]
 pub struct Queue<A: Allocator + Copy> {
     alloc: A,
@@ -21,7 +22,7 @@ pub struct Queue<A: Allocator + Copy> {
     acked: u64,
     slots: VecDeque<Slot, A>,
     index: ReportNumbers<A>,
-    /// No fewer than the slots that are spent.
+    /// An upper bound of the number of spent slots.
     spent: usize,
 }
 
@@ -41,7 +42,7 @@ impl<A: Allocator + Copy> Model for Queue<A> {
 }
 
 impl<A: Allocator + Copy> Queue<A> {
-    /// An empty queue, of which no number was used. It takes no memory.
+    /// Returns an empty queue, in which no number has been used. It takes no memory.
     pub fn new(alloc: A) -> Queue<A>
         ensures made { result.made ≡ 0 }
         ensures acked { result.acked ≡ 0 }
@@ -61,7 +62,7 @@ impl<A: Allocator + Copy> Queue<A> {
     ///
     /// # Errors
     ///
-    /// Where memory runs out, and never where there is that room already. Events and numbers then stay as they are.
+    /// If memory runs out, but never if there is that room already. Events and numbers then stay the same.
     pub fn reserve(&mut self, more: usize) -> Result<(), AllocError>
         ensures room { OnOk result (more ≤ self.new.spare) }
         ensures succeeds { more ≤ self.old.spare → IsOk result }
@@ -83,8 +84,8 @@ impl<A: Allocator + Copy> Queue<A> {
         slots.reserve(more)
     }
 
-    /// Adds a report of the entry at a place of the history as an event, with the next number. A State Report supersedes the
-    /// one of its step before (PS3.4 CC.2.4). It uses the room of one event, and takes no memory.
+    /// Adds a report of the entry at an index of the history as an event, with the next number. A State Report
+    /// supersedes the previous one of its step (PS3.4 CC.2.4). This uses the room of one event, and takes no memory.
     pub fn put(&mut self, entry: u64, report: Report)
         requires room { 0 < self.old.spare }
         ensures { IsAdded self.old (event_of (self.old.made + 1) entry report) self.new }
@@ -115,37 +116,37 @@ impl<A: Allocator + Copy> Queue<A> {
         *spent = tidy(slots, counted(*spent, superseded));
     }
 
-    /// The greatest number made; 0 where none was.
+    /// Returns the greatest number assigned, or 0 if there is none.
     pub fn made(&self) -> u64
         ensures { result ≡ self.now.made }
     {
         self.made
     }
 
-    /// The greatest number acknowledged; 0 where none was.
+    /// Returns the greatest number acknowledged, or 0 if there is none.
     pub fn acked(&self) -> u64
         ensures { result ≡ self.now.acked }
     {
         self.acked
     }
 
-    /// The first `max` events that are pending, oldest first (PS3.4 CC.2.4).
+    /// Returns the first `max` pending events, oldest first (PS3.4 CC.2.4).
     ///
     /// # Errors
     ///
-    /// Where memory runs out.
+    /// If memory runs out.
     pub fn pending(&self, max: u64) -> Result<Vec<Event, A>, AllocError>
         ensures { IfOk result (λ v. v.items ≡ take max self.now.events) }
     {
         first_live(self.alloc, &self.slots, max)
     }
 
-    /// Acknowledges the events up to a number, which leave. It takes no memory.
+    /// Acknowledges the events up to a number, and removes them. It takes no memory.
     ///
     /// # Errors
     ///
-    /// AckAhead where no event has so great a number, else AckStale where this number, or a greater one, was acknowledged
-    /// before. The queue then stays as it is.
+    /// `AckAhead` if the number is greater than any assigned, otherwise `AckStale` if this number, or a greater one,
+    /// was acknowledged before. The queue then stays the same.
     pub fn ack(&mut self, upto: u64) -> Result<(), AckFault>
         ensures acked { OnOk result (IsAcked self.old upto self.new) }
         ensures fault { MatchResult result (λ done. ack_fault self.old upto ≡ None) (λ fault. ack_fault self.old upto ≡ Some fault) }
@@ -168,7 +169,7 @@ impl<A: Allocator + Copy> Queue<A> {
         Ok(())
     }
 
-    /// For how many more events there is room.
+    /// Returns the number of further events for which there is room.
     pub fn spare(&self) -> u64
         ensures { result ≡ self.now.spare }
     {

@@ -10,8 +10,8 @@ use std::alloc::{AllocError, Allocator};
 use std::marker::Model;
 use ups_life::{Report, Subscription};
 
-/// The queues of watchers, each by the place of its watcher in the list of peers (PS3.4 CC.2.4). A contract sees the list
-/// of the queues.
+/// The queues of watchers, each at the index of its watcher in the list of peers (PS3.4 CC.2.4). A contract sees the
+/// list of the queues.
 #[derive(Drop)]
 pub struct Queues<A: Allocator + Copy> {
     queues: Vec<Queue<A>, A>,
@@ -27,11 +27,11 @@ impl<A: Allocator + Copy> Model for Queues<A> {
 }
 
 impl<A: Allocator + Copy> Queues<A> {
-    /// Empty queues for so many peers.
+    /// Returns empty queues for this number of peers.
     ///
     /// # Errors
     ///
-    /// Where memory runs out.
+    /// If memory runs out.
     pub fn new(alloc: A, peers: usize) -> Result<Queues<A>, AllocError>
         ensures peers { IfOk result (λ q. length q ≡ peers) }
         ensures empty { IfOk result (λ q. (p : ℕ) → p < peers → IsNew (queue_at q p)) }
@@ -47,7 +47,7 @@ impl<A: Allocator + Copy> Queues<A> {
     ///
     /// # Errors
     ///
-    /// Where memory runs out, and never where there is that room already. Events and numbers then stay as they are.
+    /// If memory runs out, but never if there is that room already. Events and numbers then stay the same.
     pub fn reserve(&mut self, peer: usize, more: usize) -> Result<(), AllocError>
         requires peer { peer < length self.old }
         ensures room { OnOk result (more ≤ (queue_at self.new peer).spare) }
@@ -59,8 +59,9 @@ impl<A: Allocator + Copy> Queues<A> {
         self.queues[peer].reserve(more)
     }
 
-    /// Adds a report of the entry at a place of the history as an event of a peer, with the next number. A State Report
-    /// supersedes the one of its step before (PS3.4 CC.2.4). It uses the room of one event, and takes no memory.
+    /// Adds a report of the entry at an index of the history as an event of a peer, with the next number. A State
+    /// Report supersedes the previous one of its step (PS3.4 CC.2.4). This uses the room of one event, and takes no
+    /// memory.
     pub fn put(&mut self, peer: usize, entry: u64, report: Report)
         requires peer { peer < length self.old }
         requires room { 0 < (queue_at self.old peer).spare }
@@ -71,7 +72,7 @@ impl<A: Allocator + Copy> Queues<A> {
         self.queues[peer].put(entry, report)
     }
 
-    /// The queue of a peer.
+    /// Returns the queue of a peer.
     pub fn of_peer(&self, peer: usize) -> &Queue<A>
         requires { peer < length self.now }
         ensures { result.now ≡ queue_at self.now peer }
@@ -79,12 +80,12 @@ impl<A: Allocator + Copy> Queues<A> {
         &self.queues[peer]
     }
 
-    /// Acknowledges the events of a peer up to a number, which leave. It takes no memory.
+    /// Acknowledges the events of a peer up to a number, and removes them. It takes no memory.
     ///
     /// # Errors
     ///
-    /// AckAhead where no event has so great a number, else AckStale where this number, or a greater one, was acknowledged
-    /// before. The queues then stay as they are.
+    /// `AckAhead` if the number is greater than any assigned, otherwise `AckStale` if this number, or a greater one,
+    /// was acknowledged before. The queues then stay the same.
     pub fn ack(&mut self, peer: usize, upto: u64) -> Result<(), AckFault>
         requires peer { peer < length self.old }
         ensures acked { OnOk result (IsAcked (queue_at self.old peer) upto (queue_at self.new peer)) }
@@ -96,8 +97,8 @@ impl<A: Allocator + Copy> Queues<A> {
         self.queues[peer].ack(upto)
     }
 
-    /// Tells a peer of reports of the entry at a place of the history, for which there is room: each is an event, in their
-    /// order (PS3.4 CC.2.4). It takes no memory.
+    /// Adds reports of the entry at an index of the history as events of a peer, in their order (PS3.4 CC.2.4). There
+    /// is room for them, so it takes no memory.
     pub fn tell(&mut self, peer: usize, entry: u64, reports: &[Report])
         requires peer { peer < length self.old }
         requires room { length reports.now ≤ (queue_at self.old peer).spare }
@@ -110,7 +111,7 @@ impl<A: Allocator + Copy> Queues<A> {
         }
     }
 
-    /// Tells a peer of reports where it watches, and nothing where it doesn't.
+    /// Adds reports as events of a peer if `watches`.
     fn tell_if(&mut self, watches: bool, peer: usize, entry: u64, reports: &[Report])
         requires peer { peer < length self.old }
         requires room { watches ≡ true → length reports.now ≤ (queue_at self.old peer).spare }
@@ -124,8 +125,8 @@ impl<A: Allocator + Copy> Queues<A> {
         }
     }
 
-    /// Tells each peer that is subscribed of reports of the entry at a place of the history, for which the peer has room
-    /// (PS3.4 CC.2.3, CC.2.4); `cells` are the subscriptions, by the places of peers. It takes no memory.
+    /// Adds reports of the entry at an index of the history as events of each peer that is subscribed and has room for
+    /// them (PS3.4 CC.2.3, CC.2.4); `cells` are the subscriptions, indexed by peer. It takes no memory.
     pub fn tell_each(&mut self, cells: &[Option<Subscription>], entry: u64, reports: &[Report])
         requires peers { length cells.now ≤ length self.old }
         requires room { (p : ℕ) → is_some (slice_index_or cells.now p None) ≡ true → length reports.now ≤ (queue_at self.old p).spare }

@@ -12,10 +12,10 @@ use std::collections::{HashMap, VecDeque};
 use std::hash::{BuildHasherDefault, FoldHasher};
 use ups_life::{Event, EventKind, StepUid};
 
-/// So many spent slots are left where they are, beside half of all slots: few are not worth a walk over the others.
+/// The number of spent slots that are left in place beside half of all slots: few are not worth a walk over the others.
 const SPENT_LEFT: usize = 32;
 
-/// The number of the State Report of each step, where it is live.
+/// The number of the live State Report of each step that has one.
 pub(crate) type ReportNumbers<A> = HashMap<StepUid, u64, BuildHasherDefault<FoldHasher>, A>;
 
 /// An event of a queue. It is live until it is spent: acknowledged, or superseded by a later State Report of its step.
@@ -25,7 +25,7 @@ pub(crate) struct Slot {
     pub(crate) live: bool,
 }
 
-/// Whether a report is a State Report (PS3.4 CC.2.4).
+/// Returns whether a report is a State Report (PS3.4 CC.2.4).
 fn is_state_report(kind: EventKind) -> bool
     ensures { result ≡ is_state_report kind }
 {
@@ -35,14 +35,14 @@ fn is_state_report(kind: EventKind) -> bool
     }
 }
 
-/// Whether an event is a State Report of this step (PS3.4 CC.2.4).
+/// Returns whether an event is a State Report of this step (PS3.4 CC.2.4).
 fn is_report_of(step: StepUid, event: &Event) -> bool
     ensures { result ≡ is_report_of step event.now }
 {
     event.step.as_bytes() == step.as_bytes() && is_state_report(event.kind)
 }
 
-/// Spends the State Report of a step, whose number is known, if it is still there.
+/// Marks the State Report of a step, whose number is known, as spent if it is still there.
 fn spend<A: Allocator + Copy>(slots: &mut VecDeque<Slot, A>, number: u64, step: StepUid)
     requires rises { Rises slots.old.items }
     requires alone { (i : ℕ) → (d : Slot) → i < length slots.old.items → (slice_index_or slots.old.items i d).live ≡ true → is_report_of step (slice_index_or slots.old.items i d).event ≡ true → (slice_index_or slots.old.items i d).event.number ≡ number }
@@ -58,7 +58,7 @@ fn spend<A: Allocator + Copy>(slots: &mut VecDeque<Slot, A>, number: u64, step: 
     }
 }
 
-/// Gives a step the number of its new State Report, and spends the one before. Returns whether there was one.
+/// Sets the number of a step's new State Report, and marks the previous one as spent. Returns whether there was one.
 fn supersede<A: Allocator + Copy>(
     slots: &mut VecDeque<Slot, A>,
     index: &mut ReportNumbers<A>,
@@ -86,8 +86,8 @@ fn supersede<A: Allocator + Copy>(
     }
 }
 
-/// Makes way for an event of this kind and number: a State Report supersedes the one of its step before. Returns whether
-/// there was one.
+/// Makes way for an event of this kind and number: a State Report supersedes the previous one of its step. Returns
+/// whether there was one.
 pub(crate) fn make_way<A: Allocator + Copy>(
     slots: &mut VecDeque<Slot, A>,
     index: &mut ReportNumbers<A>,
@@ -111,14 +111,14 @@ pub(crate) fn make_way<A: Allocator + Copy>(
     }
 }
 
-/// Whether a slot at the front goes: it is spent, or its event is acknowledged.
+/// Returns whether a slot at the front can go: it is spent, or its event is acknowledged.
 fn goes(slot: &Slot, upto: u64) -> bool
     ensures { result ≡ goes upto slot.now }
 {
     !slot.live || slot.event.number <= upto
 }
 
-/// The slot at the front, if it goes.
+/// Returns the slot at the front, if it can go.
 fn going<A: Allocator + Copy>(slots: &VecDeque<Slot, A>, upto: u64) -> Option<Slot>
     ensures { MatchOption result (dropped upto slots.now.items ≡ slots.now.items) (λ s. (goes upto s ≡ true) × ((rest : List Slot) × (slots.now.items ≡ s ∷ rest))) }
 {
@@ -128,7 +128,7 @@ fn going<A: Allocator + Copy>(slots: &VecDeque<Slot, A>, upto: u64) -> Option<Sl
     }
 }
 
-/// Takes the State Report of a slot that goes out of the index. One that is spent isn't there any more: the index has the
+/// Removes from the index the State Report of a slot that is dropped. A spent one is no longer there: the index has the
 /// number of the one that superseded it.
 fn forget<A: Allocator + Copy>(index: &mut ReportNumbers<A>, slot: &Slot)
     ensures index { (u : List ℕ) → get bytes_eq index.new u ≡ (if slot.now.live && is_report_of u slot.now.event then None else get bytes_eq index.old u) }
@@ -139,7 +139,7 @@ fn forget<A: Allocator + Copy>(index: &mut ReportNumbers<A>, slot: &Slot)
     }
 }
 
-/// Drops the slots at the front that go: those that are spent, and those of the events up to a number.
+/// Drops the slots at the front that can go: the spent ones, and those of the events up to a number.
 pub(crate) fn drop_front<A: Allocator + Copy>(
     slots: &mut VecDeque<Slot, A>,
     index: &mut ReportNumbers<A>,
@@ -157,7 +157,7 @@ pub(crate) fn drop_front<A: Allocator + Copy>(
     }
 }
 
-/// Throws away the slots that are spent.
+/// Drops the spent slots.
 fn compact<A: Allocator + Copy>(slots: &mut VecDeque<Slot, A>)
     ensures slots { slots.new.items ≡ filter is_live slots.old.items }
     ensures len { deque_len slots.new ≤ deque_len slots.old }
@@ -166,7 +166,7 @@ fn compact<A: Allocator + Copy>(slots: &mut VecDeque<Slot, A>)
     slots.retain(|slot| slot.live);
 }
 
-/// How many slots may be spent after an event came that superseded another one, or none.
+/// Returns an upper bound of the number of spent slots after an event was added, from the bound before it.
 pub(crate) fn counted(spent: usize, superseded: bool) -> usize {
     if superseded {
         spent.saturating_add(1)
@@ -175,8 +175,8 @@ pub(crate) fn counted(spent: usize, superseded: bool) -> usize {
     }
 }
 
-/// Throws away the slots that are spent, where these may be more than half of all; there are no more of them than `spent`.
-/// Returns how many there may be afterwards.
+/// Drops the spent slots, of which there are at most `spent`, if they may exceed half of all slots by `SPENT_LEFT`.
+/// Returns an upper bound of the number of spent slots then.
 pub(crate) fn tidy<A: Allocator + Copy>(slots: &mut VecDeque<Slot, A>, spent: usize) -> usize
     ensures slots { (slots.new.items ≡ slots.old.items) ⊎ (slots.new.items ≡ filter is_live slots.old.items) }
     ensures len { deque_len slots.new ≤ deque_len slots.old }
@@ -191,7 +191,7 @@ pub(crate) fn tidy<A: Allocator + Copy>(slots: &mut VecDeque<Slot, A>, spent: us
 
 /// Adds the event of a slot, unless it is spent.
 ///
-/// Errors: where memory runs out.
+/// Errors: if memory runs out.
 fn add_live<A: Allocator + Copy>(found: &mut Vec<Event, A>, slot: &Slot) -> Result<(), AllocError>
     ensures { OnOk result (found.new.items ≡ found.old.items ++ lives (slot.now ∷ [])) }
 {
@@ -201,9 +201,9 @@ fn add_live<A: Allocator + Copy>(found: &mut Vec<Event, A>, slot: &Slot) -> Resu
     Ok(())
 }
 
-/// The first `max` events that are live, oldest first. It looks at the slots up to the last of these.
+/// Returns the first `max` live events, oldest first. It looks no further than the slot of the last of these.
 ///
-/// Errors: where memory runs out.
+/// Errors: if memory runs out.
 pub(crate) fn first_live<A: Allocator + Copy>(
     alloc: A,
     slots: &VecDeque<Slot, A>,

@@ -1,4 +1,4 @@
-//! Putting the posts of values in the place of those of others: what is in both is left alone.
+//! Replacing the posts of values by those of other values. The posts of both are left alone.
 
 ghost use Rattle.std.specs.Prelude.{◌≡◌, ◌≢◌, ◌≤◌, ◌<◌, ◌+◌, ◌⊎◌, ℕ, List, length, map, false, Contains, IsTrue};
 ghost use Rattle.ups_dataset.specs.declared.tag.Tag.{Tag};
@@ -12,14 +12,14 @@ use crate::slots::{put_start, take_start};
 use crate::values::{StoredText, has_text};
 use std::alloc::Allocator;
 
-/// Whether a text is one of some.
+/// Returns whether a text is one of `texts`.
 fn is_among<A: Allocator + Copy>(texts: &[StoredText<A>], stored: &StoredText<A>) -> bool
     ensures { IsTrue result → Contains (map text_view texts.now) (text_view stored.now) }
 {
     has_text(texts, stored.tag, &stored.text)
 }
 
-/// Whether one of some texts has a number.
+/// Returns whether one of the texts has a number.
 fn has_number<A: Allocator + Copy>(texts: &[StoredText<A>], number: u64) -> bool
     ensures { result ≡ false → (stored : Tag × List ℕ) → Contains (map text_view texts.now) stored → text_number stored.0 stored.1 ≢ number }
 {
@@ -31,7 +31,7 @@ fn has_number<A: Allocator + Copy>(texts: &[StoredText<A>], number: u64) -> bool
     false
 }
 
-/// Takes out the post of a text at a place, where none of the other texts there has it too.
+/// Removes the post of a text at a place, unless one of the other texts there has it too.
 fn drop_text<A: Allocator + Copy>(
     table: &mut Posts<A>,
     others: &[StoredText<A>],
@@ -52,7 +52,7 @@ fn drop_text<A: Allocator + Copy>(
     table.take(number, place);
 }
 
-/// Takes out the posts of texts at a place, where none of the other texts there has them too.
+/// Removes the posts of texts at a place, except those that one of the other texts there has too.
 fn drop_texts<A: Allocator + Copy>(
     table: &mut Posts<A>,
     others: &[StoredText<A>],
@@ -68,7 +68,7 @@ fn drop_texts<A: Allocator + Copy>(
     }
 }
 
-/// Puts the post of a text at a place, where it is none of those that have theirs there already.
+/// Adds the post of a text at a place, unless it is one of `others`, whose posts are there already.
 fn add_text<A: Allocator + Copy>(
     table: &mut Posts<A>,
     others: &[StoredText<A>],
@@ -86,7 +86,7 @@ fn add_text<A: Allocator + Copy>(
     table.put(text_number(stored.tag, &stored.text), place);
 }
 
-/// Puts the posts of texts at a place, where they are none of those that have theirs there already.
+/// Adds the posts of texts at a place, except for those among `others`, whose posts are there already.
 fn add_texts<A: Allocator + Copy>(
     table: &mut Posts<A>,
     others: &[StoredText<A>],
@@ -103,7 +103,7 @@ fn add_texts<A: Allocator + Copy>(
     }
 }
 
-/// Puts the posts of texts at a place instead of those of others.
+/// Replaces the posts of texts at a place by those of others.
 pub(crate) fn exchange_texts<A: Allocator + Copy>(
     table: &mut Posts<A>,
     old: &[StoredText<A>],
@@ -120,7 +120,7 @@ pub(crate) fn exchange_texts<A: Allocator + Copy>(
     add_texts(table, old, new, place);
 }
 
-/// Puts the post of a start at a place instead of that of another.
+/// Replaces the post of a start at a place by that of another.
 pub(crate) fn exchange_start<A: Allocator + Copy>(
     table: &mut Posts<A>,
     old: Option<i64>,

@@ -1,4 +1,4 @@
-//! The index.
+//! The index of the held steps.
 
 ghost use Rattle.std.specs.Prelude.{◌≡◌, ◌≤◌, ◌<◌, ◌+◌, ◌++◌, [], ◌∷◌, false, length, IfOk, IsSome, IfSome, OnOk, pos};
 ghost use Rattle.std.specs.Bool.{MatchBool};
@@ -19,26 +19,27 @@ use std::marker::Model;
 use ups_life::StepUid;
 use ups_match::{First, Keys};
 
-/// How many steps an index takes in its life at most: a place is a `u32`.
+/// The greatest number of steps that an index takes in its life: a place is a `u32`.
 const MAX_PLACES: usize = 0x1_0000_0000;
 
-/// An index of the steps that are held: by the first indexed key of a query it finds those that have it, and looks at no
-/// others (PS3.4 section C.2.2.2). It keeps a copy of the indexed values of each step.
+/// An index of the held steps. It finds those that have the first indexed key of a query without going through all
+/// others (PS3.4 section C.2.2.2), and keeps a copy of the indexed values of each step.
 ///
-/// A contract sees the offset by which starts are read, the steps in order of creation, each with its values, and for how many
-/// more values there is room. Room is made by `reserve` alone: what else changes the index needs no memory, and can't fail.
+/// A contract sees the offset by which starts are read, the steps in order of creation, each with its values, and for
+/// how many more values there is room. Only `reserve` makes room: other changes to the index take no memory, and cannot
+/// fail.
 #[derive(Drop)]
 pub struct Index<A: Allocator + Copy> {
     alloc: A,
-    /// In minutes east of UTC.
+    /// The offset of a start without one, in minutes east of UTC.
     offset: i16,
-    /// Each step at a place that it keeps.
+    /// The steps, each at a place that it keeps.
     slots: Vec<Slot<A>, A>,
-    /// By the numbers of UIDs.
+    /// The posts by the numbers of UIDs.
     steps: Posts<A>,
-    /// By the numbers of texts.
+    /// The posts by the numbers of texts.
     texts: Posts<A>,
-    /// By the numbers of starts.
+    /// The posts by the numbers of starts.
     starts: Posts<A>,
 }
 
@@ -54,7 +55,7 @@ impl<A: Allocator + Copy> Model for Index<A> {
     ghost invariant = { λ x. KeepsIndex x.slots.items x.steps.posts x.texts.posts x.starts.posts };
 }
 
-/// Puts the posts of values at a place instead of those of the values of the step there.
+/// Replaces the posts of the values of the step at a place by those of new values.
 fn exchange_values<A: Allocator + Copy>(
     texts: &mut Posts<A>,
     starts: &mut Posts<A>,
@@ -81,7 +82,7 @@ fn exchange_values<A: Allocator + Copy>(
     exchange_start(starts, old.start(), new.start(), place);
 }
 
-/// Takes out the posts of the values of the step at a place.
+/// Removes the posts of the values of the step at a place.
 fn take_values<A: Allocator + Copy>(
     texts: &mut Posts<A>,
     starts: &mut Posts<A>,
@@ -100,7 +101,7 @@ fn take_values<A: Allocator + Copy>(
     take_start(starts, values.start(), place);
 }
 
-/// The number from which on a start is in a range.
+/// Returns the number from which on a start is in a range.
 fn low_number(least: Option<i64>) -> u64
     ensures { result ≡ low_number least }
 {
@@ -110,7 +111,7 @@ fn low_number(least: Option<i64>) -> u64
     }
 }
 
-/// The number up to which a start is in a range.
+/// Returns the number up to which a start is in a range.
 fn high_number(greatest: Option<i64>) -> u64
     ensures { result ≡ high_number greatest }
 {
@@ -121,7 +122,8 @@ fn high_number(greatest: Option<i64>) -> u64
 }
 
 impl<A: Allocator + Copy> Index<A> {
-    /// An index without steps. `offset` is that of a start which names none, in minutes east of UTC. It takes no memory yet.
+    /// Returns an index without steps. `offset` is that of a start without one, in minutes east of UTC. It takes no
+    /// memory yet.
     pub fn new(alloc: A, offset: i16) -> Index<A>
         ensures offset { result.offset ≡ offset }
         ensures steps { result.steps ≡ [] }
@@ -140,7 +142,8 @@ impl<A: Allocator + Copy> Index<A> {
     ///
     /// # Errors
     ///
-    /// Where memory runs out, or the index has taken 4,294,967,296 steps. The steps are then as before.
+    /// If memory runs out, or the index has taken so many steps that fewer of its 4,294,967,296 places are left than
+    /// the step has values. The steps are then as before.
     pub fn reserve(&mut self, values: &Values<A>) -> Result<(), AllocError>
         ensures offset { self.new.offset ≡ self.old.offset }
         ensures steps { self.new.steps ≡ self.old.steps }
@@ -152,9 +155,9 @@ impl<A: Allocator + Copy> Index<A> {
         self.make_room(more)
     }
 
-    /// Makes room for so many values.
+    /// Makes room for `more` values.
     ///
-    /// Errors: where memory runs out, or there would be too many steps. The steps are then as before.
+    /// Errors: if memory runs out, or there would be too many steps. The steps are then as before.
     fn make_room(&mut self, more: usize) -> Result<(), AllocError>
         ensures offset { self.new.offset ≡ self.old.offset }
         ensures steps { self.new.steps ≡ self.old.steps }
@@ -176,7 +179,7 @@ impl<A: Allocator + Copy> Index<A> {
         starts.reserve(more)
     }
 
-    /// Adds a step behind the others.
+    /// Adds a step after the others.
     fn add(&mut self, step: StepUid, values: Values<A>)
         requires room { values_len values ≤ self.old.spare }
         requires absent { has_step step self.old.steps ≡ false }
@@ -201,8 +204,8 @@ impl<A: Allocator + Copy> Index<A> {
         });
     }
 
-    /// Stores values of a step in the place of those that it has, or else behind those of the other steps. There is room for
-    /// them.
+    /// Stores the values of a step in place of those that it has, or else after those of the other steps. There must be
+    /// room for them.
     pub fn put(&mut self, step: StepUid, values: Values<A>)
         requires { values_len values ≤ self.old.spare }
         ensures offset { self.new.offset ≡ self.old.offset }
@@ -225,7 +228,7 @@ impl<A: Allocator + Copy> Index<A> {
         };
     }
 
-    /// Takes a step out of the index.
+    /// Removes a step from the index.
     pub fn remove(&mut self, step: StepUid)
         ensures offset { self.new.offset ≡ self.old.offset }
         ensures steps { self.new.steps ≡ without_uid step self.old.steps }
@@ -247,7 +250,7 @@ impl<A: Allocator + Copy> Index<A> {
         slots[at] = Slot { step, values: None };
     }
 
-    /// Whether a query has an indexed key. Where it has none its class is every step.
+    /// Returns whether a query has an indexed key. If it has none, its class is every step.
     pub fn looks_up(&self, keys: &Keys<A>) -> bool
         ensures { MatchBool result (Unit {0}) (first_key self.now.offset keys.now ≡ all) }
     {
@@ -257,11 +260,11 @@ impl<A: Allocator + Copy> Index<A> {
         }
     }
 
-    /// The class of a query: the steps that have its first indexed key, each once, in order of creation.
+    /// Returns the class of a query: the steps that have its first indexed key, each once, in order of creation.
     ///
     /// # Errors
     ///
-    /// Where memory runs out.
+    /// If memory runs out.
     pub fn candidates(&self, keys: &Keys<A>) -> Result<Vec<StepUid, A>, AllocError>
         ensures { IfOk result (λ found. found.items ≡ indexed_class (first_key self.now.offset keys.now) self.now.steps) }
     {

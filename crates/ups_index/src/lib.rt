@@ -1,6 +1,6 @@
-//! The index of the steps that are held: by SOP Instance UID, patient ID, worklist label, station name code, state, priority
-//! and start it finds the steps that a query may match (PS3.4 sections CC.2.8 and C.2.2.2), so that a find looks at these and
-//! no others.
+//! The index of the held steps. By SOP Instance UID, patient ID, worklist label, station name code, state, priority and
+//! start it finds the steps that a query may match (PS3.4 sections CC.2.8 and C.2.2.2), so that a find looks only at
+//! these.
 #![tactic(auto)]
 
 mod exchanging;

@@ -1,4 +1,4 @@
-//! Posts in order: where each number is found.
+//! Posts in order, which say where each number is found.
 
 ghost use Rattle.std.specs.Prelude.{◌≡◌, ◌≢◌, ◌≤◌, ◌<◌, ◌+◌, ◌⊎◌, ℕ, [], Contains, OnOk};
 ghost use Rattle.ups_index.specs.Posts.{post, KeepsEach, KeepsOthers};
@@ -7,16 +7,16 @@ use std::alloc::{AllocError, Allocator};
 use std::collections::{BTreeSet, btree_set};
 use std::marker::Model;
 
-/// That a number is found at a place of the slots.
+/// A number, and the place of a slot where it is found.
 #[derive(Clone, Copy, Debug, PartialEq, Eq, PartialOrd, Ord)]
 pub(crate) struct Post {
     pub number: u64,
     pub place: u32,
 }
 
-/// Puts posts into a tree.
+/// Inserts posts into a tree.
 ///
-/// Errors: where memory runs out. Then too each post of the tree is still there.
+/// Errors: if memory runs out. Each post of the tree is still there then.
 fn settle<A: Allocator + Copy>(
     tree: &mut BTreeSet<Post, A>,
     posts: &[Post],
@@ -30,7 +30,7 @@ fn settle<A: Allocator + Copy>(
     Ok(())
 }
 
-/// The posts of the numbers from `low` to `high`.
+/// Returns the posts of the numbers from `low` to `high`.
 fn run<A: Allocator + Copy>(
     tree: &BTreeSet<Post, A>,
     low: u64,
@@ -49,8 +49,8 @@ fn run<A: Allocator + Copy>(
     }
 }
 
-/// Posts in order, most of them in a tree. The newest wait beside it until room is made for more, since the tree takes memory.
-/// A contract sees the posts of both, and how many more may wait.
+/// Posts in order, most of them in a tree. The newest wait beside it until room is made for more, because the tree
+/// takes memory. A contract sees the posts of both, and how many more may wait.
 #[derive(Drop)]
 pub(crate) struct Posts<A: Allocator + Copy> {
     tree: BTreeSet<Post, A>,
@@ -68,7 +68,7 @@ impl<A: Allocator + Copy> Model for Posts<A> {
 }
 
 impl<A: Allocator + Copy> Posts<A> {
-    /// No posts.
+    /// Returns an empty set of posts.
     pub(crate) fn new(alloc: A) -> Posts<A>
         ensures { result.posts ≡ [] }
     {
@@ -78,9 +78,9 @@ impl<A: Allocator + Copy> Posts<A> {
         }
     }
 
-    /// Makes room.
+    /// Makes room for `more` posts.
     ///
-    /// Errors: where memory runs out. Then too each post is still there.
+    /// Errors: if memory runs out. Each post is still there then.
     pub(crate) fn reserve(&mut self, more: usize) -> Result<(), AllocError>
         ensures keeps { KeepsEach self.old.posts self.new.posts }
         ensures room { OnOk result (more ≤ self.new.room) }
@@ -92,7 +92,7 @@ impl<A: Allocator + Copy> Posts<A> {
         waiting.reserve(more)
     }
 
-    /// Puts the post of a number and a place. It takes no memory.
+    /// Adds the post of a number and a place. It takes no memory.
     pub(crate) fn put(&mut self, number: u64, place: u32)
         requires { 0 < self.old.room }
         ensures has { Contains self.new.posts (post number place) }
@@ -102,7 +102,7 @@ impl<A: Allocator + Copy> Posts<A> {
         self.waiting.push_reserved(Post { number, place });
     }
 
-    /// Takes out the post of a number and a place. It takes no memory.
+    /// Removes the post of a number and a place. It takes no memory.
     pub(crate) fn take(&mut self, number: u64, place: u32)
         ensures keeps { KeepsOthers place self.old.posts self.new.posts }
         ensures spares { (other : ℕ) → other ≢ number → Contains self.old.posts (post other place) → Contains self.new.posts (post other place) }
@@ -113,7 +113,7 @@ impl<A: Allocator + Copy> Posts<A> {
         waiting.retain(|post| post.place != place || post.number != number);
     }
 
-    /// The posts of the numbers from `low` to `high`: those in the tree, and beside them all that wait.
+    /// Returns the posts of the numbers from `low` to `high` in the tree, and all posts that wait beside it.
     pub(crate) fn runs(&self, low: u64, high: u64) -> (btree_set::Range<'_, Post>, &[Post])
         requires { low ≤ high }
         ensures { (number place : ℕ) → Contains self.now.posts (post number place) → low ≤ number → number ≤ high → Contains result.0 (post number place) ⊎ Contains result.1.now (post number place) }

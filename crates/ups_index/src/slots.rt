@@ -1,4 +1,5 @@
-//! The steps of the index in order of creation, each in a slot that it keeps. The place of a slot is its number among all.
+//! The steps of the index in order of creation, each in a slot that it keeps. The place of a slot is its index among
+//! all.
 
 ghost use Rattle.std.specs.Prelude.{◌≡◌, ◌≤◌, ◌<◌, ◌+◌, ◌++◌, ℕ, List, Some, true, false, length, map, max, take, Contains, IfOk, OnOk, MatchOption};
 ghost use Rattle.std.specs.Option.{option_to_list};
@@ -20,17 +21,18 @@ use std::collections::btree_set;
 use ups_life::StepUid;
 use ups_match::First;
 
-/// For how many places room is taken at once: most look-ups find a few steps. How many there will be isn't known before.
+/// The number of places for which room is taken at once: most lookups find few steps, but how many is not known in
+/// advance.
 const USUAL_PLACES: usize = 16;
 
-/// A step with its values; None once it is taken out.
+/// A step with its values, which are None once it is removed.
 #[derive(Drop)]
 pub(crate) struct Slot<A: Allocator + Copy> {
     pub step: StepUid,
     pub values: Option<Values<A>>,
 }
 
-/// Whether a slot is that of a step which is in the index.
+/// Returns whether a slot is that of `step`, and the step is in the index.
 fn is_of<A: Allocator + Copy>(slot: &Slot<A>, step: StepUid) -> bool
     ensures { MatchBool result ((values : RowValues) × (slot.now ≡ record { step = step; values = Some values })) ((values : RowValues) → slot.now ≡ record { step = step; values = Some values } → ⊥) }
 {
@@ -40,7 +42,7 @@ fn is_of<A: Allocator + Copy>(slot: &Slot<A>, step: StepUid) -> bool
     }
 }
 
-/// Whether the slot of a step is at a place.
+/// Returns whether the slot of a step is at a place.
 fn is_slot_of<A: Allocator + Copy>(slots: &[Slot<A>], place: usize, step: StepUid) -> bool
     ensures { MatchBool result ((values : RowValues) × IsSlot slots.now place step values) ((values : RowValues) → IsSlot slots.now place step values → ⊥) }
 {
@@ -50,7 +52,7 @@ fn is_slot_of<A: Allocator + Copy>(slots: &[Slot<A>], place: usize, step: StepUi
     is_of(&slots[place], step)
 }
 
-/// The place of a step, where one of the posts leads to it.
+/// Returns the place of a step, if one of the posts leads to it.
 fn place_among<A: Allocator + Copy>(
     posts: &[Post],
     slots: &[Slot<A>],
@@ -66,7 +68,7 @@ fn place_among<A: Allocator + Copy>(
     None
 }
 
-/// The place of a step, where one of a run of posts leads to it.
+/// Returns the place of a step, if one of a run of posts leads to it.
 fn place_in<A: Allocator + Copy>(
     run: btree_set::Range<'_, Post>,
     slots: &[Slot<A>],
@@ -82,7 +84,7 @@ fn place_in<A: Allocator + Copy>(
     None
 }
 
-/// The place of a step.
+/// Returns the place of a step, if it is in the index.
 pub(crate) fn place_of<A: Allocator + Copy>(
     steps: &Posts<A>,
     slots: &[Slot<A>],
@@ -99,7 +101,7 @@ pub(crate) fn place_of<A: Allocator + Copy>(
     }
 }
 
-/// Puts the posts of texts at a place.
+/// Adds the posts of texts at a place.
 pub(crate) fn put_texts<A: Allocator + Copy>(
     table: &mut Posts<A>,
     texts: &[StoredText<A>],
@@ -115,7 +117,7 @@ pub(crate) fn put_texts<A: Allocator + Copy>(
     }
 }
 
-/// Takes out the posts of texts at a place.
+/// Removes the posts of texts at a place.
 pub(crate) fn take_texts<A: Allocator + Copy>(
     table: &mut Posts<A>,
     texts: &[StoredText<A>],
@@ -129,7 +131,7 @@ pub(crate) fn take_texts<A: Allocator + Copy>(
     }
 }
 
-/// Puts the post of a start at a place.
+/// Adds the post of a start at a place.
 pub(crate) fn put_start<A: Allocator + Copy>(table: &mut Posts<A>, start: Option<i64>, place: u32)
     requires { 0 < table.old.room }
     ensures has { MatchOption start (Unit {0}) (λ moment. Contains table.new.posts (post (moment_number moment) place)) }
@@ -142,7 +144,7 @@ pub(crate) fn put_start<A: Allocator + Copy>(table: &mut Posts<A>, start: Option
     }
 }
 
-/// Takes out the post of a start at a place.
+/// Removes the post of a start at a place.
 pub(crate) fn take_start<A: Allocator + Copy>(table: &mut Posts<A>, start: Option<i64>, place: u32)
     ensures keeps { KeepsOthers place table.old.posts table.new.posts }
     ensures room { table.old.room ≤ table.new.room }
@@ -155,7 +157,7 @@ pub(crate) fn take_start<A: Allocator + Copy>(table: &mut Posts<A>, start: Optio
 
 /// Adds the places of posts.
 ///
-/// Errors: where memory runs out.
+/// Errors: if memory runs out.
 fn add_places<A: Allocator + Copy>(
     places: &mut Vec<u32, A>,
     posts: &[Post],
@@ -171,7 +173,7 @@ fn add_places<A: Allocator + Copy>(
 
 /// Adds the places of a run of posts.
 ///
-/// Errors: where memory runs out.
+/// Errors: if memory runs out.
 fn add_run<A: Allocator + Copy>(
     places: &mut Vec<u32, A>,
     run: btree_set::Range<'_, Post>,
@@ -185,9 +187,9 @@ fn add_run<A: Allocator + Copy>(
     Ok(())
 }
 
-/// The places of the numbers from `low` to `high`, in order.
+/// Returns, in order, the places of the numbers from `low` to `high`, and those of all posts that wait.
 ///
-/// Errors: where memory runs out.
+/// Errors: if memory runs out.
 fn places_of<A: Allocator + Copy>(
     alloc: A,
     table: &Posts<A>,
@@ -208,9 +210,9 @@ fn places_of<A: Allocator + Copy>(
     Ok(places)
 }
 
-/// Adds the step of a slot, where it has the first indexed key.
+/// Adds the step of a slot, if it has the first indexed key.
 ///
-/// Errors: where memory runs out.
+/// Errors: if memory runs out.
 fn add_step<A: Allocator + Copy>(
     steps: &mut Vec<StepUid, A>,
     slot: &Slot<A>,
@@ -230,9 +232,10 @@ fn add_step<A: Allocator + Copy>(
     }
 }
 
-/// Adds the step at a place, where it has the first indexed key and isn't passed yet; from which place on none is passed.
+/// Adds the step at a place, if it has the first indexed key and is not passed yet, and returns the place from which on
+/// none is passed.
 ///
-/// Errors: where memory runs out.
+/// Errors: if memory runs out.
 fn visit<A: Allocator + Copy>(
     steps: &mut Vec<StepUid, A>,
     slots: &[Slot<A>],
@@ -256,9 +259,9 @@ fn visit<A: Allocator + Copy>(
     Ok(place + 1)
 }
 
-/// The steps that have the first indexed key, of which each is at one of the places.
+/// Returns the steps that have the first indexed key, each of which is at one of the places.
 ///
-/// Errors: where memory runs out.
+/// Errors: if memory runs out.
 fn steps_at<A: Allocator + Copy>(
     alloc: A,
     slots: &[Slot<A>],
@@ -277,9 +280,9 @@ fn steps_at<A: Allocator + Copy>(
     Ok(steps)
 }
 
-/// The steps that have the first indexed key, which is looked up by the numbers from `low` to `high`.
+/// Returns the steps that have the first indexed key, which is looked up by the numbers from `low` to `high`.
 ///
-/// Errors: where memory runs out.
+/// Errors: if memory runs out.
 pub(crate) fn look_up<A: Allocator + Copy>(
     alloc: A,
     slots: &[Slot<A>],
@@ -295,9 +298,9 @@ pub(crate) fn look_up<A: Allocator + Copy>(
     steps_at(alloc, slots, &places, first)
 }
 
-/// Each step.
+/// Returns every step.
 ///
-/// Errors: where memory runs out.
+/// Errors: if memory runs out.
 pub(crate) fn every_step<A: Allocator + Copy>(
     alloc: A,
     slots: &[Slot<A>],

@@ -1,4 +1,4 @@
-//! What is stored of a step.
+//! The values stored of a step.
 
 ghost use Rattle.std.specs.Prelude.{◌≡◌, ◌+◌, ◌++◌, ◌<◌, ◌^◌, ◌&&◌, length, map, filter, not, IfOk, OnOk, Some, ℕ, List};
 ghost use Rattle.std.specs.List.{list_any, slice_split};
@@ -21,7 +21,7 @@ use ups_dataset::dictionary::{
 use ups_dataset::{DataSet, Tag};
 use ups_match::First;
 
-/// For how many texts room is taken at once: most steps have one under each tag.
+/// The number of texts for which room is taken at once: most steps have one under each tag.
 const USUAL_TEXTS: usize = 6;
 
 /// A text under the tag by which it is looked up.
@@ -31,7 +31,7 @@ pub(crate) struct StoredText<A: Allocator + Copy> {
     pub text: Vec<u8, A>,
 }
 
-/// The values by which a step is found. A contract sees the texts, each with its tag, and the first moment of the start.
+/// The values by which a step is found. A contract sees the texts with their tags, and the first moment of the start.
 #[derive(Drop)]
 pub struct Values<A: Allocator + Copy> {
     texts: Vec<StoredText<A>, A>,
@@ -50,11 +50,11 @@ impl<A: Allocator + Copy> Model for Values<A> {
 }
 
 impl<A: Allocator + Copy> Values<A> {
-    /// The indexed values of a row. `offset` is that of a start which names none, in minutes east of UTC.
+    /// Returns the indexed values of a row. `offset` is that of a start without one, in minutes east of UTC.
     ///
     /// # Errors
     ///
-    /// Where memory runs out.
+    /// If memory runs out.
     pub fn of(alloc: A, row: &DataSet<A>, offset: i16) -> Result<Values<A>, AllocError>
         ensures { IfOk result (λ v. v ≡ values_of_row offset row.now) }
     {
@@ -81,21 +81,21 @@ impl<A: Allocator + Copy> Values<A> {
         Ok(Values { texts, start })
     }
 
-    /// The texts.
+    /// Returns the texts.
     pub(crate) fn texts(&self) -> &[StoredText<A>]
         ensures { map text_view result.now ≡ self.now.texts }
     {
         self.texts.as_slice()
     }
 
-    /// The first moment of the start.
+    /// Returns the first moment of the start.
     pub(crate) fn start(&self) -> Option<i64>
         ensures { result ≡ self.now.start }
     {
         self.start
     }
 
-    /// Whether they have the first indexed key of a query.
+    /// Returns whether the values have the first indexed key of a query.
     pub(crate) fn has(&self, first: &First<'_>) -> bool
         ensures { result ≡ has_first (first_view first.now) self.now }
     {
@@ -107,21 +107,21 @@ impl<A: Allocator + Copy> Values<A> {
     }
 }
 
-/// Whether what is stored is a text under a tag.
+/// Returns whether what is stored is a text under a tag.
 fn is_text<A: Allocator + Copy>(stored: &StoredText<A>, tag: Tag, text: &[u8]) -> bool
     ensures { result ≡ is_stored_text tag text.now (text_view stored.now) }
 {
     stored.tag == tag && text == stored.text.as_slice()
 }
 
-/// Whether a text is stored under a tag.
+/// Returns whether a text is stored under a tag.
 pub(crate) fn has_text<A: Allocator + Copy>(texts: &[StoredText<A>], tag: Tag, text: &[u8]) -> bool
     ensures { result ≡ list_any (λ stored. is_stored_text tag text.now (text_view stored)) texts.now }
 {
     texts.iter().any(|stored| is_text(stored, tag, text))
 }
 
-/// Whether a start lies between two moments; an open end has none.
+/// Returns whether a start is between two moments; None is an open end.
 fn is_within(start: Option<i64>, least: Option<i64>, greatest: Option<i64>) -> bool
     ensures { result ≡ starts_within least greatest start }
 {
@@ -131,7 +131,7 @@ fn is_within(start: Option<i64>, least: Option<i64>, greatest: Option<i64>) -> b
     }
 }
 
-/// Whether a moment isn't before a least one.
+/// Returns whether a moment is not before `least`.
 fn is_from(least: Option<i64>, moment: i64) -> bool
     ensures { result ≡ is_from least moment }
 {
@@ -141,7 +141,7 @@ fn is_from(least: Option<i64>, moment: i64) -> bool
     }
 }
 
-/// Whether a moment isn't behind a greatest one.
+/// Returns whether a moment is not after `greatest`.
 fn is_up_to(greatest: Option<i64>, moment: i64) -> bool
     ensures { result ≡ is_up_to greatest moment }
 {

@@ -1,15 +1,15 @@
-//! Why there is no record, or no entry.
+//! The reasons why there is no record, or no entry.
 
 ghost use Rattle.std.specs.Prelude.{◌≡◌};
 
 use std::alloc::{AllocError, AllocFailed};
 use thiserror::Error;
 
-/// Why there is no record of an entry. Each text goes on from what the request is.
+/// The reason why there is no record of an entry. Each text continues a sentence about the request.
 #[derive(Clone, Copy, Debug, PartialEq, Eq, Error)]
 pub enum RecordingFault {
-    /// A title has spaces at its ends. It never comes, since `Ae::of` takes these off and no other function makes a title;
-    /// but the invariant of `Ae` doesn't say so.
+    /// A title has spaces at its ends. This never happens, because `Ae::of` removes them and no other function makes a
+    /// title, but the invariant of `Ae` does not say so.
     #[error("a title in it has spaces at its ends")]
     BadTitle,
     /// A data set takes 2^32 bytes or more.
@@ -30,30 +30,30 @@ impl From<AllocError> for RecordingFault {
     }
 }
 
-/// Why a record stands for no entry. Each text says what is wrong with the record. But for `Memory` the record is as the
-/// service never made one, so it was changed behind it.
+/// The reason why a record stands for no entry. Each text says what is wrong with the record. Except for `Memory`, the
+/// service never writes such a record, so something else has changed it.
 #[derive(Clone, Copy, Debug, PartialEq, Eq, Error)]
 pub enum RecordFault {
-    /// The title of who asked is none, or has spaces at its ends.
+    /// The title of the requesting application entity is not a title, or has spaces at its ends.
     #[error("the title of who asked is none, or has spaces at its ends")]
     BadTitle,
-    /// The instance UID is none, is padded, or is one that the operation can't be on.
+    /// The instance UID is not a valid UID, is padded, or is one that the operation does not apply to.
     #[error("the instance UID is none, is padded, or is one that the operation can't be on")]
     BadInstance,
-    /// The Transaction UID is none, or is padded.
+    /// The Transaction UID is not a valid UID, or is padded.
     #[error("the Transaction UID is none, or is padded")]
     BadTransaction,
-    /// The Receiving AE is no title, or has spaces at its ends.
+    /// The Receiving AE is not a title, or has spaces at its ends.
     #[error("the Receiving AE is no title, or has spaces at its ends")]
     BadReceiver,
-    /// The attributes are no data set in Explicit VR Little Endian as `write_set` writes one: with each length given, and
-    /// without group lengths.
+    /// The attributes are not a data set in Explicit VR Little Endian as `write_set` writes it: with all lengths
+    /// defined, and without group lengths.
     #[error("the attributes are no data set in Explicit VR Little Endian as one is stored")]
     BadSet,
-    /// The keys of the filter can't be read, or are all universal.
+    /// The keys of the filter are unreadable, or are all universal.
     #[error("the keys of the filter can't be read, or are all universal")]
     BadKeys,
-    /// A column that the operation needs is empty, or one that it has no use for isn't.
+    /// A column that the operation needs is empty, or one that it does not use has a value.
     #[error("a column that the operation needs is empty, or one that it has no use for isn't")]
     BadColumns,
     /// Memory ran out.

@@ -1,4 +1,4 @@
-//! The keys of a filter, from what was stored.
+//! Reading the keys of a filter from a record.
 
 ghost use Rattle.std.specs.Prelude.{◌≡◌, None, MatchResult};
 ghost use Rattle.ups_match.specs.Matching.{fault_of};
@@ -10,9 +10,9 @@ use ups_dataset::DataSet;
 use ups_life::Filter;
 use ups_match::Keys;
 
-/// The filter by these keys.
+/// Returns the filter with these keys.
 ///
-/// Errors: BadKeys where they can't be read, or are all universal.
+/// Errors: BadKeys if they are unreadable, or are all universal.
 pub(crate) fn filter_in<A: Allocator + Copy>(
     alloc: A,
     attributes: DataSet<A>,

@@ -1,4 +1,4 @@
-//! What records owe: laws, each the contract of a function.
+//! The laws of records, each the contract of a function.
 
 ghost use Rattle.std.specs.Prelude.{◌≡◌, ◌≢◌, IfOk, IfErr};
 ghost use Rattle.ups_journal.specs.declared.fault.RecordingFault.TheVariants.{Memory};
@@ -10,11 +10,11 @@ use crate::recording::record_of;
 use std::alloc::Allocator;
 use ups_life::Entry;
 
-/// What is recorded of an entry is read again as that entry.
+/// Records an entry and reads it back as the same entry.
 ///
 /// # Errors
 ///
-/// Those of [`record_of`]; of an entry that has a record `Memory` alone.
+/// Those of [`record_of`]; for an entry that has a record, only `Memory`.
 pub fn what_is_recorded_is_read_again<A: Allocator + Copy>(
     alloc: A,
     entry: &Entry<A>,

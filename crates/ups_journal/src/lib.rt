@@ -1,5 +1,5 @@
-//! Accepted requests as records of plain data, column by column, for a store that outlives the service; and the requests
-//! that records stand for. What is recorded of an entry is read again as that entry.
+//! Accepted requests as records of plain data, column by column, for a store that outlives the service, and the
+//! requests that records stand for. The record of an entry is read back as that entry.
 #![tactic(auto)]
 
 mod fault;

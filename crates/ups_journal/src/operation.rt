@@ -1,4 +1,4 @@
-//! What a record is of.
+//! The operations of records.
 
 ghost use Rattle.std.specs.Prelude.{◌≡◌, Some, IfSome};
 ghost use Rattle.ups_journal.specs.declared.operation.Operation.{Operation};
@@ -6,31 +6,31 @@ ghost use Rattle.ups_journal.specs.Operations.{number_of, name_of};
 
 use std::fmt::{self, Display, Formatter};
 
-/// What an accepted request did. A store keeps its number, which never changes, and may show its name.
+/// The operation of an accepted request. A store keeps its number, which never changes, and may show its name.
 #[derive(Clone, Copy, Debug, PartialEq, Eq)]
 pub enum Operation {
-    /// Created a step (N-CREATE).
+    /// The creation of a step (N-CREATE).
     Create,
-    /// Changed the state of a step (N-ACTION type 1).
+    /// The change of the state of a step (N-ACTION type 1).
     Change,
-    /// Asked that a step be canceled (N-ACTION type 2).
+    /// The request to cancel a step (N-ACTION type 2).
     AskCancel,
-    /// Set attributes of a step (N-SET).
+    /// The setting of attributes of a step (N-SET).
     Set,
-    /// Subscribed a watcher (N-ACTION type 3).
+    /// The subscription of a watcher (N-ACTION type 3).
     Subscribe,
-    /// Ended subscriptions of a watcher (N-ACTION type 4).
+    /// The end of subscriptions of a watcher (N-ACTION type 4).
     Unsubscribe,
-    /// Ended the global subscription of a watcher (N-ACTION type 5).
+    /// The end of the global subscription of a watcher (N-ACTION type 5).
     Suspend,
-    /// Acknowledged events.
+    /// The acknowledgment of events.
     Acknowledge,
-    /// Removed final steps.
+    /// The removal of final steps.
     Sweep,
 }
 
 impl Operation {
-    /// The number that stands for it in a store.
+    /// Returns the number of the operation in a store.
     pub fn number(self) -> u8
         ensures { result ≡ number_of self }
     {
@@ -47,7 +47,7 @@ impl Operation {
         }
     }
 
-    /// The operation that a number stands for; None where it stands for none.
+    /// Returns the operation with this number, or None if there is none.
     pub fn of_number(number: u8) -> Option<Operation>
         ensures number { IfSome result (λ o. number_of o ≡ number) }
         ensures only { (o : Operation) → number_of o ≡ number → result ≡ Some o }
@@ -66,7 +66,7 @@ impl Operation {
         }
     }
 
-    /// Its name, as an operator reads it. No two operations have the same.
+    /// Returns the name of the operation for an operator. No two operations have the same.
     pub fn name(self) -> &'static [u8]
         ensures { result.now ≡ name_of self }
     {
@@ -83,7 +83,7 @@ impl Operation {
         }
     }
 
-    /// The operation of this name; None where no operation has it.
+    /// Returns the operation with this name, or None if there is none.
     pub fn named(name: &[u8]) -> Option<Operation>
         ensures name { IfSome result (λ o. name_of o ≡ name.now) }
         ensures only { (o : Operation) → name_of o ≡ name.now → result ≡ Some o }

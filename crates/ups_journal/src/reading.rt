@@ -1,4 +1,4 @@
-//! The entry that a record stands for.
+//! Reading the entry that a record stands for.
 
 ghost use Rattle.std.specs.Prelude.{◌≡◌, ◌≢◌, ℕ, Bool, List, Option, None, Some, IfOk, MatchResult};
 ghost use Rattle.ups_dataset.specs.Data.{El};
@@ -243,7 +243,7 @@ fn suspend_in<A: Allocator + Copy>(columns: &Columns<A>) -> Result<Request<A>, R
     Ok(Request::Suspend { receiver })
 }
 
-/// Reads an acknowledgement.
+/// Reads an acknowledgment.
 ///
 /// Errors: BadColumns.
 fn acknowledge_in<A: Allocator + Copy>(columns: &Columns<A>) -> Result<Request<A>, RecordFault>
@@ -293,7 +293,7 @@ fn sweep_in<A: Allocator + Copy>(columns: &Columns<A>) -> Result<Request<A>, Rec
     Ok(Request::Sweep)
 }
 
-/// Reads what was asked.
+/// Reads the request.
 ///
 /// Errors: those of its operation.
 fn request_in<A: Allocator + Copy>(
@@ -316,13 +316,13 @@ fn request_in<A: Allocator + Copy>(
     }
 }
 
-/// The entry that a record stands for: the one of which it is the record.
+/// Returns the entry that a record stands for: the one whose record it is.
 ///
 /// # Errors
 ///
-/// Any but `Memory`, where the record is that of no entry: `BadTitle`, `BadInstance`, `BadTransaction`, `BadReceiver`,
-/// `BadSet` or `BadKeys` where a column has no such value as is written there; `BadColumns` where a column is empty that
-/// the operation needs, or one isn't that it has no use for. `Memory` where memory runs out.
+/// Any but `Memory` if no entry has this record: `BadTitle`, `BadInstance`, `BadTransaction`, `BadReceiver`, `BadSet`
+/// or `BadKeys` if a column has a value that is never written there; `BadColumns` if a column that the operation needs
+/// is empty, or one that it does not use has a value. `Memory` if memory runs out.
 pub fn entry_of<A: Allocator + Copy>(alloc: A, stored: &Record<A>) -> Result<Entry<A>, RecordFault>
     ensures read { IfOk result (λ e. (recorded e ≡ stored.now) × IsWritableEntry e) }
     ensures only { (e : Entry A) → IsWritableEntry e → recorded e ≡ stored.now → MatchResult result (λ x. x ≡ e) (λ f. f ≡ Memory) }

@@ -1,4 +1,4 @@
-//! Records.
+//! The records of requests.
 
 ghost use Rattle.std.specs.Prelude.{◌≡◌, None};
 
@@ -7,24 +7,24 @@ use std::alloc::Allocator;
 use ups_cycle::StepState;
 use ups_pdu::Bytes;
 
-/// What was asked, column by column. A column is None where the operation has no use for it.
+/// A request, column by column. A column is None if the operation does not use it, or the request did not give it.
 #[derive(Drop)]
 pub struct Columns<A: Allocator + Copy> {
-    /// What was done.
+    /// The operation.
     pub operation: Operation,
-    /// The instance UID: that of a step, or the well-known one of a global subscription (PS3.4 CC.2.3).
+    /// The instance UID, which is that of a step, or the well-known one of a global subscription (PS3.4 CC.2.3).
     pub instance: Option<Bytes<A>>,
-    /// The Transaction UID (0008,1195); empty where it was sent and is no UID.
+    /// The Transaction UID (0008,1195); empty if the one that was sent is not a UID.
     pub transaction: Option<Bytes<A>>,
-    /// The state that the step is to have.
+    /// The requested state of the step.
     pub state: Option<StepState>,
-    /// The watcher: the Receiving AE (0074,1234).
+    /// The watcher, which is the Receiving AE (0074,1234).
     pub receiver: Option<Bytes<A>>,
     /// The Deletion Lock (0074,1230).
     pub lock: Option<bool>,
-    /// The number of the last event that is acknowledged.
+    /// The number of the last acknowledged event.
     pub number: Option<u64>,
-    /// By which offset the DTs of a filter's keys are read that say none, in minutes east of UTC.
+    /// The offset by which DTs without one are read in the keys of a filter, in minutes east of UTC.
     pub offset: Option<i16>,
     /// The attributes that were sent, or the keys of a filter, in Explicit VR Little Endian.
     pub attributes: Option<Bytes<A>>,
@@ -35,16 +35,16 @@ pub struct Columns<A: Allocator + Copy> {
 pub struct Record<A: Allocator + Copy> {
     /// The number of the caller: which of several passes to the service made the call.
     pub caller: u32,
-    /// The title of the application entity that asked.
+    /// The title of the requesting application entity.
     pub title: Bytes<A>,
-    /// When it was asked, in seconds since 1970-01-01 UTC.
+    /// The time of the request, in seconds since 1970-01-01 UTC.
     pub moment: u64,
-    /// What was asked.
+    /// The request.
     pub request: Columns<A>,
 }
 
 impl<A: Allocator + Copy> Columns<A> {
-    /// The columns of an operation, all others empty.
+    /// Returns the columns of an operation, with all others empty.
     pub(crate) fn of(operation: Operation) -> Columns<A>
         ensures { result ≡ record { operation = operation; instance = None; transaction = None; state = None; receiver = None; lock = None; number = None; offset = None; attributes = None } }
     {

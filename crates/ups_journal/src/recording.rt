@@ -1,4 +1,4 @@
-//! What is recorded of an entry.
+//! Making the record of an entry.
 
 ghost use Rattle.std.specs.Prelude.{◌≡◌, ◌≢◌, None, Some, IfOk, IfErr};
 ghost use Rattle.ups_pdu.specs.Registered.{text_of};
@@ -19,9 +19,9 @@ use ups_dataset::DataSet;
 use ups_life::{Entry, Place, Request, StepUid, Target, Transaction};
 use ups_pdu::{Ae, Bytes, RegisteredUid};
 
-/// The text of a title.
+/// Returns the column of a title.
 ///
-/// Errors: BadTitle where it has spaces at its ends; Memory.
+/// Errors: BadTitle if it has spaces at its ends; Memory.
 fn title_column<A: Allocator + Copy>(alloc: A, title: Ae) -> Result<Bytes<A>, RecordingFault>
     ensures written { IfOk result (λ b. (b ≡ title) × IsTitle title) }
     ensures fault { IfErr result (λ f. f ≢ Memory → IsTitle title → ⊥) }
@@ -32,7 +32,7 @@ fn title_column<A: Allocator + Copy>(alloc: A, title: Ae) -> Result<Bytes<A>, Re
     Ok(Bytes::copy_of(alloc, title.as_bytes())?)
 }
 
-/// The UID of a step.
+/// Returns the column of the UID of a step.
 fn step_column<A: Allocator + Copy>(
     alloc: A,
     step: &Option<StepUid>,
@@ -45,7 +45,7 @@ fn step_column<A: Allocator + Copy>(
     }
 }
 
-/// A well-known instance.
+/// Returns the column of a well-known instance.
 fn well_known_column<A: Allocator + Copy>(
     alloc: A,
     uid: RegisteredUid,
@@ -55,7 +55,7 @@ fn well_known_column<A: Allocator + Copy>(
     Ok(Some(Bytes::copy_of(alloc, uid.text())?))
 }
 
-/// A Transaction UID.
+/// Returns the column of a Transaction UID.
 fn transaction_column<A: Allocator + Copy>(
     alloc: A,
     transaction: &Transaction,
@@ -132,7 +132,7 @@ fn set_columns<A: Allocator + Copy>(
     Ok(columns)
 }
 
-/// What a subscription is to: the instance, and the keys of a filter with their offset.
+/// Records the target of a subscription: its instance, and the keys of a filter with their offset.
 fn target_columns<A: Allocator + Copy>(
     alloc: A,
     target: &Target<A>,
@@ -172,7 +172,7 @@ fn subscribe_columns<A: Allocator + Copy>(
     Ok(columns)
 }
 
-/// Where subscriptions end.
+/// Returns the column of the place where subscriptions end.
 fn place_column<A: Allocator + Copy>(
     alloc: A,
     place: &Place,
@@ -214,7 +214,7 @@ fn suspend_columns<A: Allocator + Copy>(
     Ok(columns)
 }
 
-/// Records what was asked.
+/// Records a request.
 fn request_columns<A: Allocator + Copy>(
     alloc: A,
     request: &Request<A>,
@@ -251,12 +251,12 @@ fn request_columns<A: Allocator + Copy>(
     }
 }
 
-/// The record of an entry. What is recorded is read again as the entry.
+/// Returns the record of an entry. It is read back as that entry.
 ///
 /// # Errors
 ///
-/// `BadTitle` where a title has spaces at its ends, which none has that `Ae::of` made; `TooLarge` where a data set takes
-/// 2^32 bytes or more; `Memory` where memory runs out. Of an entry that has a record the only one is `Memory`.
+/// `BadTitle` if a title has spaces at its ends, which no title made by `Ae::of` has; `TooLarge` if a data set takes
+/// 2^32 bytes or more; `Memory` if memory runs out. For an entry that has a record, only `Memory`.
 pub fn record_of<A: Allocator + Copy>(
     alloc: A,
     entry: &Entry<A>,

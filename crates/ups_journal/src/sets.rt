@@ -1,4 +1,4 @@
-//! Data sets as columns: in Explicit VR Little Endian.
+//! Data sets as columns, in Explicit VR Little Endian.
 
 ghost use Rattle.std.specs.Prelude.{◌≡◌, ◌≢◌, List, IfOk, IfErr, MatchResult};
 ghost use Rattle.ups_pdu.specs.declared.syntax.TransferSyntax.TheVariants.{Explicit};
@@ -14,9 +14,9 @@ use std::alloc::Allocator;
 use ups_dataset::{DataSet, SetFault, read_set, write_set};
 use ups_pdu::{Bytes, TransferSyntax};
 
-/// The bytes of a set, which are read as it again.
+/// Writes a set as bytes, which are read back as the same set.
 ///
-/// Errors: TooLarge where there are 2^32 or more; Memory.
+/// Errors: TooLarge if there are 2^32 bytes or more; Memory.
 pub(crate) fn written_set<A: Allocator + Copy>(
     alloc: A,
     set: &DataSet<A>,
@@ -31,7 +31,7 @@ pub(crate) fn written_set<A: Allocator + Copy>(
     Ok(Bytes::from_vec(bytes))
 }
 
-/// What a fault of reading is as one of a record.
+/// Returns the fault of a record for a fault in reading its set.
 fn set_fault(fault: SetFault) -> RecordFault
     ensures { fault ≡ reading.Memory → result ≡ faults.Memory }
 {
@@ -41,9 +41,9 @@ fn set_fault(fault: SetFault) -> RecordFault
     }
 }
 
-/// The set that is written as these bytes.
+/// Reads the set that is written as these bytes.
 ///
-/// Errors: BadSet where none is; Memory.
+/// Errors: BadSet if there is none; Memory.
 pub(crate) fn stored_set<A: Allocator + Copy>(
     alloc: A,
     bytes: &[u8],

@@ -1,4 +1,4 @@
-//! What a subscription is to, and where subscriptions end, from what was stored.
+//! Reading the targets of subscriptions, and the places where they end, from records.
 
 ghost use Rattle.std.specs.Prelude.{◌≡◌, Option, None, Some, IfOk, MatchResult};
 ghost use Rattle.ups_pdu.specs.declared.syntax.TransferSyntax.TheVariants.{Explicit};
@@ -22,7 +22,7 @@ use std::alloc::Allocator;
 use ups_life::{Place, Target};
 use ups_pdu::{Bytes, RegisteredUid};
 
-/// Whether a column has this instance.
+/// Returns whether a column has this well-known instance.
 pub(crate) fn is_instance<A: Allocator + Copy>(
     column: &Option<Bytes<A>>,
     registered: RegisteredUid,
@@ -35,7 +35,7 @@ pub(crate) fn is_instance<A: Allocator + Copy>(
     }
 }
 
-/// The subscription by keys.
+/// Reads a filtered subscription.
 ///
 /// Errors: BadColumns, BadSet, BadKeys, Memory.
 fn filtered_in<A: Allocator + Copy>(
@@ -54,7 +54,7 @@ fn filtered_in<A: Allocator + Copy>(
     Ok(Target::Filtered(filter_in(alloc, keys, *offset)?))
 }
 
-/// What a subscription is to.
+/// Reads the target of a subscription.
 ///
 /// Errors: BadColumns, BadInstance, BadSet, BadKeys, Memory.
 pub(crate) fn target_in<A: Allocator + Copy>(
@@ -79,7 +79,7 @@ pub(crate) fn target_in<A: Allocator + Copy>(
     Ok(Target::Single(step_in(instance)?))
 }
 
-/// Where subscriptions end.
+/// Reads the place where subscriptions end.
 ///
 /// Errors: BadInstance.
 pub(crate) fn place_in<A: Allocator + Copy>(

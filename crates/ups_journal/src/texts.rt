@@ -1,4 +1,4 @@
-//! Texts as columns: titles and UIDs, as they are written.
+//! Titles and UIDs as columns of text.
 
 ghost use Rattle.std.specs.Prelude.{◌≡◌, ◌≢◌, None, Some, Ok, IfOk, MatchOption, MatchResult};
 ghost use Rattle.ups_pdu.specs.Identifier.{IsUid};
@@ -13,7 +13,7 @@ use std::alloc::Allocator;
 use ups_life::{StepUid, Transaction};
 use ups_pdu::{Ae, Bytes, Uid};
 
-/// The title that a text is; None where it is none, or has spaces at its ends.
+/// Returns the text as a title, or None if it is not one or has spaces at its ends.
 pub(crate) fn title_in(text: &[u8]) -> Option<Ae>
     ensures { MatchOption result (IsTitle text.now → ⊥) (λ t. (t ≡ text.now) × IsTitle text.now) }
 {
@@ -24,7 +24,7 @@ pub(crate) fn title_in(text: &[u8]) -> Option<Ae>
     Some(title)
 }
 
-/// The watcher that a text names.
+/// Returns the watcher that a text names.
 ///
 /// Errors: BadReceiver.
 pub(crate) fn receiver_in(text: &[u8]) -> Result<Ae, RecordFault>
@@ -36,7 +36,7 @@ pub(crate) fn receiver_in(text: &[u8]) -> Result<Ae, RecordFault>
     }
 }
 
-/// The UID that a text is; None where it is none, or has padding.
+/// Returns the text as a UID, or None if it is not one or has padding.
 #[tactic(auto, using(crate::proofs::Unpadded::spells_itself))]
 fn uid_in(text: &[u8]) -> Option<Uid>
     ensures { MatchOption result (IsUid text.now → ⊥) (λ u. (u ≡ text.now) × IsUid text.now) }
@@ -48,14 +48,14 @@ fn uid_in(text: &[u8]) -> Option<Uid>
     Some(uid)
 }
 
-/// The step whose UID a text is; None where it is none, or a well-known one.
+/// Returns the step whose UID is the text, or None if the text is not a UID, or is a well-known one.
 pub(crate) fn one_step_in(text: &[u8]) -> Option<StepUid>
     ensures { MatchOption result (IsStepUid text.now → ⊥) (λ s. (s ≡ text.now) × IsStepUid text.now) }
 {
     StepUid::of(uid_in(text)?)
 }
 
-/// The step whose UID a column has, or none where it is empty.
+/// Returns the step whose UID a column has, or None if the column is empty.
 ///
 /// Errors: BadInstance.
 pub(crate) fn step_in<A: Allocator + Copy>(
@@ -72,7 +72,7 @@ pub(crate) fn step_in<A: Allocator + Copy>(
     }
 }
 
-/// The Transaction UID that a column has.
+/// Returns the Transaction UID that a column has.
 ///
 /// Errors: BadTransaction.
 pub(crate) fn transaction_in<A: Allocator + Copy>(

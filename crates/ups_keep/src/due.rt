@@ -1,4 +1,4 @@
-//! The list of the final steps that nobody locks.
+//! The list of the final steps on which no peer has a deletion lock.
 
 ghost use Rattle.std.specs.Prelude.{◌≡◌, ◌<◌, ◌≤◌, ◌+◌, ◌++◌, ℕ, [], true, false, length, IfOk, IsOk, OnOk, MatchOption, slice_index_or};
 ghost use Rattle.std.specs.Fn.{CalledAt};
@@ -13,24 +13,24 @@ use std::marker::Model;
 use ups_life::StepUid;
 
 /// The greatest number of steps that are merged one by one, each of which moves up to half of the list. More are sorted
-/// together with it; that moves every step about as often as the length of the list has binary digits.
+/// together with it, which moves every step about as often as the length of the list has binary digits.
 const MAX_INSERTED: usize = 16;
 
-/// A step whose state is COMPLETED or CANCELED, and since when.
+/// A step whose state is COMPLETED or CANCELED, and the time since when.
 #[derive(Clone, Copy)]
 pub struct Final {
-    /// When its state became final, in seconds since 1970-01-01 UTC.
+    /// The time at which its state became final, in seconds since 1970-01-01 UTC.
     pub moment: u64,
     /// The UID of the step.
     pub step: StepUid,
 }
 
-/// The final steps on which no peer has a deletion lock (PS3.4 CC.2.3), in the order of the moments at which they became
-/// final. A sweep removes those in front; for how long a final step is kept is the profile's own, and the caller reckons
-/// up to which moment it sweeps.
+/// The final steps on which no peer has a deletion lock (PS3.4 CC.2.3), in the order of the moments at which they
+/// became final. A sweep removes the first of them; the retention time is the profile's own, and the caller computes up
+/// to which moment it sweeps.
 ///
-/// A contract sees this list, and how many more steps there is room for. Room is made by `reserve` alone: a step that is
-/// added or taken out, a merge and a sweep need no memory, and can't fail.
+/// A contract sees this list, and the number of further steps for which there is room. Only `reserve` makes room:
+/// adding and removing steps, a merge and a sweep need no memory, and can't fail.
 #[derive(Drop)]
 pub struct Due<A: Allocator + Copy> {
     steps: VecDeque<Final, A>,
@@ -49,7 +49,7 @@ impl<A: Allocator + Copy> Model for Due<A> {
     ghost invariant = { λ d. IsNonDecreasingBy moment_of d.steps.items };
 }
 
-/// The place behind all steps that became final no later than a moment.
+/// Returns the index after all steps that became final no later than a moment.
 fn place_behind<A: Allocator + Copy>(steps: &VecDeque<Final, A>, moment: u64) -> usize
     requires { IsNonDecreasingBy moment_of steps.now.items }
     ensures within { result ≤ length steps.now.items }
@@ -59,14 +59,14 @@ fn place_behind<A: Allocator + Copy>(steps: &VecDeque<Final, A>, moment: u64) ->
     steps.partition_point(|step| step.moment <= moment)
 }
 
-/// Whether two are the same step, final since the same moment.
+/// Returns whether both are the same step, final since the same moment.
 fn is_same(one: &Final, other: &Final) -> bool
     ensures { result ≡ is_same_final one.now other.now }
 {
     one.moment == other.moment && one.step.as_bytes() == other.step.as_bytes()
 }
 
-/// Whether the first step became final no later than a moment.
+/// Returns whether the first step became final no later than a moment.
 fn is_any<A: Allocator + Copy>(steps: &VecDeque<Final, A>, moment: u64) -> bool
     ensures { result ≡ is_any moment steps.now.items }
 {
@@ -76,7 +76,7 @@ fn is_any<A: Allocator + Copy>(steps: &VecDeque<Final, A>, moment: u64) -> bool
     }
 }
 
-/// Removes the steps that became final no later than a moment. These stand in front, so the others aren't moved.
+/// Removes the steps that became final no later than a moment. They come first, so the others aren't moved.
 fn drop_up_to<A: Allocator + Copy>(steps: &mut VecDeque<Final, A>, moment: u64)
     requires { IsNonDecreasingBy moment_of steps.old.items }
     ensures steps { steps.new.items ≡ later_than moment steps.old.items }
@@ -89,9 +89,9 @@ fn drop_up_to<A: Allocator + Copy>(steps: &mut VecDeque<Final, A>, moment: u64)
     }
 }
 
-/// The steps that became final no later than a moment.
+/// Returns the steps that became final no later than a moment.
 ///
-/// Errors: where memory runs out.
+/// Errors: if memory runs out.
 fn list_up_to<A: Allocator + Copy>(
     alloc: A,
     steps: &VecDeque<Final, A>,
@@ -104,8 +104,8 @@ fn list_up_to<A: Allocator + Copy>(
     steps.range(..end).copied().collect(alloc)
 }
 
-/// The first place at which a step stands with its moment; None where it stands nowhere. Only the steps of that moment are
-/// compared with it.
+/// Returns the first index of a step with its moment, or None if the list doesn't contain it. Only the steps of that
+/// moment are compared with it.
 fn place_of<A: Allocator + Copy>(steps: &VecDeque<Final, A>, step: &Final) -> Option<usize>
     requires { IsNonDecreasingBy moment_of steps.now.items }
     ensures { MatchOption result (NoneSame step.now (length steps.now.items) steps.now.items) (λ k. (k < length steps.now.items) × NoneSame step.now k steps.now.items × ((d : Final) → is_same_final step.now (slice_index_or steps.now.items k d) ≡ true)) }
@@ -122,7 +122,7 @@ fn place_of<A: Allocator + Copy>(steps: &VecDeque<Final, A>, step: &Final) -> Op
     None
 }
 
-/// Takes out a step, where it stands in the list with its moment.
+/// Removes a step, if the list contains it with its moment.
 fn take_from<A: Allocator + Copy>(steps: &mut VecDeque<Final, A>, step: &Final)
     requires { IsNonDecreasingBy moment_of steps.old.items }
     ensures steps { steps.new.items ≡ without_final step.now steps.old.items }
@@ -135,7 +135,7 @@ fn take_from<A: Allocator + Copy>(steps: &mut VecDeque<Final, A>, step: &Final)
     }
 }
 
-/// Inserts a step behind those of no later moment. There is room for it.
+/// Inserts a step after those of no later moment. There is room for it.
 fn insert_into<A: Allocator + Copy>(steps: &mut VecDeque<Final, A>, step: Final)
     requires order { IsNonDecreasingBy moment_of steps.old.items }
     requires room { deque_len steps.old < deque_capacity steps.old }
@@ -164,7 +164,7 @@ fn insert_each<A: Allocator + Copy>(steps: &mut VecDeque<Final, A>, more: &[Fina
     }
 }
 
-/// Puts steps at the end of the list, whatever their moments. There is room for them.
+/// Appends steps to the list, whatever their moments. There is room for them.
 fn push_all<A: Allocator + Copy>(steps: &mut VecDeque<Final, A>, more: &[Final])
     requires { deque_len steps.old + length more.now ≤ deque_capacity steps.old }
     ensures steps { steps.new.items ≡ steps.old.items ++ more.now }
@@ -176,7 +176,7 @@ fn push_all<A: Allocator + Copy>(steps: &mut VecDeque<Final, A>, more: &[Final])
     }
 }
 
-/// Sorts the list by moments, in place: a sort that keeps the order of equal moments would take memory.
+/// Sorts the list by moment, in place: a sort that keeps the order of equal moments would take memory.
 fn sort<A: Allocator + Copy>(steps: &mut VecDeque<Final, A>)
     ensures steps { IsPermutation steps.old.items steps.new.items }
     ensures sorted { IsNonDecreasingBy moment_of steps.new.items }
@@ -188,7 +188,7 @@ fn sort<A: Allocator + Copy>(steps: &mut VecDeque<Final, A>)
         .sort_unstable_by_key(|step| step.moment);
 }
 
-/// Merges steps into the list: few one by one, many by a sort of the whole. There is room for them.
+/// Merges steps into the list: a few one by one, many by sorting the whole. There is room for them.
 fn merge_into<A: Allocator + Copy>(steps: &mut VecDeque<Final, A>, more: &[Final])
     requires order { IsNonDecreasingBy moment_of steps.old.items }
     requires room { deque_len steps.old + length more.now ≤ deque_capacity steps.old }
@@ -206,7 +206,7 @@ fn merge_into<A: Allocator + Copy>(steps: &mut VecDeque<Final, A>, more: &[Final
 }
 
 impl<A: Allocator + Copy> Due<A> {
-    /// An empty list. Room is made by `reserve`.
+    /// Returns an empty list. `reserve` makes room.
     pub fn new(alloc: A) -> Due<A>
         ensures { result.steps ≡ [] }
     {
@@ -215,11 +215,11 @@ impl<A: Allocator + Copy> Due<A> {
         }
     }
 
-    /// Makes room for so many more steps.
+    /// Makes room for `more` further steps.
     ///
     /// # Errors
     ///
-    /// Where memory runs out, and never where there is that room already. The list stays, and so does the room that there was.
+    /// If memory runs out, but never if there is that room already. The list stays the same, and there is no less room.
     pub fn reserve(&mut self, more: usize) -> Result<(), AllocError>
         ensures room { OnOk result (more ≤ self.new.spare) }
         ensures succeeds { more ≤ self.old.spare → IsOk result }
@@ -229,15 +229,15 @@ impl<A: Allocator + Copy> Due<A> {
         self.steps.reserve(more)
     }
 
-    /// How many more steps there is room for.
+    /// Returns the number of further steps for which there is room.
     pub fn spare(&self) -> usize
         ensures { result ≡ self.now.spare }
     {
         self.steps.capacity() - self.steps.len()
     }
 
-    /// Adds a step that has become final and that nobody locks, or whose last deletion lock has ended (PS3.4 CC.2.3). It
-    /// comes behind those of its moment, and takes one place of the room.
+    /// Adds a step that has become final and that no peer locks, or whose last deletion lock has ended (PS3.4 CC.2.3).
+    /// It comes after those of its moment, and uses the room of one step.
     pub fn add(&mut self, step: Final)
         requires room { 0 < self.old.spare }
         ensures steps { self.new.steps ≡ inserted step self.old.steps }
@@ -246,8 +246,8 @@ impl<A: Allocator + Copy> Due<A> {
         insert_into(&mut self.steps, step);
     }
 
-    /// Takes out a step on which a peer has got a deletion lock (PS3.4 CC.2.3). Where it doesn't stand in the list with
-    /// this moment, nothing changes.
+    /// Removes a step on which a peer has got a deletion lock (PS3.4 CC.2.3). If the list doesn't contain it with this
+    /// moment, nothing changes.
     pub fn take(&mut self, step: &Final)
         ensures steps { self.new.steps ≡ without_final step.now self.old.steps }
         ensures spare { self.old.spare ≤ self.new.spare }
@@ -255,8 +255,8 @@ impl<A: Allocator + Copy> Due<A> {
         take_from(&mut self.steps, step);
     }
 
-    /// Adds many steps at once, as those whose last deletion locks end with all subscriptions of a peer (PS3.4 CC.2.3).
-    /// Each takes one place of the room.
+    /// Adds many steps at once, such as those whose last deletion locks end with all subscriptions of a peer (PS3.4
+    /// CC.2.3). Each uses the room of one step.
     pub fn merge(&mut self, more: &[Final])
         requires room { length more.now ≤ self.old.spare }
         ensures steps { IsPermutation (self.old.steps ++ more.now) self.new.steps }
@@ -266,8 +266,8 @@ impl<A: Allocator + Copy> Due<A> {
         merge_into(&mut self.steps, more);
     }
 
-    /// Keeps those of the steps that pass a test, in their order, and takes out the others, as those on which a global
-    /// subscription has put deletion locks (PS3.4 CC.2.3). It goes over the list once.
+    /// Keeps the steps that pass a test, in their order, and removes the others, such as those on which a global
+    /// subscription has put deletion locks (PS3.4 CC.2.3). It walks the list once.
     pub fn retain<F: FnMut(&Final) -> bool>(&mut self, keep: F)
         requires { F.IsAlwaysCallable keep }
         ensures steps { IsFiltered (CalledAt F.FnMut) keep self.old.steps self.new.steps }
@@ -276,8 +276,8 @@ impl<A: Allocator + Copy> Due<A> {
         self.steps.retain(keep);
     }
 
-    /// Whether a step became final no later than a moment, so that a sweep up to it would remove one. Only the first step
-    /// is looked at.
+    /// Returns whether a step became final no later than a moment, so that a sweep up to it would remove one. Only the
+    /// first step is looked at.
     pub fn is_any(&self, moment: u64) -> bool
         ensures first { result ≡ is_any moment self.now.steps }
         ensures none { result ≡ false → due_until moment self.now.steps ≡ [] }
@@ -285,18 +285,19 @@ impl<A: Allocator + Copy> Due<A> {
         is_any(&self.steps, moment)
     }
 
-    /// The steps that became final no later than a moment, in the order of the list: those that a sweep up to it removes.
+    /// Returns the steps that became final no later than a moment, in the order of the list: those that a sweep up to
+    /// it removes.
     ///
     /// # Errors
     ///
-    /// Where memory runs out.
+    /// If memory runs out.
     pub fn up_to(&self, alloc: A, moment: u64) -> Result<Vec<Final, A>, AllocError>
         ensures { IfOk result (λ v. v.items ≡ due_until moment self.now.steps) }
     {
         list_up_to(alloc, &self.steps, moment)
     }
 
-    /// Removes the steps that became final no later than a moment, and keeps those that became so later.
+    /// Removes the steps that became final no later than a moment, and keeps the others.
     pub fn sweep(&mut self, moment: u64)
         ensures steps { self.new.steps ≡ later_than moment self.old.steps }
         ensures spare { self.old.spare ≤ self.new.spare }

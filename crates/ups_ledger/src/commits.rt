@@ -1,41 +1,42 @@
-//! How many entries are committed, and who waits for it.
+//! The number of committed entries, and the threads that wait for it.
 
 use std::sync::Wait;
 use std::sync::atomic::{AtomicU64, Ordering};
 use std::time::{Clock, Duration, Instant};
 
-/// How many entries of a history are committed, for which threads wait, and for how many the one that commits is asked. No
-/// contract speaks of it: that who waits is let go only when so many are committed is read off the code.
+/// The number of committed entries of a history, for which threads wait, and the number that the committing thread is
+/// asked for. No contract covers it: that `wait_for` returns true only once that many are committed has to be read from
+/// the code.
 #[derive(Drop)]
 pub struct Commits {
     count: AtomicU64,
-    /// The most that was asked for.
+    /// The highest number that was asked for.
     asked: AtomicU64,
-    /// How many threads wait.
+    /// The number of waiting threads.
     waiting: AtomicU64,
-    /// How many have to be asked for until the one that commits is woken; 0 where it is awake.
+    /// The number that has to be asked for to wake the committing thread; 0 if it is awake.
     alarm: AtomicU64,
 }
 
-/// That the one that commits is awake.
+/// The alarm while the committing thread is awake.
 const AWAKE: u64 = 0;
 
-/// The count that stands for a server where nothing is kept, since no history has so many entries.
+/// The count of a server that keeps nothing, since no history has that many entries.
 const ALL: u64 = u64::MAX;
 
-/// The half of a word that a sleeping thread watches.
+/// Returns the half of a word that a sleeping thread watches.
 fn low_half(word: u64) -> u32 {
     (word % (1 << 32)) as u32
 }
 
-/// What is left of a time since a moment; nothing where the clock fails.
+/// Returns what is left of `limit`, counted from `since`, or zero if the clock fails.
 fn left_of<R: Clock>(rt: &R, limit: Duration, since: Instant) -> Duration {
     let elapsed = since.elapsed(rt).unwrap_or(Duration::MAX);
     limit.saturating_sub(elapsed)
 }
 
 impl Commits {
-    /// So many are committed.
+    /// Returns the state with `count` entries committed.
     pub fn new(count: u64) -> Commits {
         Commits {
             count: AtomicU64::new(count),
@@ -45,17 +46,17 @@ impl Commits {
         }
     }
 
-    /// Where nothing is kept, nobody waits.
+    /// Returns the state of a server that keeps nothing: nobody waits.
     pub fn of_none() -> Commits {
         Commits::new(ALL)
     }
 
-    /// How many are committed.
+    /// Returns the number of committed entries.
     pub fn count(&self) -> u64 {
         self.count.load(Ordering::SeqCst)
     }
 
-    /// How many are committed, where they are kept.
+    /// Returns the number of committed entries, or None if nothing is kept.
     pub fn kept(&self) -> Option<u64> {
         match self.count() {
             ALL => None,
@@ -63,12 +64,12 @@ impl Commits {
         }
     }
 
-    /// The most that was asked for.
+    /// Returns the highest number that was asked for.
     pub fn asked(&self) -> u64 {
         self.asked.load(Ordering::SeqCst)
     }
 
-    /// So many are committed now: wakes all that wait, where some do.
+    /// Sets the number of committed entries, and wakes all waiting threads.
     pub fn advance(&self, count: u64) {
         self.count.store(count, Ordering::SeqCst);
         if self.waiting.load(Ordering::SeqCst) > 0 {
@@ -76,7 +77,7 @@ impl Commits {
         }
     }
 
-    // Asks for so many, and wakes the one that commits where it sleeps until as many are asked for.
+    // Asks for `count` entries, and wakes the committing thread if it sleeps until that many are asked for.
     fn ask(&self, count: u64) {
         self.asked.fetch_max(count, Ordering::SeqCst);
         let alarm = self.alarm.load(Ordering::SeqCst);
@@ -85,8 +86,8 @@ impl Commits {
         }
     }
 
-    /// Waits until so many are asked for, for so long at most. The most that was asked for then. One thread alone waits so:
-    /// the one that commits.
+    /// Waits until `count` entries are asked for, or for `limit`, and returns the highest number asked for by then.
+    /// Only one thread may wait here: the committing one.
     pub fn await_asked<R: Wait>(&self, rt: &R, count: u64, limit: Duration) -> u64 {
         self.alarm.store(count, Ordering::SeqCst);
         if self.asked() < count {
@@ -96,8 +97,8 @@ impl Commits {
         self.asked()
     }
 
-    /// Waits until so many are committed, since a moment for so long at most. False where they aren't then, or the clock
-    /// fails.
+    /// Waits until `count` entries are committed, for at most `limit` from `since`. Returns false if they are not
+    /// committed by then, or if the clock fails.
     fn wait_since<R: Wait + Clock>(
         &self,
         rt: &R,
@@ -119,8 +120,8 @@ impl Commits {
         unreachable!()
     }
 
-    /// Waits until so many are committed, for so long at most, and asks for them. False where they aren't then, or the clock
-    /// fails.
+    /// Asks for `count` entries, and waits for at most `limit` until they are committed. Returns false if they are not
+    /// by then, or if the clock fails.
     pub fn wait_for<R: Wait + Clock>(&self, rt: &R, count: u64, limit: Duration) -> bool {
         if self.count() >= count {
             return true;

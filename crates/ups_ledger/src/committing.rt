@@ -11,14 +11,14 @@ use std::sync::Wait;
 use ups_service::SharedService;
 use ups_turn::{Desk, Pass};
 
-/// Puts the entries of the history behind a desk into a ledger, from the first on that it hasn't, in their order: as many as
-/// there are, and at most `most`, as one group. Returns how many it has then, of which `committed` were there. Where these
-/// were those of a beginning of the history, they still are: what the ledger has is at each moment a beginning of it. Its
-/// turn is as long as recording takes, and over before the ledger is asked.
+/// Appends those entries of the history behind a desk that a ledger does not have yet, in their order, at most `most`
+/// of them and as one group. Returns how many it has then, of which it had `committed` before. If these were a prefix
+/// of the history, it still has one: what it has is a prefix at any time. The turn of the pass lasts as long as
+/// recording takes, and ends before the ledger is called.
 ///
 /// # Errors
 ///
-/// Spent where the pass has made all of its calls; Recording and Ledger as they have them. The ledger has what it had.
+/// Spent if the pass has made all of its calls; Recording and Ledger with their faults. The ledger has what it had.
 pub fn commit<M: SharedService<Global>, L: Ledger, R: Wait>(
     rt: &R,
     alloc: Global,

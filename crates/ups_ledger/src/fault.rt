@@ -1,11 +1,11 @@
-//! Why records are not committed.
+//! Why records were not committed.
 
 ghost use Rattle.std.specs.Prelude.{◌≡◌};
 
 use thiserror::Error;
 use ups_journal::RecordingFault;
 
-/// Why a ledger did not take records. Each but the last may be over at the next try.
+/// Why a ledger did not take records. All but the last may be over at the next try.
 #[derive(Clone, Copy, Debug, PartialEq, Eq, Error)]
 pub enum LedgerFault {
     /// There is no room: on the disk, in the ledger, or in memory.
@@ -14,10 +14,10 @@ pub enum LedgerFault {
     /// It could not be written.
     #[error("it can't be written")]
     Write,
-    /// It takes nothing until it is opened anew, since a write or a sync failed before.
+    /// It takes nothing until it is reopened, because a write or a sync failed before.
     #[error("it is shut since a write failed")]
     Shut,
-    /// It can't be opened anew, or has other records than were committed. Nothing is put into it any more.
+    /// It can't be reopened, or has other records than were committed. It takes no more records.
     #[error("it can't be opened anew, or has other records than were committed")]
     Lost,
 }

@@ -1,4 +1,4 @@
-//! A ledger, and how far it has come.
+//! A ledger with the number of committed entries.
 
 ghost use Rattle.std.specs.Prelude.{◌≡◌, List};
 ghost use Rattle.std.specs.Global.{Global};
@@ -13,26 +13,27 @@ use std::sync::Wait;
 use ups_service::SharedService;
 use ups_turn::{Desk, Pass};
 
-/// A ledger of the history behind a desk, and how many entries of it are committed.
+/// A ledger of the history behind a desk, with the number of committed entries.
 #[derive(Drop)]
 pub struct Keeper<L: Ledger> {
     /// The ledger.
     pub ledger: L,
-    /// How many entries are committed: it has their records.
+    /// The number of committed entries, whose records the ledger has.
     pub committed: usize,
 }
 
 impl<L: Ledger> Keeper<L> {
-    /// How many entries are committed.
+    /// Returns the number of committed entries.
     pub fn count(&self) -> u64 {
         self.committed as u64
     }
 
-    /// Puts the entries of the history behind a desk into the ledger that it hasn't, at most `most`, as [`commit`] does.
+    /// Appends the entries of the history behind a desk that the ledger does not have yet, at most `most`, as
+    /// [`commit`] does.
     ///
     /// # Errors
     ///
-    /// Those of [`commit`]: as many are committed as before.
+    /// Those of [`commit`]; the number of committed entries is then unchanged.
     pub fn commit<M: SharedService<Global>, R: Wait>(
         &mut self,
         rt: &R,
@@ -59,7 +60,7 @@ impl<L: Ledger> Keeper<L> {
         Ok(())
     }
 
-    /// Has the ledger tidied up, when nobody asks anything. What is committed stays.
+    /// Tidies up the ledger. Call it when no requests arrive. What is committed stays.
     pub fn tidy(&mut self)
         ensures kept { (history : List (Entry Global)) → IsKept L.Ledger self.old history → IsKept L.Ledger self.new history }
     {

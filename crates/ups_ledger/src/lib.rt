@@ -1,5 +1,5 @@
-//! Accepted requests, written down for good: as records in a ledger that outlives the service, in the order of the history
-//! behind a desk. What a ledger has is at each moment a beginning of that history.
+//! Permanent storage of accepted requests: records in a ledger that outlives the service, in the order of the history
+//! behind a desk. At any time a ledger has a prefix of that history.
 #![tactic(auto)]
 
 mod commits;

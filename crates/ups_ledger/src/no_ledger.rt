@@ -1,4 +1,4 @@
-//! Where nothing is kept.
+//! The ledger that keeps nothing.
 
 ghost use Rattle.std.specs.Prelude.{◌≡◌};
 
@@ -7,7 +7,7 @@ use crate::ledger::Ledger;
 use std::alloc::Global;
 use ups_journal::Record;
 
-/// A ledger without room: it stands for one where nothing is kept.
+/// A ledger without room, for when nothing is kept.
 #[derive(Drop)]
 pub struct NoLedger;
 

@@ -1,4 +1,4 @@
-//! What takes down the records of a history.
+//! The collection of records from a history.
 
 ghost use Rattle.std.specs.Prelude.{◌≡◌, [], ◌∷◌, ◌++◌, map, take, drop, IfOk, OnOk};
 ghost use Rattle.ups_journal.specs.Columns.{recorded};
@@ -9,7 +9,7 @@ use ups_journal::{Record, RecordingFault, record_of};
 use ups_life::Entry;
 use ups_service::Observer;
 
-/// Takes down the records of a history, from one of its entries on.
+/// Collects the records of a history, starting at one of its entries.
 #[derive(Drop)]
 pub struct Recorder<A: Allocator + Copy> {
     alloc: A,
@@ -18,7 +18,7 @@ pub struct Recorder<A: Allocator + Copy> {
     records: Result<Vec<Record<A>, A>, RecordingFault>,
 }
 
-/// The entries of a history from a place on, at most so many.
+/// Returns the entries of a history from the index `from` on, at most `most`.
 fn part<A: Allocator + Copy>(history: &[Entry<A>], from: usize, most: usize) -> &[Entry<A>]
     ensures { result.now ≡ take most (drop from history.now) }
 {
@@ -34,7 +34,7 @@ fn part<A: Allocator + Copy>(history: &[Entry<A>], from: usize, most: usize) -> 
 
 /// Adds a record.
 ///
-/// Errors: where memory runs out.
+/// Errors: lack of memory.
 fn add_record<A: Allocator + Copy>(
     records: &mut Vec<Record<A>, A>,
     stored: Record<A>,
@@ -45,7 +45,7 @@ fn add_record<A: Allocator + Copy>(
     Ok(())
 }
 
-/// The records of entries.
+/// Returns the records of entries.
 ///
 /// Errors: those of an entry that can't be recorded; Memory.
 fn records_of<A: Allocator + Copy>(
@@ -63,7 +63,7 @@ fn records_of<A: Allocator + Copy>(
 }
 
 impl<A: Allocator + Copy> Recorder<A> {
-    /// Takes down at most so many records, from the place of an entry on, with the memory of `alloc`.
+    /// Returns a recorder of at most `most` records, starting at the entry `from`, with the memory of `alloc`.
     pub fn new(alloc: A, from: usize, most: usize) -> Recorder<A>
         ensures { (result.from ≡ from) × (result.most ≡ most) }
     {
@@ -75,7 +75,7 @@ impl<A: Allocator + Copy> Recorder<A> {
         }
     }
 
-    /// What it has taken down.
+    /// Returns the collected records.
     ///
     /// # Errors
     ///

@@ -1,4 +1,4 @@
-//! A service that tells what its answers rest on.
+//! A service that notes what its answers depend on.
 
 ghost use Rattle.std.specs.Prelude.{◌≡◌};
 
@@ -10,9 +10,9 @@ use ups_pdu::Ae;
 use ups_service::{Service, SharedService};
 use ups_turn::{Fixed, Seated};
 
-/// A pass at its desk, as a service that notes with each answer how many entries have to be committed before it may leave:
-/// as many as the pass has seen, its own request and those of others on which the answer rests. It answers as what is
-/// inside, and waits for no commit: whoever sends answers has to withhold them until then.
+/// A pass at its desk, as a service that notes with each answer how many entries have to be committed before it may be
+/// sent: all that the pass has seen, with its own request and those of others on which the answer depends. It answers
+/// like the inner pass and does not wait for a commit: the sender of answers has to withhold them until then.
 #[derive(Drop)]
 pub struct Withheld<'a, F: Fixed, M: SharedService<Global>, R: Wait> {
     seated: Seated<'a, F, M, Global, R>,
@@ -20,14 +20,14 @@ pub struct Withheld<'a, F: Fixed, M: SharedService<Global>, R: Wait> {
 }
 
 impl<'a, F: Fixed, M: SharedService<Global>, R: Wait> Withheld<'a, F, M, R> {
-    /// A service that notes in `due` what its answers rest on.
+    /// Returns a service that notes in `due` what its answers depend on.
     pub fn new(seated: Seated<'a, F, M, Global, R>, due: &'a AtomicU64) -> Withheld<'a, F, M, R>
         ensures { result.seated ≡ seated.entry }
     {
         Withheld { seated, due }
     }
 
-    /// What is inside.
+    /// Returns the inner pass.
     pub fn into_seated(self) -> Seated<'a, F, M, Global, R>
         ensures { result ≡ self.entry.seated }
     {

@@ -1,4 +1,4 @@
-//! The types of N-ACTION (PS3.4 table CC.2-1).
+//! The action types of N-ACTION (PS3.4 table CC.2-1).
 
 /// Change UPS State.
 pub const CHANGE_STATE: u16 = 1;

@@ -1,4 +1,4 @@
-//! Why a request makes no row of its step.
+//! The error of a change of a row.
 
 ghost use Rattle.std.specs.Prelude.{◌≡◌};
 ghost use Rattle.ups_life.specs.declared.change_fault.ChangeFault.TheVariants.{Memory};
@@ -6,10 +6,10 @@ ghost use Rattle.ups_life.specs.declared.change_fault.ChangeFault.TheVariants.{M
 use std::alloc::AllocError;
 use thiserror::Error;
 
-/// Why no row is made.
+/// The reason why a request makes no row of its step.
 #[derive(Clone, Copy, Debug, PartialEq, Eq, Error)]
 pub enum ChangeFault {
-    /// Its items would nest more than 8 deep.
+    /// The items of the step would nest more than 8 deep.
     #[error("the items of the step would nest more than 8 deep")]
     TooDeep,
     /// Memory ran out.

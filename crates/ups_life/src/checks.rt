@@ -10,10 +10,10 @@ use ups_dataset::dictionary::{
 };
 use ups_match::read_dt;
 
-/// Which texts an attribute may have.
+/// The rule for the text of an attribute.
 #[derive(Clone, Copy, Debug, PartialEq, Eq)]
 pub enum ValueRule {
-    /// Any text but an empty one.
+    /// Any text that is not empty.
     AnyText,
     /// A date and time (PS3.5 section 6.2, DT).
     DateTime,
@@ -23,16 +23,16 @@ pub enum ValueRule {
     Priority,
 }
 
-/// An attribute that a Create has to give and a Set may give, and the rule for its text.
+/// An attribute that an N-CREATE must give and an N-SET may give, and the rule for its text.
 #[derive(Clone, Copy, Debug, PartialEq, Eq)]
 pub struct Checked {
-    /// Which attribute.
+    /// The tag of the attribute.
     pub tag: Tag,
-    /// What it may say.
+    /// The rule for its text.
     pub rule: ValueRule,
 }
 
-/// The attributes that are checked, by rising tag (PS3.4 table CC.2.5-3).
+/// The attributes that are checked, in ascending order of tags (PS3.4 table CC.2.5-3).
 pub const CHECKED: [Checked; 4] = [
     Checked {
         tag: SCHEDULED_PROCEDURE_STEP_START_DATE_TIME,
@@ -53,7 +53,7 @@ pub const CHECKED: [Checked; 4] = [
 ];
 
 impl ValueRule {
-    /// Whether a text that is not empty may be the value.
+    /// Returns whether the rule allows a text that is not empty.
     pub fn allows(self, text: &[u8]) -> bool
         ensures { result ≡ allows self text.now }
     {

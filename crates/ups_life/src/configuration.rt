@@ -1,4 +1,4 @@
-//! What is fixed at the start.
+//! The configuration of the service.
 
 ghost use Rattle.std.specs.Prelude.{◌≡◌};
 
@@ -6,7 +6,7 @@ use crate::peer::Peer;
 use std::alloc::Allocator;
 use std::marker::Model;
 
-/// What is fixed at the start of the service.
+/// The configuration of the service, which is fixed at the start.
 #[derive(Drop)]
 pub struct Configuration<A: Allocator + Copy> {
     peers: Vec<Peer, A>,
@@ -24,9 +24,9 @@ impl<A: Allocator + Copy> Model for Configuration<A> {
 }
 
 impl<A: Allocator + Copy> Configuration<A> {
-    /// The peers that may watch steps, for how many seconds a finished step is kept at least, the offset of
-    /// the local time from UTC in minutes, east of it above 0 (PS3.5 section 6.2, DT), and how many requests
-    /// may be entered in the history.
+    /// Creates a configuration: the peers that may watch steps, the least number of seconds for which a finished step
+    /// is kept, the offset of the local time from UTC in minutes, positive to the east (PS3.5 section 6.2, DT), and the
+    /// maximum number of requests in the history.
     pub fn new(peers: Vec<Peer, A>, keep: u32, offset: i16, limit: u64) -> Configuration<A>
         ensures { result ≡ record { peers = peers.items; keep = keep; offset = offset; limit = limit } }
     {
@@ -38,28 +38,28 @@ impl<A: Allocator + Copy> Configuration<A> {
         }
     }
 
-    /// The peers that may watch steps.
+    /// Returns the peers that may watch steps.
     pub fn peers(&self) -> &[Peer]
         ensures { result.now ≡ self.now.peers }
     {
         self.peers.as_slice()
     }
 
-    /// For how many seconds a finished step is kept at least.
+    /// Returns the least number of seconds for which a finished step is kept.
     pub fn keep(&self) -> u32
         ensures { result ≡ self.now.keep }
     {
         self.keep
     }
 
-    /// The offset of the local time from UTC in minutes, east of it above 0.
+    /// Returns the offset of the local time from UTC in minutes, positive to the east.
     pub fn offset(&self) -> i16
         ensures { result ≡ self.now.offset }
     {
         self.offset
     }
 
-    /// How many requests may be entered in the history.
+    /// Returns the maximum number of requests in the history.
     pub fn limit(&self) -> u64
         ensures { result ≡ self.now.limit }
     {

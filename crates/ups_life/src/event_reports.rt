@@ -1,4 +1,4 @@
-//! Events as they are reported.
+//! Event reports and lists of them.
 
 ghost use Rattle.std.specs.Prelude.{◌≡◌, [], ◌∷◌, ◌++◌, OnOk, OnErr};
 
@@ -12,11 +12,11 @@ use ups_dataset::DataSet;
 pub struct EventReport<A: Allocator + Copy> {
     /// The event.
     pub event: Event,
-    /// What is told of it.
+    /// The Event Information.
     pub information: DataSet<A>,
 }
 
-/// Event reports, one after another. A contract sees them as their list.
+/// A list of event reports. A contract sees it as the list of the reports.
 #[derive(Drop)]
 pub struct EventReports<A: Allocator + Copy> {
     reports: Vec<EventReport<A>, A>,
@@ -36,7 +36,7 @@ impl<A: Allocator + Copy> Model for EventReports<A> {
 }
 
 impl<A: Allocator + Copy> EventReports<A> {
-    /// No reports. It takes no memory.
+    /// Creates an empty list, which takes no memory.
     pub fn new(alloc: A) -> EventReports<A>
         ensures { result ≡ [] }
     {
@@ -45,11 +45,11 @@ impl<A: Allocator + Copy> EventReports<A> {
         }
     }
 
-    /// Adds a report behind the others.
+    /// Appends a report to the list.
     ///
     /// # Errors
     ///
-    /// Where memory runs out. The list is then as it was.
+    /// Returns an error if memory runs out. The list is then unchanged.
     pub fn push(&mut self, report: EventReport<A>) -> Result<(), AllocError>
         ensures ok { OnOk result (self.new ≡ self.old ++ report ∷ []) }
         ensures err { OnErr result (self.new ≡ self.old) }
@@ -58,7 +58,7 @@ impl<A: Allocator + Copy> EventReports<A> {
         Ok(())
     }
 
-    /// The reports, lent.
+    /// Returns the reports as a slice.
     pub fn as_slice(&self) -> &[EventReport<A>]
         ensures { result.now ≡ self.now }
     {

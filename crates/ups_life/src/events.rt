@@ -6,7 +6,7 @@ use crate::event::Event;
 use std::alloc::Allocator;
 use std::marker::Model;
 
-/// Events, one after another. A contract sees them as the list of the events.
+/// A list of events. A contract sees it as the list of the events.
 #[derive(Drop)]
 pub struct Events<A: Allocator + Copy> {
     events: Vec<Event, A>,
@@ -22,14 +22,14 @@ impl<A: Allocator + Copy> Model for Events<A> {
 }
 
 impl<A: Allocator + Copy> Events<A> {
-    /// The events of a vector.
+    /// Creates a list of the events of a vector.
     pub fn from_vec(events: Vec<Event, A>) -> Events<A>
         ensures { result ≡ events.items }
     {
         Events { events }
     }
 
-    /// The events, lent.
+    /// Returns the events as a slice.
     pub fn as_slice(&self) -> &[Event]
         ensures { result.now ≡ self.now }
     {

@@ -1,4 +1,4 @@
-//! The instances that a message names.
+//! The instances that messages name.
 
 ghost use Rattle.std.specs.Prelude.{◌≡◌};
 ghost use Rattle.ups_life.specs.Instances.{is_subscription, step_in};
@@ -7,7 +7,7 @@ ghost use Rattle.ups_life.specs.Subscribing.{is_instance};
 use crate::step::{StepUid, is_well_known};
 use ups_pdu::{RegisteredUid, Uid};
 
-/// Whether an instance is this registered one.
+/// Returns whether the instance UID is the registered one.
 pub(crate) fn is_instance(instance: &Option<Uid>, registered: RegisteredUid) -> bool
     ensures { result ≡ is_instance instance.now registered }
 {
@@ -17,7 +17,7 @@ pub(crate) fn is_instance(instance: &Option<Uid>, registered: RegisteredUid) -> 
     }
 }
 
-/// Whether an instance is none but that of a global subscription.
+/// Returns whether the instance UID is one of the two for global subscriptions.
 pub(crate) fn is_subscription(instance: &Option<Uid>) -> bool
     ensures { result ≡ is_subscription instance.now }
 {
@@ -27,7 +27,7 @@ pub(crate) fn is_subscription(instance: &Option<Uid>) -> bool
     }
 }
 
-/// The step that an instance is; None where it is absent, malformed or well known.
+/// Returns the instance UID as that of a step, or None if it is absent, malformed or well known.
 pub(crate) fn step_in(instance: &Option<Uid>) -> Option<StepUid>
     ensures { result ≡ step_in instance.now }
 {

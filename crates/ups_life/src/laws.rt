@@ -1,4 +1,4 @@
-//! What the life cycle of a step owes (PS3.4 CC.1.1), and which tables it stands on: laws, each the contract of a
+//! The laws of the life cycle of a step (PS3.4 CC.1.1), and of the tables that it uses: each is the contract of a
 //! function that changes nothing.
 
 ghost use Rattle.std.specs.Prelude.{◌≡◌, ◌≤◌, ℕ, List, [], ◌∷◌, ◌++◌, length, filter, is_some, true, false, Option, None, Some};
@@ -31,7 +31,7 @@ use crate::entry::Entry;
 use crate::limits::{MAX_HISTORY, MAX_MOMENT, MAX_OFFSET, MAX_PEERS, MAX_ROW_BYTES, MIN_OFFSET};
 use std::alloc::Allocator;
 
-/// The attributes that are checked are those of PS3.4 table CC.2.5-3, each with its rule.
+/// The checked attributes are those of PS3.4 table CC.2.5-3, each with its rule.
 pub fn checked_attributes_are_those_defined()
     ensures { CHECKED ≡ checked_attributes }
 {}
@@ -45,41 +45,41 @@ pub fn limits_are_those_defined()
     ensures offsets { (MIN_OFFSET ≡ least_offset) × (MAX_OFFSET ≡ greatest_offset) }
 {}
 
-/// In a history of accepted requests a step is claimed at most once.
+/// In a history of accepted requests, a step is claimed at most once.
 pub fn a_step_is_claimed_once<A: Allocator + Copy>()
     ensures newest_first { (s : Settings) → (es : List (Entry A)) → (u : List ℕ) → legal s es ≡ true → length (claims es u) ≤ 1 }
     ensures oldest_first { (s : Settings) → (history : List (Entry A)) → (u : List ℕ) → legal s (past history) ≡ true → length (claims (past history) u) ≤ 1 }
 {}
 
-/// The claim of a step is still its claim after each request that is accepted.
+/// The claim of a step is still its claim after each accepted request.
 pub fn a_claim_stays<A: Allocator + Copy>()
     ensures { (s : Settings) → (e : Entry A) → (es : List (Entry A)) → (u : List ℕ) → (c : Claim) → legal s (e ∷ es) ≡ true
         → claim es u ≡ Some c → claim (e ∷ es) u ≡ Some c }
 {}
 
-/// Attributes of a step that is IN PROGRESS are set with the Transaction UID of its claim alone (PS3.4 CC.2.6).
+/// The attributes of a step that is IN PROGRESS are set only with the Transaction UID of its claim (PS3.4 CC.2.6).
 pub fn only_the_holder_sets<A: Allocator + Copy>()
     ensures { (s : Settings) → (e : Entry A) → (es : List (Entry A)) → (u : List ℕ) → (t : Transaction) → (attributes : List El) → legal s (e ∷ es) ≡ true
         → e.request ≡ Set (Some u) t attributes → state es u ≡ InProgress → (uid : List ℕ) × (t ≡ Proper uid) × (right es u ≡ Some uid) }
 {}
 
-/// A step is changed to COMPLETED or CANCELED with the Transaction UID of its claim alone (PS3.4 CC.2.1).
+/// A step is changed to COMPLETED or CANCELED only with the Transaction UID of its claim (PS3.4 CC.2.1).
 pub fn only_the_holder_finishes<A: Allocator + Copy>()
     ensures { (s : Settings) → (e : Entry A) → (es : List (Entry A)) → (u : List ℕ) → (to : StepState) → (t : Transaction) → legal s (e ∷ es) ≡ true
         → e.request ≡ Change (Some u) to t → is_final to ≡ true → (uid : List ℕ) × (t ≡ Proper uid) × (right es u ≡ Some uid) }
 {}
 
-/// No step shows its Transaction UID, whatever was asked of it (PS3.4 CC.2.5): its attributes have none, and a query that
-/// asks for it is answered without a value.
+/// No step shows its Transaction UID, whatever is asked of it (PS3.4 CC.2.5): its attributes do not include it, and a
+/// query for it is answered without a value.
 pub fn a_transaction_uid_is_never_told<A: Allocator + Copy>()
     ensures shown { (s : Settings) → (es : List (Entry A)) → (u : List ℕ) → element_at TRANSACTION_UID (row s es u) ≡ None }
     ensures found { (s : Settings) → (es : List (Entry A)) → (u : List ℕ) → (key : El) → key.tag ≡ TRANSACTION_UID
         → answer_to (row s es u) key ≡ record { tag = key.tag; vr = key.vr; value = without_value key.value } }
 {}
 
-/// The row of each step held tells its state, which step it is, of which class, and one of the three Input Readiness
-/// States (PS3.4 table CC.2.5-3). It goes through the entries, since what was sent with each has to be a data set: of
-/// any list of elements the law would be false.
+/// The row of each held step has its state, its instance UID, its SOP class and one of the three Input Readiness States
+/// (PS3.4 table CC.2.5-3). The function goes through the entries, since what was sent with each must be a data set: for
+/// arbitrary lists of elements, the law would be false.
 pub fn a_row_tells_its_state<A: Allocator + Copy>(history: &[Entry<A>])
     ensures { (s : Settings) → legal s (past history.now) ≡ true → EachRowTells s (past history.now) }
 {
@@ -94,37 +94,37 @@ pub fn a_removed_step_stays_away<A: Allocator + Copy>()
         → (is_held s (later ++ es) u ≡ false) × (used (later ++ es) u ≡ true) }
 {}
 
-/// A step that a peer keeps by a deletion lock outlives each entry, a sweep too (PS3.4 CC.2.3).
+/// A step that a peer keeps with a Deletion Lock is still held after each entry, even a sweep (PS3.4 CC.2.3).
 pub fn a_locked_step_stays<A: Allocator + Copy>()
     ensures { (s : Settings) → (e : Entry A) → (es : List (Entry A)) → (u : List ℕ) → is_held s es u ≡ true → is_kept s es u ≡ true → is_held s (e ∷ es) u ≡ true }
 {}
 
-/// So does a step that became final at no moment, or less long ago than steps are kept.
+/// A step that is not final, or has not been so for as long as steps are kept, is still held after each entry.
 pub fn an_unfinished_step_stays<A: Allocator + Copy>()
     ensures { (s : Settings) → (e : Entry A) → (es : List (Entry A)) → (u : List ℕ) → is_held s es u ≡ true
         → has_passed s.keep e.moment (final_at es u) ≡ false → is_held s (e ∷ es) u ≡ true }
 {}
 
-/// In a history of accepted requests only a step whose state is final is removed: one that is held and is not final is still
-/// held after each request that is accepted, a sweep too. And a final state stays (PS3.4 CC.1.1).
+/// In a history of accepted requests, only a step whose state is final is removed: one that is held and not final is
+/// still held after each accepted request, even a sweep. A final state never changes (PS3.4 CC.1.1).
 pub fn only_a_final_step_is_removed<A: Allocator + Copy>()
     ensures unfinished { (s : Settings) → (e : Entry A) → (es : List (Entry A)) → (u : List ℕ) → legal s (e ∷ es) ≡ true → is_held s es u ≡ true
         → is_final (state es u) ≡ false → is_held s (e ∷ es) u ≡ true }
     ensures finished { (s : Settings) → (e : Entry A) → (es : List (Entry A)) → (u : List ℕ) → legal s (e ∷ es) ≡ true → is_final (state es u) ≡ true → state (e ∷ es) u ≡ state es u }
 {}
 
-/// Of each step that a watcher watches, its view is what is so: the last State Report that it was told of the step shows
-/// the present state and the present readiness of the input (PS3.4 CC.2.4).
+/// A watcher's view of each step that it watches is up to date: the last State Report of the step shows the present
+/// state and the present readiness of the input (PS3.4 CC.2.4).
 pub fn a_view_shows_what_is_so<A: Allocator + Copy>()
     ensures one { (s : Settings) → (es : List (Entry A)) → (w u : List ℕ) → is_held s es u ≡ true → is_some (watch s es w u) ≡ true → view (events s es w) u ≡ Some (present s es u) }
     ensures each { (s : Settings) → (es : List (Entry A)) → (w : List ℕ) → AllByRecursion (λ (x : Watched). view (events s es w) x.step ≡ Some (present s es x.step)) (watched s es w) }
 {}
 
-/// An N-SET also subscribes who does not watch its step, and has a global subscription that takes the step in by it: a
-/// filter that it matches now, and did not match before. That watcher is told of the step as it is, and no more. No N-SET
-/// subscribes anybody else, nor to another step, and who watches a step stays subscribed as it was, also where a filter does
-/// not match it any longer. Who did not watch the step although its global subscription took it in, having unsubscribed, is
-/// not subscribed again (PS3.4 CC.2.3): for that the step has to cease to match first.
+/// An N-SET by which its step begins to match the filter of a global subscription also subscribes the watcher of that,
+/// unless it already watches the step. That watcher is told of the step as it is, and of nothing else. An N-SET
+/// subscribes no other watcher, and to no other step, and whoever watches a step stays subscribed as before, even if a
+/// filter no longer matches it. A watcher that has unsubscribed from a step that its global subscription covers is not
+/// subscribed again (PS3.4 CC.2.3), unless the step ceases to match first.
 pub fn a_filter_follows_changes<A: Allocator + Copy>()
     ensures subscribed { (s : Settings) → (e : Entry A) → (es : List (Entry A)) → (w u : List ℕ) → (t : Transaction) → (attributes : List El) → (how : Subscription)
         → e.request ≡ Set (Some u) t attributes → watch s es w u ≡ None → cover s.peers es w (row s es u) ≡ None → cover s.peers es w (row s (e ∷ es) u) ≡ Some how
@@ -141,8 +141,8 @@ pub fn a_filter_follows_changes<A: Allocator + Copy>()
         → e.request ≡ Set (Some u) t attributes → is_some (cover s.peers es w (row s es u)) ≡ true → watch s (e ∷ es) w u ≡ watch s es w u }
 {}
 
-/// The watchers that an N-SET newly subscribes did not watch its step before it, and do so after it; and each peer of which
-/// that is so is one of them.
+/// The watchers that an N-SET newly subscribes are exactly the peers that did not watch its step before it, and do so
+/// after it.
 pub fn newly_subscribed_is_who_begins_to_watch<A: Allocator + Copy>()
     ensures each { (s : Settings) → (e : Entry A) → (es : List (Entry A)) → (u : List ℕ) → (t : Transaction) → (attributes : List El) → e.request ≡ Set (Some u) t attributes
         → AllByRecursion (λ (x : Watcher). (watch s es x.ae u ≡ None) × (watch s (e ∷ es) x.ae u ≡ Some x.subscription)) (newly s es e u) }
@@ -156,8 +156,8 @@ pub fn one_state_report_is_pending<A: Allocator + Copy>()
     ensures { (s : Settings) → (es : List (Entry A)) → (w u : List ℕ) → length (filter (is_report_of u) (pending s es w)) ≤ 1 }
 {}
 
-/// Nothing is lost by what is left out: what a watcher has received, followed by what is pending for it, shows the same of
-/// each step as all its events (PS3.4 CC.2.4).
+/// Nothing is lost with the events that are omitted: what a watcher has received, followed by what is pending for it,
+/// shows the same of each step as all its events (PS3.4 CC.2.4).
 pub fn what_is_received_and_pending_shows_all<A: Allocator + Copy>()
     ensures { (s : Settings) → (es : List (Entry A)) → (w u : List ℕ) → legal s es ≡ true → view (received s es w ++ pending s es w) u ≡ view (events s es w) u }
 {}

@@ -1,5 +1,5 @@
-//! The service of Unified Procedure Steps (PS3.4 annex CC): what may be asked, and the definitions of what is decided of it
-//! and of what a history of accepted requests makes of each step, with their laws.
+//! The service of Unified Procedure Steps (PS3.4 annex CC): its requests, and the definitions of how they are decided
+//! and what a history of accepted requests makes of each step, with their laws.
 #![tactic(auto)]
 
 mod actions;

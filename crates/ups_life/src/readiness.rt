@@ -1,23 +1,23 @@
-//! Whether the input of a step is ready.
+//! The readiness of the input of a step.
 
 ghost use Rattle.std.specs.Prelude.{◌≡◌};
 ghost use Rattle.ups_life.specs.Readiness.{readiness_text, readiness_of};
 
 use ups_pdu::without_padding;
 
-/// Whether the input of a step can be had, Input Readiness State (0040,4041) (PS3.3 C.30.2).
+/// The readiness of the input of a step: Input Readiness State (0040,4041) (PS3.3 C.30.2).
 #[derive(Clone, Copy, Debug, PartialEq, Eq)]
 pub enum InputReadiness {
-    /// INCOMPLETE: what the step needs is not all known yet.
+    /// INCOMPLETE: not all that the step needs is known yet.
     Incomplete,
-    /// UNAVAILABLE: it is all known, and not all of it can be had.
+    /// UNAVAILABLE: all of it is known, but not all of it is available.
     Unavailable,
-    /// READY: all of it can be had.
+    /// READY: all of it is available.
     Ready,
 }
 
 impl InputReadiness {
-    /// Its text, without padding (PS3.3 C.30.2).
+    /// Returns the text of the readiness, without padding (PS3.3 C.30.2).
     pub fn text(self) -> &'static [u8]
         ensures { result.now ≡ readiness_text self }
     {
@@ -28,7 +28,7 @@ impl InputReadiness {
         }
     }
 
-    /// The readiness that a value names, which may be padded; None where it names none.
+    /// Returns the readiness that a value names, ignoring padding, or None if it names none.
     pub fn of(value: &[u8]) -> Option<InputReadiness>
         ensures { result ≡ readiness_of value.now }
     {

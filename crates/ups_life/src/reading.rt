@@ -1,4 +1,4 @@
-//! Asks from messages.
+//! Reading asks from messages.
 
 ghost use Rattle.std.specs.Prelude.{◌≡◌, ◌⊎◌, List, Option, Ok, Err, IfErr, MatchResult};
 ghost use Rattle.ups_dataset.specs.Data.{El, element_at};
@@ -21,7 +21,7 @@ use ups_dimse::{Operation, Tags};
 use ups_match::Keys;
 use ups_pdu::{Uid, without_padding};
 
-/// The Transaction UID that a value is.
+/// Returns the Transaction UID of a value.
 fn transaction_value<A: Allocator + Copy>(value: &Value<A>) -> Transaction
     ensures { result ≡ transaction_value (value_view value.now) }
 {
@@ -37,7 +37,7 @@ fn transaction_value<A: Allocator + Copy>(value: &Value<A>) -> Transaction
     }
 }
 
-/// The Transaction UID (0008,1195) of a data set.
+/// Returns the Transaction UID (0008,1195) of a data set.
 fn transaction_of<A: Allocator + Copy>(attributes: &DataSet<A>) -> Transaction
     ensures { result ≡ transaction_of (element_at TRANSACTION_UID attributes.now) }
 {
@@ -47,7 +47,7 @@ fn transaction_of<A: Allocator + Copy>(attributes: &DataSet<A>) -> Transaction
     }
 }
 
-/// The state that a data set names; None where it names none.
+/// Returns the state that a data set names, or None if it names none.
 fn named_state<A: Allocator + Copy>(attributes: &DataSet<A>) -> Option<StepState>
     ensures { result ≡ named_state (element_at PROCEDURE_STEP_STATE attributes.now) }
 {
@@ -57,9 +57,9 @@ fn named_state<A: Allocator + Copy>(attributes: &DataSet<A>) -> Option<StepState
     }
 }
 
-/// What a Change UPS State asks (PS3.4 CC.2.1).
+/// Returns what a Change UPS State asks (PS3.4 CC.2.1).
 ///
-/// Errors: C314 for a global subscription, which is no step; 0115 where no state is named.
+/// Errors: C314 for a global subscription, which is not a step; 0115 if no state is named.
 fn changed<A: Allocator + Copy>(
     instance: &Option<Uid>,
     attributes: &DataSet<A>,
@@ -79,9 +79,9 @@ fn changed<A: Allocator + Copy>(
     }))
 }
 
-/// What a Request UPS Cancel asks (PS3.4 CC.2.2).
+/// Returns what a Request UPS Cancel asks (PS3.4 CC.2.2).
 ///
-/// Errors: C314 for a global subscription, which is no step.
+/// Errors: C314 for a global subscription, which is not a step.
 fn canceled<A: Allocator + Copy>(
     instance: &Option<Uid>,
     reasons: DataSet<A>,
@@ -97,7 +97,9 @@ fn canceled<A: Allocator + Copy>(
     }))
 }
 
-/// What an N-ACTION asks. Errors: 0123 for a type that is none of these five, and theirs.
+/// Returns what an N-ACTION asks.
+///
+/// Errors: 0123 for a type other than these five; the errors of each.
 fn acted<A: Allocator + Copy>(
     instance: &Option<Uid>,
     action: u16,
@@ -116,9 +118,9 @@ fn acted<A: Allocator + Copy>(
     }
 }
 
-/// What a C-FIND asks: the steps that match keys (PS3.4 sections CC.2.8 and C.4.1).
+/// Returns what a C-FIND asks: the steps that match keys (PS3.4 sections CC.2.8 and C.4.1).
 ///
-/// Errors: A900 where a key can't be read.
+/// Errors: A900 if a key can't be read.
 fn finds<A: Allocator + Copy>(attributes: DataSet<A>, offset: i16) -> Result<Ask<A>, Status>
     ensures { result ≡ finds offset attributes (fault_of offset attributes) }
 {
@@ -128,16 +130,17 @@ fn finds<A: Allocator + Copy>(attributes: DataSet<A>, offset: i16) -> Result<Ask
     }
 }
 
-/// What a message asks: its operation, with the data set that came with it, or an empty one. `offset` is that of the
-/// local time from UTC in minutes, east of it above 0, by which a key's DT is read that says none.
+/// Returns what a message asks, by its operation and its data set, which is empty if it has none. `offset` is the
+/// offset of the local time from UTC in minutes, positive to the east, for each DT of a key that has no offset of its
+/// own.
 ///
-/// Errors: 0117 where a step is to be created whose UID is absent, malformed or well known; those of an N-ACTION
-/// (PS3.4 CC.2.1 to CC.2.3): 0123 for another type than 1 to 5, C314 for a change or a cancel of a global subscription,
-/// which is no step, and for the suspension of anything else, 0115 where a change names no state, where no receiving AE
-/// is named for a subscription, where a deletion lock is neither TRUE nor FALSE, and where a key of a filter can't be
-/// read, 0114 where a filter has universal keys alone; A900 where a key of a C-FIND can't be read (PS3.4 section
-/// C.4.1.1.4); 0211 for a C-ECHO (PS3.4 annex A) and an N-EVENT-REPORT, which ask nothing of a step; 0213 where memory
-/// runs out, and only for a message that asks something.
+/// Errors: 0117 if a step is to be created whose UID is absent, malformed or well known; for an N-ACTION (PS3.4 CC.2.1
+/// to CC.2.3), 0123 for any type but 1 to 5, C314 for a change or a cancel of a global subscription, which is not a
+/// step, and for the suspension of anything else, 0115 if a change names no state, if an action on subscriptions names
+/// no Receiving AE, if a Deletion Lock is neither TRUE nor FALSE, and if a key of a filter can't be read, and 0114 if
+/// all keys of a filter are universal; A900 if a key of a C-FIND can't be read (PS3.4 section C.4.1.1.4); 0211 for a
+/// C-ECHO (PS3.4 annex A) and an N-EVENT-REPORT, which ask nothing of a step; 0213 if memory runs out, and only for a
+/// message that asks something.
 pub fn read_request<A: Allocator + Copy>(
     alloc: A,
     operation: &Operation<A>,

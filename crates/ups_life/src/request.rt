@@ -1,4 +1,4 @@
-//! What may be asked of the service, and what it answers.
+//! The requests to the service, and its replies.
 
 use crate::event_reports::EventReports;
 use crate::sets::Sets;
@@ -11,19 +11,18 @@ use ups_dimse::Tags;
 use ups_match::Keys;
 use ups_pdu::{Ae, Uid};
 
-/// The Transaction UID (0008,1195) that a request gives. Who knows that of a step's claim is its performer
-/// (PS3.4 CC.1.1).
+/// The Transaction UID (0008,1195) of a request. Whoever knows that of a step's claim is its performer (PS3.4 CC.1.1).
 #[derive(Clone, Copy)]
 pub enum Transaction {
-    /// It is absent, or has no value.
+    /// It is absent or has no value.
     Absent,
-    /// It is no UID.
+    /// It is not a valid UID.
     Malformed,
-    /// It is this one.
+    /// It is this UID.
     Proper(Uid),
 }
 
-/// A request that changes what the service holds, well formed.
+/// A well-formed request that changes what the service holds.
 #[derive(Drop)]
 pub enum Request<A: Allocator + Copy> {
     /// Creates a step with these attributes (N-CREATE, PS3.4 CC.2.5).
@@ -35,57 +34,57 @@ pub enum Request<A: Allocator + Copy> {
     },
     /// Changes the state of a step (N-ACTION type 1, PS3.4 CC.2.1).
     Change {
-        /// The instance UID of the step; None where it is absent, malformed or well known.
+        /// The instance UID of the step, or None if it is absent, malformed or well known.
         step: Option<StepUid>,
-        /// The state that it is to have.
+        /// The new state of the step.
         state: StepState,
-        /// The Transaction UID that was sent with it.
+        /// The Transaction UID that was sent.
         transaction: Transaction,
     },
     /// Asks that a step be canceled (N-ACTION type 2, PS3.4 CC.2.2).
     AskCancel {
-        /// The instance UID of the step; None where it is absent, malformed or well known.
+        /// The instance UID of the step, or None if it is absent, malformed or well known.
         step: Option<StepUid>,
-        /// The attributes as they were sent: why, and who is to be asked.
+        /// The attributes as they were sent: the reason, and whom to contact about it.
         reasons: DataSet<A>,
     },
     /// Sets attributes of a step (N-SET, PS3.4 CC.2.6).
     Set {
-        /// The instance UID of the step; None where it is absent, malformed or well known.
+        /// The instance UID of the step, or None if it is absent, malformed or well known.
         step: Option<StepUid>,
-        /// The Transaction UID that was sent with it.
+        /// The Transaction UID that was sent.
         transaction: Transaction,
         /// The attributes as they were sent.
         attributes: DataSet<A>,
     },
     /// Subscribes a watcher (N-ACTION type 3, PS3.4 CC.2.3).
     Subscribe {
-        /// What to.
+        /// The target of the subscription.
         target: Target<A>,
         /// The watcher: the Receiving AE (0074,1234).
         receiver: Ae,
-        /// Whether the steps are not to be removed: the Deletion Lock (0074,1230).
+        /// Whether the steps are to be locked against removal: the Deletion Lock (0074,1230).
         lock: bool,
     },
     /// Ends subscriptions of a watcher (N-ACTION type 4, PS3.4 CC.2.3).
     Unsubscribe {
-        /// Where.
+        /// The steps for which they end.
         place: Place,
         /// The watcher: the Receiving AE (0074,1234).
         receiver: Ae,
     },
-    /// Ends the global subscription of a watcher, and leaves it subscribed to each step that it is subscribed to
+    /// Ends the global subscription of a watcher, which stays subscribed to each step that it is subscribed to
     /// (N-ACTION type 5, PS3.4 CC.2.3).
     Suspend {
         /// The watcher: the Receiving AE (0074,1234).
         receiver: Ae,
     },
-    /// Acknowledges the events of the application entity that asks, up to this number.
+    /// Acknowledges the events of the requesting application entity up to a number.
     Ack {
-        /// The number of the last event that is acknowledged.
+        /// The number of the last acknowledged event.
         upto: u64,
     },
-    /// Removes each step whose state is final for as long as it is kept, and which no watcher has locked.
+    /// Removes each step that has been final for as long as steps are kept, and that no watcher has locked.
     Sweep,
 }
 
@@ -95,8 +94,8 @@ impl<A: Allocator + Copy> Request<A> {
     ghost use Rattle.ups_life.specs.History.{receiver_of};
     ghost use Rattle.ups_life.specs.Telling.{IsWellFormed};
 
-    /// The instance UID of the step that the request creates or changes; None where it is absent, malformed or well
-    /// known, and where the request is of watchers.
+    /// Returns the instance UID of the step that the request creates or changes, or None if it is absent, malformed or
+    /// well known, or if the request is not on a step.
     pub fn step(&self) -> Option<StepUid>
         ensures { result ≡ step_of self.now }
     {
@@ -113,7 +112,7 @@ impl<A: Allocator + Copy> Request<A> {
         }
     }
 
-    /// The instance UID of the step that the request names: of its step, or of that of a single subscription.
+    /// Returns the instance UID of the step that the request names: its step, or that of a single subscription.
     pub fn named_step(&self) -> Option<StepUid>
         ensures { result ≡ named_step self.now }
     {
@@ -130,7 +129,7 @@ impl<A: Allocator + Copy> Request<A> {
         }
     }
 
-    /// The watcher that the request is for (PS3.4 CC.2.3).
+    /// Returns the watcher that the request is for, if any (PS3.4 CC.2.3).
     pub fn receiver(&self) -> Option<Ae>
         ensures { result ≡ receiver_of self.now }
     {
@@ -142,8 +141,8 @@ impl<A: Allocator + Copy> Request<A> {
         }
     }
 
-    /// A proof learns here that what is sent with the request is a data set, that a new step has the UID of a step, and
-    /// that a filter has a key that is not universal. It does nothing.
+    /// Does nothing at run time: its contract tells a proof that what is sent with the request is a data set, that a
+    /// new step has the UID of a step, and that a filter has a key that is not universal.
     pub fn is_well_formed(&self)
         ensures { IsWellFormed self.now }
     {
@@ -165,42 +164,43 @@ impl<A: Allocator + Copy> Request<A> {
     }
 }
 
-/// What a message asks.
+/// A request or a query to the service.
 #[derive(Drop)]
 pub enum Ask<A: Allocator + Copy> {
-    /// To do a request.
+    /// Carries out a request.
     Do(Request<A>),
-    /// To show attributes of a step, or with an empty list all of them (N-GET, PS3.4 CC.2.7).
+    /// Shows attributes of a step, or all of them if the list is empty (N-GET, PS3.4 CC.2.7).
     Get {
-        /// The instance UID; None where it is absent, malformed or well known.
+        /// The instance UID of the step, or None if it is absent, malformed or well known.
         step: Option<StepUid>,
-        /// Which attributes.
+        /// The tags of the attributes.
         attributes: Tags<A>,
     },
-    /// To answer with the steps that match keys (C-FIND, PS3.4 sections CC.2.8 and C.4.1).
+    /// Finds the steps that match keys (C-FIND, PS3.4 sections CC.2.8 and C.4.1).
     Find(Keys<A>),
-    /// To tell the application entity that asks of the events that it has not acknowledged, oldest first.
+    /// Lists the events that are pending for the requesting application entity, oldest first: those that it has not
+    /// acknowledged, and that no later State Report of the same step supersedes.
     Pending {
-        /// How many events are told of at most.
+        /// The maximum number of events listed.
         max: u64,
     },
 }
 
-/// What is answered.
+/// A reply of the service.
 #[derive(Drop)]
 pub enum Reply<A: Allocator + Copy> {
     /// A status alone.
     Status(Status),
-    /// A status, and attributes of a step.
+    /// A status and attributes of a step.
     Set(Status, DataSet<A>),
-    /// Those attributes of each step found that were asked for, in order of creation.
+    /// The requested attributes of each step found, in order of creation.
     Sets(Sets<A>),
-    /// So many steps were removed by a sweep.
+    /// The number of steps that a sweep removed.
     Swept(u64),
-    /// No event of the application entity has so great a number as it acknowledges.
+    /// The application entity acknowledges a greater number than any of its events has.
     AckAhead,
-    /// The application entity has acknowledged this number, or a greater one, before.
+    /// The application entity has already acknowledged this number or a greater one.
     AckStale,
-    /// Events that are not acknowledged, with what is told of each, oldest first.
+    /// Pending events, each with its Event Information, oldest first.
     Reports(EventReports<A>),
 }

@@ -6,7 +6,7 @@ use std::alloc::{AllocError, Allocator};
 use std::marker::Model;
 use ups_dataset::DataSet;
 
-/// Data sets, one after another. A contract sees them as the list of the data sets.
+/// A list of data sets. A contract sees it as the list of the data sets.
 #[derive(Drop)]
 pub struct Sets<A: Allocator + Copy> {
     sets: Vec<DataSet<A>, A>,
@@ -26,7 +26,7 @@ impl<A: Allocator + Copy> Model for Sets<A> {
 }
 
 impl<A: Allocator + Copy> Sets<A> {
-    /// No data sets. It takes no memory.
+    /// Creates an empty list, which takes no memory.
     pub fn new(alloc: A) -> Sets<A>
         ensures { result ≡ [] }
     {
@@ -35,11 +35,11 @@ impl<A: Allocator + Copy> Sets<A> {
         }
     }
 
-    /// Adds a data set behind the others.
+    /// Appends a data set to the list.
     ///
     /// # Errors
     ///
-    /// Where memory runs out. The list is then as it was.
+    /// Returns an error if memory runs out. The list is then unchanged.
     pub fn push(&mut self, set: DataSet<A>) -> Result<(), AllocError>
         ensures ok { OnOk result (self.new ≡ self.old ++ set ∷ []) }
         ensures err { OnErr result (self.new ≡ self.old) }
@@ -48,7 +48,7 @@ impl<A: Allocator + Copy> Sets<A> {
         Ok(())
     }
 
-    /// The data sets, lent.
+    /// Returns the data sets as a slice.
     pub fn as_slice(&self) -> &[DataSet<A>]
         ensures { result.now ≡ self.now }
     {

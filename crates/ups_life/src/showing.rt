@@ -1,4 +1,4 @@
-//! What is shown of a row.
+//! The replies that show attributes of a step.
 
 ghost use Rattle.std.specs.Prelude.{◌≡◌, IfOk};
 ghost use Rattle.ups_life.specs.History.{has_all, shown};
@@ -8,7 +8,7 @@ use std::alloc::{AllocError, Allocator};
 use ups_cycle::Status;
 use ups_dataset::{DataSet, Tag};
 
-/// Whether a set has an element for each of these tags.
+/// Returns whether the data set has an element for each of the tags.
 fn has_all<A: Allocator + Copy>(set: &DataSet<A>, tags: &[Tag]) -> bool
     ensures { result ≡ has_all set.now tags.now }
 {
@@ -20,10 +20,10 @@ fn has_all<A: Allocator + Copy>(set: &DataSet<A>, tags: &[Tag]) -> bool
     true
 }
 
-/// What an N-GET is answered of the attributes of a step (PS3.4 CC.2.7): all of them where the list is empty,
-/// else those that are listed, with 0001 where one is not there.
+/// Returns the reply to an N-GET of the attributes of a step (PS3.4 CC.2.7): all of them if `listed` is empty, else the
+/// listed ones, with status 0001 if one of them is absent.
 ///
-/// Errors: lack of memory.
+/// Errors: out of memory.
 pub fn shown<A: Allocator + Copy>(
     attributes: &DataSet<A>,
     listed: &[Tag],

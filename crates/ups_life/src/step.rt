@@ -7,7 +7,7 @@ use std::hash::{Hash, Hasher};
 use std::marker::Model;
 use ups_pdu::{RegisteredUid, Uid};
 
-/// Whether a UID is that of an instance that is no step (PS3.4 CC.2.3).
+/// Returns whether a UID is well known: one of the two for global subscriptions (PS3.4 CC.2.3).
 pub(crate) fn is_well_known(uid: Uid) -> bool
     ensures { result ≡ is_well_known uid }
 {
@@ -15,8 +15,8 @@ pub(crate) fn is_well_known(uid: Uid) -> bool
         || uid.as_bytes() == RegisteredUid::FilteredGlobalSubscription.text()
 }
 
-/// The UID of a step: never one of the two that stand for global subscriptions (PS3.4 CC.2.3). A contract sees it as
-/// the list of its bytes.
+/// The UID of a step, which is never one of the two for global subscriptions (PS3.4 CC.2.3). A contract sees it as the
+/// list of its bytes.
 #[derive(Clone, Copy)]
 pub struct StepUid {
     uid: Uid,
@@ -38,7 +38,7 @@ impl Model for StepUid {
 }
 
 impl StepUid {
-    /// The UID as that of a step; None where it is well known.
+    /// Converts a UID to that of a step, or returns None if it is well known.
     pub fn of(uid: Uid) -> Option<StepUid>
         ensures { result ≡ step_under uid }
     {
@@ -49,14 +49,14 @@ impl StepUid {
         Some(StepUid { uid })
     }
 
-    /// The UID.
+    /// Returns the UID.
     pub fn uid(self) -> Uid
         ensures { result ≡ self }
     {
         self.uid
     }
 
-    /// The bytes of the UID, without padding.
+    /// Returns the bytes of the UID, without padding.
     pub fn as_bytes(&self) -> &[u8]
         ensures bytes { result.now ≡ self.now }
         ensures is_step { IsStepUid self.now }

@@ -1,4 +1,4 @@
-//! Asks about subscriptions, from messages.
+//! Reading asks about subscriptions from messages.
 
 ghost use Rattle.std.specs.Prelude.{◌≡◌};
 ghost use Rattle.ups_dataset.specs.Data.{element_at};
@@ -15,7 +15,7 @@ use ups_dataset::{DataSet, Value};
 use ups_match::Keys;
 use ups_pdu::{Ae, RegisteredUid, Uid, without_padding};
 
-/// The title that a value is, of which padding is no part; None where it is none.
+/// Returns the title encoded in a value, without padding, or None if it encodes none.
 fn title_value<A: Allocator + Copy>(value: &Value<A>) -> Option<Ae>
     ensures { result ≡ title_value (value_view value.now) }
 {
@@ -25,14 +25,14 @@ fn title_value<A: Allocator + Copy>(value: &Value<A>) -> Option<Ae>
     }
 }
 
-/// The Receiving AE (0074,1234) that a data set names; None where it names none.
+/// Returns the Receiving AE (0074,1234) that a data set names, or None if it names none.
 fn named_receiver<A: Allocator + Copy>(attributes: &DataSet<A>) -> Option<Ae>
     ensures { result ≡ named_receiver (element_at RECEIVING_AE attributes.now) }
 {
     title_value(&attributes.get(RECEIVING_AE)?.value)
 }
 
-/// Whether a text asks for a deletion lock; None where it is neither TRUE nor FALSE.
+/// Returns whether a text asks for a Deletion Lock, or None if it is neither TRUE nor FALSE.
 fn lock_in(text: &[u8]) -> Option<bool>
     ensures { result ≡ lock_in text.now }
 {
@@ -45,7 +45,7 @@ fn lock_in(text: &[u8]) -> Option<bool>
     }
 }
 
-/// The Deletion Lock (0074,1230) that a data set names; None where it is neither TRUE nor FALSE.
+/// Returns the Deletion Lock (0074,1230) of a data set, or None if it is neither TRUE nor FALSE.
 fn named_lock<A: Allocator + Copy>(attributes: &DataSet<A>) -> Option<bool>
     ensures { result ≡ named_lock (element_at DELETION_LOCK attributes.now) }
 {
@@ -55,9 +55,9 @@ fn named_lock<A: Allocator + Copy>(attributes: &DataSet<A>) -> Option<bool>
     }
 }
 
-/// A filter by these keys.
+/// Returns the filter with these keys.
 ///
-/// Errors: 0115 where a key can't be read, 0114 where all keys are universal.
+/// Errors: 0115 if a key can't be read, 0114 if all keys are universal.
 fn filter_of<A: Allocator + Copy>(keys: DataSet<A>, offset: i16) -> Result<Target<A>, Status>
     ensures { result ≡ filter_of offset keys }
 {
@@ -71,7 +71,7 @@ fn filter_of<A: Allocator + Copy>(keys: DataSet<A>, offset: i16) -> Result<Targe
     }
 }
 
-/// The attributes of a message that are the keys of a filter: all but the two that every subscription has.
+/// Returns the keys of a filter: all attributes of a message but the two that every subscription has.
 fn filter_keys<A: Allocator + Copy>(attributes: DataSet<A>) -> DataSet<A>
     ensures { result ≡ filter_keys attributes }
 {
@@ -81,7 +81,7 @@ fn filter_keys<A: Allocator + Copy>(attributes: DataSet<A>) -> DataSet<A>
     keys
 }
 
-/// What a subscription to an instance is to.
+/// Returns the target of a subscription to an instance.
 ///
 /// Errors: those of a filter.
 fn target_of<A: Allocator + Copy>(
@@ -100,12 +100,12 @@ fn target_of<A: Allocator + Copy>(
     }
 }
 
-/// What a Subscribe to Receive UPS Event Reports asks (PS3.4 CC.2.3). On the filtered instance all elements but the
-/// Receiving AE and the Deletion Lock are keys; on any other they are not looked at. The keys are prepared, which takes
-/// memory; where that is refused they are taken as they stand.
+/// Returns what a Subscribe to Receive UPS Event Reports asks (PS3.4 CC.2.3). On the filtered instance, all elements
+/// but the Receiving AE and the Deletion Lock are keys; on any other, they are ignored. Preparing the keys takes
+/// memory; if there is none, they are used unprepared.
 ///
-/// Errors: 0115 where no receiving AE is named, where the deletion lock is neither TRUE nor FALSE, and where a key can't
-/// be read; 0114 where a filter has universal keys alone.
+/// Errors: 0115 if no Receiving AE is named, if the Deletion Lock is neither TRUE nor FALSE, and if a key can't be
+/// read; 0114 if all keys of a filter are universal.
 #[tactic(auto, unfolding(crate::specs::Subscribing::subscribed))]
 pub(crate) fn subscribed<A: Allocator + Copy>(
     instance: &Option<Uid>,
@@ -130,7 +130,7 @@ pub(crate) fn subscribed<A: Allocator + Copy>(
     }
 }
 
-/// Where subscriptions end that an instance stands for.
+/// Returns the steps for which an Unsubscribe from an instance ends subscriptions.
 fn place_of(instance: &Option<Uid>) -> Place
     ensures { result ≡ place_of instance.now }
 {
@@ -141,9 +141,9 @@ fn place_of(instance: &Option<Uid>) -> Place
     }
 }
 
-/// What an Unsubscribe from Receiving UPS Event Reports asks (PS3.4 CC.2.3).
+/// Returns what an Unsubscribe from Receiving UPS Event Reports asks (PS3.4 CC.2.3).
 ///
-/// Errors: 0115 where no receiving AE is named.
+/// Errors: 0115 if no Receiving AE is named.
 #[tactic(auto, unfolding(crate::specs::Subscribing::unsubscribed))]
 pub(crate) fn unsubscribed<A: Allocator + Copy>(
     instance: &Option<Uid>,
@@ -160,9 +160,9 @@ pub(crate) fn unsubscribed<A: Allocator + Copy>(
     }))
 }
 
-/// What a Suspend Global Subscription asks (PS3.4 CC.2.3).
+/// Returns what a Suspend Global Subscription asks (PS3.4 CC.2.3).
 ///
-/// Errors: C314 for any other instance than those of the global subscriptions; 0115 where no receiving AE is named.
+/// Errors: C314 for any instance but those of the global subscriptions; 0115 if no Receiving AE is named.
 #[tactic(auto, unfolding(crate::specs::Subscribing::suspended))]
 pub(crate) fn suspended<A: Allocator + Copy>(
     instance: &Option<Uid>,

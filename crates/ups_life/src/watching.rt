@@ -1,4 +1,4 @@
-//! Who watches which steps, and how.
+//! The watchers of steps, and their subscriptions.
 
 ghost use Rattle.std.specs.Prelude.{◌≡◌, true, [], MatchOption};
 ghost use Rattle.ups_match.specs.Matching.{is_match};
@@ -11,12 +11,12 @@ use ups_dataset::DataSet;
 use ups_match::{Keys, Matcher, Probe};
 use ups_pdu::Ae;
 
-/// How a watcher is subscribed to a step (PS3.4 CC.2.3).
+/// The subscription of a watcher to a step (PS3.4 CC.2.3).
 #[derive(Clone, Copy, Debug, PartialEq, Eq)]
 pub enum Subscription {
-    /// Without a deletion lock.
+    /// A subscription without a Deletion Lock.
     Free,
-    /// With a deletion lock: the step is not removed.
+    /// A subscription with a Deletion Lock: the step is not removed.
     Locked,
 }
 
@@ -25,7 +25,7 @@ pub enum Subscription {
 pub struct Watched {
     /// The instance UID of the step.
     pub step: StepUid,
-    /// How the watcher is subscribed to it.
+    /// The subscription of the watcher to the step.
     pub subscription: Subscription,
 }
 
@@ -34,11 +34,11 @@ pub struct Watched {
 pub struct Watcher {
     /// The title of the watcher.
     pub ae: Ae,
-    /// How it is subscribed to the step.
+    /// The subscription of the watcher to the step.
     pub subscription: Subscription,
 }
 
-/// The keys of a filtered global subscription (PS3.4 CC.2.3), of which one at least is not universal. A contract sees
+/// The keys of a filtered global subscription (PS3.4 CC.2.3), at least one of which is not universal. A contract sees
 /// them as keys.
 #[derive(Drop)]
 pub struct Filter<A: Allocator + Copy> {
@@ -60,7 +60,7 @@ impl<A: Allocator + Copy> Model for Filter<A> {
 }
 
 impl<A: Allocator + Copy> Filter<A> {
-    /// The keys as a filter; None where they are all universal, which is to say that they match a step without any
+    /// Creates a filter from keys, or returns None if they are all universal, that is, if they match a step without any
     /// attribute (PS3.4 section C.2.2.2.3).
     pub fn of(alloc: A, keys: Keys<A>) -> Option<Filter<A>>
         ensures { MatchOption result (is_match keys [] ≡ true) (λ f. f ≡ keys) }
@@ -71,7 +71,7 @@ impl<A: Allocator + Copy> Filter<A> {
         Some(Filter { keys })
     }
 
-    /// The keys, lent.
+    /// Returns the keys.
     pub fn keys(&self) -> &Keys<A>
         ensures keys { result.now ≡ self.now }
         ensures filters { IsFilter self.now }
@@ -80,22 +80,22 @@ impl<A: Allocator + Copy> Filter<A> {
     }
 }
 
-/// What a subscription is to (PS3.4 CC.2.3).
+/// The target of a subscription (PS3.4 CC.2.3).
 #[derive(Drop)]
 pub enum Target<A: Allocator + Copy> {
-    /// One step; None where its instance UID is absent or malformed.
+    /// One step, or None if its instance UID is absent or malformed.
     Single(Option<StepUid>),
-    /// Each step, and those that are yet to be created: the global subscription.
+    /// Every step, including those created later: the global subscription.
     Global,
-    /// Those that match keys: the filtered global subscription.
+    /// The steps that match keys: the filtered global subscription.
     Filtered(Filter<A>),
 }
 
-/// Where subscriptions end (PS3.4 CC.2.3).
+/// The steps for which subscriptions end (PS3.4 CC.2.3).
 #[derive(Clone, Copy)]
 pub enum Place {
-    /// At one step; None where its instance UID is absent or malformed.
+    /// One step, or None if its instance UID is absent or malformed.
     At(Option<StepUid>),
-    /// At each step, and for those that are yet to be created.
+    /// Every step, including those created later.
     Everywhere,
 }

@@ -9,21 +9,21 @@ use crate::text::Text;
 use crate::words::{Words, filled};
 use std::alloc::{AllocError, Allocator};
 
-/// An attribute of a line: where it stands, and its value.
+/// An attribute of a line: its path and its value.
 #[derive(Clone, Copy)]
 pub struct Attribute<'a> {
     pub(crate) path: Path<'a>,
     pub(crate) value: Text<'a>,
-    /// How many attributes stand before it in the line.
+    /// The number of attributes before it in the line.
     place: u32,
-    /// Whether a later one stands for it.
+    /// Whether a later one replaces it.
     pub(crate) is_replaced: bool,
 }
 
 impl<'a> Attribute<'a> {
-    /// The attribute of this path with this value.
+    /// Returns the attribute with this path and value.
     ///
-    /// Errors: Attribute where the path is none; Escape.
+    /// Errors: Attribute if the path is invalid; Escape.
     pub fn new(path: &'a [u8], value: &'a [u8]) -> Result<Attribute<'a>, LineReason>
         ensures { IfOk result (λ _. IsText value.now) }
     {
@@ -35,7 +35,7 @@ impl<'a> Attribute<'a> {
         })
     }
 
-    /// The attribute that is written as `path=value`.
+    /// Returns the attribute that is written as `path=value`.
     ///
     /// Errors: Attribute; Escape.
     fn of(word: &'a [u8]) -> Result<Attribute<'a>, LineReason> {
@@ -46,14 +46,14 @@ impl<'a> Attribute<'a> {
     }
 }
 
-/// Marks what a later value of an element replaces: its own earlier value, and what stood in its items.
+/// Marks what a later value of an element replaces: its own earlier value, and those in its items.
 ///
 /// Errors: lack of memory.
 fn mark_below<A: Allocator + Copy>(
     alloc: A,
     sorted: &mut [Attribute<'_>],
 ) -> Result<(), AllocError> {
-    // the values round the attribute that is looked at, each later than the one before it
+    // the values around the current attribute, each later than the one before it
     let mut round = Vec::new(alloc);
     for attribute in sorted.iter_mut() {
         leave(&mut round, attribute.path);
@@ -75,7 +75,7 @@ fn leave<A: Allocator + Copy>(round: &mut Vec<(Path<'_>, u32), A>, path: Path<'_
     }
 }
 
-/// Marks each value that a later one of its own element replaces, or what stands later in items of it.
+/// Marks each value that is replaced by a later one of its own element, or by a later one in its items.
 fn mark_above(sorted: &mut [Attribute<'_>]) {
     let mut behind: Option<Path<'_>> = None;
     for attribute in sorted.iter_mut().rev() {
@@ -89,10 +89,10 @@ fn mark_above(sorted: &mut [Attribute<'_>]) {
     }
 }
 
-/// The attributes that arguments and the words behind them give, in the order of a data set. Of two for one element the
-/// later one stands, also where one is a value and the other stands in an item.
+/// Returns the attributes of arguments and of the words after them, in the order of a data set. Of two for one element
+/// the later one counts, also if one is a value and the other is in an item.
 ///
-/// Errors: EmptyWord, Attribute or Escape where a word is not an attribute; lack of memory.
+/// Errors: EmptyWord, Attribute or Escape if a word is not an attribute; lack of memory.
 pub fn attributes_of<'a, A: Allocator + Copy>(
     alloc: A,
     arguments: &[Option<Attribute<'a>>],

@@ -1,4 +1,4 @@
-//! Why a line is none.
+//! Why a line is invalid.
 
 ghost use Rattle.std.specs.Prelude.{◌≡◌};
 ghost use Rattle.ups_lines.specs.declared.fault.LineFault.TheVariants.{Malformed, Memory};
@@ -6,40 +6,40 @@ ghost use Rattle.ups_lines.specs.declared.fault.LineFault.TheVariants.{Malformed
 use std::alloc::{AllocError, AllocFailed};
 use thiserror::Error;
 
-/// Why a line is invalid: it is too long, or what is wrong with the first of its words that is wrong.
+/// Why a line is invalid: it is too long, or the first of its words that is wrong has this fault.
 #[derive(Clone, Copy, Debug, PartialEq, Eq, Error)]
 pub enum LineReason {
     /// It has more than 16,777,216 bytes before its line feed.
     #[error("it has more than 16,777,216 bytes")]
     TooLong,
-    /// A word is empty: the line is, or it begins or ends with a space, or has two side by side.
+    /// A word is empty: the line is empty, begins or ends with a space, or has two spaces in a row.
     #[error("a word is empty")]
     EmptyWord,
-    /// It ends before the last word that its verb wants.
+    /// It ends before the last word that its verb needs.
     #[error("a word is missing")]
     MissingWord,
-    /// It goes on behind the last word that its verb takes.
+    /// It goes on after the last word that its verb takes.
     #[error("it has too many words")]
     ExtraWord,
-    /// Its moment is no number of seconds up to 253402250399.
+    /// Its moment is not a number of seconds up to 253402250399.
     #[error("its moment is not a number of seconds up to 253402250399")]
     Moment,
-    /// Its title is none (PS3.5 section 6.2, AE).
+    /// Its title is not valid (PS3.5 section 6.2, AE).
     #[error("its title is not an AE title")]
     Title,
-    /// Its verb is none.
+    /// Its verb is unknown.
     #[error("its verb is unknown")]
     Verb,
-    /// Two hex digits are missing behind a `%`.
+    /// A `%` is not followed by two hex digits.
     #[error("two hex digits are missing behind a %")]
     Escape,
-    /// A word is no tag.
+    /// A word is not a tag.
     #[error("a word is not a tag")]
     Tag,
-    /// A word is no number in decimal digits, up to 18,446,744,073,709,551,615.
+    /// A word is not a number in decimal digits, up to 18,446,744,073,709,551,615.
     #[error("a word is not a number")]
     Number,
-    /// A word is no attribute.
+    /// A word is not an attribute.
     #[error("a word is not an attribute")]
     Attribute,
     /// Its attributes make more than 131,072 items.
@@ -47,10 +47,10 @@ pub enum LineReason {
     TooManyItems,
 }
 
-/// Why a line asks nothing.
+/// Why a line makes no request.
 #[derive(Clone, Copy, Debug, PartialEq, Eq)]
 pub enum LineFault {
-    /// It is no line of a script.
+    /// It is not a valid line of a script.
     Malformed(LineReason),
     /// Memory ran out.
     Memory,

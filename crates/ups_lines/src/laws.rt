@@ -6,8 +6,8 @@ ghost use Rattle.ups_lines.specs.Escapes.{StandsFor};
 ghost use Rattle.ups_lines.specs.Words.{words_of};
 ghost use Rattle.ups_lines.specs.Printing.{printed};
 
-/// A value as it is printed is one word, and this stands for the value without the padding at its end, and for nothing
-/// else.
+/// Does nothing at run time: its contract tells a proof that a printed value is one word, which encodes the value
+/// without the padding at its end, and nothing else.
 pub fn what_is_printed_is_read_again()
     ensures word { (value : List ℕ) → words_of (printed value) ≡ printed value ∷ [] }
     ensures again { (value : List ℕ) → All (λ byte. byte < 256) value → StandsFor (printed value) (without_padding value) }

@@ -1,5 +1,5 @@
-//! Lines as text, whatever they ask: their words, the bytes that a word with escapes stands for, the bytes of a data set
-//! that attributes make, and values and attributes as they are printed; of verbs, requests and managers nothing is known.
+//! Lines as text, whatever their meaning: their words, the bytes of a word with escapes, the bytes of a data set made
+//! from attributes, and printed values and attributes. Verbs, requests and managers are unknown here.
 #![tactic(auto)]
 
 mod attributes;

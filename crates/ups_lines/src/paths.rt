@@ -1,4 +1,4 @@
-//! Where an attribute stands: in the data set itself, or in an item of a sequence, at any depth (PS3.5 section 7.5).
+//! The path of an attribute: in the data set itself, or in an item of a sequence, at any depth (PS3.5 section 7.5).
 
 ghost use Rattle.std.specs.Prelude.{◌<◌, length};
 ghost use Rattle.std.specs.Option.{IfSome};
@@ -7,8 +7,8 @@ use crate::limits::MAX_ITEMS;
 use crate::words::{number_of, tag_of};
 use ups_dataset::Tag;
 
-/// A part of a path: an element, and the number of its item in which the path goes on, counted from 1. There is none
-/// where the path ends at the element.
+/// A part of a path: an element, and the number of its item in which the path continues, counted from 1, or None if the
+/// path ends at the element.
 #[derive(Clone, Copy, PartialEq, Eq, PartialOrd, Ord)]
 pub(crate) struct Part {
     pub tag: Tag,
@@ -16,13 +16,13 @@ pub(crate) struct Part {
 }
 
 impl Part {
-    /// Whether another part is of the same element, and in an item of it where this one is not.
+    /// Returns whether another part is of the same element, and in the same item if this one is in an item.
     fn covers(self, other: Part) -> bool {
         self == other || self.item.is_none() && self.tag == other.tag
     }
 }
 
-/// The number of an item, up to the slash behind it, and what follows.
+/// Reads the number of an item, up to the slash after it, and returns it with what follows.
 fn item_at(text: &[u8]) -> Option<(u32, &[u8])>
     ensures { IfSome result (λ x. length x.1.now < length text.now) }
 {
@@ -34,7 +34,7 @@ fn item_at(text: &[u8]) -> Option<(u32, &[u8])>
     Some((number, &text[end + 1..]))
 }
 
-/// The first part of a path, and what follows: nothing behind the last part.
+/// Reads the first part of a path, and returns it with what follows: nothing after the last part.
 fn part_at(text: &[u8]) -> Option<(Part, &[u8])>
     ensures { IfSome result (λ x. length x.1.now < length text.now) }
 {
@@ -57,20 +57,20 @@ fn part_at(text: &[u8]) -> Option<(Part, &[u8])>
     }
 }
 
-/// A path, as `ggggeeee`, or before it as many of `ggggeeee/` (in the first item) and `ggggeeee.k/` (in item k) as there
-/// are sequences round it. It gives its parts, the outermost first.
+/// A path: `ggggeeee`, after one `ggggeeee/` (the first item) or `ggggeeee.k/` (item k) for each surrounding sequence.
+/// It iterates over its parts, from the outermost one.
 #[derive(Clone, Copy)]
 pub(crate) struct Path<'a> {
     text: &'a [u8],
 }
 
 impl<'a> Path<'a> {
-    /// The path that stands round all others: it has no part.
+    /// Returns the path that surrounds all others: it has no parts.
     pub(crate) fn root() -> Path<'static> {
         Path { text: &[] }
     }
 
-    /// The path that is written so; None where it is none.
+    /// Returns the path written as `text`, or None if that is invalid.
     pub(crate) fn of(text: &'a [u8]) -> Option<Path<'a>> {
         let mut rest = text;
         loop {
@@ -82,12 +82,12 @@ impl<'a> Path<'a> {
         }
     }
 
-    /// How many of the first parts another path has too.
+    /// Returns how many of the first parts another path shares.
     pub(crate) fn shared(self, other: Path<'_>) -> usize {
         self.zip(other).take_while(|(one, two)| one == two).count()
     }
 
-    /// Whether another path is this one, or one of what its element may hold.
+    /// Returns whether another path is this one, or leads to something inside its element.
     pub(crate) fn covers(self, other: Path<'_>) -> bool {
         self.zip(other).all(|(one, two)| one.covers(two))
     }

@@ -1,4 +1,4 @@
-//! Values and attributes as words.
+//! Writing values and attributes as words.
 
 ghost use Rattle.std.specs.Prelude.{◌≡◌, ◌<◌, ◌∷◌, [], ◌++◌, true, OnOk, if◌then◌else◌};
 ghost use Rattle.std.specs.Io.KnownBytes.{Appends};
@@ -11,16 +11,16 @@ use std::io::{self, Write};
 use ups_dataset::{DataSet, Element, Tag, Value};
 use ups_pdu::without_padding;
 
-/// The way from a set to what is printed of it.
+/// The path from a set to what is written of it.
 #[derive(Clone, Copy)]
 pub enum Way<'a> {
-    /// It stands in the set itself.
+    /// The set itself.
     Here,
-    /// It stands in an item of a sequence, to which another way leads. Items are counted from 1.
+    /// An item of a sequence in the set at another path. Items are counted from 1.
     Into(&'a Way<'a>, Tag, usize),
 }
 
-/// The hex digit of a value.
+/// Returns the hex digit of a value.
 fn digit_of(value: u8) -> u8
     requires { value < 16 }
     ensures { result ≡ hex_digit value }
@@ -32,14 +32,14 @@ fn digit_of(value: u8) -> u8
     }
 }
 
-/// The two hex digits of a byte.
+/// Returns the two hex digits of a byte.
 fn hex_of(byte: u8) -> [u8; 2]
     ensures { result ≡ hex_byte byte }
 {
     [digit_of(byte / 16), digit_of(byte % 16)]
 }
 
-/// Prints a number as four hex digits.
+/// Writes a number as four hex digits.
 pub fn put_hex<W: Write>(writer: &mut W, number: u16) -> io::Result<()>
     ensures { OnOk result (Appends (W.contents writer.old) (W.contents writer.new) (hex_word number)) }
 {
@@ -48,7 +48,7 @@ pub fn put_hex<W: Write>(writer: &mut W, number: u16) -> io::Result<()>
     writer.write_all(&hex_of(low))
 }
 
-/// Prints a tag (PS3.5 section 7.1): its group and its element.
+/// Writes a tag (PS3.5 section 7.1): its group and its element.
 fn put_tag<W: Write>(writer: &mut W, tag: Tag) -> io::Result<()>
     ensures { OnOk result (Appends (W.contents writer.old) (W.contents writer.new) (hex_tag tag)) }
 {
@@ -56,14 +56,14 @@ fn put_tag<W: Write>(writer: &mut W, tag: Tag) -> io::Result<()>
     put_hex(writer, tag.element)
 }
 
-/// Whether a byte stands for itself: it is a visible character without a meaning of its own in a reply.
+/// Returns whether a byte is written as itself: a visible character without a special meaning in a reply.
 fn is_plain(byte: u8) -> bool
     ensures { result ≡ is_plain byte }
 {
     33 <= byte && byte <= 126 && !(byte == b'%' || byte == b'[' || byte == b']')
 }
 
-/// Prints a byte: as `%` and two hex digits where it does not stand for itself.
+/// Writes a byte, as `%` and two hex digits if it can't be written as itself.
 fn put_byte<W: Write>(writer: &mut W, byte: u8) -> io::Result<()>
     ensures { OnOk result (Appends (W.contents writer.old) (W.contents writer.new) (printed_byte byte)) }
 {
@@ -74,7 +74,7 @@ fn put_byte<W: Write>(writer: &mut W, byte: u8) -> io::Result<()>
     writer.write_all(&hex_of(byte))
 }
 
-/// Prints a value, without the padding at its end.
+/// Writes a value, without the padding at its end.
 pub fn put_text<W: Write>(writer: &mut W, value: &[u8]) -> io::Result<()>
     ensures { OnOk result (Appends (W.contents writer.old) (W.contents writer.new) (printed value.now)) }
 {
@@ -85,7 +85,7 @@ pub fn put_text<W: Write>(writer: &mut W, value: &[u8]) -> io::Result<()>
     Ok(())
 }
 
-/// Prints the end of the way into an item of this number: `/` for the first of a sequence, `.k/` for item k.
+/// Writes the end of the path into an item: `/` for the first of a sequence, `.k/` for item k.
 fn put_item<W: Write>(writer: &mut W, number: usize) -> io::Result<()>
     ensures { OnOk result (Appends (W.contents writer.old) (W.contents writer.new) (into_item number)) }
 {
@@ -95,7 +95,7 @@ fn put_item<W: Write>(writer: &mut W, number: usize) -> io::Result<()>
     write!(writer, ".{number}/")
 }
 
-/// Prints a way.
+/// Writes a path.
 fn put_way<W: Write>(writer: &mut W, way: &Way<'_>) -> io::Result<()>
     ensures { OnOk result (Appends (W.contents writer.old) (W.contents writer.new) (way_text way.now)) }
 {
@@ -109,7 +109,7 @@ fn put_way<W: Write>(writer: &mut W, way: &Way<'_>) -> io::Result<()>
     }
 }
 
-/// Prints the space before a word that stands behind another, as the next one does.
+/// Writes a space if a word came before, and notes that the next word comes after one.
 fn put_space<W: Write>(writer: &mut W, follows: &mut bool) -> io::Result<()>
     ensures text { OnOk result (Appends (W.contents writer.old) (W.contents writer.new) (if follows.old then 32 ∷ [] else [])) }
     ensures follows { OnOk result (follows.new ≡ true) }
@@ -121,7 +121,7 @@ fn put_space<W: Write>(writer: &mut W, follows: &mut bool) -> io::Result<()>
     Ok(())
 }
 
-/// Prints an attribute with bytes as its value.
+/// Writes an attribute with bytes as its value.
 fn put_attribute<W: Write>(
     writer: &mut W,
     follows: &mut bool,
@@ -139,7 +139,7 @@ fn put_attribute<W: Write>(
     put_text(writer, value)
 }
 
-/// Prints an element: its value, or the attributes in its items.
+/// Writes an element: its value, or the attributes in its items.
 #[cycle(printing)]
 fn put_element<A: Allocator + Copy, W: Write>(
     element: &Element<A>,
@@ -165,7 +165,7 @@ fn put_element<A: Allocator + Copy, W: Write>(
     }
 }
 
-/// Prints the attributes of a set.
+/// Writes the attributes of a set.
 #[cycle(printing)]
 pub fn put_set<A: Allocator + Copy, W: Write>(
     set: &DataSet<A>,

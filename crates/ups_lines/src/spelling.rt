@@ -1,5 +1,5 @@
-//! The attributes of a line as the bytes of a data set, in Explicit VR Little Endian (PS3.5 section 7 and annex A.2). A
-//! reader of data sets then judges them as those of a message.
+//! Encoding the attributes of a line as a data set in Explicit VR Little Endian (PS3.5 section 7 and annex A.2). A
+//! reader of data sets then checks them like those of a message.
 
 ghost use Rattle.std.specs.Prelude.{◌≡◌, ◌++◌, ℕ, List, OnOk};
 ghost use Rattle.ups_dataset.specs.Written.{written_head, written_element};
@@ -18,7 +18,7 @@ use ups_dataset::{
     vr_of,
 };
 
-/// Puts a header (PS3.5 section 7.1.2).
+/// Encodes a header (PS3.5 section 7.1.2).
 fn put_head<A: Allocator + Copy>(
     out: &mut Vec<u8, A>,
     tag: Tag,
@@ -37,7 +37,7 @@ fn put_head<A: Allocator + Copy>(
     out.extend_from_slice(&[low, high])
 }
 
-/// Puts the header of an item, or an end (PS3.5 section 7.5).
+/// Encodes the header of an item, or a delimiter (PS3.5 section 7.5).
 fn put_mark<A: Allocator + Copy>(
     out: &mut Vec<u8, A>,
     mark: Tag,
@@ -47,8 +47,8 @@ fn put_mark<A: Allocator + Copy>(
     out.extend_from_slice(&len.to_le_bytes())
 }
 
-/// The value representation of so many bytes under a tag. Bytes that can't stand under the one of the dictionary are of
-/// an unknown one (PS3.5 section 6.2.2).
+/// Returns the VR of `len` bytes under a tag: that of the dictionary if they can have it, or else UN (PS3.5 section
+/// 6.2.2).
 fn vr_for(tag: Tag, len: usize) -> Vr
     ensures { result ≡ vr_for tag len }
 {
@@ -62,7 +62,7 @@ fn vr_for(tag: Tag, len: usize) -> Vr
     vr
 }
 
-/// What pads a value of odd length (PS3.5 section 6.2).
+/// Returns the byte that pads a value of odd length (PS3.5 section 6.2).
 fn pad_of(vr: Vr) -> u8
     ensures { result ≡ pad_of vr }
 {
@@ -72,7 +72,7 @@ fn pad_of(vr: Vr) -> u8
     }
 }
 
-/// Puts an element that holds a text, padded to an even length.
+/// Encodes an element with a text as its value, padded to an even length.
 fn put_value<A: Allocator + Copy>(
     out: &mut Vec<u8, A>,
     tag: Tag,
@@ -93,13 +93,13 @@ fn put_value<A: Allocator + Copy>(
     Ok(())
 }
 
-/// Bytes of a data set that are not whole yet.
+/// A data set that is being encoded.
 #[derive(Drop)]
 struct Spelling<'a, A: Allocator + Copy> {
     out: Vec<u8, A>,
-    /// Where the last element stands: the items round it are not ended.
+    /// The path of the last element, whose surrounding items are not ended.
     path: Path<'a>,
-    /// How many items there are.
+    /// The number of items.
     items: u32,
 }
 
@@ -112,7 +112,7 @@ impl<'a, A: Allocator + Copy> Spelling<'a, A> {
         }
     }
 
-    /// Begins or makes an item.
+    /// Begins an item, or encodes an empty one.
     ///
     /// Errors: TooManyItems; lack of memory.
     fn item(&mut self, len: u32) -> Result<(), LineFault> {
@@ -124,7 +124,7 @@ impl<'a, A: Allocator + Copy> Spelling<'a, A> {
         Ok(())
     }
 
-    /// Begins an item, behind those without elements between the one before it and this.
+    /// Begins the item `number`, after encoding the items between it and the item `before` as empty ones.
     fn begin_item(&mut self, before: u32, number: u32) -> Result<(), LineFault> {
         for _ in before.saturating_add(1)..number {
             self.item(0)?;
@@ -137,14 +137,14 @@ impl<'a, A: Allocator + Copy> Spelling<'a, A> {
         Ok(())
     }
 
-    /// Ends an item and the sequence that it is the last one of.
+    /// Ends an item and its sequence.
     fn end_sequence(&mut self) -> Result<(), LineFault> {
         self.end_item()?;
         put_mark(&mut self.out, SEQUENCE_DELIMITATION, 0)?;
         Ok(())
     }
 
-    /// Goes into the element of a part: begins its sequence, or puts the value where the path ends there.
+    /// Enters the element of a part: begins its sequence, or encodes the value if the path ends there.
     fn enter(&mut self, part: Part, value: Text<'_>) -> Result<(), LineFault> {
         let Some(number) = part.item else {
             return put_value(&mut self.out, part.tag, value);
@@ -168,7 +168,7 @@ impl<'a, A: Allocator + Copy> Spelling<'a, A> {
         }
     }
 
-    /// Puts an attribute that stands behind the last one in the order of a data set.
+    /// Encodes an attribute that comes after the last one in the order of a data set.
     fn put(&mut self, attribute: &Attribute<'a>) -> Result<(), LineFault> {
         let shared = self.path.shared(attribute.path);
         let mut left = self.path.skip(shared);
@@ -192,7 +192,7 @@ impl<'a, A: Allocator + Copy> Spelling<'a, A> {
         Ok(())
     }
 
-    /// The bytes, with all ends.
+    /// Returns the bytes, with all delimiters.
     fn whole(mut self) -> Result<Vec<u8, A>, LineFault> {
         let path = self.path;
         for part in path {
@@ -205,9 +205,9 @@ impl<'a, A: Allocator + Copy> Spelling<'a, A> {
     }
 }
 
-/// The bytes of a data set of these attributes, which are in its order.
+/// Encodes these attributes, which are in the order of a data set.
 ///
-/// Errors: TooManyItems where it has more than 131,072; lack of memory.
+/// Errors: TooManyItems if it has more than 131,072; lack of memory.
 pub fn spelled<A: Allocator + Copy>(
     alloc: A,
     attributes: &[Attribute<'_>],

@@ -1,4 +1,4 @@
-//! The texts of a line: which bytes they stand for.
+//! The texts of a line, and the bytes that they encode.
 
 ghost use Rattle.std.specs.Prelude.{◌≡◌, ◌<◌, ◌++◌, ℕ, List, length, IfOk, OnOk, MatchOption};
 ghost use Rattle.std.specs.Char.{digit_value};
@@ -9,7 +9,7 @@ ghost use Rattle.ups_lines.specs.Escapes.{is_percent, SpellsByte, StandsFirst, S
 use std::alloc::{AllocError, Allocator};
 use std::borrow::CowSlice;
 
-/// The value of a hex digit, in either case; None where the byte is none.
+/// Returns the value of a hex digit, in either case, or None if the byte is no hex digit.
 fn digit_of(byte: u8) -> Option<u8>
     ensures { MatchOption result (digit_value byte < 16 → ⊥) (λ digit. (digit_value byte < 16) × (digit ≡ digit_value byte)) }
 {
@@ -21,15 +21,15 @@ fn digit_of(byte: u8) -> Option<u8>
     }
 }
 
-/// The byte that two hex digits spell.
+/// Returns the byte that two hex digits encode.
 pub(crate) fn byte_of(high: u8, low: u8) -> Option<u8>
     ensures { MatchOption result ((byte : ℕ) → SpellsByte high low byte → ⊥) (SpellsByte high low) }
 {
     Some(16 * digit_of(high)? + digit_of(low)?)
 }
 
-/// The byte that a text stands for in front, and what follows. None at its end, and where two hex digits are missing
-/// behind a `%`.
+/// Returns the first byte that a text encodes, and what follows. Returns None at its end, or if a `%` is not followed
+/// by two hex digits.
 fn front_of(text: &[u8]) -> Option<(u8, &[u8])>
     ensures { MatchOption result ((byte : ℕ) → (rest : List ℕ) → StandsFirst text.now byte rest → ⊥) (λ x. StandsFirst text.now x.0 x.1.now) }
 {
@@ -40,23 +40,22 @@ fn front_of(text: &[u8]) -> Option<(u8, &[u8])>
     }
 }
 
-/// How many `%` a text has.
+/// Returns the number of `%` in a text.
 fn escapes_in(text: &[u8]) -> usize
     ensures { result ≡ count_by is_percent text.now }
 {
     text.iter().filter(|byte| **byte == b'%').count()
 }
 
-/// A text as a script has it: each byte stands for itself, but `%` and two hex digits stand for the byte that these
-/// spell.
+/// A text as a script has it: each byte encodes itself, but `%` with two hex digits encodes the byte with that value.
 #[derive(Clone, Copy)]
 pub struct Text<'a> {
-    /// As it is written.
+    /// The bytes of the script.
     pub written: &'a [u8],
 }
 
 impl<'a> Text<'a> {
-    /// The text that is written so; None where two hex digits are missing behind a `%`.
+    /// Returns the text written in the script as `written`, or None if a `%` is not followed by two hex digits.
     pub fn of(written: &'a [u8]) -> Option<Text<'a>>
         ensures { MatchOption result (IsText written.now → ⊥) (λ text. (text.written.now ≡ written.now) × IsText written.now) }
     {
@@ -68,14 +67,14 @@ impl<'a> Text<'a> {
         Some(Text { written })
     }
 
-    /// Whether one of its bytes is escaped.
+    /// Returns whether one of its bytes is escaped.
     fn has_escapes(self) -> bool
         ensures { result ≡ list_any is_percent self.entry.written.now }
     {
         self.written.contains(&b'%')
     }
 
-    /// How many bytes it stands for.
+    /// Returns the number of bytes that it encodes.
     pub(crate) fn len(self) -> usize
         ensures { (bytes : List ℕ) → StandsFor self.entry.written.now bytes → result ≡ length bytes }
     {
@@ -83,7 +82,7 @@ impl<'a> Text<'a> {
         self.written.len().saturating_sub(escapes.saturating_mul(2))
     }
 
-    /// Puts the bytes that it stands for behind others.
+    /// Appends the bytes that it encodes.
     pub(crate) fn put<A: Allocator + Copy>(self, out: &mut Vec<u8, A>) -> Result<(), AllocError>
         ensures { (bytes : List ℕ) → StandsFor self.entry.written.now bytes → OnOk result (out.new.items ≡ out.old.items ++ bytes) }
     {
@@ -98,7 +97,7 @@ impl<'a> Text<'a> {
         Ok(())
     }
 
-    /// The bytes that it stands for: those of the script where none is escaped.
+    /// Returns the bytes that it encodes, borrowed from the script if none is escaped.
     pub fn bytes<A: Allocator + Copy>(self, alloc: A) -> Result<CowSlice<'a, u8, A>, AllocError>
         ensures { (bytes : List ℕ) → StandsFor self.entry.written.now bytes → IfOk result (λ cow. cow_slice_items cow ≡ bytes) }
     {

@@ -1,4 +1,4 @@
-//! The words of a line: how they are parted, the numbers and the tags that they are.
+//! The words of a line, and the numbers and tags that they encode.
 
 ghost use Rattle.std.specs.Prelude.{◌≡◌, ◌≢◌, ◌<◌, ◌^◌, ◌∷◌, [], ℕ, IfOk, IfErr, OnErr, OnOk, MatchOption, OnSome};
 ghost use Rattle.std.specs.Char.{digit_value};
@@ -13,14 +13,14 @@ use crate::fault::LineReason;
 use crate::text::byte_of;
 use ups_dataset::Tag;
 
-/// The words of a text, each parted from the next by one space. Between two spaces there is a word without bytes.
+/// The words of a text, separated by single spaces. There is an empty word between two spaces in a row.
 #[derive(Clone, Copy)]
 pub struct Words<'a> {
-    /// The text of the words that are left; None behind the last one.
+    /// The text of the remaining words, or None after the last one.
     pub rest: Option<&'a [u8]>,
 }
 
-/// Where the first space of a text stands; None where there is none.
+/// Returns the position of the first space in a text, or None if there is none.
 fn space_in(text: &[u8]) -> Option<usize>
     ensures { result ≡ position is_space text.now }
 {
@@ -28,14 +28,14 @@ fn space_in(text: &[u8]) -> Option<usize>
 }
 
 impl<'a> Words<'a> {
-    /// The words of a text.
+    /// Returns the words of a text.
     pub fn of(text: &'a [u8]) -> Words<'a>
         ensures { words_left (option_copied result.rest) ≡ words_of text.now }
     {
         Words { rest: Some(text) }
     }
 
-    /// The next word; None behind the last one.
+    /// Returns the next word, or None after the last one.
     fn front(&mut self) -> Option<&'a [u8]>
         ensures word { MatchOption result (words_left (option_copied self.old.rest) ≡ []) (λ word. words_left (option_copied self.old.rest) ≡ word.now ∷ words_left (option_copied self.new.rest)) }
         ensures falls { OnSome result (word_bytes_left (option_copied self.new.rest) < word_bytes_left (option_copied self.old.rest)) }
@@ -53,7 +53,7 @@ impl<'a> Words<'a> {
         }
     }
 
-    /// The next word, which is not empty.
+    /// Returns the next word, which is not empty.
     ///
     /// Errors: MissingWord; EmptyWord.
     pub fn word(&mut self) -> Result<&'a [u8], LineReason>
@@ -64,9 +64,9 @@ impl<'a> Words<'a> {
         filled(word)
     }
 
-    /// Refuses words that are left.
+    /// Checks that no words are left.
     ///
-    /// Errors: EmptyWord where the next one is; ExtraWord.
+    /// Errors: EmptyWord if the next one is empty; ExtraWord.
     pub fn end(mut self) -> Result<(), LineReason>
         ensures none { OnOk result (words_left (option_copied self.entry.rest) ≡ []) }
         ensures some { OnErr result (words_left (option_copied self.entry.rest) ≢ []) }
@@ -81,7 +81,7 @@ impl<'a> Words<'a> {
     }
 }
 
-/// A word that is not empty.
+/// Returns the word if it is not empty.
 ///
 /// Errors: EmptyWord.
 pub fn filled(word: &[u8]) -> Result<&[u8], LineReason>
@@ -109,7 +109,7 @@ impl<'a> Iterator for Words<'a> {
     }
 }
 
-/// The value of a decimal digit; None where the byte is none.
+/// Returns the value of a decimal digit, or None if the byte is no decimal digit.
 fn decimal_digit(byte: u8) -> Option<u8>
     ensures { MatchOption result (digit_value byte < 10 → ⊥) (λ value. (digit_value byte < 10) × (value ≡ digit_value byte)) }
 {
@@ -119,7 +119,7 @@ fn decimal_digit(byte: u8) -> Option<u8>
     }
 }
 
-/// The number that decimal digits spell, with any zeros before it; None where they spell none below 2^64.
+/// Returns the number that decimal digits encode, with any leading zeros, or None if they encode no number below 2^64.
 pub fn number_of(word: &[u8]) -> Option<u64>
     ensures { MatchOption result (IsNumeral 10 word.now → digits_value 10 word.now < 2 ^ 64 → ⊥) (λ number. IsNumeral 10 word.now × (number ≡ digits_value 10 word.now)) }
 {
@@ -131,15 +131,15 @@ pub fn number_of(word: &[u8]) -> Option<u64>
     if word.is_empty() { None } else { Some(number) }
 }
 
-/// The number that four hex digits spell.
+/// Returns the number that four hex digits encode.
 fn hex_number(a: u8, b: u8, c: u8, d: u8) -> Option<u16>
     ensures { MatchOption result ((number : ℕ) → SpellsNumber a b c d number → ⊥) (SpellsNumber a b c d) }
 {
     Some(u16::from_be_bytes([byte_of(a, b)?, byte_of(c, d)?]))
 }
 
-/// The tag that eight hex digits spell: those of the group, and those of the element (PS3.5 section 7.1). Many are read
-/// to sort attributes, so this is not left to a reader of texts of any length.
+/// Returns the tag that eight hex digits encode: those of the group and those of the element (PS3.5 section 7.1).
+/// Sorting attributes reads many tags, so this does not use a reader of texts of any length.
 pub fn tag_of(digits: &[u8]) -> Option<Tag>
     ensures { MatchOption result ((tag : Tag) → SpellsTag digits.now tag → ⊥) (SpellsTag digits.now) }
 {

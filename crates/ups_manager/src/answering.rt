@@ -1,4 +1,4 @@
-//! What a call is answered by the history, and how it is entered where it is accepted.
+//! Answers a call by the history, and enters it if it is accepted.
 
 ghost use Rattle.std.specs.Prelude.{◌≡◌, ◌<◌, ◌++◌, length, IfOk, OnOk, IfErr};
 ghost use Rattle.ups_life.specs.Settings.{IsMoment};
@@ -19,9 +19,9 @@ use ups_index::Index;
 use ups_life::{Configuration, Entry, Reply};
 use ups_tables::Tables;
 
-/// What is decided of a call that is accepted, where the history has room for it.
+/// Returns the decision about a call that is accepted, if the history has room for it.
 ///
-/// Errors: the reply with which it is refused, or which tells that the history is full or that memory ran out.
+/// Errors: the reply that refuses the call, or that says that the history is full or that memory ran out.
 fn decide_with_room<A: Allocator + Copy>(
     alloc: A,
     configuration: &Configuration<A>,
@@ -42,7 +42,7 @@ fn decide_with_room<A: Allocator + Copy>(
     Ok(decision)
 }
 
-/// Answers a call by the history, and enters it where it is accepted: there, and in the tables and the index.
+/// Answers a call by the history, and enters it there, in the tables and in the index if it is accepted.
 pub(crate) fn answer_call<A: Allocator + Copy>(
     alloc: A,
     configuration: &Configuration<A>,

@@ -1,4 +1,4 @@
-//! What is decided of a call, by the tables, and what it is to make of them.
+//! The decision about a call, made from the tables, and its effect on them.
 
 ghost use Rattle.std.specs.Prelude.{◌≡◌, true, false, MatchResult, IfOk};
 ghost use Rattle.std.specs.Option.{option_copied};
@@ -27,20 +27,20 @@ use ups_tables::{
     Plan, Tables, place_of, plan_end, plan_step, plan_subscription, plan_suspend, plan_sweep,
 };
 
-/// What a request is of.
+/// What a request is about.
 #[derive(Clone, Copy, Debug, PartialEq, Eq)]
 pub(crate) enum Kind {
     /// A step, which it creates or changes.
     OfStep,
     /// A watcher's subscriptions.
     OfWatcher,
-    /// The events of the application entity that asks, up to a number.
+    /// The events of the requesting application entity, up to a number.
     OfEvents(u64),
     /// The time for which finished steps are kept.
     OfTime,
 }
 
-/// The reply to a call that is accepted, the plan of what it makes of the tables, and what it makes of the index.
+/// The reply to an accepted call, the plan of its effect on the tables, and its effect on the index.
 #[derive(Drop)]
 pub(crate) struct Decision<A: Allocator + Copy> {
     pub reply: Reply<A>,
@@ -48,7 +48,7 @@ pub(crate) struct Decision<A: Allocator + Copy> {
     pub change: IndexChange<A>,
 }
 
-/// What a request is of.
+/// Returns what a request is about.
 fn kind_of<A: Allocator + Copy>(request: &Request<A>) -> Kind
     ensures { result ≡ kind_of request.now }
 {
@@ -65,9 +65,9 @@ fn kind_of<A: Allocator + Copy>(request: &Request<A>) -> Kind
     }
 }
 
-/// What is decided of a request that creates or changes a step.
+/// Decides about a request that creates or changes a step.
 ///
-/// Errors: the reply with which it is refused, or which tells that memory ran out.
+/// Errors: the reply that refuses the request, or that says that memory ran out.
 fn decide_step<A: Allocator + Copy>(
     alloc: A,
     configuration: &Configuration<A>,
@@ -101,7 +101,8 @@ fn decide_step<A: Allocator + Copy>(
     }
 }
 
-/// The status of a request for a watcher, which is a peer (PS3.4 CC.2.3).
+/// Returns the status of a request for a watcher: `UnknownReceivingAe` if the watcher is no peer, or else `status`
+/// (PS3.4 CC.2.3).
 fn of_peer(peers: &[Peer], receiver: Option<Ae>, status: Status) -> Status
     ensures { result ≡ of_peer peers.now receiver status }
 {
@@ -111,7 +112,8 @@ fn of_peer(peers: &[Peer], receiver: Option<Ae>, status: Status) -> Status
     }
 }
 
-/// The status of a request that may ask for a deletion lock, to which the peer has a right or not (PS3.4 CC.2.3).
+/// Returns the status of a request that may ask for a deletion lock: `DeletionLockNotGranted` in place of success if
+/// the peer has no right to the lock, or else `status` (PS3.4 CC.2.3).
 fn of_lock<A: Allocator + Copy>(peers: &[Peer], request: &Request<A>, status: Status) -> Status
     ensures { result ≡ of_lock peers.now request.now status }
 {
@@ -122,7 +124,7 @@ fn of_lock<A: Allocator + Copy>(peers: &[Peer], request: &Request<A>, status: St
     }
 }
 
-/// The status of a request for a watcher: of the peer, of the step that it names, of the lock that it asks for.
+/// Returns the status of a request for a watcher, by the watcher, the step that it names and the lock that it asks for.
 fn watcher_status<A: Allocator + Copy>(
     peers: &[Peer],
     row: Option<&Row<A>>,
@@ -134,9 +136,9 @@ fn watcher_status<A: Allocator + Copy>(
     of_peer(peers, request.receiver(), status)
 }
 
-/// The plan of a request for a watcher that is accepted.
+/// Returns the plan of an accepted request for a watcher.
 ///
-/// Errors: where memory runs out.
+/// Errors: if memory runs out.
 fn plan_watcher<A: Allocator + Copy>(
     alloc: A,
     configuration: &Configuration<A>,
@@ -180,9 +182,9 @@ fn plan_watcher<A: Allocator + Copy>(
     }
 }
 
-/// What is decided of a request for a watcher.
+/// Decides about a request for a watcher.
 ///
-/// Errors: the reply with which it is refused, or which tells that memory ran out.
+/// Errors: the reply that refuses the request, or that says that memory ran out.
 fn decide_watcher<A: Allocator + Copy>(
     alloc: A,
     configuration: &Configuration<A>,
@@ -210,8 +212,8 @@ fn decide_watcher<A: Allocator + Copy>(
     }
 }
 
-/// What an acknowledgement up to a number is answered, where so many events were made, and they were acknowledged before
-/// up to another number.
+/// Returns the reply to an acknowledgement up to `upto`, if `made` events were made and those up to `before` were
+/// acknowledged before.
 fn acknowledged<A: Allocator + Copy>(made: u64, before: u64, upto: u64) -> Reply<A>
     ensures { result ≡ acknowledged made before upto }
 {
@@ -224,7 +226,7 @@ fn acknowledged<A: Allocator + Copy>(made: u64, before: u64, upto: u64) -> Reply
     }
 }
 
-/// Whether a reply accepts a request.
+/// Returns whether a reply accepts a request.
 fn accepts<A: Allocator + Copy>(reply: &Reply<A>) -> bool
     ensures { result ≡ accepts reply.now }
 {
@@ -235,9 +237,9 @@ fn accepts<A: Allocator + Copy>(reply: &Reply<A>) -> bool
     }
 }
 
-/// What is decided of an acknowledgement up to a number. Who is no peer has no event to acknowledge.
+/// Decides about an acknowledgement up to a number. An application entity that is no peer has no events to acknowledge.
 ///
-/// Errors: the reply with which it is refused.
+/// Errors: the reply that refuses the acknowledgement.
 fn decide_ack<A: Allocator + Copy>(
     configuration: &Configuration<A>,
     history: &[Entry<A>],
@@ -267,7 +269,7 @@ fn decide_ack<A: Allocator + Copy>(
     }
 }
 
-/// What is decided of a sweep: which of the steps held it removes.
+/// Decides about a sweep: which of the held steps it removes.
 ///
 /// Errors: the reply that it removes none, or that memory ran out.
 fn decide_sweep<A: Allocator + Copy>(
@@ -295,9 +297,9 @@ fn decide_sweep<A: Allocator + Copy>(
     })
 }
 
-/// What is decided of a call, where there is room for it.
+/// Decides about a call, provided that the history has room for it.
 ///
-/// Errors: the reply with which it is refused, or which tells that memory ran out.
+/// Errors: the reply that refuses the call, or that says that memory ran out.
 pub(crate) fn decide<A: Allocator + Copy>(
     alloc: A,
     configuration: &Configuration<A>,

@@ -1,4 +1,4 @@
-//! How a call that is accepted enters the history, the tables and the index: with room for all of it, or not at all.
+//! Enters an accepted call into the history, the tables and the index: with room for all of it, or not at all.
 
 ghost use Rattle.std.specs.Prelude.{◌≡◌, ◌++◌, ◌∷◌, [], true, OnOk, OnErr, IfOk};
 ghost use Rattle.ups_life.specs.Steps.{past};
@@ -15,11 +15,11 @@ use ups_index::Index;
 use ups_life::{Configuration, Entry, Reply};
 use ups_tables::{Tables, carry_out, make_room};
 
-/// Enters a call that is accepted, by what is decided of it: room is made for all of it, a creation leaves the reserve beside
-/// that, and then it is carried out. The reply to it is returned.
+/// Enters an accepted call by the decision about it: makes room for its whole effect, checks that a creation leaves the
+/// reserve beside that, and carries it out. Returns the reply to the call.
 ///
-/// Errors: where memory runs out, or a creation would not leave the reserve. The history is then as before, and the tables and
-/// the index say the same as before.
+/// Errors: if memory runs out, or if a creation would not leave the reserve. The history and the contents of the tables
+/// and the index then stay the same.
 pub(crate) fn enter<A: Allocator + Copy>(
     configuration: &Configuration<A>,
     reserve: &mut Reserve<A>,

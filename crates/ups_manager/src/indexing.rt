@@ -1,4 +1,4 @@
-//! What a request that is accepted makes of the index of the steps held.
+//! The effect of an accepted request on the index of the held steps.
 
 ghost use Rattle.std.specs.Prelude.{◌≡◌, OnOk};
 ghost use Rattle.ups_manager.specs.Indexing.{after_change, has_room, without_steps};
@@ -9,20 +9,20 @@ use ups_index::{Index, Values};
 use ups_keep::Final;
 use ups_life::StepUid;
 
-/// What a request that is accepted makes of the index.
+/// The effect of an accepted request on the index.
 #[derive(Drop)]
 pub(crate) enum IndexChange<A: Allocator + Copy> {
-    /// A step is found by these values from now on.
+    /// The values by which a step is found from now on.
     Put { step: StepUid, values: Values<A> },
-    /// The steps that its plan removes are not found any more.
+    /// The removal of the steps that the request's plan removes.
     Remove,
-    /// Nothing.
+    /// No effect.
     Nothing,
 }
 
 /// Makes room for a change of the index.
 ///
-/// Errors: where memory runs out. The index then has the same steps as before.
+/// Errors: if memory runs out. The index then has the same steps as before.
 pub(crate) fn make_index_room<A: Allocator + Copy>(
     index: &mut Index<A>,
     change: &IndexChange<A>,
@@ -37,7 +37,7 @@ pub(crate) fn make_index_room<A: Allocator + Copy>(
     }
 }
 
-/// Takes these steps out of the index.
+/// Removes these steps from the index.
 fn remove_each<A: Allocator + Copy>(index: &mut Index<A>, removed: &[Final])
     ensures steps { index.new.steps ≡ without_steps (steps_of removed.now) index.old.steps }
     ensures offset { index.new.offset ≡ index.old.offset }
@@ -47,7 +47,7 @@ fn remove_each<A: Allocator + Copy>(index: &mut Index<A>, removed: &[Final])
     }
 }
 
-/// Carries out a change of the index, for which there is room; `removed` are the steps that the plan of the request removes.
+/// Carries out a change of the index, for which there is room; `removed` are the steps that the request's plan removes.
 pub(crate) fn change_index<A: Allocator + Copy>(
     index: &mut Index<A>,
     change: IndexChange<A>,

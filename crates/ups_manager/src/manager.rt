@@ -1,4 +1,4 @@
-//! What the service holds: the history of accepted requests, and the steps.
+//! The state of the service: the history of accepted requests, and the steps.
 
 ghost use Rattle.std.specs.Prelude.{[], ◌≡◌, ◌≤◌, ◌<◌, ◌^◌, ◌+◌, ◌++◌, List, None, Some, length, All, IfOk, IfErr, OnOk};
 ghost use Rattle.std.specs.List.{AllByRecursion};
@@ -40,8 +40,8 @@ use ups_pdu::Ae;
 use ups_settings::{ManagerFault, refusal};
 use ups_tables::{Tables, begin, place_of};
 
-/// The manager: the history of accepted requests, tables of what is so after them, and an index of the steps held. A
-/// contract sees it as what was fixed at the start and the history, oldest first.
+/// The manager: the history of accepted requests, tables of the state that they lead to, and an index of the held
+/// steps. A contract sees it as what was fixed at the start and the history, oldest entry first.
 #[derive(Drop)]
 pub struct Manager<A: Allocator + Copy> {
     alloc: A,
@@ -70,15 +70,14 @@ impl<A: Allocator + Copy> Model for Manager<A> {
 }
 
 impl<A: Allocator + Copy> Manager<A> {
-    /// A manager without history, which takes its memory from `alloc`. `peers` are those that may watch
-    /// steps; a finished step is kept for `keep` seconds at least; `offset` is that of the local time from
-    /// UTC in minutes, above 0 east of it; at most `limit` requests are entered.
+    /// Returns a manager with an empty history, which allocates from `alloc`. `peers` are the application entities that
+    /// may watch steps; a finished step is kept for at least `keep` seconds; `offset` is the offset of local time from
+    /// UTC in minutes, positive east of it; at most `limit` requests are entered.
     ///
     /// # Errors
     ///
-    /// The first of these: TwicePeer where two peers have one title; BadLimit where `limit` is 0 or above
-    /// 1,000,000; BadOffset where `offset` is below -720 or above 840 (PS3.5 section 6.2, DT); Memory where
-    /// memory runs out.
+    /// The first of these: `TwicePeer` if two peers have the same title; `BadLimit` if `limit` is 0 or above 1,000,000;
+    /// `BadOffset` if `offset` is below -720 or above 840 (PS3.5 section 6.2, DT); `Memory` if memory runs out.
     pub fn new(
         alloc: A,
         peers: &[Peer],
@@ -108,21 +107,21 @@ impl<A: Allocator + Copy> Manager<A> {
         })
     }
 
-    /// The peers that may watch steps.
+    /// Returns the peers that may watch steps.
     pub fn peers(&self) -> &[Peer]
         ensures { result.now ≡ self.now.settings.peers }
     {
         self.configuration.peers()
     }
 
-    /// For how many seconds a finished step is kept at least.
+    /// Returns the least number of seconds for which a finished step is kept.
     pub fn keep(&self) -> u32
         ensures { result ≡ self.now.settings.keep }
     {
         self.configuration.keep()
     }
 
-    /// The offset of the local time from UTC in minutes, above 0 east of it.
+    /// Returns the offset of local time from UTC in minutes, positive east of it.
     pub fn offset(&self) -> i16
         ensures value { result ≡ self.now.settings.offset }
         ensures within { IsOffset self.now.settings.offset }
@@ -130,14 +129,14 @@ impl<A: Allocator + Copy> Manager<A> {
         self.configuration.offset()
     }
 
-    /// How many requests may be entered.
+    /// Returns the greatest number of requests that may be entered.
     pub fn limit(&self) -> u64
         ensures { result ≡ self.now.settings.limit }
     {
         self.configuration.limit()
     }
 
-    /// The accepted requests, oldest first.
+    /// Returns the accepted requests, oldest first.
     pub fn history(&self) -> &[Entry<A>]
         ensures shown { result.now ≡ self.now.history }
         ensures legal { is_legal self.now.settings self.now.history }
@@ -146,24 +145,24 @@ impl<A: Allocator + Copy> Manager<A> {
         self.history.as_slice()
     }
 
-    /// The UIDs of the steps held, in order of creation.
+    /// Returns the UIDs of the held steps, in order of creation.
     ///
     /// # Errors
     ///
-    /// Where memory runs out.
+    /// If memory runs out.
     pub fn held(&self) -> Result<Vec<StepUid, A>, AllocError>
         ensures { IfOk result (λ v. v.items ≡ held self.now.settings (past self.now.history)) }
     {
         uids_of(self.alloc, &self.tables)
     }
 
-    /// The steps that a watcher is subscribed to, in order of creation, each with how it is (PS3.4 CC.2.3); none for an
-    /// application entity that is no peer. What the watcher has learned of each from its events is so: the last State
-    /// Report shows the present state and readiness.
+    /// Returns the steps that a watcher is subscribed to, in order of creation, each with its subscription (PS3.4
+    /// CC.2.3); none for an application entity that is no peer. The last State Report of each step among the watcher's
+    /// events shows its present state and readiness.
     ///
     /// # Errors
     ///
-    /// Where memory runs out.
+    /// If memory runs out.
     pub fn watches(&self, ae: Ae) -> Result<Vec<Watched, A>, AllocError>
         ensures watched { IfOk result (λ v. v.items ≡ watched self.now.settings (past self.now.history) ae) }
         ensures view { IfOk result (λ v. AllByRecursion (λ (x : Watched). view (events self.now.settings (past self.now.history) ae) x.step ≡ Some (present self.now.settings (past self.now.history) x.step)) v.items) }
@@ -173,8 +172,7 @@ impl<A: Allocator + Copy> Manager<A> {
         watched_in(self.alloc, &self.tables, place, uids.as_slice())
     }
 
-    /// What an N-GET is answered (PS3.4 CC.2.7): C307 for a step that is not held, 0213 where memory runs
-    /// out.
+    /// Answers an N-GET (PS3.4 CC.2.7): with C307 for a step that is not held, and with 0213 if memory runs out.
     pub fn get(&self, step: Option<StepUid>, attributes: &[Tag]) -> Reply<A>
         ensures answer { OrLacking ResourceLimitation (got self.now.settings (past self.now.history) step attributes.now) result }
         ensures small { SmallReply result }
@@ -193,10 +191,11 @@ impl<A: Allocator + Copy> Manager<A> {
         }
     }
 
-    /// What a C-FIND is answered (PS3.4 sections CC.2.8 and C.4.1): of the steps held that have the first indexed key of the
-    /// query those to which a matcher says yes, in order of creation, each with the attributes that the keys name. These are
-    /// all steps that match where the matcher says what the rules of PS3.4 say, as a `Probe` does. The matcher is asked once
-    /// for each step that has the first indexed key, and for no other. A700 where memory runs out.
+    /// Answers a C-FIND (PS3.4 sections CC.2.8 and C.4.1): with those of the held steps that have the first indexed key
+    /// of the query, if it has one, and that the matcher accepts, in order of creation, each with the attributes that
+    /// the keys name. These are all steps that match if the matcher follows the rules of PS3.4, as a `Probe` does. The
+    /// matcher is asked once about each step that has the first indexed key, and about no other. The reply is A700 if
+    /// memory runs out.
     pub fn find<M: Matcher>(&self, keys: &Keys<A>, matcher: &mut M) -> Reply<A>
         requires count { M.asked matcher.old < 2 ^ 63 }
         ensures answer { OrLacking OutOfResources (Found (answers_among (M.says keys.now) keys.now.attributes (asked_rows self.now.settings (past self.now.history) keys.now))) result }
@@ -210,9 +209,9 @@ impl<A: Allocator + Copy> Manager<A> {
         }
     }
 
-    /// Of the events that a watcher has not acknowledged, without each State Report that a later one of the same step
-    /// supersedes, the first `max`, oldest first, each with its Event Information (PS3.4 CC.2.4); none for an application
-    /// entity that is no peer. 0213 where memory runs out.
+    /// Returns the first `max` of the events that a watcher has not acknowledged, oldest first, each with its Event
+    /// Information (PS3.4 CC.2.4), without each State Report that a later one of the same step supersedes; none for an
+    /// application entity that is no peer. The reply is 0213 if memory runs out.
     pub fn pending(&self, ae: Ae, max: u64) -> Reply<A>
         ensures answer { OrLacking ResourceLimitation (Reports (reports_to self.now.settings self.now.history max ae)) result }
         ensures small { SmallReply result }
@@ -229,8 +228,8 @@ impl<A: Allocator + Copy> Manager<A> {
         }
     }
 
-    /// Who holds a step: the caller that has claimed it, and its application entity (PS3.4 CC.1.1). None where
-    /// nobody has claimed it, or it is not held.
+    /// Returns the holder of a step: the caller that has claimed it, and its application entity (PS3.4 CC.1.1), or None
+    /// if nobody has claimed it or it is not held.
     pub fn holder(&self, step: StepUid) -> Option<Holder>
         ensures holder { result ≡ holder_of self.now.settings (past self.now.history) step }
     {
@@ -240,8 +239,9 @@ impl<A: Allocator + Copy> Manager<A> {
         }
     }
 
-    /// Answers a call by the history: the entry that it would be. It is entered where it is accepted. After 0213, which also tells
-    /// that memory ran out or that a creation would not leave 16 MiB of it, and after any other refusal nothing has changed.
+    /// Answers a call, given as the entry that it would become, by the history, and enters it if it is accepted. The
+    /// reply 0213 also means that memory ran out or that a creation would not leave 16 MiB of it. After it, and after
+    /// any other refusal, nothing has changed.
     pub fn submit(&mut self, call: Entry<A>) -> Reply<A>
         requires moment { IsMoment call.moment }
         ensures answer { Answers self.old.settings self.old.history call.caller call.ae call.moment (Do call.request) result }
@@ -262,8 +262,8 @@ impl<A: Allocator + Copy> Manager<A> {
         answer_call(*alloc, configuration, reserve, history, tables, index, call)
     }
 
-    /// Answers what an application entity asks by the history, and enters it where it is a request that is
-    /// accepted. `caller` is the number of the caller, and `moment` is in seconds since 1970-01-01 UTC.
+    /// Answers what an application entity asks by the history, and enters it if it is a request that is accepted.
+    /// `caller` is the number of the caller, and `moment` is in seconds since 1970-01-01 UTC.
     pub fn answer_as(&mut self, caller: u32, ae: Ae, moment: u64, ask: Ask<A>) -> Reply<A>
         requires moment { IsMoment moment }
         ensures answer { Answers self.old.settings self.old.history caller ae moment ask result }

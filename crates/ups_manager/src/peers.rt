@@ -1,4 +1,5 @@
-//! What the tables have for a watcher, by its place among the peers; nothing for one without a place, who is no peer.
+//! The subscriptions and events of a watcher, by its index in the list of peers. A watcher without an index is no peer,
+//! and has none.
 
 ghost use Rattle.std.specs.Prelude.{◌≡◌, ◌<◌, ◌++◌, ◌∷◌, [], ℕ, None, Some, take, length, IfOk, OnOk};
 ghost use Rattle.std.specs.List.{filter_map};
@@ -11,7 +12,7 @@ use std::alloc::{AllocError, Allocator};
 use ups_life::{Event, StepUid, Subscription, Watched};
 use ups_tables::Tables;
 
-/// How the peer at a place is subscribed to a step (PS3.4 CC.2.3); None where it isn't.
+/// Returns the subscription of the peer at an index to a step, or None if it has none (PS3.4 CC.2.3).
 fn how_at<A: Allocator + Copy>(
     tables: &Tables<A>,
     place: Option<usize>,
@@ -25,9 +26,9 @@ fn how_at<A: Allocator + Copy>(
     }
 }
 
-/// Adds a step, where a watcher is subscribed to it.
+/// Adds a step if a watcher is subscribed to it.
 ///
-/// Errors: where memory runs out.
+/// Errors: if memory runs out.
 fn add_watched<A: Allocator + Copy>(
     found: &mut Vec<Watched, A>,
     step: StepUid,
@@ -41,9 +42,9 @@ fn add_watched<A: Allocator + Copy>(
     Ok(())
 }
 
-/// Of these steps those that the peer at a place is subscribed to, each with how it is (PS3.4 CC.2.3).
+/// Returns those of these steps that the peer at an index is subscribed to, each with the subscription (PS3.4 CC.2.3).
 ///
-/// Errors: where memory runs out.
+/// Errors: if memory runs out.
 pub(crate) fn watched_in<A: Allocator + Copy>(
     alloc: A,
     tables: &Tables<A>,
@@ -60,9 +61,9 @@ pub(crate) fn watched_in<A: Allocator + Copy>(
     Ok(found)
 }
 
-/// The first of the events that are pending for the peer at a place, at most so many, oldest first (PS3.4 CC.2.4).
+/// Returns the first `max` events that are pending for the peer at an index, oldest first (PS3.4 CC.2.4).
 ///
-/// Errors: where memory runs out.
+/// Errors: if memory runs out.
 pub(crate) fn first_pending<A: Allocator + Copy>(
     alloc: A,
     tables: &Tables<A>,
@@ -78,7 +79,7 @@ pub(crate) fn first_pending<A: Allocator + Copy>(
     }
 }
 
-/// How many events were made for the peer at a place.
+/// Returns the number of events that were made for the peer at an index.
 pub(crate) fn made_at<A: Allocator + Copy>(tables: &Tables<A>, place: Option<usize>) -> u64
     requires { (p : ℕ) → place ≡ Some p → p < length tables.now.queues }
     ensures { result ≡ (by_place empty_line (λ p. queue_line tables.now p) place).made }
@@ -89,7 +90,7 @@ pub(crate) fn made_at<A: Allocator + Copy>(tables: &Tables<A>, place: Option<usi
     }
 }
 
-/// Up to which number the peer at a place has acknowledged its events; 0 where it has acknowledged none.
+/// Returns the number up to which the peer at an index has acknowledged its events, or 0 if it has acknowledged none.
 pub(crate) fn acked_at<A: Allocator + Copy>(tables: &Tables<A>, place: Option<usize>) -> u64
     requires { (p : ℕ) → place ≡ Some p → p < length tables.now.queues }
     ensures { result ≡ (by_place empty_line (λ p. queue_line tables.now p) place).acked }

@@ -1,4 +1,4 @@
-//! What a watcher is told of its events.
+//! The reports of a watcher's events.
 
 ghost use Rattle.std.specs.Prelude.{◌≡◌, map, IfOk};
 ghost use Rattle.ups_service.specs.Reporting.{information_of, report_of_event};
@@ -8,9 +8,9 @@ use ups_dataset::DataSet;
 use ups_life::{Entry, Event, EventReport, EventReports};
 use ups_reports::payload;
 
-/// What is told of an event, by the entry that made it.
+/// Returns the Event Information of an event, by the entry that made it; it is empty if there is no such entry.
 ///
-/// Errors: where memory runs out.
+/// Errors: if memory runs out.
 fn information_of<A: Allocator + Copy>(
     alloc: A,
     history: &[Entry<A>],
@@ -24,9 +24,9 @@ fn information_of<A: Allocator + Copy>(
     }
 }
 
-/// Events as they are reported, by the history that made them, in their order.
+/// Returns the reports of events, in their order, by the history that made them.
 ///
-/// Errors: where memory runs out.
+/// Errors: if memory runs out.
 pub(crate) fn reports_of<A: Allocator + Copy>(
     alloc: A,
     history: &[Entry<A>],

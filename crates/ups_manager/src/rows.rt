@@ -1,4 +1,4 @@
-//! The steps that are held, by the tables.
+//! The held steps, looked up in the tables.
 
 ghost use Rattle.std.specs.Prelude.{◌≡◌, IfOk};
 ghost use Rattle.std.specs.Map.{keys_of};
@@ -12,14 +12,14 @@ use std::alloc::{AllocError, Allocator};
 use ups_life::{Row, StepUid};
 use ups_tables::{Held, Tables};
 
-/// What is held of a step; None where it is not held.
+/// Returns the row and the holder of a step, or None if the step is not held.
 pub(crate) fn find<A: Allocator + Copy>(tables: &Tables<A>, step: StepUid) -> Option<&Held<A>>
     ensures { option_copied result ≡ held_at step tables.now.steps.entries }
 {
     tables.steps.get(step)
 }
 
-/// What is held of a step, without who holds it.
+/// Returns the row of a step without its holder.
 pub(crate) fn row_of<A: Allocator + Copy>(held: Option<&Held<A>>) -> Option<&Row<A>>
     ensures { option_copied result ≡ row_held (option_copied held.entry) }
 {
@@ -29,7 +29,7 @@ pub(crate) fn row_of<A: Allocator + Copy>(held: Option<&Held<A>>) -> Option<&Row
     }
 }
 
-/// The row of a step; None where it is not held, or none.
+/// Returns the row of a step, or None if no step is given or the step is not held.
 pub(crate) fn known<A: Allocator + Copy>(
     tables: &Tables<A>,
     step: Option<StepUid>,
@@ -42,9 +42,9 @@ pub(crate) fn known<A: Allocator + Copy>(
     }
 }
 
-/// The UIDs of the steps held, in order of creation.
+/// Returns the UIDs of the held steps, in order of creation.
 ///
-/// Errors: where memory runs out.
+/// Errors: if memory runs out.
 pub(crate) fn uids_of<A: Allocator + Copy>(
     alloc: A,
     tables: &Tables<A>,
@@ -54,7 +54,7 @@ pub(crate) fn uids_of<A: Allocator + Copy>(
     tables.steps.uids(alloc)
 }
 
-/// Whether a UID was used: a step with it was created, whether it is held or not.
+/// Returns whether a UID was used: a step with it was created, whether it is still held or not.
 pub(crate) fn is_used<A: Allocator + Copy>(tables: &Tables<A>, step: StepUid) -> bool
     ensures { result ≡ uses tables.now step }
 {

@@ -1,4 +1,4 @@
-//! The manager as the service of a session, and as what passes share.
+//! The manager as the service of a session, and as the service that passes share.
 
 ghost use Rattle.std.specs.Prelude.{◌≡◌, ◌++◌, ℕ, true, is_some, length};
 ghost use Rattle.std.specs.Option.{IfSome};

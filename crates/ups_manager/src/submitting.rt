@@ -1,4 +1,4 @@
-//! Whether a request is entered, and what is held of its step then.
+//! Decides whether a request is entered, and makes the row and the holder of its step after it.
 
 ghost use Rattle.std.specs.Prelude.{◌≡◌, ℕ, nat_le, List, length, true, false, IfOk, IfErr, OnOk};
 ghost use Rattle.std.specs.Option.{unwrap_or, option_or, option_copied};
@@ -25,7 +25,7 @@ use ups_life::{
 use ups_rules::{change, verdict};
 use ups_tables::{Held, Tables};
 
-/// Why a request is not entered.
+/// The reason why a request is not entered.
 #[derive(Clone, Copy, Debug, PartialEq, Eq)]
 pub(crate) enum SubmitFault {
     /// It is refused with this status.
@@ -35,7 +35,7 @@ pub(crate) enum SubmitFault {
 }
 
 impl SubmitFault {
-    /// The status that tells it: 0213 where memory ran out.
+    /// Returns the status to reply with: 0213 if memory ran out.
     pub fn status(self) -> Status
         ensures { result ≡ status_of self }
     {
@@ -46,7 +46,7 @@ impl SubmitFault {
     }
 }
 
-/// Whether a history has as many entries as it may have, so that no request is entered.
+/// Returns whether a history has as many entries as it may have, so that no further request is entered.
 pub(crate) fn is_full<A: Allocator + Copy>(
     configuration: &Configuration<A>,
     history: &[Entry<A>],
@@ -56,7 +56,7 @@ pub(crate) fn is_full<A: Allocator + Copy>(
     configuration.limit() <= history.len() as u64
 }
 
-/// Whether a request creates a step under a UID that was used.
+/// Returns whether a request creates a step under a UID that was used.
 fn repeats<A: Allocator + Copy>(request: &Request<A>, tables: &Tables<A>) -> bool
     ensures { result ≡ repeats_in (λ u. uses tables.now u) request.now }
 {
@@ -66,8 +66,8 @@ fn repeats<A: Allocator + Copy>(request: &Request<A>, tables: &Tables<A>) -> boo
     }
 }
 
-/// Looks whether a request is allowed, by what is held of its step and by the UIDs that were used, where there is room
-/// (PS3.4 CC.2.1, CC.2.2, CC.2.5, CC.2.6).
+/// Checks whether a request is allowed, by the row of its step and by the UIDs that were used, provided that there is
+/// room (PS3.4 CC.2.1, CC.2.2, CC.2.5, CC.2.6).
 ///
 /// Errors: the status with which it is refused.
 fn decide<A: Allocator + Copy>(
@@ -89,7 +89,7 @@ fn decide<A: Allocator + Copy>(
     }
 }
 
-/// Whether a row has to fit after a request: any but a change of state.
+/// Returns whether the row has to fit after a request: after any but a change of state.
 fn is_sized<A: Allocator + Copy>(request: &Request<A>) -> bool
     ensures { result ≡ is_sized request.now }
 {
@@ -99,9 +99,9 @@ fn is_sized<A: Allocator + Copy>(request: &Request<A>) -> bool
     }
 }
 
-/// The row that a request at a moment makes of its step.
+/// Returns the row of a step after a request at a moment.
 ///
-/// Errors: 0213 where the row would be too large or its items would nest too deep; Memory.
+/// Errors: 0213 if the row would be too large or its items would nest too deep; `Memory`.
 fn row_for<A: Allocator + Copy>(
     alloc: A,
     row: Option<&Row<A>>,
@@ -132,7 +132,7 @@ fn row_for<A: Allocator + Copy>(
     Ok(after)
 }
 
-/// Who holds a step after a call on it that was accepted.
+/// Returns the holder of a step after an accepted call on it.
 fn holder_after<A: Allocator + Copy>(before: Option<&Held<A>>, call: &Entry<A>) -> Option<Holder>
     ensures { result ≡ option_or (claims_it call.now) (holder_held (option_copied before.entry)) }
 {
@@ -150,9 +150,9 @@ fn holder_after<A: Allocator + Copy>(before: Option<&Held<A>>, call: &Entry<A>) 
     before?.holder
 }
 
-/// What is held of a step after a call that creates or changes it.
+/// Returns the row and the holder of a step after a call that creates or changes it.
 ///
-/// Errors: the status with which the call is refused; Memory.
+/// Errors: the status with which the call is refused; `Memory`.
 pub(crate) fn step_for<A: Allocator + Copy>(
     alloc: A,
     offset: i16,

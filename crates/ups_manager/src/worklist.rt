@@ -1,4 +1,4 @@
-//! What a query is answered by the steps held: by those of its class alone.
+//! Answers a query from the held steps of its class, and from no others.
 
 ghost use Rattle.std.specs.Prelude.{◌≡◌, ◌<◌, ◌≤◌, ◌-◌, ◌+◌, ◌^◌, ◌++◌, [], ◌∷◌, length, map, IfOk, OnOk, if◌then◌else◌};
 ghost use Rattle.std.specs.List.{filter_map};
@@ -19,9 +19,9 @@ use ups_life::{Row, Sets, StepUid};
 use ups_match::{Keys, Matcher};
 use ups_tables::Tables;
 
-/// Adds what keys are answered by a row, where it matches them.
+/// Adds the answer of a row to keys if the row matches them.
 ///
-/// Errors: where memory runs out.
+/// Errors: if memory runs out.
 fn add_match<A: Allocator + Copy, M: Matcher>(
     found: &mut Sets<A>,
     row: &DataSet<A>,
@@ -38,9 +38,9 @@ fn add_match<A: Allocator + Copy, M: Matcher>(
     Ok(())
 }
 
-/// Adds what keys are answered by a step, where it is held and its row matches them.
+/// Adds the answer of a step to keys if the step is held and its row matches them.
 ///
-/// Errors: where memory runs out.
+/// Errors: if memory runs out.
 fn add_held<A: Allocator + Copy, M: Matcher>(
     found: &mut Sets<A>,
     row: Option<&Row<A>>,
@@ -57,9 +57,9 @@ fn add_held<A: Allocator + Copy, M: Matcher>(
     }
 }
 
-/// What keys are answered by those of some steps that are held and match them, in their order.
+/// Returns the answers to keys of those candidates that are held and match them, in their order.
 ///
-/// Errors: where memory runs out.
+/// Errors: if memory runs out.
 fn matches_among<A: Allocator + Copy, M: Matcher>(
     alloc: A,
     tables: &Tables<A>,
@@ -80,9 +80,9 @@ fn matches_among<A: Allocator + Copy, M: Matcher>(
     Ok(found)
 }
 
-/// What keys are answered by the steps held that match them, in order of creation.
+/// Returns the answers to keys of the held steps that match them, in order of creation.
 ///
-/// Errors: where memory runs out.
+/// Errors: if memory runs out.
 fn matches_of_all<A: Allocator + Copy, M: Matcher>(
     alloc: A,
     tables: &Tables<A>,
@@ -101,10 +101,10 @@ fn matches_of_all<A: Allocator + Copy, M: Matcher>(
     Ok(found)
 }
 
-/// What a query is answered by the steps of its class that match it, in order of creation. The class are the steps held that
-/// have its first indexed key; the matcher is asked of these, and of no others.
+/// Returns the answers to a query of the steps of its class that match it, in order of creation. The class is the held
+/// steps that have its first indexed key, or all of them if it has none; the matcher is asked about no others.
 ///
-/// Errors: where memory runs out.
+/// Errors: if memory runs out.
 pub(crate) fn matches_of_class<A: Allocator + Copy, M: Matcher>(
     alloc: A,
     tables: &Tables<A>,

@@ -4,7 +4,7 @@ ghost use Rattle.std.specs.List.{AllPass, list_all, prefix_len};
 ghost use Rattle.std.specs.Char.{is_ascii_digit};
 ghost use Rattle.ups_match.specs.Moments.{leading_digits, behind_digits, decimal_value, field};
 
-/// How many digits stand at the front of a text.
+/// Returns the number of digits at the front of a text.
 fn leading_count(text: &[u8]) -> usize
     ensures value { result ≡ prefix_len is_ascii_digit text.now }
     ensures bound { result ≤ length text.now }
@@ -12,7 +12,7 @@ fn leading_count(text: &[u8]) -> usize
     text.iter().take_while(|byte| byte.is_ascii_digit()).count()
 }
 
-/// The digits at the front of a text, and what stands behind them.
+/// Returns the digits at the front of a text, and the rest.
 pub(crate) fn split_digits(text: &[u8]) -> (&[u8], &[u8])
     ensures front { result.0.now ≡ leading_digits text.now }
     ensures behind { result.1.now ≡ behind_digits text.now }
@@ -21,7 +21,7 @@ pub(crate) fn split_digits(text: &[u8]) -> (&[u8], &[u8])
     text.split_at(leading_count(text))
 }
 
-/// Whether each byte is a digit.
+/// Returns whether each byte is a digit.
 pub(crate) fn are_digits(text: &[u8]) -> bool
     ensures value { result ≡ list_all is_ascii_digit text.now }
     ensures digits { OnTrue result (AllPass is_ascii_digit text.now) }
@@ -29,7 +29,7 @@ pub(crate) fn are_digits(text: &[u8]) -> bool
     text.iter().all(|byte| byte.is_ascii_digit())
 }
 
-/// The value of the digit at a place, or of another where the text ends before it.
+/// Returns the value of the digit at `place`, or that of the digit `absent` if the text ends before it.
 pub(crate) fn digit_at(digits: &[u8], place: usize, absent: u8) -> u8
     requires digits { AllPass is_ascii_digit digits.now }
     requires absent { IsTrue (is_ascii_digit absent) }
@@ -39,7 +39,7 @@ pub(crate) fn digit_at(digits: &[u8], place: usize, absent: u8) -> u8
     digits.get(place).copied().unwrap_or(absent) - b'0'
 }
 
-/// The number that two digits at a place spell.
+/// Returns the number written by the two digits at `place`, with `absent` for each that is missing.
 pub(crate) fn pair_at(digits: &[u8], place: usize, absent: u8) -> u8
     requires digits { AllPass is_ascii_digit digits.now }
     requires absent { IsTrue (is_ascii_digit absent) }
@@ -50,7 +50,7 @@ pub(crate) fn pair_at(digits: &[u8], place: usize, absent: u8) -> u8
     10 * digit_at(digits, place, absent) + digit_at(digits, place + 1, absent)
 }
 
-/// The two digits at a place, or what stands for them where the text ends before it.
+/// Returns the number written by the two digits at `place`, or `absent` if the text ends before the second.
 #[tactic(auto, using(crate::proofs::Fields::field_absent, crate::proofs::Fields::field_there))]
 pub(crate) fn field_at(digits: &[u8], place: usize, absent: u8) -> u8
     requires digits { AllPass is_ascii_digit digits.now }

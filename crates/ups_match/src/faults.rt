@@ -1,4 +1,4 @@
-//! What makes keys unreadable (PS3.4 section C.2.2.2).
+//! The faults of unreadable keys (PS3.4 section C.2.2.2).
 
 ghost use Rattle.std.specs.Prelude.{◌≡◌, None, if◌then◌else◌};
 ghost use Rattle.ups_dataset.specs.Data.{elements_of, items_of};
@@ -15,14 +15,14 @@ use std::alloc::Allocator;
 use ups_dataset::{DataSet, Element, Tag, Value, vr_of};
 use ups_pdu::without_padding;
 
-/// The rule for a key that is no sequence.
+/// Returns the rule for a key that is not a sequence.
 pub(crate) fn key_rule(tag: Tag) -> Rule
     ensures { result ≡ key_rule tag }
 {
     rule_of(vr_of(tag))
 }
 
-/// The fault of the text of a key.
+/// Returns the fault of the text of a key, if there is one.
 fn text_fault(rule: Rule, offset: i16, key: &[u8]) -> Option<KeyFault>
     ensures { result ≡ text_fault rule offset key.now }
 {
@@ -35,7 +35,7 @@ fn text_fault(rule: Rule, offset: i16, key: &[u8]) -> Option<KeyFault>
     Some(KeyFault::BadRange)
 }
 
-/// The fault of a key.
+/// Returns the fault of a key, if there is one.
 #[cycle(faults)]
 fn key_fault<A: Allocator + Copy>(key: &Element<A>, offset: i16) -> Option<KeyFault>
     ensures { result ≡ (if is_no_key key.now.tag then None else key_fault offset key.now.tag (value_view key.now.value)) }
@@ -49,7 +49,7 @@ fn key_fault<A: Allocator + Copy>(key: &Element<A>, offset: i16) -> Option<KeyFa
     }
 }
 
-/// The fault of the items of a key.
+/// Returns the fault of the items of a key, if there is one.
 #[cycle(faults)]
 fn items_fault<A: Allocator + Copy>(sets: &[DataSet<A>], offset: i16) -> Option<KeyFault>
     ensures { result ≡ items_fault offset (items_of sets.now) }
@@ -63,7 +63,7 @@ fn items_fault<A: Allocator + Copy>(sets: &[DataSet<A>], offset: i16) -> Option<
     keys_fault(&sets[0], offset)
 }
 
-/// The fault of the first key, by rising tag, that has one.
+/// Returns the fault of the first key, by rising tag, that has one.
 #[cycle(faults)]
 pub(crate) fn keys_fault<A: Allocator + Copy>(keys: &DataSet<A>, offset: i16) -> Option<KeyFault>
     ensures { result ≡ keys_fault offset (elements_of keys.now) }

@@ -1,4 +1,4 @@
-//! The first indexed key of a query: held steps are looked up by it.
+//! The first indexed key of a query, by which the held steps are looked up.
 
 ghost use Rattle.std.specs.Prelude.{◌≡◌, ◌||◌, Some, option_copied};
 ghost use Rattle.std.specs.List.{list_any};
@@ -20,39 +20,40 @@ use ups_dataset::dictionary::{
 use ups_dataset::{DataSet, Tag, Value};
 use ups_pdu::without_padding;
 
-/// What held steps are looked up by.
+/// The key by which the held steps are looked up.
 #[derive(Clone, Copy, Debug)]
 pub enum First<'a> {
-    /// An attribute has a value, without padding; of the sequence of station names an item has it as its code value.
+    /// The value of an attribute, without padding. In Scheduled Station Name Code Sequence it is the code value of an
+    /// item.
     Value(Tag, &'a [u8]),
-    /// The start lies between two moments, in microseconds since 1970 began in UTC; an open end has none.
+    /// The least and the greatest moment of the start, in microseconds since 1970-01-01 UTC; None for an open end.
     Start(Option<i64>, Option<i64>),
-    /// Nothing: each step is looked at.
+    /// No key: every step is looked at.
     All,
 }
 
-/// Whether a byte is a wild card, or stands between values.
+/// Returns whether a byte is a wild card or the separator of values.
 fn is_special(byte: u8) -> bool
     ensures { result ≡ is_special byte }
 {
     byte == b'*' || byte == b'?' || byte == b'\\'
 }
 
-/// Whether a text has a byte that isn't just itself.
+/// Returns whether a text has a wild card or a separator of values.
 fn has_special(text: &[u8]) -> bool
     ensures { result ≡ list_any is_special text.now }
 {
     text.iter().any(|byte| is_special(*byte))
 }
 
-/// Whether a text has no byte, or one that isn't just itself.
+/// Returns whether a text is empty, or has a wild card or a separator of values.
 fn is_wild(text: &[u8]) -> bool
     ensures { result ≡ (is_nil text.now || list_any is_special text.now) }
 {
     text.is_empty() || has_special(text)
 }
 
-/// A text, where it is one value that isn't empty and has no wild cards.
+/// Returns the text if it is a single value that is not empty and has no wild cards.
 fn plain(text: &[u8]) -> Option<&[u8]>
     ensures { option_copied result ≡ plain text.now }
 {
@@ -62,7 +63,7 @@ fn plain(text: &[u8]) -> Option<&[u8]>
     Some(text)
 }
 
-/// The one value that the key of a tag asks for.
+/// Returns the single value that the key with a tag asks for.
 fn plain_value<A: Allocator + Copy>(keys: &DataSet<A>, tag: Tag) -> Option<&[u8]>
     ensures { option_copied result ≡ plain_value (value_at tag (elements_of keys.now)) }
 {
@@ -75,7 +76,7 @@ fn plain_value<A: Allocator + Copy>(keys: &DataSet<A>, tag: Tag) -> Option<&[u8]
     }
 }
 
-/// The one code value that the first of some items asks for.
+/// Returns the single code value that the first item asks for.
 fn code_of<A: Allocator + Copy>(sets: &[DataSet<A>]) -> Option<&[u8]>
     ensures { option_copied result ≡ plain_code (Some (items (items_of sets.now))) }
 {
@@ -85,7 +86,7 @@ fn code_of<A: Allocator + Copy>(sets: &[DataSet<A>]) -> Option<&[u8]>
     plain_value(item, CODE_VALUE)
 }
 
-/// The one code value that the item of the station names asks for.
+/// Returns the single code value that the first item of Scheduled Station Name Code Sequence asks for.
 fn plain_code<A: Allocator + Copy>(keys: &DataSet<A>) -> Option<&[u8]>
     ensures { option_copied result ≡ plain_code (value_at SCHEDULED_STATION_NAME_CODE_SEQUENCE (elements_of keys.now)) }
 {
@@ -98,14 +99,14 @@ fn plain_code<A: Allocator + Copy>(keys: &DataSet<A>) -> Option<&[u8]>
     }
 }
 
-/// Whether two offsets are the same.
+/// Returns whether two offsets are the same.
 fn is_same(one: i16, other: i16) -> bool
     ensures { result ≡ int_eq one other }
 {
     one == other
 }
 
-/// The range of a start that keys ask for, where it isn't universal and its offset is that of the service.
+/// Returns the range of the start in a key, if it is not universal and `offset` is that of the service, `configured`.
 fn range_of(text: &[u8], offset: i16, configured: i16) -> Option<Span>
     ensures { range_key result ≡ start_key configured offset (Some (bytes text.now)) }
 {
@@ -118,7 +119,8 @@ fn range_of(text: &[u8], offset: i16, configured: i16) -> Option<Span>
     span_of(without_padding(text), offset)
 }
 
-/// The range of the start, where it isn't universal and its offset is that of the service.
+/// Returns the range of the start in the keys, if it is not universal and `offset` is that of the service,
+/// `configured`.
 fn start_range<A: Allocator + Copy>(keys: &DataSet<A>, offset: i16, configured: i16) -> Option<Span>
     ensures { range_key result ≡ start_key configured offset (value_at SCHEDULED_PROCEDURE_STEP_START_DATE_TIME (elements_of keys.now)) }
 {
@@ -131,7 +133,7 @@ fn start_range<A: Allocator + Copy>(keys: &DataSet<A>, offset: i16, configured: 
     }
 }
 
-/// The first indexed key among keys.
+/// Returns the first indexed key among the keys.
 pub(crate) fn first_among<A: Allocator + Copy>(
     keys: &DataSet<A>,
     offset: i16,

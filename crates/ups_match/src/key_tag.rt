@@ -1,11 +1,11 @@
-//! Tags of keys, each with the rule by which its texts are matched.
+//! Tags of keys with the rules by which their texts are matched.
 
 use crate::faults::key_rule;
 use crate::rule::Rule;
 use std::marker::Model;
 use ups_dataset::Tag;
 
-/// The tag of a key and the rule for it, which is looked up once. A contract sees it as the tag.
+/// The tag of a key and its rule, which is looked up once. A contract sees the tag.
 #[derive(Drop)]
 pub(crate) struct KeyTag {
     tag: Tag,
@@ -28,7 +28,7 @@ impl KeyTag {
     ghost use Rattle.std.specs.Prelude.{◌≡◌};
     ghost use Rattle.ups_match.specs.Matching.{key_rule};
 
-    /// A tag and the rule for it.
+    /// Returns a tag with its rule.
     pub(crate) fn of(tag: Tag) -> KeyTag
         ensures { result ≡ tag }
     {
@@ -38,14 +38,14 @@ impl KeyTag {
         }
     }
 
-    /// The tag.
+    /// Returns the tag.
     pub(crate) fn tag(&self) -> Tag
         ensures { result ≡ self.now }
     {
         self.tag
     }
 
-    /// The rule for a key that is no sequence.
+    /// Returns the rule for a key that is not a sequence.
     pub(crate) fn rule(&self) -> Rule
         ensures { result ≡ key_rule self.now }
     {

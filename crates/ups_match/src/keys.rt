@@ -1,4 +1,4 @@
-//! Keys that can be read.
+//! Readable keys.
 
 use crate::fault::KeyFault;
 use crate::faults::keys_fault;
@@ -11,8 +11,8 @@ use std::alloc::{AllocError, Allocator};
 use std::marker::Model;
 use ups_dataset::DataSet;
 
-/// The keys of a query (PS3.4 section C.2.2.2), which can be read, and the offset by which their DTs and those of what is
-/// stored are read, in minutes east of UTC. A contract sees them as the attributes and the offset.
+/// The keys of a query (PS3.4 section C.2.2.2), all readable, and the offset by which DTs without one are read in the
+/// keys and in the stored data sets, in minutes east of UTC. A contract sees the attributes and the offset.
 #[derive(Drop)]
 pub struct Keys<A: Allocator + Copy> {
     attributes: DataSet<A>,
@@ -40,13 +40,13 @@ impl<A: Allocator + Copy> Keys<A> {
     ghost use Rattle.ups_match.specs.Class.{first_key, first_view};
     ghost use Rattle.ups_match.specs.Matching.{fault_of, is_match};
 
-    /// The keys of a data set; `offset` is that of a DT which says none, in minutes east of UTC. It takes memory to prepare
-    /// them, and where there is none they are matched more slowly.
+    /// Checks and prepares the keys of a data set; `offset` is that of a DT without one, in minutes east of UTC.
+    /// Preparing them takes memory: if there is none, they are matched more slowly.
     ///
     /// # Errors
     ///
-    /// The fault of the first key, by rising tag, that can't be read: `BadRange` for a DT that is neither one nor a
-    /// range (PS3.4 section C.2.2.2.5), `TwoItems` for a sequence of more than one item (PS3.4 section C.2.2.2.6).
+    /// The fault of the first unreadable key by rising tag: `BadRange` for a DT key that is neither a DT nor a range of
+    /// DTs (PS3.4 section C.2.2.2.5), `TwoItems` for a sequence of more than one item (PS3.4 section C.2.2.2.6).
     #[tactic(auto, unfolding(crate::specs::Matching::fault_of))]
     pub fn of(attributes: DataSet<A>, offset: i16) -> Result<Keys<A>, KeyFault>
         ensures keys { IfOk result (λ k. k ≡ record { attributes = attributes; offset = offset }) }
@@ -58,7 +58,7 @@ impl<A: Allocator + Copy> Keys<A> {
         Ok(Keys::readable(attributes, offset))
     }
 
-    /// The keys of a data set of which each can be read.
+    /// Prepares the keys of a data set that are all readable.
     fn readable(attributes: DataSet<A>, offset: i16) -> Keys<A>
         requires { fault_of offset attributes ≡ None }
         ensures { result ≡ record { attributes = attributes; offset = offset } }
@@ -71,11 +71,11 @@ impl<A: Allocator + Copy> Keys<A> {
         }
     }
 
-    /// A copy.
+    /// Returns a copy.
     ///
     /// # Errors
     ///
-    /// Where memory runs out.
+    /// If memory runs out.
     pub fn copy(&self) -> Result<Keys<A>, AllocError>
         ensures { IfOk result (λ k. k ≡ self.now) }
     {
@@ -83,7 +83,7 @@ impl<A: Allocator + Copy> Keys<A> {
         Ok(Keys::readable(attributes, self.offset))
     }
 
-    /// The data set of the keys, lent.
+    /// Returns the data set of the keys.
     pub fn attributes(&self) -> &DataSet<A>
         ensures attributes { result.now ≡ self.now.attributes }
         ensures readable { fault_of self.now.offset self.now.attributes ≡ None }
@@ -91,7 +91,7 @@ impl<A: Allocator + Copy> Keys<A> {
         &self.attributes
     }
 
-    /// Whether a data set matches the keys. It takes no memory.
+    /// Returns whether a data set matches the keys. It takes no memory.
     pub(crate) fn is_match(&self, row: &DataSet<A>) -> bool
         ensures { result ≡ is_match self.now row.now }
     {
@@ -101,17 +101,17 @@ impl<A: Allocator + Copy> Keys<A> {
         }
     }
 
-    /// The offset by which DTs are read that say none, in minutes east of UTC.
+    /// Returns the offset by which DTs without one are read, in minutes east of UTC.
     pub fn offset(&self) -> i16
         ensures { result ≡ self.now.offset }
     {
         self.offset
     }
 
-    /// The first of the keys by which steps are looked up, for a service that reads DTs by `offset`, in minutes east of
-    /// UTC: the SOP Instance UID, the patient ID, the worklist label, the code value of the station name, the state or the priority, where it
-    /// is one value that isn't empty and has no wild cards; or else the range of the start, where the keys have that
-    /// offset. It takes no memory.
+    /// Returns the first of the keys by which steps are looked up, for a service that reads DTs by `offset`, in minutes
+    /// east of UTC. It is the SOP Instance UID, the patient ID, the worklist label, the code value of the station name,
+    /// the state or the priority, if that is a single value that is not empty and has no wild cards; or else the range
+    /// of the start, if the keys have that offset. It takes no memory.
     #[tactic(auto, unfolding(crate::specs::Class::first_key))]
     pub fn first(&self, offset: i16) -> First<'_>
         ensures { first_view result ≡ first_key offset self.now }

@@ -1,5 +1,5 @@
-//! Keys and what matches them (PS3.4 section C.2.2.2); and moments as text: what the value representation DT names, read
-//! and written (PS3.5 section 6.2).
+//! The matching of keys (PS3.4 section C.2.2.2), and moments as text: reading and writing the value representation DT
+//! (PS3.5 section 6.2).
 #![tactic(auto)]
 
 mod digits;

@@ -7,9 +7,9 @@ ghost use Rattle.ups_match.specs.Runs.{is_no_star, run_of, behind_run};
 
 use crate::runs::{behind_first, behind_front};
 
-/// Whether a text is like a pattern, in which `*` stands for any bytes, `?` for any one byte, and any other byte for
-/// itself (PS3.4 section C.2.2.2.4). Without `?` it takes about as many steps as both have bytes; a run with `?` between two
-/// `*` takes a step for each of its bytes and each 64 of the text.
+/// Returns whether a text is like a pattern, in which `*` stands for any bytes, `?` for any one byte, and any other
+/// byte for itself (PS3.4 section C.2.2.2.4). Without `?` it takes about as many steps as both have bytes; a run with
+/// `?` between two `*` takes a step for each of its bytes per 64 bytes of the text.
 pub fn likes(pattern: &[u8], text: &[u8]) -> bool
     ensures like { IsTrue result ↔ IsLike pattern.now text.now }
     ensures value { result ≡ is_like pattern.now text.now }
@@ -17,8 +17,8 @@ pub fn likes(pattern: &[u8], text: &[u8]) -> bool
     is_like(pattern, text)
 }
 
-/// Whether a pattern has more bytes than so many that each stand for one, so that a text of so many can't be like it. It
-/// looks no further than it has to.
+/// Returns whether more than `len` bytes of a pattern stand for one byte each, so that no text of `len` bytes is like
+/// it. It stops as soon as it knows.
 pub(crate) fn is_longer(pattern: &[u8], len: usize) -> bool
     ensures { result ≡ nat_lt len (count_by is_no_star pattern.now) }
 {
@@ -35,7 +35,7 @@ pub(crate) fn is_longer(pattern: &[u8], len: usize) -> bool
     false
 }
 
-/// Whether a text is like a pattern.
+/// Returns whether a text is like a pattern.
 fn is_like(pattern: &[u8], text: &[u8]) -> bool
     ensures { IsTrue result ↔ IsLike pattern.now text.now }
 {
@@ -49,10 +49,10 @@ fn is_like(pattern: &[u8], text: &[u8]) -> bool
     }
 }
 
-/// Whether a text is like `*` and a pattern behind it.
+/// Returns whether a text is like `*` followed by a pattern.
 ///
-/// Each run is looked for at the first place where it fits: what the rest of the pattern is like behind a later
-/// place, it is like behind the first one too, since a `*` stands between.
+/// Each run is taken at the first place where it fits: if the text after a later place is like the rest of the pattern,
+/// so is the text after the first one, because a `*` comes between.
 fn likes_anywhere(pattern: &[u8], text: &[u8]) -> bool
     ensures { IsTrue result ↔ IsLike (42 ∷ pattern.now) text.now }
 {
@@ -71,7 +71,7 @@ fn likes_anywhere(pattern: &[u8], text: &[u8]) -> bool
     }
 }
 
-/// What stands in a pattern behind a `*`, without the `*` at its front but for less than 64: more of them say the same.
+/// Returns a pattern that follows a `*`, without the redundant `*` at its front, of which fewer than 64 are left.
 fn without_stars(pattern: &[u8]) -> &[u8]
     ensures same { (text : List ℕ) → IsLike (42 ∷ pattern.now) text ↔ IsLike (42 ∷ result.now) text }
     ensures shorter { length result.now ≤ length pattern.now }
@@ -83,7 +83,7 @@ fn without_stars(pattern: &[u8]) -> &[u8]
     rest
 }
 
-/// The bytes of a pattern before the first `*`, and the others.
+/// Splits a pattern at the first `*`, which goes to the second part.
 fn split_run(pattern: &[u8]) -> (&[u8], &[u8])
     ensures run { result.0.now ≡ run_of pattern.now }
     ensures behind { result.1.now ≡ behind_run pattern.now }
@@ -91,7 +91,7 @@ fn split_run(pattern: &[u8]) -> (&[u8], &[u8])
     pattern.split_at(run_len(pattern))
 }
 
-/// How many bytes of a pattern stand before the first `*`.
+/// Returns the number of bytes before the first `*` of a pattern.
 fn run_len(pattern: &[u8]) -> usize
     ensures value { result ≡ prefix_len is_no_star pattern.now }
     ensures bound { result ≤ length pattern.now }
@@ -99,7 +99,7 @@ fn run_len(pattern: &[u8]) -> usize
     pattern.iter().take_while(|byte| **byte != b'*').count()
 }
 
-/// Whether a text ends with bytes that those of a run stand for.
+/// Returns whether a run fits at the end of a text.
 fn ends_with(run: &[u8], text: &[u8]) -> bool
     requires { AllPass is_no_star run.now }
     ensures { IsTrue result ↔ IsLike (42 ∷ run.now) text.now }

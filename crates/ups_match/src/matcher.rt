@@ -1,4 +1,4 @@
-//! What tells which data sets match which keys.
+//! The decision whether a data set matches keys.
 
 ghost use Rattle.std.specs.Prelude.{◌≡◌, ◌<◌, ◌+◌, ◌-◌, ◌^◌, ℕ, Bool, List};
 ghost use Rattle.ups_dataset.specs.Data.{El};
@@ -8,35 +8,35 @@ use crate::keys::Keys;
 use std::alloc::Allocator;
 use ups_dataset::DataSet;
 
-/// A yes or no for keys and a data set, and a count of how often it was asked.
+/// Decides whether data sets match keys, and counts how often it is asked.
 pub trait Matcher {
-    /// What the type says of keys and a data set.
+    /// The answer of the type for keys and a data set.
     ghost says: { KeySet → List El → Bool };
-    /// How often it was asked.
+    /// The number of times it was asked.
     ghost asked: { Self → ℕ };
 
-    /// Whether a data set matches keys. It counts the question.
+    /// Returns whether a data set matches keys, and counts the question.
     fn matches<A: Allocator + Copy>(&mut self, keys: &Keys<A>, row: &DataSet<A>) -> bool
         requires { asked self.old < 2 ^ 64 - 1 }
         ensures answer { result ≡ says keys.now row.now }
         ensures count { asked self.new ≡ asked self.old + 1 };
 }
 
-/// The matcher by the rules of PS3.4 section C.2.2.2.
+/// The matcher that follows the rules of PS3.4 section C.2.2.2.
 #[derive(Debug, Drop)]
 pub struct Probe {
     count: u64,
 }
 
 impl Probe {
-    /// A matcher that wasn't asked yet.
+    /// Returns a matcher that has not been asked yet.
     pub fn new() -> Probe
         ensures { result.count ≡ 0 }
     {
         Probe { count: 0 }
     }
 
-    /// How often it was asked.
+    /// Returns the number of times it was asked.
     pub fn count(&self) -> u64
         ensures { result ≡ self.now.count }
     {

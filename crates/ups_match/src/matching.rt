@@ -1,4 +1,4 @@
-//! Whether a data set matches keys (PS3.4 section C.2.2.2).
+//! The matching of a data set with keys (PS3.4 section C.2.2.2).
 
 ghost use Rattle.std.specs.Prelude.{◌≡◌, ◌||◌};
 ghost use Rattle.ups_dataset.specs.Data.{elements_of, items_of};
@@ -11,7 +11,7 @@ use crate::universal::is_universal_key;
 use std::alloc::Allocator;
 use ups_dataset::{DataSet, Element, Tag, Value};
 
-/// Whether the text of a key matches what a data set has under its tag.
+/// Returns whether the text of a key matches what a data set has under its tag.
 fn stored_text_matches<A: Allocator + Copy>(
     tag: Tag,
     key: &[u8],
@@ -29,7 +29,7 @@ fn stored_text_matches<A: Allocator + Copy>(
     }
 }
 
-/// Whether a key is universal, or matches what a data set has.
+/// Returns whether a key is universal, or matches what a data set has.
 #[cycle(matching)]
 fn key_matches<A: Allocator + Copy>(key: &Element<A>, row: &DataSet<A>, offset: i16) -> bool
     ensures { result ≡ (is_universal_key key.now.tag (value_view key.now.value) || value_matches offset key.now.tag (value_view key.now.value) (value_at key.now.tag (elements_of row.now))) }
@@ -46,7 +46,7 @@ fn key_matches<A: Allocator + Copy>(key: &Element<A>, row: &DataSet<A>, offset: 
     }
 }
 
-/// Whether a data set has a sequence of which one item matches all keys of an item.
+/// Returns whether a data set has a sequence with an item that matches all keys of `item`.
 #[cycle(matching)]
 fn stored_item_matches<A: Allocator + Copy>(
     tag: Tag,
@@ -65,7 +65,7 @@ fn stored_item_matches<A: Allocator + Copy>(
     }
 }
 
-/// Whether one of some items matches all keys of a set.
+/// Returns whether one of the items matches all keys of a set.
 #[cycle(matching)]
 fn any_item<A: Allocator + Copy>(keys: &DataSet<A>, items: &[DataSet<A>], offset: i16) -> bool
     ensures { result ≡ any_item (all_match offset (elements_of keys.now)) (items_of items.now) }
@@ -78,7 +78,7 @@ fn any_item<A: Allocator + Copy>(keys: &DataSet<A>, items: &[DataSet<A>], offset
     false
 }
 
-/// Whether a data set matches each key of a set.
+/// Returns whether a data set matches each key of a set.
 #[cycle(matching)]
 pub(crate) fn all_match<A: Allocator + Copy>(
     keys: &DataSet<A>,

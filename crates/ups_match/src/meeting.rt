@@ -1,4 +1,4 @@
-//! Whether a data set meets keys that are prepared (PS3.4 section C.2.2.2).
+//! The matching of a data set with prepared keys (PS3.4 section C.2.2.2).
 
 ghost use Rattle.std.specs.Prelude.{◌≡◌};
 ghost use Rattle.ups_dataset.specs.Data.{elements_of, items_of};
@@ -11,7 +11,7 @@ use crate::texts::is_text_met;
 use std::alloc::Allocator;
 use ups_dataset::{DataSet, Value};
 
-/// Whether a data set meets a key.
+/// Returns whether a data set meets a key.
 #[cycle(meeting)]
 fn is_met<A: Allocator + Copy>(key: &PreparedKey<A>, row: &DataSet<A>, offset: i16) -> bool
     ensures { result ≡ value_met offset key.now.tag (prepared_view key.now.value) (value_at key.now.tag (elements_of row.now)) }
@@ -34,7 +34,7 @@ fn is_met<A: Allocator + Copy>(key: &PreparedKey<A>, row: &DataSet<A>, offset: i
     }
 }
 
-/// Whether one of some items meets all keys.
+/// Returns whether one of the items meets all keys.
 #[cycle(meeting)]
 fn any_meets<A: Allocator + Copy>(keys: &Prepared<A>, items: &[DataSet<A>], offset: i16) -> bool
     ensures { result ≡ any_item (all_met offset (elements_of keys.now)) (items_of items.now) }
@@ -47,7 +47,7 @@ fn any_meets<A: Allocator + Copy>(keys: &Prepared<A>, items: &[DataSet<A>], offs
     false
 }
 
-/// Whether a data set meets each key.
+/// Returns whether a data set meets each key.
 #[cycle(meeting)]
 pub(crate) fn meets_all<A: Allocator + Copy>(
     keys: &Prepared<A>,

@@ -1,4 +1,4 @@
-//! A DT read as a moment.
+//! Reading a DT as a moment.
 ghost use Rattle.std.specs.Prelude.{◌≡◌, ◌+◌, ◌*◌, ◌≤◌, ◌<◌, ◌==◌, ◌&&◌, length, pos, ◌-ℤ◌, IfSome, is_some, if◌then◌else◌, unsigned_abs, ◌^◌};
 ghost use Rattle.jiff_core.specs.Calendar.{IsEpochDay};
 ghost use Rattle.std.specs.Bool.{OnTrue};
@@ -9,12 +9,12 @@ ghost use Rattle.ups_match.specs.Moments.{moment, is_cut, is_date, is_time, date
 use crate::digits::{are_digits, field_at, pair_at, split_digits};
 use jiff_core::civil::{self, Date};
 
-/// The first moment that a DT names, or the last (`upper`), in microseconds since 1970 began in UTC; `None` where the
-/// text is no DT (PS3.5 section 6.2). `offset` is that of a text which says none, in minutes east of UTC.
+/// Returns the first moment that a DT names, or the last (`upper`), in microseconds since 1970-01-01 UTC, or `None` if
+/// the text is not a DT (PS3.5 section 6.2). `offset` is that of a text without one, in minutes east of UTC.
 ///
-/// What the text is cut of is taken at its least for the first moment, and at its greatest for the last. A plus
-/// begins an offset behind any component, and a minus behind the seconds alone. Second 60 is read as 59. No padding
-/// may stand in the text.
+/// Components that are missing from the text take their least value for the first moment, and their greatest for the
+/// last. A plus begins an offset after any component, and a minus only after the seconds. Second 60 is read as 59. The
+/// text must have no padding.
 pub fn read_dt(text: &[u8], offset: i16, upper: bool) -> Option<i64>
     ensures { result ≡ moment text.now offset upper }
 {
@@ -26,7 +26,7 @@ pub fn read_dt(text: &[u8], offset: i16, upper: bool) -> Option<i64>
     Some(1_000_000 * (second - 60 * minutes as i64) + microsecond as i64)
 }
 
-/// The second that a clock shows at a date and time, since it showed 1970.
+/// Returns the second that a clock shows at a date and time, counted from the beginning of 1970.
 fn local_second(digits: &[u8], upper: bool) -> Option<i64>
     requires { AllPass is_ascii_digit digits.now }
     ensures variant { is_some result ≡ (is_cut digits.now && is_date digits.now upper && is_time digits.now upper) }
@@ -41,14 +41,14 @@ fn local_second(digits: &[u8], upper: bool) -> Option<i64>
     Some(day as i64 * 86_400 + second as i64)
 }
 
-/// Whether digits end behind a component.
+/// Returns whether digits end after a component.
 fn is_cut(digits: &[u8]) -> bool
     ensures { result ≡ is_cut digits.now }
 {
     matches!(digits.len(), 4 | 6 | 8 | 10 | 12 | 14)
 }
 
-/// The year that digits begin with.
+/// Returns the year at the front of digits.
 #[tactic(auto, using(crate::proofs::Fields::year_pairs))]
 fn year_of(digits: &[u8]) -> i16
     requires digits { AllPass is_ascii_digit digits.now }
@@ -59,14 +59,14 @@ fn year_of(digits: &[u8]) -> i16
     100 * pair_at(digits, 0, b'0') as i16 + pair_at(digits, 2, b'0') as i16
 }
 
-/// What stands for an absent component: its greatest value, or its least.
+/// Returns the value of an absent component: `greatest` if `upper`, or else `least`.
 fn extreme(upper: bool, least: u8, greatest: u8) -> u8
     ensures { result ≡ (if upper then greatest else least) }
 {
     if upper { greatest } else { least }
 }
 
-/// The day that digits name, since 1 January 1970.
+/// Returns the day that digits name, counted from 1970-01-01.
 #[tactic(auto, using(crate::proofs::Days::no_year))]
 fn day_of(digits: &[u8], upper: bool) -> Option<i32>
     requires digits { AllPass is_ascii_digit digits.now }
@@ -88,7 +88,7 @@ fn day_of(digits: &[u8], upper: bool) -> Option<i32>
     Some(date.to_unix_epoch_day())
 }
 
-/// The second of a day that digits name.
+/// Returns the second of the day that digits name.
 #[tactic(auto, unfolding(crate::specs::Moments::is_time, crate::specs::Moments::second_of_day))]
 fn second_of_day(digits: &[u8], upper: bool) -> Option<u32>
     requires { AllPass is_ascii_digit digits.now }
@@ -106,7 +106,7 @@ fn second_of_day(digits: &[u8], upper: bool) -> Option<u32>
     Some((hour as u32 * 60 + minute as u32) * 60 + second.min(59) as u32)
 }
 
-/// The microsecond that a text begins with, and what stands behind it.
+/// Returns the microsecond at the front of a text, and the rest.
 #[tactic(auto, using(crate::proofs::Fields::microsecond_none))]
 fn fraction_at(text: &[u8], is_whole: bool, upper: bool) -> Option<(u32, &[u8])>
     ensures variant { is_some result ≡ is_fraction is_whole (split_fraction text.now).0 }
@@ -124,7 +124,7 @@ fn fraction_at(text: &[u8], is_whole: bool, upper: bool) -> Option<(u32, &[u8])>
     Some((microsecond_of(digits, upper), behind))
 }
 
-/// The microsecond that the digits of a fraction name.
+/// Returns the microsecond that the digits of a fraction name.
 fn microsecond_of(digits: &[u8], upper: bool) -> u32
     requires { AllPass is_ascii_digit digits.now }
     ensures value { result ≡ microsecond_of (Some digits.now) upper }
@@ -137,7 +137,7 @@ fn microsecond_of(digits: &[u8], upper: bool) -> u32
     (first * 100 + second) * 100 + third
 }
 
-/// The minutes east of UTC that a suffix says, or the configured ones.
+/// Returns the minutes east of UTC that a suffix names, or the configured ones if it is empty.
 #[tactic(auto, using(crate::proofs::Offsets::offset_bare, crate::proofs::Offsets::offset_other, crate::proofs::Offsets::offset_written))]
 pub(crate) fn offset_of(suffix: &[u8], is_whole: bool, configured: i16) -> Option<i16>
     ensures { result ≡ offset_of is_whole configured suffix.now }
@@ -153,7 +153,7 @@ pub(crate) fn offset_of(suffix: &[u8], is_whole: bool, configured: i16) -> Optio
     signed_offset(*sign, hours, minutes, is_whole)
 }
 
-/// Whether a text is four digits.
+/// Returns whether a text is four digits.
 fn are_four_digits(text: &[u8]) -> bool
     ensures value { result ≡ are_four_digits text.now }
     ensures digits { OnTrue result (AllPass is_ascii_digit text.now) }
@@ -161,7 +161,7 @@ fn are_four_digits(text: &[u8]) -> bool
     text.len() == 4 && are_digits(text)
 }
 
-/// The minutes east of UTC of a sign, hours and minutes.
+/// Returns the minutes east of UTC that a sign, hours and minutes name.
 #[tactic(auto, unfolding(crate::specs::Moments::signed_offset))]
 fn signed_offset(sign: u8, hours: u8, minutes: u8, is_whole: bool) -> Option<i16>
     requires hours { hours ≤ 99 }

@@ -1,13 +1,13 @@
-//! Patterns with few bytes: of `*` next to each other one says the same (PS3.4 section C.2.2.2.4).
+//! Shortened patterns: adjacent `*` mean the same as a single one (PS3.4 section C.2.2.2.4).
 
 ghost use Rattle.std.specs.Prelude.{◌≡◌, ℕ, List, IfOk};
 ghost use Rattle.ups_match.specs.Likeness.{is_like};
 
 use std::alloc::{AllocError, Allocator};
 
-/// A pattern with one `*` for each row of them.
+/// Returns a pattern with each row of `*` replaced by a single one.
 ///
-/// Errors: where memory runs out.
+/// Errors: if memory runs out.
 pub(crate) fn shortened<A: Allocator + Copy>(
     alloc: A,
     pattern: &[u8],

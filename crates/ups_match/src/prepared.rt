@@ -5,19 +5,19 @@ use crate::uids::UidList;
 use std::alloc::Allocator;
 use std::marker::Model;
 
-/// What a prepared key asks for.
+/// The value that a prepared key asks for.
 #[derive(Drop)]
 #[cycle(prepared)]
 pub(crate) enum PreparedValue<A: Allocator + Copy> {
     /// One of the UIDs of a long list.
     Uids(UidList<A>),
-    /// What a text says, which has no padding behind it and no two `*` next to each other where those are wild cards.
+    /// A text. It has no padding after it unless it is a list of UIDs, and no two adjacent `*` if these are wild cards.
     Text(Vec<u8, A>),
     /// An item that meets these keys.
     Item(Prepared<A>),
 }
 
-/// A key that is prepared.
+/// A prepared key.
 #[derive(Drop)]
 #[cycle(prepared)]
 pub(crate) struct PreparedKey<A: Allocator + Copy> {
@@ -25,7 +25,7 @@ pub(crate) struct PreparedKey<A: Allocator + Copy> {
     pub(crate) value: PreparedValue<A>,
 }
 
-/// The keys of a data set but for the universal ones, prepared. A contract sees them as elements.
+/// The prepared keys of a data set, without the universal ones. A contract sees them as elements.
 #[derive(Drop)]
 #[cycle(prepared)]
 pub(crate) struct Prepared<A: Allocator + Copy> {
@@ -58,14 +58,14 @@ impl<A: Allocator + Copy> Prepared<A> {
     ghost use Rattle.std.specs.Prelude.{◌≡◌, map};
     ghost use Rattle.ups_match.specs.Prepared.{key_view};
 
-    /// These keys.
+    /// Returns the prepared keys of a vector.
     pub(crate) fn from_vec(keys: Vec<PreparedKey<A>, A>) -> Prepared<A>
         ensures { result ≡ map key_view keys.items }
     {
         Prepared { keys }
     }
 
-    /// The keys, in the order of their tags.
+    /// Returns the keys, in the order of their tags.
     pub(crate) fn keys(&self) -> &[PreparedKey<A>]
         ensures { map key_view result.now ≡ self.now }
     {

@@ -1,4 +1,4 @@
-//! How keys are prepared: once, and then they are tried on many data sets.
+//! The preparation of keys, done once for many data sets.
 
 ghost use Rattle.std.specs.Prelude.{◌≡◌, ◌||◌, ℤ, Option, IfOk};
 ghost use Rattle.std.specs.Option.{option_map};
@@ -19,12 +19,12 @@ use std::alloc::{AllocError, Allocator};
 use ups_dataset::{DataSet, Element, Value};
 use ups_pdu::without_padding;
 
-/// How many bytes a list has at most whose UIDs are compared one by one.
+/// The greatest length, in bytes, of a list whose UIDs are compared one by one.
 const SHORT_LIST: usize = 256;
 
-/// The keys of a data set, prepared.
+/// Prepares the keys of a data set.
 ///
-/// Errors: where memory runs out.
+/// Errors: if memory runs out.
 #[cycle(preparing)]
 pub(crate) fn prepare_keys<A: Allocator + Copy>(
     keys: &DataSet<A>,
@@ -44,9 +44,9 @@ pub(crate) fn prepare_keys<A: Allocator + Copy>(
     Ok(Prepared::from_vec(prepared))
 }
 
-/// A key, prepared, where it isn't universal.
+/// Prepares a key, or returns None if it is universal.
 ///
-/// Errors: where memory runs out.
+/// Errors: if memory runs out.
 #[cycle(preparing)]
 fn prepare_key<A: Allocator + Copy>(
     alloc: A,
@@ -66,9 +66,9 @@ fn prepare_key<A: Allocator + Copy>(
     }
 }
 
-/// The text of a key that is matched by a rule, prepared.
+/// Prepares the text of a key that is matched by `rule`.
 ///
-/// Errors: where memory runs out.
+/// Errors: if memory runs out.
 fn prepare_text<A: Allocator + Copy>(
     alloc: A,
     rule: Rule,

@@ -1,4 +1,4 @@
-//! What a range of dates and times takes in (PS3.4 section C.2.2.2.5).
+//! Ranges of dates and times (PS3.4 section C.2.2.2.5).
 
 ghost use Rattle.std.specs.Prelude.{◌≡◌, ◌≤◌, length};
 ghost use Rattle.std.specs.Bool.{OnTrue};
@@ -9,18 +9,17 @@ ghost use Rattle.ups_match.specs.Ranges.{hyphen_at, has_seconds, ends_or_hyphen,
 use crate::digits::split_digits;
 use crate::moments::{offset_of, read_dt};
 
-/// The moments that a key takes in, in microseconds since 1970 began in UTC, from the least to the greatest; an open end
-/// has none.
+/// The moments that a key includes, in microseconds since 1970-01-01 UTC; None for an open end.
 #[derive(Clone, Copy, Debug)]
 pub(crate) struct Span {
-    /// The first.
+    /// The first moment.
     pub least: Option<i64>,
-    /// The last.
+    /// The last moment.
     pub greatest: Option<i64>,
 }
 
 impl Span {
-    /// Whether a moment is one of them.
+    /// Returns whether the span includes a moment.
     pub(crate) fn takes_in(self, moment: i64) -> bool
         ensures { result ≡ contains_moment self moment }
     {
@@ -28,7 +27,7 @@ impl Span {
     }
 }
 
-/// Whether a moment isn't before a least one.
+/// Returns whether a moment is not before `least`.
 fn is_from(least: Option<i64>, moment: i64) -> bool
     ensures { result ≡ is_from least moment }
 {
@@ -38,7 +37,7 @@ fn is_from(least: Option<i64>, moment: i64) -> bool
     }
 }
 
-/// Whether a moment isn't behind a greatest one.
+/// Returns whether a moment is not after `greatest`.
 fn is_up_to(greatest: Option<i64>, moment: i64) -> bool
     ensures { result ≡ is_up_to greatest moment }
 {
@@ -48,8 +47,9 @@ fn is_up_to(greatest: Option<i64>, moment: i64) -> bool
     }
 }
 
-/// The moments that the text of a key takes in, which has no padding: those of a range `a-b`, `a-` or `-b`, or the first
-/// of a DT alone; `None` where it is unreadable. `offset` is that of a DT which says none, in minutes east of UTC.
+/// Returns the moments that the text of a key includes: those of a range `a-b`, `a-` or `-b`, or the first of a single
+/// DT; `None` if it is unreadable. The text has no padding; `offset` is that of a DT without one, in minutes east of
+/// UTC.
 pub(crate) fn span_of(text: &[u8], offset: i16) -> Option<Span>
     ensures { result ≡ span_of offset text.now }
 {
@@ -60,7 +60,7 @@ pub(crate) fn span_of(text: &[u8], offset: i16) -> Option<Span>
     }
 }
 
-/// The first moment of a DT.
+/// Returns the first moment of a DT.
 fn alone(text: &[u8], offset: i16) -> Option<Span>
     ensures { result ≡ single_moment offset text.now }
 {
@@ -71,7 +71,7 @@ fn alone(text: &[u8], offset: i16) -> Option<Span>
     })
 }
 
-/// The moments from the first of a DT to the last of another, where they aren't both empty.
+/// Returns the moments from the first of one DT to the last of another, unless both are empty.
 fn between(first: &[u8], last: &[u8], offset: i16) -> Option<Span>
     ensures { result ≡ span_between offset first.now last.now }
 {
@@ -83,7 +83,7 @@ fn between(first: &[u8], last: &[u8], offset: i16) -> Option<Span>
     Some(Span { least, greatest })
 }
 
-/// The moment of an end of a range, or none where that end is open.
+/// Returns the moment of an end of a range; the inner option is None if that end is open.
 fn bound(text: &[u8], offset: i16, upper: bool) -> Option<Option<i64>>
     ensures { result ≡ bound offset upper text.now }
 {
@@ -94,7 +94,7 @@ fn bound(text: &[u8], offset: i16, upper: bool) -> Option<Option<i64>>
     Some(Some(moment))
 }
 
-/// How many bytes stand before the hyphen of a range, or in the whole text where it is none.
+/// Returns the number of bytes before the hyphen of a range, or of the whole text if it is not a range.
 fn first_len(text: &[u8]) -> usize
     ensures value { result ≡ first_len text.now }
     ensures bound { result ≤ length text.now }
@@ -108,7 +108,7 @@ fn first_len(text: &[u8]) -> usize
     }
 }
 
-/// How many bytes stand before the first hyphen.
+/// Returns the number of bytes before the first hyphen.
 fn hyphen_at(text: &[u8]) -> usize
     ensures value { result ≡ hyphen_at text.now }
     ensures bound { result ≤ length text.now }
@@ -116,7 +116,7 @@ fn hyphen_at(text: &[u8]) -> usize
     text.iter().take_while(|byte| **byte != b'-').count()
 }
 
-/// Whether what stands behind a DT begins with an offset of it.
+/// Returns whether `rest`, which follows a DT, begins with its offset.
 fn is_offset_first(front: &[u8], rest: &[u8]) -> bool
     ensures value { result ≡ is_offset_first front.now rest.now }
     ensures bound { OnTrue result (5 ≤ length rest.now) }
@@ -128,7 +128,7 @@ fn is_offset_first(front: &[u8], rest: &[u8]) -> bool
     offset_of(offset, true, 0).is_some() && ends_or_hyphen(behind)
 }
 
-/// Whether a text is fourteen digits, and perhaps a fraction.
+/// Returns whether a text is fourteen digits, with or without a fraction.
 fn has_seconds(text: &[u8]) -> bool
     ensures { result ≡ has_seconds text.now }
 {
@@ -136,7 +136,7 @@ fn has_seconds(text: &[u8]) -> bool
     digits.len() == 14 && is_fraction_or_nothing(behind)
 }
 
-/// Whether a text is a full stop with digits alone behind it, or nothing.
+/// Returns whether a text is empty, or a full stop followed only by digits.
 fn is_fraction_or_nothing(text: &[u8]) -> bool
     ensures { result ≡ is_nil (split_fraction text.now).1 }
 {
@@ -146,7 +146,7 @@ fn is_fraction_or_nothing(text: &[u8]) -> bool
     }
 }
 
-/// Whether a text is nothing, or begins with a hyphen.
+/// Returns whether a text is empty, or begins with a hyphen.
 fn ends_or_hyphen(text: &[u8]) -> bool
     ensures { result ≡ ends_or_hyphen text.now }
 {

@@ -1,28 +1,28 @@
-//! How a key is matched, by its value representation (PS3.4 section C.2.2.2).
+//! The rules by which keys are matched, by value representation (PS3.4 section C.2.2.2).
 
 ghost use Rattle.std.specs.Prelude.{◌≡◌};
 ghost use Rattle.ups_match.specs.Values.{rule_of, text_vr};
 
 use ups_dataset::Vr;
 
-/// How a key with a text is matched with what is stored (PS3.4 section C.2.2.2).
+/// The rule by which a key with a text is matched with a stored text (PS3.4 section C.2.2.2).
 #[derive(Clone, Copy, Debug, PartialEq, Eq)]
 pub(crate) enum Rule {
-    /// One of the UIDs of a list is one of those that are stored.
+    /// One of the UIDs of the list is one of the stored UIDs.
     UidList,
     /// One of the stored values is like the pattern of the key.
     WildCards,
     /// The stored text, which is one value, is like the pattern of the key.
     WildCardsInText,
-    /// The stored moment is that of the key, or lies in its range.
+    /// The stored moment is that of the key, or is in its range.
     Range,
-    /// One of the stored values is that of the key.
+    /// One of the stored values is equal to that of the key.
     OneOfValues,
-    /// What is stored is what the key has.
+    /// The stored text is equal to that of the key.
     WholeValue,
 }
 
-/// The rule for a value representation.
+/// Returns the rule for a value representation.
 pub(crate) fn rule_of(vr: Vr) -> Rule
     ensures { result ≡ rule_of (text_vr vr) }
 {

@@ -1,4 +1,4 @@
-//! Where a run fits in a text: what stands in a pattern between two `*` (PS3.4 section C.2.2.2.4).
+//! The search for a run, the part of a pattern between two `*`, in a text (PS3.4 section C.2.2.2.4).
 
 ghost use Rattle.std.specs.Prelude.{◌≡◌, ◌<◌, ◌≤◌, ℕ, false, IsTrue, None, drop, length, option_copied};
 ghost use Rattle.std.specs.List.{list_any};
@@ -8,7 +8,7 @@ ghost use Rattle.ups_match.specs.Runs.{behind_front, behind_first};
 use crate::lanes::{LANES, all_places, have_no_place, places_with};
 use memchr::memmem;
 
-/// What stands in a text behind bytes that those of a run stand for.
+/// Returns the rest of a text after the run at its front, or None if the run does not fit there.
 pub(crate) fn behind_front<'a>(run: &[u8], text: &'a [u8]) -> Option<&'a [u8]>
     ensures { option_copied result ≡ behind_front run.now text.now }
 {
@@ -28,7 +28,7 @@ pub(crate) fn behind_front<'a>(run: &[u8], text: &'a [u8]) -> Option<&'a [u8]>
     Some(left)
 }
 
-/// What stands in a text behind the first place where a run fits.
+/// Returns the rest of a text after the first place where a run fits.
 pub(crate) fn behind_first<'a>(run: &[u8], text: &'a [u8]) -> Option<&'a [u8]>
     ensures { option_copied result ≡ behind_first run.now text.now }
 {
@@ -38,7 +38,8 @@ pub(crate) fn behind_first<'a>(run: &[u8], text: &'a [u8]) -> Option<&'a [u8]>
     behind_first_copy(run, text)
 }
 
-/// The same of a run without `?`, which fits where its bytes stand. It takes about as many steps as both have bytes.
+/// Does the same as `behind_first` for a run without `?`, which fits where its bytes occur. It takes about as many
+/// steps as both have bytes.
 fn behind_first_copy<'a>(run: &[u8], text: &'a [u8]) -> Option<&'a [u8]>
     requires { list_any is_question_mark run.now ≡ false }
     ensures { option_copied result ≡ behind_first run.now text.now }
@@ -48,7 +49,8 @@ fn behind_first_copy<'a>(run: &[u8], text: &'a [u8]) -> Option<&'a [u8]>
     Some(behind)
 }
 
-/// The same of any run. It takes about a step for each byte of the run and each 128 places of the text.
+/// Does the same as `behind_first` for any run. It takes about a step for each byte of the run per 128 places of the
+/// text.
 fn behind_first_fit<'a>(run: &[u8], text: &'a [u8]) -> Option<&'a [u8]>
     ensures { option_copied result ≡ behind_first run.now text.now }
 {
@@ -60,14 +62,14 @@ fn behind_first_fit<'a>(run: &[u8], text: &'a [u8]) -> Option<&'a [u8]>
     behind_first_by_place(run, left)
 }
 
-/// How many places of a text are tried at once: two vectors of them, since what is done for each byte of the run beside
-/// the comparisons takes as long as a third of these.
+/// The number of places of a text that are tried at once: two vectors of them, because the rest of the work for each
+/// byte of the run takes a third as long as the comparisons.
 const PLACES: usize = 2 * LANES;
 
-/// At how many bytes of a run it is looked whether a place is left.
+/// The number of bytes of a run between two checks whether a place is left.
 const LOOK_EVERY: usize = 8;
 
-/// A text from a place on.
+/// Returns a text from `place` on.
 fn behind(text: &[u8], place: usize) -> &[u8]
     requires { place ≤ length text.now }
     ensures { result.now ≡ drop place text.now }
@@ -76,8 +78,8 @@ fn behind(text: &[u8], place: usize) -> &[u8]
     there
 }
 
-/// Whether a run fits at none of the first 128 places of a text. Where the text ends before all of them can be tried, it
-/// isn't told.
+/// Returns whether a run fits at none of the first 128 places of a text; false if the text ends before all of them can
+/// be tried.
 fn fits_nowhere_in_front(run: &[u8], text: &[u8]) -> bool
     ensures nowhere { IsTrue result → (k : ℕ) → k < 128 → behind_front run.now (drop k text.now) ≡ None }
     ensures long { IsTrue result → 128 ≤ length text.now }
@@ -100,7 +102,7 @@ fn fits_nowhere_in_front(run: &[u8], text: &[u8]) -> bool
     have_no_place(near_places, far_places)
 }
 
-/// The same as `behind_first`, place by place.
+/// Does the same as `behind_first`, place by place.
 fn behind_first_by_place<'a>(run: &[u8], text: &'a [u8]) -> Option<&'a [u8]>
     ensures { option_copied result ≡ behind_first run.now text.now }
 {

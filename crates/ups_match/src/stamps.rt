@@ -1,18 +1,18 @@
-//! A moment written as a DT.
+//! Writing a moment as a DT.
 ghost use Rattle.std.specs.Prelude.{◌≡◌, ℕ, ℤ, ◌+◌, ◌*◌, ◌-◌, ◌≤◌, ◌<◌, false, pos, ◌+ℤ◌, ◌*ℤ◌, unsigned_abs};
 ghost use Rattle.ups_match.specs.Moments.{moment, stamp, last_moment, IsOffset, date_stamp, time_stamp, offset_stamp, two_digits, year_on, month_on, day_number};
 
 use jiff_core::civil::Date;
 
-/// The seconds from the beginning of the year 1 to that of the year 1970.
+/// The number of seconds from the beginning of the year 1 to the beginning of 1970.
 const EPOCH: i64 = 62_135_596_800;
 
-/// The days from -9999-01-01, where `jiff_core` begins to count, to 0001-01-01.
+/// The number of days from -9999-01-01, where `jiff_core` begins to count, to 0001-01-01.
 const YEAR_ONE: u32 = 3_652_425;
 
-/// A moment, in seconds since 1970 began in UTC, as a DT in the local time of an offset, which is in minutes east of
-/// UTC: YYYYMMDDHHMMSS&ZZXX (PS3.5 section 6.2). The last moment is that at which a clock at +1400 shows the last second
-/// of the year 9999.
+/// Writes a moment, in seconds since 1970-01-01 UTC, as a DT in the local time of an offset, in minutes east of UTC:
+/// YYYYMMDDHHMMSS&ZZXX (PS3.5 section 6.2). The last moment that it takes is that at which a clock at +1400 shows the
+/// last second of the year 9999.
 pub fn write_dt(moment: u64, offset: i16) -> [u8; 19]
     requires year { moment ≤ last_moment }
     requires offset { IsOffset offset }
@@ -27,7 +27,7 @@ pub fn write_dt(moment: u64, offset: i16) -> [u8; 19]
     ]
 }
 
-/// The seconds from the beginning of the year 1 that a clock shows at a moment.
+/// Returns the second that a clock shows at a moment, counted from the beginning of the year 1.
 fn local_second(moment: u64, offset: i16) -> u64
     requires year { moment ≤ last_moment }
     requires offset { IsOffset offset }
@@ -37,7 +37,7 @@ fn local_second(moment: u64, offset: i16) -> u64
     (moment as i64 + EPOCH + 60 * offset as i64) as u64
 }
 
-/// A day, by its number, as YYYYMMDD.
+/// Writes a day, numbered from 0001-01-01, as YYYYMMDD.
 #[tactic(auto, unfolding(crate::specs::Moments::date_stamp))]
 fn date_stamp(day: u32) -> [u8; 8]
     requires { day ≤ 3652058 }
@@ -51,7 +51,7 @@ fn date_stamp(day: u32) -> [u8; 8]
     [c0, c1, y0, y1, m0, m1, d0, d1]
 }
 
-/// The year, month and day of a day, by its number.
+/// Returns the year, month and day of a day, numbered from 0001-01-01.
 fn date_on(day: u32) -> (u16, u8, u8)
     requires { day ≤ 3652058 }
     ensures year { result.0 ≡ year_on day }
@@ -65,7 +65,7 @@ fn date_on(day: u32) -> (u16, u8, u8)
     (date.year as u16, date.month, date.day)
 }
 
-/// A second of a day as HHMMSS.
+/// Writes a second of a day as HHMMSS.
 #[tactic(auto, unfolding(crate::specs::Moments::time_stamp))]
 fn time_stamp(second: u32) -> [u8; 6]
     requires { second < 86400 }
@@ -77,7 +77,7 @@ fn time_stamp(second: u32) -> [u8; 6]
     [h0, h1, m0, m1, s0, s1]
 }
 
-/// An offset as &ZZXX.
+/// Writes an offset as &ZZXX.
 #[tactic(auto, unfolding(crate::specs::Moments::offset_stamp))]
 fn offset_stamp(offset: i16) -> [u8; 5]
     requires { unsigned_abs offset < 6000 }
@@ -90,7 +90,7 @@ fn offset_stamp(offset: i16) -> [u8; 5]
     [sign, z0, z1, x0, x1]
 }
 
-/// Two digits of a number.
+/// Writes a number as two digits.
 fn two_digits(number: u8) -> [u8; 2]
     requires { number ≤ 99 }
     ensures { result ≡ two_digits number }
@@ -98,7 +98,8 @@ fn two_digits(number: u8) -> [u8; 2]
     [b'0' + number / 10, b'0' + number % 10]
 }
 
-/// What `write_dt` writes is read back as that moment, whatever offset is configured.
+/// Does nothing at run time: its contract tells a proof that what `write_dt` writes is read back as the same moment,
+/// whatever offset is configured.
 pub fn stamps_are_read_back()
     ensures { (second : ℕ) → (offset configured : ℤ) → second ≤ last_moment → IsOffset offset
         → moment (stamp second offset) configured false ≡ Some (pos (second * 1000000)) }

@@ -1,4 +1,4 @@
-//! Texts of keys, and the stored texts that they match (PS3.4 section C.2.2.2).
+//! The matching of the texts of keys with stored texts (PS3.4 section C.2.2.2).
 
 ghost use Rattle.std.specs.Prelude.{◌≡◌, false};
 ghost use Rattle.std.specs.Str.{bytes_eq};
@@ -15,7 +15,7 @@ use crate::ranges::span_of;
 use crate::rule::Rule;
 use ups_pdu::without_padding;
 
-/// Whether a key matches whatever is stored: it has no byte, or `*` alone, apart from padding (PS3.4 section C.2.2.2.3).
+/// Returns whether a key matches whatever is stored: it is empty or `*`, apart from padding (PS3.4 section C.2.2.2.3).
 pub(crate) fn is_universal_text(text: &[u8]) -> bool
     ensures { result ≡ is_universal_text text.now }
 {
@@ -23,7 +23,7 @@ pub(crate) fn is_universal_text(text: &[u8]) -> bool
     text.is_empty() || text == b"*".as_slice()
 }
 
-/// Whether the text of a key matches a stored text, by the rule for its attribute.
+/// Returns whether the text of a key matches a stored text, by the rule for its attribute.
 pub(crate) fn matches_text(rule: Rule, offset: i16, key: &[u8], stored: &[u8]) -> bool
     ensures { result ≡ matches_text rule offset key.now stored.now }
 {
@@ -33,7 +33,7 @@ pub(crate) fn matches_text(rule: Rule, offset: i16, key: &[u8], stored: &[u8]) -
     }
 }
 
-/// Whether a stored text meets a key that has no padding behind it.
+/// Returns whether a stored text meets a key, which has no padding after it unless it is a list of UIDs.
 pub(crate) fn is_text_met(rule: Rule, offset: i16, key: &[u8], stored: &[u8]) -> bool
     ensures { result ≡ text_met rule offset key.now stored.now }
 {
@@ -47,7 +47,7 @@ pub(crate) fn is_text_met(rule: Rule, offset: i16, key: &[u8], stored: &[u8]) ->
     }
 }
 
-/// Whether a stored text is a moment that a key takes in.
+/// Returns whether a stored text is a moment that a key includes.
 fn is_in_range(key: &[u8], stored: &[u8], offset: i16) -> bool
     ensures { result ≡ spans (span_of offset key.now) (moment stored.now offset false) }
 {
@@ -57,7 +57,7 @@ fn is_in_range(key: &[u8], stored: &[u8], offset: i16) -> bool
     }
 }
 
-/// Whether one of the UIDs of a list is one of those that are stored (PS3.4 section C.2.2.2.2). They are compared one by
+/// Returns whether one of the UIDs of a list is one of the stored UIDs (PS3.4 section C.2.2.2.2), comparing them one by
 /// one.
 pub(crate) fn shares_uid(key: &[u8], stored: &[u8]) -> bool
     ensures { result ≡ shares_uid key.now stored.now }
@@ -66,7 +66,7 @@ pub(crate) fn shares_uid(key: &[u8], stored: &[u8]) -> bool
         .any(|uid| is_any_equal(without_padding(uid), stored))
 }
 
-/// Whether one of the stored values is like a pattern.
+/// Returns whether one of the stored values is like a pattern.
 fn is_any_like(pattern: &[u8], stored: &[u8]) -> bool
     ensures { result ≡ any_value (is_like pattern.now) stored.now }
 {
@@ -75,7 +75,7 @@ fn is_any_like(pattern: &[u8], stored: &[u8]) -> bool
         .any(|value| is_long_and_like(pattern, without_padding(value)))
 }
 
-/// Whether a value is like a pattern. A long pattern isn't gone through for a short value.
+/// Returns whether a value is like a pattern, without going through a long pattern for a short value.
 #[tactic(auto, using(crate::proofs::Lengths::too_short))]
 fn is_long_and_like(pattern: &[u8], value: &[u8]) -> bool
     ensures { result ≡ is_like pattern.now value.now }
@@ -86,7 +86,7 @@ fn is_long_and_like(pattern: &[u8], value: &[u8]) -> bool
     likes(pattern, value)
 }
 
-/// Whether one of the stored values is a text.
+/// Returns whether one of the stored values is equal to `text`.
 fn is_any_equal(text: &[u8], stored: &[u8]) -> bool
     ensures { result ≡ any_value (bytes_eq text.now) stored.now }
 {

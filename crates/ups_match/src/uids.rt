@@ -1,4 +1,4 @@
-//! Long lists of UIDs, each with its UIDs in order (PS3.4 section C.2.2.2.2).
+//! Long lists of UIDs, with the UIDs in order (PS3.4 section C.2.2.2.2).
 
 ghost use Rattle.std.specs.Prelude.{◌≡◌, ◌<◌, ◌≤◌, ◌||◌, ◌∷◌, ℕ, List, IfOk, IfSome, length, option_copied};
 ghost use Rattle.std.specs.List.{position_or_len, slice_split};
@@ -14,7 +14,7 @@ use std::collections::BTreeSet;
 use std::marker::Model;
 use ups_pdu::without_padding;
 
-/// A list of UIDs, with its UIDs in order. A contract sees it as the text of the list.
+/// A list of UIDs, with the UIDs in order. A contract sees the text of the list.
 #[derive(Drop)]
 pub(crate) struct UidList<A: Allocator + Copy> {
     text: Vec<u8, A>,
@@ -35,9 +35,9 @@ impl<A: Allocator + Copy> Model for UidList<A> {
 }
 
 impl<A: Allocator + Copy> UidList<A> {
-    /// The list of a text.
+    /// Returns the list of a text.
     ///
-    /// Errors: where memory runs out.
+    /// Errors: if memory runs out.
     pub(crate) fn of(alloc: A, text: &[u8]) -> Result<UidList<A>, AllocError>
         ensures { IfOk result (λ list. list ≡ text.now) }
     {
@@ -46,7 +46,7 @@ impl<A: Allocator + Copy> UidList<A> {
         Ok(UidList { text, uids })
     }
 
-    /// Whether a stored text meets the list, as a key that is matched by a rule.
+    /// Returns whether a stored text meets the list, as a key that is matched by `rule`.
     pub(crate) fn is_met(&self, rule: Rule, offset: i16, stored: &[u8]) -> bool
         ensures { result ≡ text_met rule offset self.now stored.now }
     {
@@ -56,14 +56,14 @@ impl<A: Allocator + Copy> UidList<A> {
         }
     }
 
-    /// Whether a UID is one of the list.
+    /// Returns whether a UID is in the list.
     fn has(&self, uid: &[u8]) -> bool
         ensures { result ≡ any_value (bytes_eq uid.now) self.now }
     {
         self.uids.contains(uid)
     }
 
-    /// Whether one of the UIDs of the list is one of those that are stored.
+    /// Returns whether one of the UIDs of the list is one of the stored UIDs.
     fn shares_uid(&self, stored: &[u8]) -> bool
         ensures { result ≡ shares_uid self.now stored.now }
     {
@@ -73,9 +73,9 @@ impl<A: Allocator + Copy> UidList<A> {
     }
 }
 
-/// The UIDs of a text, in order.
+/// Returns the UIDs of a text, in order.
 ///
-/// Errors: where memory runs out.
+/// Errors: if memory runs out.
 fn uids_of<A: Allocator + Copy>(
     alloc: A,
     text: &[u8],
@@ -94,7 +94,7 @@ fn uids_of<A: Allocator + Copy>(
     }
 }
 
-/// The first value of a text, and the text of the others, where there are others.
+/// Splits a text into its first value and the text of the others, if there are others.
 fn split_value(text: &[u8]) -> (&[u8], Option<&[u8]>)
     ensures values { slice_split is_backslash text.now ≡ result.0.now ∷ values_of (option_copied result.1) }
     ensures shorter { IfSome result.1 (λ others. length others.now < length text.now) }
@@ -106,7 +106,7 @@ fn split_value(text: &[u8]) -> (&[u8], Option<&[u8]>)
     }
 }
 
-/// How many bytes of a text stand before the first backslash.
+/// Returns the number of bytes before the first backslash of a text.
 fn value_len(text: &[u8]) -> usize
     ensures value { result ≡ position_or_len is_backslash text.now }
     ensures bound { result ≤ length text.now }
@@ -114,9 +114,9 @@ fn value_len(text: &[u8]) -> usize
     text.iter().take_while(|byte| **byte != b'\\').count()
 }
 
-/// Puts a UID among others, where it is not there yet.
+/// Inserts a UID if it is not there yet.
 ///
-/// Errors: where memory runs out.
+/// Errors: if memory runs out.
 fn put_uid<A: Allocator + Copy>(
     alloc: A,
     uids: &mut BTreeSet<Vec<u8, A>, A>,

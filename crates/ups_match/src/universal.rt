@@ -1,4 +1,4 @@
-//! Keys that match whatever is stored, also nothing (PS3.4 section C.2.2.2.3).
+//! Keys that match whatever is stored, even nothing (PS3.4 section C.2.2.2.3).
 
 ghost use Rattle.std.specs.Prelude.{◌≡◌};
 ghost use Rattle.ups_dataset.specs.Data.{elements_of};
@@ -11,14 +11,14 @@ use std::alloc::Allocator;
 use ups_dataset::dictionary::{SPECIFIC_CHARACTER_SET, TRANSACTION_UID};
 use ups_dataset::{DataSet, Element, Tag, Value};
 
-/// Whether what an attribute holds is no key: how the other texts are coded, or a UID that isn't told.
+/// Returns whether an attribute is not a key: the character set of the other texts, or a UID that is not disclosed.
 pub(crate) fn is_no_key(tag: Tag) -> bool
     ensures { result ≡ is_no_key tag }
 {
     tag == SPECIFIC_CHARACTER_SET || tag == TRANSACTION_UID
 }
 
-/// Whether a key matches whatever is stored.
+/// Returns whether a key matches whatever is stored.
 #[cycle(universal)]
 pub(crate) fn is_universal_key<A: Allocator + Copy>(key: &Element<A>) -> bool
     ensures { result ≡ is_universal_key key.now.tag (value_view key.now.value) }
@@ -26,7 +26,7 @@ pub(crate) fn is_universal_key<A: Allocator + Copy>(key: &Element<A>) -> bool
     is_no_key(key.tag) || is_universal(&key.value)
 }
 
-/// Whether each key of a set matches whatever is stored.
+/// Returns whether each key of a set matches whatever is stored.
 #[cycle(universal)]
 pub(crate) fn all_universal<A: Allocator + Copy>(keys: &DataSet<A>) -> bool
     ensures { result ≡ all_universal (elements_of keys.now) }
@@ -39,7 +39,7 @@ pub(crate) fn all_universal<A: Allocator + Copy>(keys: &DataSet<A>) -> bool
     true
 }
 
-/// Whether the value of a key matches whatever is stored.
+/// Returns whether the value of a key matches whatever is stored.
 #[cycle(universal)]
 fn is_universal<A: Allocator + Copy>(value: &Value<A>) -> bool
     ensures { result ≡ is_universal (value_view value.now) }

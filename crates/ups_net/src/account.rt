@@ -1,4 +1,4 @@
-//! An association that a peer asked for, as the log tells of it.
+//! An association that a peer requested, as the log sees it.
 
 use crate::journal::{
     Because, Overrun, Time, name_with, operation_of, reason_in, reason_of, title_of, warn_of,
@@ -15,27 +15,27 @@ use ups_dimse::{Command, ResponseCommand, read_command};
 use ups_pdu::{Ae, PduKind, calling_title};
 use ups_session::{End, SessionFault};
 
-/// Where the title of the called application entity begins in an A-ASSOCIATE-RQ, and where it ends (PS3.8 table 9-11).
+/// The start and the end of the called AE title in an A-ASSOCIATE-RQ (PS3.8 table 9-11).
 const CALLED_FROM: usize = 10;
 
 const CALLED_TO: usize = 26;
 
-/// Where the message control header of the one fragment of a P-DATA-TF stands, and behind it the fragment
-/// (PS3.8 section 9.3.5.1 and annex E.2).
+/// The positions of the message control header and of the fragment after it, in a P-DATA-TF with one PDV (PS3.8 section
+/// 9.3.5.1 and annex E.2).
 const CONTROL_AT: usize = 11;
 
 const FRAGMENT_AT: usize = 12;
 
-/// The message control headers of a fragment of a command that is not the last one, and of the last one.
+/// The message control headers of a command fragment that is not the last one, and of the last one.
 const MORE_OF_COMMAND: u8 = 1;
 
 const END_OF_COMMAND: u8 = 3;
 
-/// The status of a response behind which others come to the same request (PS3.4 section C.4.1.1.4).
+/// The status of a response that others to the same request follow (PS3.4 section C.4.1.1.4).
 const PENDING: u16 = 0xff00;
 
-/// The title of the application entity that is asked for an association, by the beginning of its A-ASSOCIATE-RQ, where that
-/// spells one (PS3.8 section 9.3.2).
+/// Returns the called AE title from the beginning of an A-ASSOCIATE-RQ, or None if the bytes encode none (PS3.8 section
+/// 9.3.2).
 fn called_title(beginning: &[u8]) -> Option<Ae> {
     if beginning.first() != Some(&PduKind::AssociateRq.code()) {
         return None;
@@ -43,10 +43,10 @@ fn called_title(beginning: &[u8]) -> Option<Ae> {
     Ae::of(beginning.get(CALLED_FROM..CALLED_TO)?)
 }
 
-/// Why an association ended as it did, as a line has it.
+/// The cause of the end of an association, as a log line shows it.
 #[derive(Clone, Copy)]
 struct Cause {
-    /// The title that was called.
+    /// The called AE title.
     called: Option<Ae>,
     reason: Because,
 }
@@ -60,34 +60,35 @@ impl fmt::Display for Cause {
     }
 }
 
-/// An association that a peer asked for: its number, who asks for it and from where, how many requests were answered, and
-/// which limit the peer ran into. It learns of these by the bytes that are read and sent. Nothing rests on it but the log.
+/// An association that a peer requested: its number, who requested it and from where, how many requests were answered,
+/// and which limit the peer ran into. It learns these from the bytes that are read and sent. Only the log depends on
+/// it.
 #[derive(Drop)]
 pub struct Account<'a> {
-    /// 1 for the first association since the start, and so on.
+    /// The number of the association, 1 for the first one since the start.
     number: u64,
-    /// From where the peer is connected.
+    /// The address of the peer.
     address: SocketAddr,
-    /// When it began, where the clock tells.
+    /// When the association began, if the clock works.
     begun: Option<Instant>,
-    /// Whether each answer is told of.
+    /// Whether each answer is logged.
     is_verbose: bool,
-    /// What the server counts.
+    /// The counts of the server.
     tally: &'a Tally,
-    /// The title of who asks for the association, where that is known, and the one that is asked.
+    /// The calling AE title, if it is known, and the called one.
     calling: Cell<Option<Ae>>,
     called: Cell<Option<Ae>>,
-    /// Whether the request for the association was answered.
+    /// Whether the association request was answered.
     is_answered: Cell<bool>,
-    /// How many requests were answered.
+    /// The number of requests that were answered.
     requests: Cell<u64>,
     /// The limit that the peer ran into.
     overrun: Cell<Option<Overrun>>,
-    /// Why the association was rejected or aborted by this side: the source and the reason.
+    /// The source and the reason for which this side rejected or aborted the association.
     reason: Cell<Option<(u8, u8)>>,
-    /// The fragments of a command that is not there as a whole yet.
+    /// The fragments of a command that is not complete yet.
     command: RefCell<Vec<u8>>,
-    /// The last pending response. A find sends the same for each match, so none of the others is read.
+    /// The last pending response. A C-FIND sends the same one for each match, so the others are not parsed.
     pending: RefCell<Vec<u8>>,
 }
 
@@ -103,7 +104,7 @@ impl<'a> fmt::Display for Account<'a> {
 }
 
 impl<'a> Account<'a> {
-    /// That of an association which begins now, at a server that counts here.
+    /// Creates the account of an association that begins now, and counts it in `tally`.
     pub fn new<R: Clock>(
         rt: &R,
         alloc: Global,
@@ -130,7 +131,7 @@ impl<'a> Account<'a> {
         }
     }
 
-    /// Learns from bytes that were read who asks for the association, and whom.
+    /// Learns the calling and the called AE title from bytes that were read.
     pub(crate) fn hear(&self, bytes: &[u8]) {
         if !self.is_answered.get() && self.calling.get().is_none() {
             self.calling.set(calling_title(bytes));
@@ -138,18 +139,18 @@ impl<'a> Account<'a> {
         }
     }
 
-    /// Learns which limit the peer ran into, where it ran into one.
+    /// Notes which limit the peer ran into, if any.
     pub(crate) fn note_overrun(&self, overrun: Option<Overrun>) {
         self.overrun.set(overrun);
     }
 
-    /// Whether a request was answered.
+    /// Returns whether a request was answered.
     pub(crate) fn has_asked(&self) -> bool {
         self.requests.get() > 0
     }
 
-    /// How many associations in a row have kept a worker waiting with this one, until they made way or ran into a limit, where
-    /// so many had before it.
+    /// Returns how many associations in a row, including this one, kept a worker waiting until they made way or ran
+    /// into a limit; `before` is the number of those before it.
     pub(crate) fn in_row(&self, before: u32) -> u32 {
         match self.overrun.get() {
             Some(_) => before.saturating_add(1),
@@ -157,7 +158,7 @@ impl<'a> Account<'a> {
         }
     }
 
-    /// Learns from a PDU that is sent how something is answered, and tells of that where each answer is told of.
+    /// Learns from a PDU that is sent how the peer is answered, and may log the answer.
     pub(crate) fn note<R: Log>(&self, rt: &R, alloc: Global, pdu: &[u8]) {
         let Some(code) = pdu.first() else {
             return;
@@ -177,7 +178,7 @@ impl<'a> Account<'a> {
         }
     }
 
-    /// Learns from a P-DATA-TF: it has one fragment, as this side sends it.
+    /// Learns from a P-DATA-TF, which has one PDV since this side sends it.
     fn note_data<R: Log>(&self, rt: &R, alloc: Global, pdu: &[u8]) {
         let Ok(mut command) = self.command.try_borrow_mut() else {
             return;
@@ -195,7 +196,7 @@ impl<'a> Account<'a> {
         }
     }
 
-    /// Learns from a command that is sent, where it isn't the pending response that was sent last.
+    /// Learns from a command that is sent, unless it equals the pending response that was sent last.
     fn note_command<R: Log>(&self, rt: &R, alloc: Global, bytes: &[u8]) {
         let Ok(mut pending) = self.pending.try_borrow_mut() else {
             return;
@@ -217,7 +218,7 @@ impl<'a> Account<'a> {
         }
     }
 
-    /// Who asks, by title and address; None where memory runs out.
+    /// Returns the title and address of the peer, or None if memory runs out.
     fn peer(&self, alloc: Global) -> Option<String> {
         let address = self.address.ip();
         match self.calling.get() {
@@ -226,7 +227,7 @@ impl<'a> Account<'a> {
         }
     }
 
-    /// Learns of a response that answers a request.
+    /// Counts a response that answers a request, and may log it.
     fn note_response<R: Log>(&self, rt: &R, alloc: Global, response: &ResponseCommand) {
         self.requests.set(self.requests.get().saturating_add(1));
         self.tally.add_request();
@@ -238,7 +239,7 @@ impl<'a> Account<'a> {
         }
     }
 
-    /// Tells of a request by its response: the operation, the step and the status.
+    /// Logs a request by its response: the operation, the step and the status.
     fn tell_response<R: Log>(&self, rt: &R, level: Level, response: &ResponseCommand) {
         let (operation, step) = operation_of(&response.result);
         let status = response.status;
@@ -251,7 +252,7 @@ impl<'a> Account<'a> {
         }
     }
 
-    /// How long the association has taken.
+    /// Returns how long the association has taken.
     fn elapsed<R: Clock>(&self, rt: &R) -> Duration {
         match self.begun {
             Some(begun) => begun.elapsed(rt).unwrap_or(Duration::ZERO),
@@ -259,7 +260,7 @@ impl<'a> Account<'a> {
         }
     }
 
-    /// What is told of why the association ended as it did: of a rejection also the title that was called.
+    /// Returns the cause to log for the end of the association, with the called AE title if it was rejected.
     fn cause(&self, ended: &Result<End, SessionFault>) -> Cause {
         let called = match ended {
             Ok(End::Rejected) => self.called.get(),
@@ -271,7 +272,7 @@ impl<'a> Account<'a> {
         }
     }
 
-    /// Tells what the association came to.
+    /// Logs how the association ended.
     pub(crate) fn tell_end<R: Clock + Log>(&self, rt: &R, ended: &Result<End, SessionFault>) {
         let name = name_with(ended, self.overrun.get());
         let cause = self.cause(ended);

@@ -1,47 +1,47 @@
-//! How far into a message the bytes go that a peer has sent.
+//! How far into a message the bytes received from a peer go.
 
 use crate::responses::Responses;
 use ups_pdu::{PduKind, be_u32_at};
 
-/// How many bytes stand at the front of a PDU: its type, a reserved byte and its length (PS3.8 section 9.3.1). As many
-/// stand at the front of a fragment in a P-DATA-TF: its length, its presentation context and its message control header
+/// The number of bytes in the header of a PDU: its type, a reserved byte and its length (PS3.8 section 9.3.1). The
+/// header of a PDV in a P-DATA-TF has as many: its length, its presentation context and its message control header
 /// (PS3.8 section 9.3.5.1 and annex E.2).
 const HEAD: usize = 6;
 
-/// Where the message control header stands in the head of a fragment, and where the length in that of a PDU.
+/// The positions of the message control header in the header of a PDV, and of the length in that of a PDU.
 const CONTROL_AT: usize = 5;
 
 const LENGTH_AT: usize = 2;
 
-/// How many bytes of the head of a fragment its length counts.
+/// The number of bytes in the header of a PDV that its length includes.
 const COUNTED: usize = 2;
 
-/// The bit of a message control header that says that the fragment is of a command, and the one that says that it is the last
-/// one of its command or data set.
+/// The bits of a message control header for a fragment of a command, and for the last fragment of a command or data
+/// set.
 const COMMAND: u8 = 1;
 
 const LAST: u8 = 2;
 
-/// How far into a message the bytes go that have come. A command and a data set count as a message each, so that a peer is
-/// in none behind a command that has no data set. Nothing rests on it but the time limits.
+/// How far into a message the received bytes go. A command and a data set count as a message each, so a peer is between
+/// messages after a command without a data set. Only the time limits depend on it.
 #[derive(Clone, Copy)]
 pub(crate) struct Arrival {
-    /// The head that comes: that of a PDU, or of a fragment of a P-DATA-TF.
+    /// The header that is being received, of a PDU or of a PDV.
     head: [u8; HEAD],
-    /// How many bytes of the head have come.
+    /// The number of bytes of the header that were received.
     come: usize,
-    /// How many bytes are still to come of the fragment, or of a PDU without fragments.
+    /// The number of bytes still to come of the fragment, or of a PDU without PDVs.
     body: usize,
-    /// How many bytes of the P-DATA-TF are still to come behind the fragment.
+    /// The number of bytes of the P-DATA-TF still to come after the fragment.
     behind: usize,
-    /// Whether the message ends with what is still to come of the fragment or the PDU.
+    /// Whether the message ends with the rest of the fragment or the PDU.
     is_last: bool,
-    /// Whether the fragment is of a command.
+    /// Whether the fragment belongs to a command.
     is_command: bool,
 }
 
 impl Arrival {
-    /// No byte has come.
+    /// Creates the state before the first byte.
     pub(crate) fn new() -> Arrival {
         Arrival {
             head: [0; HEAD],
@@ -53,12 +53,12 @@ impl Arrival {
         }
     }
 
-    /// Whether each message that has begun has come as a whole.
+    /// Returns whether each message that has begun is complete.
     pub(crate) fn is_between(&self) -> bool {
         self.is_last && self.come == 0 && self.body == 0 && self.behind == 0
     }
 
-    /// These bytes come; whether a message ends among them.
+    /// Takes received bytes, and returns whether a message ends among them.
     pub(crate) fn take(&mut self, bytes: &[u8]) -> bool {
         let mut left = bytes;
         let mut is_ended = false;
@@ -72,7 +72,7 @@ impl Arrival {
         is_ended
     }
 
-    /// These bytes come from a peer that responds; whether a message ends among them.
+    /// Takes bytes received from a peer that responds, and returns whether a message ends among them.
     pub(crate) fn take_responses(&mut self, bytes: &[u8], responses: &mut Responses) -> bool {
         let mut left = bytes;
         let mut is_ended = false;
@@ -93,7 +93,7 @@ impl Arrival {
         is_ended
     }
 
-    // Takes a byte of a head, or what is there of a body, and gives the bytes behind it.
+    // Takes one byte of a header or the available bytes of a body, and returns the bytes that follow.
     fn step<'b>(&mut self, bytes: &'b [u8]) -> &'b [u8] {
         if self.body > 0 {
             let count = self.body.min(bytes.len());
@@ -111,7 +111,7 @@ impl Arrival {
         bytes.get(1..).unwrap_or(&[])
     }
 
-    // The head has come.
+    // Interprets a complete header.
     fn open(&mut self) {
         if self.behind > 0 {
             self.open_fragment();
@@ -120,7 +120,7 @@ impl Arrival {
         }
     }
 
-    // The head of a PDU has come. A message is more than the head of a P-DATA-TF, and any other PDU is one.
+    // Interprets the header of a PDU. A message needs more than the header of a P-DATA-TF; any other PDU is a message.
     fn open_pdu(&mut self) {
         let length = self.length_at(LENGTH_AT);
         let is_data = self.head[0] == PduKind::Data.code();
@@ -133,7 +133,7 @@ impl Arrival {
         }
     }
 
-    // The head of a fragment has come.
+    // Interprets the header of a PDV.
     fn open_fragment(&mut self) {
         self.body = self.length_at(0).saturating_sub(COUNTED);
         self.behind = self.behind.saturating_sub(HEAD).saturating_sub(self.body);
@@ -141,7 +141,7 @@ impl Arrival {
         self.is_command = self.head[CONTROL_AT] & COMMAND != 0;
     }
 
-    // The length that stands there in the head.
+    // Returns the length at `place` in the header.
     fn length_at(&self, place: usize) -> usize {
         match be_u32_at(self.head.get(place..).unwrap_or(&[])) {
             Some((length, _)) => length as usize,

@@ -1,13 +1,13 @@
-//! How many connections wait to be accepted, as Linux tells it in the lists of its sockets.
+//! The number of connections that wait to be accepted, according to the socket lists of Linux.
 
 use std::alloc::Allocator;
 use std::io::BufRead;
 use std::net::{IpAddr, SocketAddr};
 
-/// The state of a socket that listens, as a list has it.
+/// The state of a listening socket in a list.
 const LISTENS: &str = "0A";
 
-/// The file that lists the sockets of an address's version of IP.
+/// Returns the file that lists the sockets of the IP version of an address.
 pub(crate) fn list_of(address: SocketAddr) -> &'static str {
     match address.ip() {
         IpAddr::V4(_) => "/proc/net/tcp",
@@ -15,8 +15,8 @@ pub(crate) fn list_of(address: SocketAddr) -> &'static str {
     }
 }
 
-/// How a list has an address: four bytes at a time, the last one first, and the port, in hexadecimal; None where memory runs
-/// out.
+/// Returns an address as a list shows it, or None if memory runs out: in hexadecimal, four bytes at a time with the
+/// last one first, and the port.
 fn listed<A: Allocator + Copy>(alloc: A, octets: &mut [u8], port: u16) -> Option<String<A>> {
     for word in octets.chunks_mut(4) {
         word.reverse();
@@ -25,7 +25,8 @@ fn listed<A: Allocator + Copy>(alloc: A, octets: &mut [u8], port: u16) -> Option
     format!(in alloc; "{digits}:{port:04X}").ok()
 }
 
-/// How many connections wait at the socket of a line of a list; None where it isn't the one that listens at this address.
+/// Returns how many connections wait at the socket of a line, or None if it is not the one that listens at this
+/// address.
 fn waiting_in(line: &str, listed: &str) -> Option<u64> {
     let mut words = line.split_ascii_whitespace();
     let local = words.nth(1)?;
@@ -37,9 +38,11 @@ fn waiting_in(line: &str, listed: &str) -> Option<u64> {
     u64::from_str_radix(waiting, 16).ok()
 }
 
-/// How many connections wait to be accepted by the socket that listens at an address, by the list of the sockets of its
-/// version of IP, as `/proc/net/tcp` and `/proc/net/tcp6` have it. The sockets that listen stand at its front, so a long list
-/// is not read to its end. None where the socket isn't listed, or memory or the list gives out.
+/// Returns how many connections wait to be accepted by the socket that listens at an address.
+///
+/// `list` is the list of the sockets of its IP version, as in `/proc/net/tcp` and `/proc/net/tcp6`. Listening sockets
+/// come first, so a long list is not read to its end. Returns None if the socket is not listed, memory runs out or the
+/// list can't be read.
 pub fn waiting_at<A: Allocator + Copy, L: BufRead + Drop>(
     alloc: A,
     list: L,

@@ -1,4 +1,4 @@
-//! The committer: in the sweeper's thread it puts what is entered into a ledger, and lets the answers go that wait for it.
+//! The committer: writes new entries to a ledger in the sweeper's thread, and releases the answers that wait for it.
 
 ghost use Rattle.std.specs.Prelude.{◌≡◌};
 ghost use Rattle.ups_ledger.specs.Keeping.{HasWatched, IsKept};
@@ -17,53 +17,53 @@ use ups_ledger::{CommitFault, Commits, Keeper, Ledger};
 use ups_service::SharedService;
 use ups_turn::{Desk, Pass};
 
-/// How many milliseconds lie between two rounds.
+/// The number of milliseconds between two rounds.
 pub(crate) const ROUND: u64 = 1_000;
 
-/// For how many milliseconds the deliverers aren't rung for again, so that a busy server makes some ten deliveries a second to a
-/// watcher, and not one for each request.
+/// The number of milliseconds before the deliverers are rung for again, so that a busy server makes some ten deliveries
+/// a second to a watcher, and not one for each request.
 pub(crate) const REST: u64 = 100;
 
-/// For how many microseconds it is waited at most, behind a commit, until as many entries are asked for as then.
+/// The maximum number of microseconds to wait, after a commit, until as many entries are asked for as with it.
 const GATHERING: u64 = 200;
 
-/// How many entries are committed at once at most: so many are recorded in one turn.
+/// The maximum number of entries to commit at once, which are recorded in one turn.
 const GROUP: usize = 256;
 
-/// What is left of the time between two rounds; nothing where the clock fails.
+/// Returns the time left until the next round, or zero if the clock fails.
 pub(crate) fn left_of_round<R: Clock>(rt: &R, begun: Instant) -> Duration {
     let elapsed = begun.elapsed(rt).unwrap_or(Duration::MAX);
     Duration::from_millis(ROUND).saturating_sub(elapsed)
 }
 
-/// Waits for the next round since a moment, where the last try has failed.
+/// Waits until the next round after `begun` if the last try failed.
 fn rest_unless<R: Wait + Clock>(rt: &R, is_done: bool, begun: Instant) {
     if !is_done {
         thread::sleep(rt, left_of_round(rt, begun));
     }
 }
 
-/// What the committer has told of, and for what it rang.
+/// What the committer has logged, and what it rang for.
 #[derive(Clone, Copy)]
 pub(crate) struct Committer {
-    /// When it was told last that nothing is committed.
+    /// When it last logged that nothing can be committed.
     failure: Reminder,
     /// Whether the last try failed.
     is_failing: bool,
-    /// How many entries were committed when it rang last, and when that was.
+    /// The number of entries committed when it last rang, and the time of that.
     rung: u64,
     since: Option<Instant>,
-    /// Whether something was committed since the ledger was tidied up.
+    /// Whether something was committed since the ledger was last tidied up.
     is_untidy: bool,
-    /// How many entries came with the last commit and while it was made, and how long it took.
+    /// The number of entries that came with the last commit and while it was made, and how long it took.
     came: u64,
     took: Duration,
-    /// Whether it has looked in this round if more is entered, for which nobody may wait.
+    /// Whether it has checked in this round for new entries that perhaps nobody waits for.
     has_looked: bool,
 }
 
 impl Committer {
-    /// One that has told of nothing, with so many entries committed.
+    /// Creates a committer that has logged nothing, with `committed` entries committed.
     pub(crate) fn new(committed: u64) -> Committer {
         Committer {
             failure: Reminder::of(MINUTE),
@@ -77,7 +77,7 @@ impl Committer {
         }
     }
 
-    // Tells that nothing is committed, at once and once a minute.
+    // Logs that nothing can be committed, at once and then once a minute.
     fn fail<R: Clock + Log>(&mut self, rt: &R, fault: CommitFault) {
         if self.failure.is_due(moment_of(rt)) || !self.is_failing {
             tell_uncommitted(rt, fault);
@@ -85,7 +85,7 @@ impl Committer {
         self.is_failing = true;
     }
 
-    // Notes that so many entries are committed, and tells so where the last try failed.
+    // Notes that `committed` entries are committed, and logs it if the last try failed.
     fn succeed<R: Log>(&mut self, rt: &R, committed: u64) {
         if self.is_failing {
             tell_recovered(rt, committed);
@@ -94,7 +94,7 @@ impl Committer {
         self.is_untidy = true;
     }
 
-    // For how long it may not ring yet; nothing where the clock fails.
+    // Returns the time until it may ring again, or zero if the clock fails.
     fn left_of_rest<R: Clock>(&self, rt: &R) -> Duration {
         let elapsed = match self.since {
             Some(since) => since.elapsed(rt).unwrap_or(Duration::MAX),
@@ -103,7 +103,7 @@ impl Committer {
         Duration::from_millis(REST).saturating_sub(elapsed)
     }
 
-    // Rings for the deliverers where more is committed than it rang for, and it may ring again.
+    // Rings for the deliverers if more is committed than it rang for and it may ring again.
     fn ring<R: Clock>(&mut self, rt: &R, roster: &Roster, committed: u64) {
         if committed != self.rung && self.left_of_rest(rt).is_zero() {
             self.rung = committed;
@@ -112,7 +112,7 @@ impl Committer {
         }
     }
 
-    // For how long further entries are waited for: no longer than it may not ring yet for what is committed.
+    // Returns how long to wait for further entries: at most until it may ring for what is committed.
     fn wait_of<R: Clock>(&self, rt: &R, committed: u64, left: Duration) -> Duration {
         if committed == self.rung {
             return left;
@@ -120,9 +120,9 @@ impl Committer {
         left.min(self.left_of_rest(rt).max(Duration::from_millis(1)))
     }
 
-    // Waits until more entries are asked for than are committed, for so long at most; whether they are. Behind a commit it
-    // waits for as many first as came with it and while it was made: for as long as that took, and for a moment at most. So those
-    // that ask one after the other are let go together, and come together.
+    // Waits at most `wait` until more entries are asked for than are committed, and returns whether they are. After a
+    // commit it first waits for as many as came with it and while it was made: for as long as that took, but at most
+    // `GATHERING`. So threads that ask one after the other are released together, and come together.
     fn await_asked<R: Wait>(
         &self,
         rt: &R,
@@ -137,8 +137,8 @@ impl Committer {
         commits.await_asked(rt, committed.saturating_add(1), wait) > committed
     }
 
-    // Whether there are more entries than are committed: at once in a round, where more are entered, and then as soon as more are
-    // asked for, in so long at most.
+    // Returns whether there are more entries than are committed. The first call in a round checks that at once; later
+    // ones wait at most `wait` until more are asked for.
     fn await_more<M: SharedService<Global>, R: Wait>(
         &mut self,
         rt: &R,
@@ -154,7 +154,7 @@ impl Committer {
         self.await_asked(rt, commits, committed, wait)
     }
 
-    // Notes how many entries came with a commit and while it was made since a moment, and how long it took.
+    // Notes how many entries came with a commit begun at `since` and while it was made, and how long it took.
     fn note<R: Clock>(&mut self, rt: &R, came: u64, since: Option<Instant>) {
         self.came = came.min(GROUP as u64);
         self.took = match since {
@@ -163,8 +163,8 @@ impl Committer {
         };
     }
 
-    /// Commits what is entered, at most so many entries as are committed at once. Where they can't be committed it says so in
-    /// the log, at once and each minute; and false.
+    /// Commits new entries, at most `GROUP`. If they can't be committed, logs that, at once and then each minute, and
+    /// returns false.
     fn commit<M: SharedService<Global>, L: Ledger, R>(
         &mut self,
         rt: &R,
@@ -198,7 +198,7 @@ impl Committer {
         }
     }
 
-    /// Commits what is entered where there is more, as `commit` does; and true where there isn't.
+    /// Commits new entries if there are more, as `commit` does; returns true if there are none.
     fn commit_if<M: SharedService<Global>, L: Ledger, R>(
         &mut self,
         is_more: bool,
@@ -222,8 +222,9 @@ impl Committer {
         self.commit(rt, premises, alloc, desk, pass, keeper)
     }
 
-    /// Commits what is entered, as soon as somebody waits for it, until the next round since a moment; and rings for the deliverers where more
-    /// is committed, but not twice in a tenth of a second. What can't be committed is tried again in the next round.
+    /// Commits new entries as soon as somebody waits for them, until the next round after `begun`. Rings for the
+    /// deliverers when more is committed, but at most once in a tenth of a second. If a commit fails, it is tried again
+    /// in the next round.
     fn keep_until<M: SharedService<Global>, L: Ledger, R>(
         &mut self,
         rt: &R,
@@ -256,8 +257,8 @@ impl Committer {
         unreachable!()
     }
 
-    /// Waits for the next round, and commits what is entered meanwhile. Where nothing was, and something before, the ledger is
-    /// tidied up. Where the clock fails it commits at the end alone.
+    /// Waits for the next round and commits new entries meanwhile. Tidies up the ledger if none came in this round but
+    /// some did before. If the clock fails, commits only at the end.
     pub(crate) fn keep<M: SharedService<Global>, L: Ledger, R>(
         &mut self,
         rt: &R,

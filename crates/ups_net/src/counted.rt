@@ -1,4 +1,4 @@
-//! A service that counts which reports are acknowledged.
+//! A service that counts the acknowledged reports.
 
 ghost use Rattle.std.specs.Prelude.{◌≡◌};
 
@@ -8,7 +8,7 @@ use ups_life::{Ask, Reply, Request};
 use ups_pdu::Ae;
 use ups_service::Service;
 
-/// A service, and how many acknowledgements of event reports it has accepted. It answers as what is inside.
+/// A service and the number of acknowledgments of event reports that it has accepted. It answers as the inner one does.
 #[derive(Drop)]
 pub(crate) struct Counted<S: Service<Global>> {
     pub(crate) service: S,
@@ -16,7 +16,7 @@ pub(crate) struct Counted<S: Service<Global>> {
 }
 
 impl<S: Service<Global>> Counted<S> {
-    /// A service that has accepted none yet.
+    /// Wraps a service that has accepted none yet.
     pub(crate) fn new(service: S) -> Counted<S>
         ensures { result.service ≡ service }
     {
@@ -27,12 +27,12 @@ impl<S: Service<Global>> Counted<S> {
     }
 }
 
-/// Whether an ask is an acknowledgement.
+/// Returns whether an ask is an acknowledgment.
 fn is_acknowledgement(ask: &Option<Ask<Global>>) -> bool {
     matches!(ask, Some(Ask::Do(Request::Ack { .. })))
 }
 
-/// Whether a reply says that a request was accepted.
+/// Returns whether a reply says that a request was accepted.
 fn is_success(reply: &Reply<Global>) -> bool {
     matches!(reply, Reply::Status(Status::Success))
 }

@@ -1,24 +1,24 @@
-//! What is told of the deliveries to a watcher: one line a second at most.
+//! What is logged about the deliveries to a watcher: at most one line a second.
 
 use crate::responses::Failures;
 use std::sync::atomic::{AtomicU64, Ordering};
 use std::time::Duration;
 
-/// What associations with a watcher came to, over each of which reports were acknowledged.
+/// The result of associations with a watcher in which reports were acknowledged.
 #[derive(Clone, Copy)]
 pub(crate) struct Digest {
-    /// How many associations these were.
+    /// The number of associations.
     pub(crate) associations: u64,
-    /// How many reports were acknowledged.
+    /// The number of acknowledged reports.
     pub(crate) reports: u64,
-    /// How many of the responses had a failure status, and the last of these.
+    /// The number of responses with a failure status, and the last of these.
     pub(crate) failures: Failures,
-    /// How long they took together.
+    /// The total time that the associations took.
     pub(crate) elapsed: Duration,
 }
 
-/// The deliveries to a watcher of which no line has told yet. The deliverer that has the watcher adds to it, and the sweeper
-/// takes what is there: nothing rests on it but the log.
+/// The deliveries to a watcher that were not logged yet. The deliverer that has the watcher adds to them, and the
+/// sweeper takes them. Only the log depends on them.
 #[derive(Drop)]
 pub(crate) struct Untold {
     associations: AtomicU64,
@@ -26,12 +26,12 @@ pub(crate) struct Untold {
     failures: AtomicU64,
     last: AtomicU64,
     milliseconds: AtomicU64,
-    /// When a line told of a delivery last, in seconds since 1970-01-01 UTC.
+    /// When a delivery was last logged, in seconds since 1970-01-01 UTC.
     told: AtomicU64,
 }
 
 impl Untold {
-    /// That there are none.
+    /// Creates an empty sum of deliveries.
     pub(crate) fn new() -> Untold {
         Untold {
             associations: AtomicU64::new(0),
@@ -43,12 +43,12 @@ impl Untold {
         }
     }
 
-    /// Whether a line may tell of a delivery in this second, since none did yet; it does then.
+    /// Returns whether a delivery may be logged in this second, since none was yet; if so, notes that one is.
     pub(crate) fn is_to_be_told(&self, now: u64) -> bool {
         self.told.swap(now, Ordering::SeqCst) != now
     }
 
-    /// Further ones.
+    /// Adds deliveries.
     pub(crate) fn add(&self, digest: Digest) {
         let milliseconds = u64::try_from(digest.elapsed.as_millis()).unwrap_or(0);
         self.reports.fetch_add(digest.reports, Ordering::SeqCst);
@@ -63,7 +63,8 @@ impl Untold {
             .fetch_add(digest.associations, Ordering::SeqCst);
     }
 
-    /// What is told of them in this second: nothing where there are none, or where a line in the same second told of others.
+    /// Takes the deliveries to log in this second. Returns None if there are none, or others were logged in this
+    /// second.
     pub(crate) fn take(&self, now: u64) -> Option<Digest> {
         if self.associations.load(Ordering::SeqCst) == 0 || !self.is_to_be_told(now) {
             return None;

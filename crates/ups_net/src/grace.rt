@@ -8,17 +8,19 @@ use crate::socket::{has_come, which_have_come};
 use std::net::TcpStream;
 use std::time::{Clock, Duration};
 
-/// For how many milliseconds a look at the door waits before the next one: while others wait there, and while a worker is
-/// free.
+/// The number of milliseconds that a look at the door waits before the next one: while others wait there, and while a
+/// worker is free.
 const LOOK: i32 = 10;
 
 const LONG_LOOK: i32 = 1_000;
 
-/// At how many looks in a row somebody has to wait at the door.
+/// The number of looks in a row at which somebody has to wait at the door.
 const LOOKS: u32 = 3;
 
-/// For how many milliseconds an association request that has begun is left alone while others wait, by how many associations
-/// in a row have kept the same worker waiting before, until they made way or ran into a limit.
+/// Returns for how many milliseconds an association request that has begun is left alone while others wait.
+///
+/// `in_row` is the number of associations in a row that kept the same worker waiting before it, until they made way or
+/// ran into a limit.
 pub fn request_grace(in_row: u32) -> u64
     ensures first { in_row ≡ 0 → result ≡ 1000 }
     ensures second { in_row ≡ 1 → result ≡ 500 }
@@ -31,9 +33,11 @@ pub fn request_grace(in_row: u32) -> u64
     }
 }
 
-/// For how many milliseconds an association that is idle, and on which nothing was asked yet, is left alone while others wait,
-/// by how many associations in a row have kept the same worker waiting before. One on which something was asked is left
-/// alone as if there were none.
+/// Returns for how many milliseconds an idle association on which nothing was asked yet is left alone while others
+/// wait.
+///
+/// `in_row` is the number of associations in a row that kept the same worker waiting before it; it counts as 0 once
+/// something was asked.
 pub fn idle_grace(in_row: u32) -> u64
     ensures first { in_row ≡ 0 → result ≡ 10000 }
     ensures second { in_row ≡ 1 → result ≡ 500 }
@@ -45,8 +49,8 @@ pub fn idle_grace(in_row: u32) -> u64
     }
 }
 
-/// What an association may have to make way for: the connections that wait at a door, the sooner the more associations in a
-/// row have kept its worker waiting before it.
+/// What an association may have to make way for: the connections that wait at a door. The more associations in a row
+/// have kept its worker waiting before it, the sooner it makes way.
 #[derive(Clone, Copy)]
 pub struct Pressure<'a> {
     pub door: &'a Door,
@@ -54,7 +58,7 @@ pub struct Pressure<'a> {
 }
 
 impl<'a> Pressure<'a> {
-    /// That on an association on which something was asked already, or not yet.
+    /// Returns the pressure on an association on which something was asked already, or not yet.
     pub(crate) fn on(self, has_asked: bool) -> Pressure<'a> {
         let in_row = if has_asked { 0 } else { self.in_row };
         Pressure {
@@ -63,18 +67,18 @@ impl<'a> Pressure<'a> {
         }
     }
 
-    /// For how long an association request that has begun is left alone.
+    /// Returns how long an association request that has begun is left alone.
     pub(crate) fn for_request(&self) -> Duration {
         Duration::from_millis(request_grace(self.in_row))
     }
 
-    /// For how long an association that is idle is left alone.
+    /// Returns how long an idle association is left alone.
     pub(crate) fn for_idle(&self) -> Duration {
         Duration::from_millis(idle_grace(self.in_row))
     }
 }
 
-/// What is seen at a look.
+/// The result of a look.
 #[derive(Clone, Copy, PartialEq, Eq)]
 pub(crate) enum Seen {
     /// The peer has said something, or is gone.
@@ -85,7 +89,7 @@ pub(crate) enum Seen {
     Nothing,
 }
 
-/// What is seen where the peer alone was looked at.
+/// Returns the result of a look at the peer alone.
 fn seen_of(has_spoken: bool) -> Seen {
     if has_spoken {
         Seen::Peer
@@ -94,21 +98,21 @@ fn seen_of(has_spoken: bool) -> Seen {
     }
 }
 
-/// An association behind its grace: it stays for as long as nobody waits for its worker. Of those that are idle for their
-/// first ten seconds and more the one that is idle for the longest makes way first. Nothing is promised of it.
+/// An association after its grace: it stays as long as nobody waits for its worker. Of those that are idle for ten
+/// seconds and more, the one that is idle for the longest makes way first. No contract covers it.
 #[derive(Drop)]
 pub(crate) struct Stay<'a> {
     pressure: Pressure<'a>,
-    /// Whether the others that are idle for longer make way before it.
+    /// Whether others that are idle for longer make way before it.
     is_in_order: bool,
-    /// Since when it stays, in milliseconds since 1970-01-01 UTC.
+    /// When it began to stay, in milliseconds since 1970-01-01 UTC.
     since: u64,
-    /// At how many looks in a row others waited.
+    /// The number of looks in a row at which others waited.
     looks: u32,
 }
 
 impl<'a> Stay<'a> {
-    /// That of an association which is idle, or has not been asked for as a whole.
+    /// Creates the stay of an association that is idle, or whose request is not complete.
     pub(crate) fn new<R: Clock>(rt: &R, pressure: Pressure<'a>, is_idle: bool) -> Stay<'a> {
         Stay {
             pressure,
@@ -118,12 +122,12 @@ impl<'a> Stay<'a> {
         }
     }
 
-    /// Whether it is its turn to make way.
+    /// Returns whether it is its turn to make way.
     fn is_due(&self) -> bool {
         self.looks >= LOOKS && (!self.is_in_order || self.pressure.door.is_first(self.since))
     }
 
-    /// Waits for the peer and for others, for so many milliseconds at most. While others wait it looks again a little later.
+    /// Waits for the peer and for others for at most `milliseconds`. While others wait, it pauses before the next look.
     pub(crate) fn look(&mut self, stream: &TcpStream, milliseconds: i32) -> Seen {
         let door = self.pressure.door;
         if door.has_free_worker() {
@@ -145,7 +149,7 @@ impl<'a> Stay<'a> {
         seen_of(has_come(stream, LOOK))
     }
 
-    /// It stays no longer, since its peer has spoken, its time is over or it makes way.
+    /// Ends the stay, since the peer has spoken, its time is over or it makes way.
     pub(crate) fn end(&self) {
         self.pressure.door.step_back(self.since);
     }

@@ -1,4 +1,4 @@
-//! What stands before a line of the log.
+//! The heading of a log line.
 
 ghost use Rattle.ups_life.specs.Settings.{IsMoment};
 
@@ -7,16 +7,16 @@ use std::os::unix::fs::MetadataExt;
 use std::{env, fmt, fs, str};
 use ups_match::write_dt;
 
-/// What stands before a line of the log.
+/// The kind of heading of log lines.
 #[derive(Clone, Copy, Debug, PartialEq, Eq)]
 pub enum LineStyle {
-    /// Its time, in UTC.
+    /// The time of the line, in UTC.
     Time,
-    /// Its priority, as the journal of systemd reads it; it knows the time by itself.
+    /// The priority of the line, as the systemd journal reads it; the journal knows the time itself.
     Priority,
 }
 
-/// Whether these words are the device and the inode of a file, as in `8:1234`.
+/// Returns whether the words are the device and inode of a file, as in `8:1234`.
 fn is_file(words: &str, device: u64, inode: u64) -> bool {
     match words.split_once(':') {
         Some((one, other)) => {
@@ -27,7 +27,7 @@ fn is_file(words: &str, device: u64, inode: u64) -> bool {
     }
 }
 
-/// Whether standard error goes to the journal of systemd, which then says so in JOURNAL_STREAM, by device and inode.
+/// Returns whether standard error goes to the systemd journal, which then sets JOURNAL_STREAM to its device and inode.
 fn goes_to_journal(rt: &HostRuntime) -> bool {
     let Ok(words) = env::var(rt, "JOURNAL_STREAM") else {
         return false;
@@ -39,7 +39,7 @@ fn goes_to_journal(rt: &HostRuntime) -> bool {
 }
 
 impl LineStyle {
-    /// That of lines that go to standard error.
+    /// Returns the style of lines that go to standard error.
     pub fn of(rt: &HostRuntime) -> LineStyle {
         if goes_to_journal(rt) {
             LineStyle::Priority
@@ -49,7 +49,7 @@ impl LineStyle {
     }
 }
 
-/// The priority of a level, as the journal of systemd has it.
+/// Returns the priority of a level in the systemd journal.
 fn priority_of(level: Level) -> u8 {
     match level {
         Level::Error => 3,
@@ -59,7 +59,7 @@ fn priority_of(level: Level) -> u8 {
     }
 }
 
-/// A moment in UTC, as in 2026-11-27T08:30:00Z.
+/// Formats a moment in UTC, as in 2026-11-27T08:30:00Z.
 fn time_at(moment: u64) -> [u8; 20]
     requires { IsMoment moment }
 {
@@ -89,7 +89,7 @@ fn time_at(moment: u64) -> [u8; 20]
     ]
 }
 
-/// What stands before one line.
+/// The heading of one line.
 #[derive(Clone, Copy)]
 pub(crate) enum Heading {
     /// The time.
@@ -99,7 +99,7 @@ pub(crate) enum Heading {
 }
 
 impl Heading {
-    /// That of a line of this level, which is told at this moment.
+    /// Creates the heading of a line of this level, logged at `moment`.
     pub(crate) fn new(style: LineStyle, level: Level, moment: u64) -> Heading
         requires { IsMoment moment }
     {

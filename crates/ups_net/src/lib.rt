@@ -1,7 +1,7 @@
 //! The server: workers that share a listener and a desk, each with a pass of its own, over TCP (PS3.8 section 9.1).
 //!
-//! Of what a socket carries nothing is promised, nor of when: a contract here says what becomes of the passes, whatever
-//! was read. Of time limits, of when a round begins and of the door none speaks.
+//! Nothing is promised about what a socket carries, or when: a contract here says what becomes of the passes, whatever
+//! was read. No contract covers time limits, the start of a round or the door.
 #![tactic(auto)]
 
 mod account;

@@ -6,35 +6,35 @@ use std::sync::{Condvar, Mutex, MutexGuard, Wait};
 use std::thread;
 use std::time::{Clock, Duration};
 
-/// How many lines wait at most.
+/// The maximum number of waiting lines.
 const MOST: usize = 1_024;
 
-/// For how many milliseconds it is waited between two looks whether all lines are written, and how many times that is looked.
+/// The number of milliseconds between two checks whether all lines are written, and the number of checks.
 const LOOK: u64 = 10;
 
 const LOOKS: u32 = 100;
 
-/// A line that waits.
+/// A line that waits to be written.
 #[derive(Drop)]
 pub(crate) struct QueuedLine {
-    /// The line, without its end.
+    /// The line, without its line end.
     pub(crate) text: String,
-    /// How many lines were lost between the one before it and it.
+    /// The number of lines lost between the previous one and this one.
     pub(crate) lost: u64,
 }
 
-/// What is under the lock of a queue.
+/// The part of a queue that its lock protects.
 #[derive(Drop)]
 struct Waiting {
     lines: VecDeque<QueuedLine>,
-    /// How many lines were lost since the last one that waits.
+    /// The number of lines lost since the last one that waits.
     lost: u64,
     /// Whether a line is being written.
     is_writing: bool,
 }
 
 impl Waiting {
-    /// Puts a line behind those that wait; whether there is room and memory for it.
+    /// Appends a line to those that wait, and returns whether there was room and memory for it.
     fn put(&mut self, text: String) -> bool {
         if self.lines.len() >= MOST {
             return false;
@@ -46,7 +46,7 @@ impl Waiting {
         self.lines.push_back(line).is_ok()
     }
 
-    /// Puts a line behind those that wait, or counts it as lost.
+    /// Appends a line to those that wait, or counts it as lost.
     fn put_or_lose(&mut self, text: Option<String>) {
         let is_put = match text {
             Some(text) => self.put(text),
@@ -59,34 +59,34 @@ impl Waiting {
         };
     }
 
-    /// The line that waits longest, which is to be written now.
+    /// Takes the line that has waited longest, to be written now.
     fn take(&mut self) -> Option<QueuedLine> {
         let line = self.lines.pop_front();
         self.is_writing = line.is_some();
         line
     }
 
-    /// Whether all lines are written.
+    /// Returns whether all lines are written.
     fn is_done(&self) -> bool {
         self.lines.is_empty() && !self.is_writing
     }
 }
 
-/// The lines of a log that wait to be written. Whoever puts a line waits for nothing but the lock, under which nothing is
-/// written: where so many wait already, the line is lost.
+/// The lines of a log that wait to be written. Putting a line waits for nothing but the lock, under which nothing is
+/// written: if `MOST` lines wait already, the line is lost.
 #[derive(Drop)]
 pub(crate) struct LineQueue {
     waiting: Mutex<Waiting>,
-    /// Tells the one that writes that a line waits.
+    /// Signals to the writing thread that a line waits.
     come: Condvar,
 }
 
 impl LineQueue {
-    /// A queue in which no line waits.
+    /// Creates a queue in which no line waits.
     ///
     /// # Errors
     ///
-    /// Lack of memory.
+    /// If memory runs out.
     pub(crate) fn new(alloc: Global) -> Result<LineQueue, AllocError> {
         Ok(LineQueue {
             waiting: Mutex::new(Waiting {
@@ -98,7 +98,7 @@ impl LineQueue {
         })
     }
 
-    /// Puts a line behind those that wait, or counts it as lost: where there is no room, or it could not be made (None).
+    /// Appends a line to those that wait, or counts it as lost if there is no room or it could not be made (None).
     pub(crate) fn put<R: Wait>(&self, rt: &R, text: Option<String>) {
         let mut waiting = self.waiting.lock(rt);
         waiting.put_or_lose(text);
@@ -107,7 +107,7 @@ impl LineQueue {
         }
     }
 
-    /// Waits for the next line that is to be written. One thread alone asks for it: with that the line before it is written.
+    /// Waits for the next line to write. Only one thread calls this; each call says that the previous line is written.
     pub(crate) fn next<R: Wait>(&self, rt: &R) -> QueuedLine {
         for _ in rt.forever() {
             let mut waiting = self.waiting.lock(rt);
@@ -119,7 +119,7 @@ impl LineQueue {
         unreachable!()
     }
 
-    /// Waits until all lines are written, a second at most.
+    /// Waits until all lines are written, for at most a second.
     pub(crate) fn drain<R: Wait + Clock>(&self, rt: &R) {
         for _ in 0..LOOKS {
             if self.waiting.lock(rt).is_done() {

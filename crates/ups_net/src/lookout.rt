@@ -1,4 +1,4 @@
-//! What the sweeper looks at beside its sweeps, and tells of.
+//! What the sweeper checks and logs besides its sweeps.
 
 use crate::clock::moment_of;
 use crate::delivering::tell_untold;
@@ -13,18 +13,19 @@ use std::time::Clock;
 use ups_life::MAX_HISTORY;
 use ups_settings::Watcher;
 
-/// Half of what a history takes.
+/// Half of what a history holds.
 const HALF: u64 = MAX_HISTORY / 2;
 
-/// Nine tenths of what a history takes.
+/// Nine tenths of what a history holds.
 const NINE_TENTHS: u64 = MAX_HISTORY / 10 * 9;
 
-/// How many seconds a minute has, and the time between two lines of numbers.
+/// The number of seconds in a minute, and between two lines of numbers.
 pub(crate) const MINUTE: u64 = 60;
 
 const TEN_MINUTES: u64 = 600;
 
-/// How many of its two marks, half of what it takes and nine tenths, a history with so many entries has reached.
+/// Returns how many of its two marks, half and nine tenths of what it holds, a history with `entries` entries has
+/// reached.
 fn marks_reached(entries: u64) -> u32 {
     if entries < HALF {
         return 0;
@@ -32,22 +33,22 @@ fn marks_reached(entries: u64) -> u32 {
     if entries < NINE_TENTHS { 1 } else { 2 }
 }
 
-/// Something that is done once in so many seconds.
+/// Something that is done once in a number of seconds.
 #[derive(Clone, Copy)]
 pub(crate) struct Reminder {
-    /// When it was done last, in seconds since 1970-01-01 UTC.
+    /// When it was last done, in seconds since 1970-01-01 UTC.
     done: u64,
-    /// How many seconds lie between two times.
+    /// The number of seconds between two times.
     pause: u64,
 }
 
 impl Reminder {
-    /// Something that was never done, with so many seconds between two times.
+    /// Creates a reminder of something never done, with `pause` seconds between two times.
     pub(crate) fn of(pause: u64) -> Reminder {
         Reminder { done: 0, pause }
     }
 
-    /// Whether it is due now; it is done then.
+    /// Returns whether it is due now; if so, notes that it is done.
     pub(crate) fn is_due(&mut self, now: u64) -> bool {
         if is_passed_over(self.done, self.pause, now) {
             return false;
@@ -57,20 +58,20 @@ impl Reminder {
     }
 }
 
-/// What the sweeper has told of.
+/// What the sweeper has logged.
 #[derive(Clone, Copy)]
 pub(crate) struct Lookout {
-    /// How many marks of the history were told of.
+    /// The number of marks of the history that were logged.
     marks: u32,
-    /// When it was told that the history is full.
+    /// When it was last logged that the history is full.
     full: Reminder,
     /// When the last minute of refused requests ended.
     minute: Reminder,
-    /// When the numbers were told.
+    /// When the numbers were last logged.
     numbers: Reminder,
 }
 
-/// Tells of the deliveries to each watcher of which no line has told yet.
+/// Logs the deliveries to each watcher that were not logged yet.
 fn tell_deliveries<R: Clock + Log>(rt: &R, roster: &Roster, watchers: &[Watcher]) {
     for (place, watcher) in watchers.iter().enumerate() {
         tell_untold(rt, roster.presence(place), watcher.ae);
@@ -78,7 +79,7 @@ fn tell_deliveries<R: Clock + Log>(rt: &R, roster: &Roster, watchers: &[Watcher]
 }
 
 impl Lookout {
-    /// That of a sweeper that begins now.
+    /// Creates the lookout of a sweeper that begins now.
     pub(crate) fn new<R: Clock>(rt: &R) -> Lookout {
         let done = moment_of(rt);
         Lookout {
@@ -95,7 +96,8 @@ impl Lookout {
         }
     }
 
-    /// Warns where a history with so many entries has reached more marks than were told of, and once a minute where it is full.
+    /// Warns if a history with `entries` entries has reached more marks than were logged, and once a minute if it is
+    /// full.
     fn look_at_history<R: Log>(&mut self, rt: &R, entries: u64, now: u64) {
         if entries >= MAX_HISTORY {
             if self.full.is_due(now) {
@@ -110,9 +112,9 @@ impl Lookout {
         }
     }
 
-    /// Looks at a server whose history has so many entries, and tells what there is to tell: that the history has reached a
-    /// mark, or is full; that all workers are taken; what deliveries came to; how many more requests were refused than lines
-    /// told of; and its numbers, every ten minutes.
+    /// Checks a server whose history has `entries` entries, and logs what there is to log: that the history has reached
+    /// a mark or is full, that all workers are taken, what deliveries came to, how many requests were refused beyond
+    /// those logged, and its numbers every ten minutes.
     pub(crate) fn look<R: Wait + Clock + Log + Network>(
         &mut self,
         rt: &R,

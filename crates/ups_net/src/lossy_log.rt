@@ -1,4 +1,4 @@
-//! A log that loses lines where it would have to wait.
+//! A log that loses lines rather than wait.
 
 use crate::clock::moment_of;
 use crate::heading::{Heading, LineStyle};
@@ -14,31 +14,32 @@ use std::sync::{Arc, Wait};
 use std::thread::{self, Threads};
 use std::time::Clock;
 
-/// The number of the descriptor of standard error.
+/// The descriptor of standard error.
 const STANDARD_ERROR: i32 = 2;
 
-/// That a descriptor is looked at without waiting, and that it is waited for until it takes something.
+/// The timeouts of `poll` to check a descriptor without waiting, and to wait until it takes something.
 const AT_ONCE: i32 = 0;
 
 const FOR_EVER: i32 = -1;
 
-/// Logs to standard error by a thread of its own, which alone waits where standard error takes nothing: a pipe or a socket
-/// that nobody reads, or a terminal, which may take no line though the system says that it takes some bytes. So no other
-/// thread is stopped by its log. Up to 1,024 lines wait, and others are lost; how many is told before the next one that is
-/// not.
+/// Logs to standard error from a thread of its own, so that no other thread is stopped by its log.
 ///
-/// Where standard error is closed when the log is made, no line is ever written: a connection may get its descriptor later.
-/// No contract promises any of it: `trials/ending.py` tries it.
+/// Only that thread waits if standard error takes nothing: a pipe or a socket that nobody reads, or a terminal, which
+/// may take no line although the system says that it takes some bytes. Up to 1,024 lines wait, and others are lost;
+/// their number is logged before the next one that is not.
+///
+/// If standard error is closed when the log is made, no line is ever written, since a connection may get its descriptor
+/// later. No contract covers any of this: `trials/ending.py` tries it.
 #[derive(Drop)]
 pub struct LossyLog<R> {
     rt: R,
     alloc: Global,
     style: LineStyle,
-    /// The lines that wait; None where none is ever written.
+    /// The lines that wait; None if none is ever written.
     lines: Option<Arc<LineQueue>>,
 }
 
-/// What is so of standard error, by `poll`, within so many milliseconds.
+/// Returns the events of standard error that `poll` reports within `milliseconds`.
 fn events(milliseconds: i32) -> i16 {
     let mut asked = [pollfd {
         fd: STANDARD_ERROR,
@@ -52,13 +53,13 @@ fn events(milliseconds: i32) -> i16 {
     }
 }
 
-/// What stands before a line of this level that is told now.
+/// Returns the heading of a line of this level that is logged now.
 fn heading_of<R: Clock>(rt: &R, style: LineStyle, level: Level) -> Heading {
     Heading::new(style, level, moment_of(rt))
 }
 
-/// Writes a line once standard error takes some bytes, and before it how many were lost. Where nobody is left to read them
-/// nothing is written.
+/// Writes a line once standard error takes some bytes, and before it how many lines were lost. Writes nothing if nobody
+/// is left to read it.
 fn write_line<R: Clock + Eprint>(rt: &R, style: LineStyle, line: QueuedLine) {
     if events(FOR_EVER) & (POLLERR | POLLNVAL) != 0 {
         return;
@@ -81,7 +82,7 @@ fn write_lines<R: Wait + Clock + Eprint>(rt: &R, style: LineStyle, lines: &LineQ
 }
 
 impl<R> LossyLog<R> {
-    /// A log that writes nothing.
+    /// Creates a log that writes nothing.
     pub fn silent(rt: R, alloc: Global) -> LossyLog<R> {
         LossyLog {
             rt,
@@ -91,11 +92,11 @@ impl<R> LossyLog<R> {
         }
     }
 
-    /// A log of which no line is lost yet, with its thread, and lines in this style.
+    /// Starts a log with its thread, and with lines in this style.
     ///
     /// # Errors
     ///
-    /// Lack of memory, or of a thread.
+    /// If memory runs out, or no thread can be started.
     pub fn start(rt: R, alloc: Global, style: LineStyle) -> Result<LossyLog<R>, AllocError>
     where
         R: Threads + Wait + Clock + Eprint + Copy + Send + 'static,

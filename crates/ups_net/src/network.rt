@@ -7,31 +7,34 @@ use std::io::{self, BufReader};
 use std::net::{SocketAddr, TcpListener, TcpStream, ToSocketAddrs};
 use std::time::Duration;
 
-/// A runtime with the network of the host, as a server needs it. The `Handle` of `log`, a runtime that logs elsewhere, is a
-/// network that neither looks a name up nor connects within a time limit: here it does as the runtime inside it.
+/// A runtime with the network of the host, as a server needs it.
+///
+/// The `Handle` of `log`, a runtime that logs elsewhere, neither looks a name up nor connects within a time limit by
+/// itself: here it does what the runtime inside it does.
 pub trait Network {
-    /// The first address of a host, by its name or its number, with this port; None where it has none.
+    /// Returns the first address of a host, given by name or number, with this port, or None if it has none.
     ///
     /// # Errors
     ///
-    /// Those of looking a name up.
+    /// If looking the name up fails.
     fn look_up(&self, host: &str, port: u16) -> io::Result<Option<SocketAddr>>;
 
-    /// A connection to an address, which is made within the limit; None is for any time.
+    /// Connects to an address within a limit; None is no limit.
     ///
     /// # Errors
     ///
-    /// Those of connecting; TimedOut where it takes longer.
+    /// If connecting fails; TimedOut if it takes longer.
     fn connect(&self, address: SocketAddr, limit: Option<Duration>) -> io::Result<TcpStream>;
 
-    /// Listens at a host, by its name or its number, and a port.
+    /// Listens at a host, given by name or number, and a port.
     ///
     /// # Errors
     ///
-    /// Those of looking a name up, and of listening.
+    /// If looking the name up or listening fails.
     fn listen(&self, host: &str, port: u16) -> io::Result<TcpListener>;
 
-    /// How many connections wait to be accepted at an address at which this program listens; None where the system does not tell.
+    /// Returns how many connections wait to be accepted at an address at which this program listens, or None if the
+    /// system does not tell.
     fn waiting_at(&self, address: SocketAddr) -> Option<u64>;
 }
 

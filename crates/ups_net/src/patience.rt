@@ -5,19 +5,21 @@ ghost use Rattle.std.specs.Prelude.{◌≡◌, ◌≤◌, ◌<◌, ◌*◌, true
 use std::io;
 use std::time::{Clock, Duration, Instant};
 
-/// How many seconds a watcher has for an answer where no limit is asked for: one that is quick, and another.
+/// The number of seconds that a watcher has for an answer if no limit is given: a quick one, and another.
 const QUICK_ANSWER: u64 = 10;
 
 const ANSWER: u64 = 3_600;
 
-/// How many seconds a watcher has to be connected to, and to answer the association request, where no limit is asked for.
+/// The number of seconds for connecting to a watcher and its answer to the association request, if no limit is given.
 const OPENING: u64 = 10;
 
-/// How many milliseconds a quick watcher has for that at most.
+/// The maximum number of milliseconds for that with a quick watcher.
 const QUICK_OPENING: u64 = 500;
 
-/// For how many seconds an answer of a watcher is waited for, which may be quick: for as many as is asked, where that is not 0.
-/// For 0 it is an hour, and ten seconds at a quick one: so one that falls silent keeps no deliverer for ever.
+/// Returns how many seconds to wait for an answer of a watcher: `asked`, unless that is 0.
+///
+/// For 0 it is an hour, or ten seconds for a quick watcher, so that one that falls silent does not keep a deliverer
+/// forever.
 pub fn answer_seconds(asked: u32, is_quick: bool) -> u64
     ensures asked { 0 < asked → result ≡ asked }
     ensures quick { asked ≡ 0 → is_quick ≡ true → result ≡ 10 }
@@ -29,9 +31,10 @@ pub fn answer_seconds(asked: u32, is_quick: bool) -> u64
     if is_quick { QUICK_ANSWER } else { ANSWER }
 }
 
-/// For how many milliseconds a watcher is waited for, which may be quick, to be connected to and to answer the association
-/// request. Nothing is sent until then that could come twice, so a quick one has half a second at most: where that is too
-/// short it counts as slow, and has the seconds that are asked for at once, or ten where that is 0.
+/// Returns how many milliseconds to wait for connecting to a watcher and its answer to the association request.
+///
+/// Nothing is sent before that could arrive twice, so a quick watcher has at most half a second. If that is too short,
+/// it counts as slow, and at once has the seconds asked for, or ten if that is 0.
 pub fn opening_milliseconds(asked: u32, is_quick: bool) -> u64
     ensures quick { is_quick ≡ true → result ≤ 500 }
     ensures asked { is_quick ≡ false → 0 < asked → result ≡ 1000 * asked }
@@ -46,22 +49,22 @@ pub fn opening_milliseconds(asked: u32, is_quick: bool) -> u64
     }
 }
 
-/// How long a watcher may take that this side asks.
+/// How long a watcher that this side sends requests to may take.
 #[derive(Clone, Copy)]
 pub struct Patience {
-    /// To be connected to, and to answer the association request.
+    /// The time for connecting to it and its answer to the association request.
     pub opening: Duration,
-    /// For each answer, since what it answers was sent, and for each sending.
+    /// The time for each answer, since what it answers was sent, and for each sending.
     pub each: Duration,
-    /// Behind how much time no further message is begun, so that others get their turn; None for any time.
+    /// The time after which no further message is begun, so that others get their turn; None for no limit.
     pub all: Option<Duration>,
-    /// Since when that counts.
+    /// The moment from which that counts.
     pub since: Instant,
 }
 
-/// What is left of a time since a moment.
+/// Returns what is left of a time since a moment.
 ///
-/// Errors: TimedOut where nothing is; those of the clock.
+/// Errors: TimedOut if nothing is left; those of the clock.
 pub(crate) fn left_of<R: Clock>(rt: &R, limit: Duration, since: Instant) -> io::Result<Duration> {
     match limit.checked_sub(since.elapsed(rt)?) {
         Some(left) if !left.is_zero() => Ok(left),
@@ -70,12 +73,12 @@ pub(crate) fn left_of<R: Clock>(rt: &R, limit: Duration, since: Instant) -> io::
 }
 
 impl Patience {
-    /// How long a watcher may take from now on, with so many seconds as the limit for an answer (0: none), and so long for
-    /// the whole association.
+    /// Creates the limits of a watcher from now on, with `seconds` for an answer (0: the defaults) and a limit for the
+    /// whole association.
     ///
     /// # Errors
     ///
-    /// Those of the clock.
+    /// If the clock fails.
     pub fn new<R: Clock>(
         rt: &R,
         seconds: u32,
@@ -90,11 +93,12 @@ impl Patience {
         })
     }
 
-    /// What is left of the time for what began then, or begins now, on an association that is open already or not.
+    /// Returns what is left of the time for what began at `begun`, or begins now, on an association that is open
+    /// already or not.
     ///
     /// # Errors
     ///
-    /// TimedOut where nothing is left; those of the clock.
+    /// TimedOut if nothing is left; those of the clock.
     pub fn left<R: Clock>(
         &self,
         rt: &R,
@@ -108,7 +112,7 @@ impl Patience {
         }
     }
 
-    /// Whether no further message is to be begun.
+    /// Returns whether no further message is to be begun.
     pub(crate) fn is_over<R: Clock>(&self, rt: &R) -> bool {
         match self.all {
             Some(limit) => left_of(rt, limit, self.since).is_err(),

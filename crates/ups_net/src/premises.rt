@@ -1,4 +1,4 @@
-//! What the threads of a server share, beside its desk.
+//! What the threads of a server share, besides its desk.
 
 use crate::door::Door;
 use crate::roster::Roster;
@@ -6,8 +6,8 @@ use crate::tally::Tally;
 use std::alloc::{AllocError, Global};
 use ups_ledger::Commits;
 
-/// What the threads of a server share, beside its desk: the door, the roster of its watchers, what is counted for its log, and
-/// how many entries of its history are committed.
+/// What the threads of a server share, besides its desk: the door, the roster of its watchers, the counts for its log,
+/// and the number of committed entries of its history.
 #[derive(Drop)]
 pub struct Premises {
     pub(crate) door: Door,
@@ -17,12 +17,12 @@ pub struct Premises {
 }
 
 impl Premises {
-    /// The premises of a server with this door and so many watchers, none of which is away, for so many deliverers; and with
-    /// what its answers and reports wait for.
+    /// Creates the premises of a server with this door, for `watchers` watchers, none of which is away, and
+    /// `deliverers` deliverers. Answers and reports wait for `commits`.
     ///
     /// # Errors
     ///
-    /// Lack of memory.
+    /// If memory runs out.
     pub fn new(
         alloc: Global,
         door: Door,
@@ -39,7 +39,7 @@ impl Premises {
         })
     }
 
-    /// The door.
+    /// Returns the door.
     pub fn door(&self) -> &Door {
         &self.door
     }

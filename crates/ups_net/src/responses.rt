@@ -1,13 +1,12 @@
-//! What a watcher responds to its reports, as the log tells of it.
+//! The responses of a watcher to its reports, as the log sees them.
 
 use std::alloc::Global;
 use ups_dimse::{Command, read_command};
 
-/// How many bytes of a command are kept at most. A response to a report has no more than some hundred.
+/// The number of bytes of a command above which no more are kept. A response to a report has no more than some hundred.
 const MOST: usize = 4_096;
 
-/// Whether a status tells of a failure: it is none of a success, of a warning, of a cancel or of a pending response
-/// (PS3.7 annex C).
+/// Returns whether a status is a failure: not success, a warning, a cancel or pending (PS3.7 annex C).
 pub(crate) fn is_failure(status: u16) -> bool {
     !matches!(
         status,
@@ -15,7 +14,7 @@ pub(crate) fn is_failure(status: u16) -> bool {
     )
 }
 
-/// How many responses had a failure status, and the last one of these.
+/// The number of responses with a failure status, and the last of these.
 #[derive(Clone, Copy)]
 pub(crate) struct Failures {
     pub(crate) count: u64,
@@ -23,23 +22,23 @@ pub(crate) struct Failures {
 }
 
 impl Failures {
-    /// That there were none.
+    /// Creates the count of no failures.
     pub(crate) fn none() -> Failures {
         Failures { count: 0, last: 0 }
     }
 }
 
-/// Learns of responses by the fragments of their commands. Nothing rests on it but the log.
+/// The responses of a watcher, by the fragments of their commands. Only the log depends on them.
 #[derive(Drop)]
 pub(crate) struct Responses {
     alloc: Global,
-    /// The fragments of a command that is not there as a whole yet.
+    /// The fragments of a command that is not complete yet.
     command: Vec<u8>,
     failures: Failures,
 }
 
 impl Responses {
-    /// No response has come.
+    /// Creates the state without responses.
     pub(crate) fn new(alloc: Global) -> Responses {
         Responses {
             alloc,
@@ -48,12 +47,12 @@ impl Responses {
         }
     }
 
-    /// The failures that were told so far.
+    /// Returns the failures so far.
     pub(crate) fn failures(&self) -> Failures {
         self.failures
     }
 
-    /// Bytes of a command come, which may be its last ones.
+    /// Takes bytes of a command, which may be its last ones.
     pub(crate) fn hear(&mut self, bytes: &[u8], is_last: bool) {
         if self.command.len() <= MOST {
             let _ = self.command.extend_from_slice(bytes);
@@ -64,7 +63,7 @@ impl Responses {
         }
     }
 
-    /// A command is there as a whole.
+    /// Notes the response of a complete command.
     fn note(&mut self) {
         let Ok(command) = read_command(self.alloc, self.command.as_slice()) else {
             return;

@@ -12,21 +12,21 @@ use std::sync::Wait;
 use std::sync::atomic::{AtomicU64, Ordering};
 use std::time::Clock;
 
-/// For how many seconds a watcher is passed over at most.
+/// The maximum number of seconds for which a watcher is passed over.
 const LONGEST: u64 = 60;
 
-/// Once in so many seconds one of the deliverers counts what waits for each watcher.
+/// The number of seconds between two counts of what waits for each watcher, each by one deliverer.
 const SECONDS_OF_A_COUNT: u64 = 64;
 
-/// That no deliverer has a watcher, that one has it, and that one has it for which another has come in the meantime.
+/// The states of a watcher: no deliverer has it, one has it, and one has it while another has come for it.
 const FREE: u64 = 0;
 
 const TAKEN: u64 = 1;
 
 const WANTED: u64 = 2;
 
-/// For how many seconds a watcher is passed over that has failed once more, by for how many it was passed over before: 0
-/// where it had not failed.
+/// Returns how many seconds to pass over a watcher that failed once more; `pause` is the number before that, 0 if it
+/// had not failed.
 pub fn longer_pause(pause: u64) -> u64
     ensures first { pause ≡ 0 → result ≡ 1 }
     ensures doubled { 0 < pause → pause ≤ 30 → result ≡ 2 * pause }
@@ -38,15 +38,15 @@ pub fn longer_pause(pause: u64) -> u64
     pause.min(LONGEST / 2) * 2
 }
 
-/// Whether a watcher that failed at one second is passed over at another, where that takes so many seconds. Where the clock
-/// was set back behind the failure, it isn't.
+/// Returns whether a watcher that failed at second `failed`, and is passed over for `pause` seconds, still is at `now`.
+/// It isn't if the clock was set back to before the failure.
 pub fn is_passed_over(failed: u64, pause: u64, now: u64) -> bool
     ensures { IsTrue result ↔ ((failed ≤ now) × (now < failed + pause)) }
 {
     failed <= now && now - failed < pause
 }
 
-/// Which watchers a deliverer takes.
+/// The share of the watchers that a deliverer takes.
 #[derive(Clone, Copy, Debug, PartialEq, Eq)]
 pub enum Share {
     /// All of them.
@@ -55,8 +55,10 @@ pub enum Share {
     Quick,
 }
 
-/// Which watchers a deliverer takes, by its place among so many deliverers, from 1 on: where there are several, those in the
-/// first half, rounded up, take only those that are quick. So the others keep half of the deliverers busy at most.
+/// Returns which watchers a deliverer takes, by its place among the deliverers, from 1 on.
+///
+/// If there are several, those in the first half, rounded up, take only quick watchers. So the other watchers keep at
+/// most half of the deliverers busy.
 pub fn share_of(place: u32, deliverers: u32) -> Share
     ensures alone { deliverers ≤ 1 → result ≡ All }
     ensures first { 2 ≤ deliverers → 2 * place ≤ deliverers + 1 → result ≡ Quick }
@@ -69,7 +71,7 @@ pub fn share_of(place: u32, deliverers: u32) -> Share
     Share::All
 }
 
-/// Whether a deliverer with this share may take a watcher, which may be quick: neither away nor slow.
+/// Returns whether a deliverer with this share may take a watcher. A quick watcher is neither away nor slow.
 pub fn may_take(share: Share, is_quick: bool) -> bool
     ensures { result ≡ may_take share is_quick }
 {
@@ -79,26 +81,26 @@ pub fn may_take(share: Share, is_quick: bool) -> bool
     }
 }
 
-/// Whether a watcher is away, by how its deliveries ended, and whether a deliverer has it. The deliverer that has it is the
-/// only one that writes the others here.
+/// Whether a watcher is away, by how its deliveries ended, and whether a deliverer has it. Only the deliverer that has
+/// it writes `pause`, `failed` and `slow`.
 #[derive(Drop)]
 pub(crate) struct Presence {
     /// Whether a deliverer has it.
     holder: AtomicU64,
-    /// For how many seconds it is passed over behind its last failure; 0 while it isn't away.
+    /// The number of seconds for which it is passed over after its last failure; 0 while it isn't away.
     pause: AtomicU64,
-    /// When it failed last, in seconds since 1970-01-01 UTC.
+    /// When it last failed, in seconds since 1970-01-01 UTC.
     failed: AtomicU64,
-    /// Whether it took its time for the reports of its last delivery: 0 where it didn't.
+    /// 1 if it was slow to take the reports of its last delivery or to open an association, else 0.
     slow: AtomicU64,
-    /// How many events waited for it when they were counted last.
+    /// The number of events that waited for it when they were last counted.
     waiting: AtomicU64,
-    /// What of its deliveries was not told yet.
+    /// The deliveries to it that were not logged yet.
     pub(crate) untold: Untold,
 }
 
 impl Presence {
-    /// That of a watcher that has not failed yet, and that nobody has.
+    /// Creates the presence of a watcher that has not failed yet, and that no deliverer has.
     fn new() -> Presence {
         Presence {
             holder: AtomicU64::new(FREE),
@@ -110,14 +112,15 @@ impl Presence {
         }
     }
 
-    /// Takes the watcher for one deliverer; false where another has it.
+    /// Takes the watcher for one deliverer. Returns false if another has it.
     pub(crate) fn take(&self) -> bool {
         self.holder
             .compare_exchange(FREE, TAKEN, Ordering::SeqCst, Ordering::SeqCst)
             .is_ok()
     }
 
-    /// Has the deliverer that has the watcher learn that something waits for it again; false where none has it any more.
+    /// Tells the deliverer that has the watcher that something waits for it again. Returns false if none has it any
+    /// longer.
     pub(crate) fn want(&self) -> bool {
         let found = self
             .holder
@@ -125,25 +128,26 @@ impl Presence {
         found != Err(FREE)
     }
 
-    /// Lets the watcher go that this deliverer has; whether another came for it in the meantime.
+    /// Lets go of the watcher that this deliverer has, and returns whether another came for it in the meantime.
     pub(crate) fn let_go(&self) -> bool {
         self.holder.swap(FREE, Ordering::SeqCst) == WANTED
     }
 
-    /// Whether the watcher is quick: neither away nor slow.
+    /// Returns whether the watcher is quick: neither away nor slow.
     pub(crate) fn is_quick(&self) -> bool {
         self.pause.load(Ordering::SeqCst) == 0 && self.slow.load(Ordering::SeqCst) == 0
     }
 
-    /// Whether a deliverer with this share delivers to the watcher now.
+    /// Returns whether a deliverer with this share delivers to the watcher now.
     pub(crate) fn is_due<R: Clock>(&self, rt: &R, share: Share) -> bool {
         let pause = self.pause.load(Ordering::SeqCst);
         let failed = self.failed.load(Ordering::SeqCst);
         may_take(share, self.is_quick()) && !is_passed_over(failed, pause, moment_of(rt))
     }
 
-    /// Notes that a delivery to the watcher failed, and whether some report was acknowledged before; whether it goes away by
-    /// that. One that took a report is tried again after a second, however often it has failed.
+    /// Notes that a delivery to the watcher failed, and returns whether it goes away by that.
+    ///
+    /// If it acknowledged a report before, it is tried again after a second, however often it has failed.
     pub(crate) fn goes<R: Clock>(&self, rt: &R, has_taken: bool) -> bool {
         let pause = self.pause.load(Ordering::SeqCst);
         let before = if has_taken { 0 } else { pause };
@@ -152,7 +156,8 @@ impl Presence {
         pause == 0
     }
 
-    /// Notes that a delivery to the watcher succeeded, and whether it took its time; whether it comes back by that.
+    /// Notes that a delivery to the watcher succeeded and whether it was slow, and returns whether it comes back by
+    /// that.
     pub(crate) fn comes(&self, is_slow: bool) -> bool {
         self.slow.store(u64::from(is_slow), Ordering::SeqCst);
         self.pause.swap(0, Ordering::SeqCst) > 0
@@ -168,7 +173,7 @@ impl Presence {
         self.waiting.store(waiting, Ordering::SeqCst);
     }
 
-    /// How many events waited for the watcher when they were counted last.
+    /// Returns how many events waited for the watcher when they were last counted.
     pub(crate) fn waiting(&self) -> u64 {
         self.waiting.load(Ordering::SeqCst)
     }
@@ -176,33 +181,33 @@ impl Presence {
 
 /// What the deliverers of a server know of its watchers, and their bells.
 ///
-/// A watcher that fails is away until a delivery to it succeeds. It is passed over for a second, and at each further failure
-/// for twice as long as before, for a minute at most. A deliverer takes a watcher that no other one has, gives it all the
-/// time that it is to have, and lets it go: so one that doesn't answer keeps one deliverer busy, and no other watcher
-/// waiting while a deliverer is free. Half of the deliverers take only those that are quick: neither away, nor slow with their
-/// last reports. Before a deliverer connects to a watcher it rings for another, which looks after those behind. No contract
-/// speaks of that.
+/// A watcher that fails is away until a delivery to it succeeds. It is passed over for a second, and after each further
+/// failure for twice as long as before, for at most a minute. A deliverer takes a watcher that no other one has, gives
+/// it all the time that it is to have, and lets it go: so one that doesn't answer keeps one deliverer busy, and no
+/// other watcher waiting while a deliverer is free. Half of the deliverers take only quick watchers: neither away, nor
+/// slow with their last reports. Before a deliverer connects to a watcher, it rings for another, which looks after the
+/// next ones. No contract covers that.
 #[derive(Drop)]
 pub struct Roster {
     presences: Vec<Presence>,
-    /// What stands for a watcher that isn't among them.
+    /// The presence of a watcher that isn't among them.
     other: Presence,
-    /// How many deliver.
+    /// The number of deliverers.
     deliverers: u32,
-    /// The bell of those that take only the quick ones.
+    /// The bell of those that take only quick watchers.
     quick: Bell,
     /// The bell of the others.
     all: Bell,
-    /// When it was counted last what waits for each watcher, in seconds since 1970-01-01 UTC.
+    /// When what waits for each watcher was last counted, in seconds since 1970-01-01 UTC.
     counted: AtomicU64,
 }
 
 impl Roster {
-    /// The roster of so many watchers, none of which is away, for so many deliverers.
+    /// Creates the roster of `watchers` watchers, none of which is away, for `deliverers` deliverers.
     ///
     /// # Errors
     ///
-    /// Lack of memory.
+    /// If memory runs out.
     pub fn new(alloc: Global, watchers: usize, deliverers: u32) -> Result<Roster, AllocError> {
         let mut presences = Vec::with_capacity(alloc, watchers)?;
         for _ in 0..watchers {
@@ -218,17 +223,17 @@ impl Roster {
         })
     }
 
-    /// Which watchers a deliverer takes, by its place among the deliverers, from 1 on.
+    /// Returns which watchers a deliverer takes, by its place among the deliverers, from 1 on.
     pub(crate) fn share_of(&self, place: u32) -> Share {
         share_of(place, self.deliverers)
     }
 
-    /// Whether there are more watchers than deliverers, so that one of them may wait for a deliverer.
+    /// Returns whether there are more watchers than deliverers, so that a watcher may wait for a deliverer.
     pub(crate) fn is_crowded(&self) -> bool {
         self.presences.len() as u64 > u64::from(self.deliverers)
     }
 
-    /// How the watcher in a place is known.
+    /// Returns the presence of the watcher in a place.
     pub(crate) fn presence(&self, place: usize) -> &Presence {
         self.presences.get(place).unwrap_or(&self.other)
     }
@@ -239,7 +244,7 @@ impl Roster {
         self.all.ring();
     }
 
-    /// Waits until it rings for a deliverer with this share, for some seconds at most.
+    /// Waits until the bell rings for a deliverer with this share, for some seconds at most.
     pub(crate) fn wait<R: Wait>(&self, rt: &R, share: Share) {
         match share {
             Share::Quick => self.quick.wait(rt),
@@ -247,7 +252,7 @@ impl Roster {
         }
     }
 
-    /// Whether it is time to count what waits for each watcher: that is so for one deliverer, about once a minute.
+    /// Returns whether to count now what waits for each watcher: true for one deliverer, about once a minute.
     pub(crate) fn is_count_due<R: Clock>(&self, rt: &R) -> bool {
         let now = moment_of(rt);
         let counted = self.counted.load(Ordering::SeqCst);

@@ -1,4 +1,4 @@
-//! What a server counts for its log.
+//! The counts of a server for its log.
 
 use crate::journal::{tell_more_of, tell_more_refusals};
 use log::Log;
@@ -6,25 +6,25 @@ use std::alloc::{AllocError, Global};
 use std::sync::atomic::{AtomicU64, Ordering};
 use std::sync::{Mutex, Wait};
 
-/// How many refused requests of one peer have a line of their own in a minute.
+/// The maximum number of refused requests of one peer with a line of their own in a minute.
 const MOST_TOLD: u64 = 30;
 
-/// Of how many peers the refused requests are counted apart in a minute.
+/// The maximum number of peers whose refused requests are counted apart in a minute.
 const PEERS: usize = 64;
 
 /// The refused requests of a peer in a minute.
 #[derive(Drop)]
 struct Refusals {
-    /// Who it is: its title, where that is known, and from where it asks.
+    /// The title of the peer, if it is known, and its address.
     peer: String,
-    /// How many of them have a line of their own.
+    /// The number of them that have a line of their own.
     told: u64,
-    /// How many others there are.
+    /// The number of the others.
     more: u64,
 }
 
 impl Refusals {
-    /// One more; whether it has a line of its own.
+    /// Adds a request, and returns whether it gets a line.
     fn add(&mut self) -> bool {
         if self.told < MOST_TOLD {
             self.told += 1;
@@ -35,8 +35,8 @@ impl Refusals {
     }
 }
 
-/// One more refused request of a peer: whether it has a line of its own. None where those of so many other peers are counted
-/// already, or memory runs out.
+/// Adds a refused request of a peer, and returns whether it gets a line of its own. Returns None if those of `PEERS`
+/// others are counted already, or memory runs out.
 fn add_of(peers: &mut Vec<Refusals>, peer: String) -> Option<bool> {
     if let Some(place) = peers
         .iter()
@@ -56,8 +56,8 @@ fn add_of(peers: &mut Vec<Refusals>, peer: String) -> Option<bool> {
     Some(true)
 }
 
-/// What a server has counted since its start: associations, requests that were answered, and those of them that were refused.
-/// Nothing rests on it but the log.
+/// The counts of a server since its start: associations, answered requests, and refused ones. Only the log depends on
+/// them.
 #[derive(Drop)]
 pub struct Tally {
     associations: AtomicU64,
@@ -65,12 +65,12 @@ pub struct Tally {
     refusals: AtomicU64,
     /// The refused requests in this minute, by peer.
     peers: Mutex<Vec<Refusals>>,
-    /// How many of them have no line and are no such peer's.
+    /// The number of those without a line and of none of these peers.
     others: AtomicU64,
 }
 
 impl Tally {
-    /// That of a server which begins.
+    /// Creates the counts of a server that begins.
     pub fn new(alloc: Global) -> Tally {
         Tally {
             associations: AtomicU64::new(0),
@@ -81,17 +81,18 @@ impl Tally {
         }
     }
 
-    /// An association begins.
+    /// Counts an association that begins.
     pub(crate) fn add_association(&self) {
         self.associations.fetch_add(1, Ordering::SeqCst);
     }
 
-    /// A request was answered.
+    /// Counts an answered request.
     pub(crate) fn add_request(&self) {
         self.requests.fetch_add(1, Ordering::SeqCst);
     }
 
-    /// A request of a peer was refused, who is None where memory runs out; whether a line is to tell of it. Nobody waits here.
+    /// Counts a refused request of a peer (None if memory ran out), and returns whether it gets a line of its own.
+    /// Never blocks.
     pub(crate) fn add_refusal(&self, peer: Option<String>) -> bool {
         self.refusals.fetch_add(1, Ordering::SeqCst);
         let is_told = match (self.peers.try_lock(), peer) {
@@ -104,7 +105,7 @@ impl Tally {
         is_told == Some(true)
     }
 
-    /// Tells how many more requests were refused than lines told of, by peer, and begins a new minute.
+    /// Logs how many requests were refused beyond those logged, by peer, and begins a new minute.
     pub(crate) fn end_minute<R: Wait + Log>(&self, rt: &R) {
         let mut peers = self.peers.lock(rt);
         for peer in peers.iter() {
@@ -119,17 +120,17 @@ impl Tally {
         }
     }
 
-    /// How many associations have begun.
+    /// Returns how many associations have begun.
     pub(crate) fn associations(&self) -> u64 {
         self.associations.load(Ordering::SeqCst)
     }
 
-    /// How many requests were answered.
+    /// Returns how many requests were answered.
     pub(crate) fn requests(&self) -> u64 {
         self.requests.load(Ordering::SeqCst)
     }
 
-    /// How many of them were refused.
+    /// Returns how many requests were refused.
     pub(crate) fn refusals(&self) -> u64 {
         self.refusals.load(Ordering::SeqCst)
     }

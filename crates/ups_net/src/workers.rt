@@ -30,7 +30,7 @@ use ups_ledger::{Keeper, Ledger};
 use ups_service::SharedService;
 use ups_turn::{Desk, Pass};
 
-/// Serves so many associations, one after another, each on a connection that the door of the premises gives.
+/// Serves `options.associations` associations, one after another, each on a connection from the door of the premises.
 pub fn work<M: SharedService<Global>, R: Wait + Clock + Log>(
     rt: &R,
     premises: &Premises,
@@ -70,7 +70,7 @@ pub fn work<M: SharedService<Global>, R: Wait + Clock + Log>(
     pass
 }
 
-/// Waits until it is told whether the threads begin.
+/// Waits to be told whether the threads begin.
 fn told<'a, R: Wait>(rt: &R, start: &'a OnceLock<bool>) -> OnceToken<'a, bool>
     ensures { result.of ≡ start.now.id }
 {
@@ -96,7 +96,7 @@ fn tell<'a, R: Wait>(rt: &R, start: &'a OnceLock<bool>, begin: bool) -> OnceToke
     unreachable!()
 }
 
-/// What the threads are told: what they have been told already, or else that they begin.
+/// Returns what the threads were told already, or else tells them to begin.
 fn settle<'a, R: Wait>(
     rt: &R,
     start: &'a OnceLock<bool>,
@@ -112,7 +112,8 @@ fn settle<'a, R: Wait>(
     }
 }
 
-/// The pass of the sweeper, and the ledger: it sweeps where the threads begin, and else both are as they were.
+/// Sweeps if the threads begin, and returns the pass of the sweeper and the ledger. Otherwise returns both as they
+/// were.
 fn sweep_begun<M: SharedService<Global>, L: Ledger, R>(
     rt: &R,
     premises: &Premises,
@@ -136,8 +137,8 @@ where
     (pass, keeper)
 }
 
-/// What a thread does once the threads begin: a worker serves associations, and a deliverer delivers event reports. The
-/// number of its pass says which of them it is.
+/// Does the job of a thread once the threads begin: a worker serves associations, and a deliverer delivers event
+/// reports. The number of its pass says which of them it is.
 fn do_job<M: SharedService<Global>, R>(
     rt: &R,
     premises: &Premises,
@@ -158,7 +159,7 @@ where
     deliver_rounds(rt, desk, pass, roster, share, options, &premises.commits)
 }
 
-/// The thread of a pass: it does its job where the threads begin, and hands the pass back, with what it was told.
+/// Runs the thread of a pass: does its job if the threads begin, and returns the pass with what the thread was told.
 fn attend<'a, M: SharedService<Global>, R>(
     rt: &R,
     start: &'a OnceLock<bool>,
@@ -180,8 +181,8 @@ where
     (do_job(rt, premises, desk, pass, options), token)
 }
 
-/// The promise of a thread: where it was told to begin, the pass that it hands back has done its job, and else is as it
-/// was.
+/// The promise of a thread: if it was told to begin, the pass that it returns has done its job; otherwise the pass is
+/// as it was.
 #[derive(Drop)]
 struct DoneJob<M: SharedService<Global>> {
     pass: Snapshot<Pass<M, Global>>,
@@ -196,8 +197,8 @@ impl<'a, M: SharedService<Global>> Promise<(Pass<M, Global>, OnceToken<'a, bool>
     ghost kept_by = { λ p r. (r.1.of ≡ p.start.value.id) × EndsThread p.options.value r.1.value p.pass.value r.0 };
 }
 
-/// Has each of these threads hand its pass back, and puts the passes behind those that are back, in the order of the
-/// threads. All of them were told the same.
+/// Joins these threads and appends their passes to those that are back, in the order of the threads. All of them were
+/// told the same.
 fn join_all<'a, M: SharedService<Global>, R: Threads>(
     rt: &R,
     token: &OnceToken<'a, bool>,
@@ -216,7 +217,7 @@ fn join_all<'a, M: SharedService<Global>, R: Threads>(
     }
 }
 
-/// Puts the passes of threads that were not started behind those that are back.
+/// Appends the passes of threads that were not started to those that are back.
 fn put_back<M: SharedService<Global>>(
     unbegun: Vec<Pass<M, Global>>,
     passes: &mut Vec<Pass<M, Global>>,
@@ -230,9 +231,10 @@ fn put_back<M: SharedService<Global>>(
     }
 }
 
-/// The threads of a server: one for each of these passes, while the sweeper's pass sweeps in this one. The passes come back
-/// in their order, with that of the sweeper behind them. Where a thread can't be started, the passes from its own on wait
-/// in `unbegun` until those before them are back. The sweeper has the ledger, where one is kept.
+/// Runs the threads of a server: one for each of `passes`, while the pass of the sweeper sweeps in this one.
+///
+/// The passes come back in their order, with that of the sweeper after them. If a thread can't be started, its pass and
+/// those after it wait in `unbegun` until those before them are back. The sweeper has the ledger, if one is kept.
 fn run_threads<M: SharedService<Global> + Send, L: Ledger, R>(
     rt: &R,
     premises: &Premises,
@@ -317,15 +319,16 @@ where
     )
 }
 
-/// Runs a server: of the passes the last sweeps, in this thread. Each other one has a thread of its own: those with the
-/// numbers up to `options.limits.workers` are the workers', and those with greater numbers deliver event reports: half of them,
-/// rounded up, to the watchers that are quick, and the others to all; or one to all. The passes come
-/// back in their order: true, and each has done its job, as many associations or rounds of it as `options` says; or false,
-/// and each is as it was, since a thread could not be started, or memory ran out before. That a thread runs, and when, no
-/// contract says.
+/// Runs a server: the last of `passes` sweeps in this thread, and each other one has a thread of its own.
 ///
-/// Where a ledger is kept, the sweeper commits what is entered. What the ledger has is the beginning of the history that the
-/// sweeper's pass has seen, as far as it is committed, if it was before; it is given back.
+/// The passes with numbers up to `options.limits.workers` are the workers', and those with greater numbers deliver
+/// event reports: half of them, rounded up, to quick watchers, and the others to all; or a single one to all. The
+/// passes come back in their order. If true is returned, each has done its job, as many associations or rounds of it as
+/// `options` says; if false, each is as it was, since a thread could not be started, or memory ran out before. No
+/// contract says that a thread runs, or when.
+///
+/// If a ledger is kept, the sweeper commits what is entered. The ledger is given back: it has the beginning of the
+/// history that the sweeper's pass has seen, as far as it is committed, if it had before.
 pub fn run<M: SharedService<Global> + Send, L: Ledger, R>(
     rt: &R,
     premises: &Premises,

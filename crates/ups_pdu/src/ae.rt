@@ -7,8 +7,8 @@ ghost use Rattle.ups_pdu.specs.Title.{is_title_byte, IsAe, SpellsAe};
 
 use std::marker::Model;
 
-/// An application entity title (PS3.8 section 9.3.2): 1 to 16 bytes. It holds its bytes in place, so
-/// copying takes no memory. A contract sees it as the list of its bytes.
+/// An application entity title (PS3.8 section 9.3.2): 1 to 16 bytes. It holds its bytes in place, so copying it
+/// allocates no memory. Contracts see it as the list of its bytes.
 #[derive(Clone, Copy)]
 pub struct Ae {
     bytes: [u8; 16],
@@ -43,7 +43,7 @@ fn is_ae(text: &[u8]) -> bool
     !text.is_empty() && text.len() <= 16 && are_title_bytes(text)
 }
 
-/// The bytes without the spaces at their front.
+/// Returns the bytes without the spaces at their front.
 fn without_leading_spaces(bytes: &[u8]) -> &[u8]
     ensures { result.now ≡ without_leading is_space bytes.now }
 {
@@ -57,7 +57,7 @@ fn without_leading_spaces(bytes: &[u8]) -> &[u8]
     rest
 }
 
-/// The bytes without the spaces at their end.
+/// Returns the bytes without the spaces at their end.
 #[tactic(auto, using(crate::proofs::Trailing::space_goes, crate::proofs::Trailing::no_space_stays))]
 fn without_trailing_spaces(bytes: &[u8]) -> &[u8]
     ensures { result.now ≡ without_trailing is_space bytes.now }
@@ -72,7 +72,7 @@ fn without_trailing_spaces(bytes: &[u8]) -> &[u8]
     rest
 }
 
-/// A text, and zeros behind it.
+/// Returns the text, followed by zeros.
 fn in_place(text: &[u8]) -> [u8; 16]
     requires { length text.now ≤ 16 }
     ensures { result ≡ text.now ++ replicate (16 - length text.now) 0 }
@@ -85,7 +85,7 @@ fn in_place(text: &[u8]) -> [u8; 16]
 }
 
 impl Ae {
-    /// The title that the bytes spell, with spaces round it; None where they spell none.
+    /// Returns the title encoded in the bytes, without the spaces around it, or None if they encode no title.
     pub fn of(bytes: &[u8]) -> Option<Ae>
         ensures { MatchOption result ((title : List ℕ) → SpellsAe bytes.now title → ⊥) (SpellsAe bytes.now) }
     {
@@ -99,7 +99,7 @@ impl Ae {
         })
     }
 
-    /// The bytes of the title, without the spaces round it.
+    /// Returns the bytes of the title, without the spaces around it.
     pub fn as_bytes(&self) -> &[u8]
         ensures bytes { result.now ≡ self.now }
         ensures is_ae { IsAe self.now }

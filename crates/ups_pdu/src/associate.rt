@@ -1,19 +1,18 @@
-//! What an association request proposes and an answer accepts (PS3.8 sections 9.3.2 and 9.3.3, annex D;
-//! PS3.7 annex D.3.3).
+//! Association requests and the answers to them (PS3.8 sections 9.3.2 and 9.3.3, annex D; PS3.7 annex D.3.3).
 
 use crate::bytes::Bytes;
 use crate::lists::{AnsweredContexts, ProposedContexts, Roles, Uids};
 use crate::uid::Uid;
 use std::alloc::Allocator;
 
-/// A presentation context that is proposed (PS3.8 section 9.3.2.2).
+/// A proposed presentation context (PS3.8 section 9.3.2.2).
 #[derive(Drop)]
 pub struct ProposedContext<A: Allocator + Copy> {
-    /// The presentation context id: odd.
+    /// The presentation context id, which is odd.
     pub id: u8,
     /// The abstract syntax.
     pub abstract_syntax: Uid,
-    /// The transfer syntaxes for it, in the proposer's order: one at least.
+    /// The transfer syntaxes for it, at least one, in the order of the proposer.
     pub transfer_syntaxes: Uids<A>,
 }
 
@@ -26,21 +25,21 @@ pub enum ContextAnswer {
     Refused(u8),
 }
 
-/// A presentation context that is answered (PS3.8 section 9.3.3.2).
+/// An answered presentation context (PS3.8 section 9.3.3.2).
 #[derive(Clone, Copy)]
 pub struct AnsweredContext {
-    /// The presentation context id: odd.
+    /// The presentation context id, which is odd.
     pub id: u8,
     /// The answer.
     pub answer: ContextAnswer,
 }
 
-/// How many operations may be outstanding (PS3.7 annex D.3.3.3).
+/// The numbers of operations that may be outstanding (PS3.7 annex D.3.3.3).
 #[derive(Clone, Copy, Debug, PartialEq, Eq)]
 pub struct AsynchronousWindow {
-    /// The operations invoked.
+    /// The number of operations invoked.
     pub invoked: u16,
-    /// The operations performed.
+    /// The number of operations performed.
     pub performed: u16,
 }
 
@@ -49,17 +48,17 @@ pub struct AsynchronousWindow {
 pub struct Role {
     /// The SOP class.
     pub sop_class: Uid,
-    /// The SCU role, 0 or 1.
+    /// The SCU role: 0 or 1 in PS3.7, but any byte is read.
     pub scu: u8,
-    /// The SCP role, 0 or 1.
+    /// The SCP role: 0 or 1 in PS3.7, but any byte is read.
     pub scp: u8,
 }
 
 /// The user information (PS3.8 section 9.3.2.3, annex D; PS3.7 annex D.3.3).
 #[derive(Drop)]
 pub struct UserInformation<A: Allocator + Copy> {
-    /// The longest P-DATA-TF that is received, with 0 for no limit (PS3.8 annex D.1). Where nothing is said it
-    /// is 0.
+    /// The maximum length of a P-DATA-TF that the sender receives, in bytes, or 0 for no limit (PS3.8 annex D.1). It
+    /// is 0 if none is given.
     pub maximum_length: u32,
     /// The implementation class UID (PS3.7 annex D.3.3.2).
     pub implementation_class: Option<Uid>,
@@ -76,13 +75,13 @@ pub struct UserInformation<A: Allocator + Copy> {
 pub struct AssociateRq<A: Allocator + Copy> {
     /// The protocol version: bit 0 is version 1.
     pub protocol_version: u16,
-    /// The called application entity title, as it stands.
+    /// The called application entity title, as it is encoded.
     pub called: [u8; 16],
-    /// The calling application entity title, as it stands.
+    /// The calling application entity title, as it is encoded.
     pub calling: [u8; 16],
     /// The application context name.
     pub application_context: Uid,
-    /// The proposed presentation contexts, in order: one at least, with different ids.
+    /// The proposed presentation contexts, in order: at least one, with different ids.
     pub contexts: ProposedContexts<A>,
     /// The user information.
     pub user_information: UserInformation<A>,
@@ -99,7 +98,7 @@ pub struct AssociateAc<A: Allocator + Copy> {
     pub calling: [u8; 16],
     /// The application context name.
     pub application_context: Uid,
-    /// The answered presentation contexts, in order: one at least, with different ids.
+    /// The answered presentation contexts, in order: at least one, with different ids.
     pub contexts: AnsweredContexts<A>,
     /// The user information.
     pub user_information: UserInformation<A>,

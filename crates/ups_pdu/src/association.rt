@@ -15,7 +15,7 @@ use crate::uid::Uid;
 use crate::user::{user_information_of, user_parts};
 use std::alloc::Allocator;
 
-/// The fields before the items.
+/// The fields before the items of an association PDU, and the bytes of the items.
 #[derive(Clone, Copy)]
 struct Head<'a> {
     protocol_version: u16,
@@ -24,7 +24,7 @@ struct Head<'a> {
     items: &'a [u8],
 }
 
-/// The 16 bytes of an application entity title, and what follows.
+/// Splits off the 16 bytes of an application entity title, and returns them with the bytes that follow.
 fn title_at(bytes: &[u8]) -> Option<([u8; 16], &[u8])>
     ensures { MatchOption result (length bytes.now < 16) (λ x. (length x.0 ≡ 16) × (bytes.now ≡ x.0 ++ x.1.now)) }
 {
@@ -32,7 +32,7 @@ fn title_at(bytes: &[u8]) -> Option<([u8; 16], &[u8])>
     Some((*title, rest))
 }
 
-/// What follows some reserved bytes.
+/// Skips `count` reserved bytes, and returns the bytes that follow.
 fn behind(count: usize, bytes: &[u8]) -> Option<&[u8]>
     ensures { MatchOption result (length bytes.now < count) (λ rest. (reserved : List ℕ) × (length reserved ≡ count) × (bytes.now ≡ reserved ++ rest.now)) }
 {
@@ -43,7 +43,7 @@ fn behind(count: usize, bytes: &[u8]) -> Option<&[u8]>
     Some(rest)
 }
 
-/// The fields before the items, and the items.
+/// Splits the body of an association PDU into its fields and its items.
 fn split_head(body: &[u8]) -> Option<Head<'_>>
     ensures { MatchOption result
         ((version : ℕ) → (called : List ℕ) → (calling : List ℕ) → (text : List ℕ) → IsAssociateHead body.now version called calling text → ⊥)
@@ -62,14 +62,15 @@ fn split_head(body: &[u8]) -> Option<Head<'_>>
     })
 }
 
-/// What of the items of an association PDU takes no memory.
+/// The parts of the items of an association PDU that are read without allocating memory.
 #[derive(Clone, Copy)]
 struct Items<'a> {
     application_context: Uid,
     user_information: &'a [u8],
 }
 
-/// The items of an association PDU whose presentation contexts are items of this type.
+/// Reads the items of an association PDU whose presentation contexts are items of type `kind`, or returns None if
+/// they are malformed.
 fn association_items<T: Spelled>(kind: u8, bytes: &[u8]) -> Option<Items<'_>>
     ensures { MatchOption result
         ((uid : List ℕ) → (contexts : List T) → (user : List ℕ) → AreAssociateItems kind T.spells bytes.now uid contexts user → ⊥)
@@ -98,7 +99,7 @@ fn association_items<T: Spelled>(kind: u8, bytes: &[u8]) -> Option<Items<'_>>
     })
 }
 
-/// The association request that a body spells.
+/// Reads an association request from the body of its PDU.
 pub(crate) fn request_of<A: Allocator + Copy>(
     alloc: A,
     body: &[u8],
@@ -126,7 +127,7 @@ pub(crate) fn request_of<A: Allocator + Copy>(
     })
 }
 
-/// The answer to an association request that a body spells.
+/// Reads the answer to an association request from the body of its PDU.
 pub(crate) fn answer_of<A: Allocator + Copy>(
     alloc: A,
     body: &[u8],

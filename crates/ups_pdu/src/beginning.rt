@@ -1,4 +1,4 @@
-//! What the beginning of a PDU tells, before the PDU is there as a whole.
+//! Reading from the beginning of a PDU, before the whole PDU is there.
 
 ghost use Rattle.std.specs.Prelude.{MatchOption, List, ℕ};
 ghost use Rattle.ups_pdu.specs.Beginning.{IsCallingTitle};
@@ -6,14 +6,15 @@ ghost use Rattle.ups_pdu.specs.Beginning.{IsCallingTitle};
 use crate::ae::Ae;
 use crate::kind::PduKind;
 
-/// Where the title of the calling application entity begins in an A-ASSOCIATE-RQ (PS3.8 table 9-11).
+/// The offset of the title of the calling application entity in an A-ASSOCIATE-RQ (PS3.8 table 9-11).
 const CALLING_FROM: usize = 26;
 
-/// Where it ends.
+/// The offset of the end of that title.
 const CALLING_TO: usize = 42;
 
-/// The title of the application entity that asks for an association, by the beginning of its A-ASSOCIATE-RQ (PS3.8
-/// section 9.3.2); None where the bytes begin another PDU, break off before the end of the title, or spell none.
+/// Reads the title of the calling application entity from the beginning of an A-ASSOCIATE-RQ (PS3.8 section 9.3.2).
+///
+/// Returns None if the bytes begin another PDU, break off before the end of the title, or encode no title.
 pub fn calling_title(beginning: &[u8]) -> Option<Ae>
     ensures { MatchOption result ((title : List ℕ) → IsCallingTitle beginning.now title → ⊥) (IsCallingTitle beginning.now) }
 {

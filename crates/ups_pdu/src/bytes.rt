@@ -5,7 +5,7 @@ ghost use Rattle.std.specs.Prelude.{◌≡◌, ◌↔◌, [], length, IfOk, IsTr
 use std::alloc::{AllocError, Allocator};
 use std::marker::Model;
 
-/// Bytes on the heap. A contract sees them as the list of the bytes.
+/// Bytes on the heap. Contracts see them as a list.
 #[derive(Drop)]
 pub struct Bytes<A: Allocator + Copy> {
     bytes: Vec<u8, A>,
@@ -20,14 +20,14 @@ impl<A: Allocator + Copy> Model for Bytes<A> {
 }
 
 impl<A: Allocator + Copy> Bytes<A> {
-    /// The bytes of a vector. It takes no memory.
+    /// Wraps a vector, without allocating memory.
     pub fn from_vec(bytes: Vec<u8, A>) -> Bytes<A>
         ensures { result ≡ bytes.items }
     {
         Bytes { bytes }
     }
 
-    /// The vector of the bytes. It takes no memory.
+    /// Returns the vector, without allocating memory.
     pub fn into_vec(self) -> Vec<u8, A>
         ensures { result.items ≡ self }
     {
@@ -35,7 +35,7 @@ impl<A: Allocator + Copy> Bytes<A> {
         bytes
     }
 
-    /// A copy of some bytes.
+    /// Copies bytes to the heap.
     pub fn copy_of(alloc: A, bytes: &[u8]) -> Result<Bytes<A>, AllocError>
         ensures { IfOk result (λ b. b ≡ bytes.now) }
     {
@@ -44,21 +44,21 @@ impl<A: Allocator + Copy> Bytes<A> {
         })
     }
 
-    /// The bytes, lent.
+    /// Returns the bytes as a slice.
     pub fn as_slice(&self) -> &[u8]
         ensures { result.now ≡ self.now }
     {
         self.bytes.as_slice()
     }
 
-    /// How many bytes there are.
+    /// Returns the number of bytes.
     pub fn len(&self) -> usize
         ensures { result ≡ length self.now }
     {
         self.bytes.len()
     }
 
-    /// Whether there is no byte.
+    /// Returns whether there are no bytes.
     pub fn is_empty(&self) -> bool
         ensures { IsTrue result ↔ (self.now ≡ []) }
     {

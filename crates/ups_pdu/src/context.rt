@@ -13,7 +13,7 @@ use crate::lists::{ProposedContexts, Uids};
 use crate::uid::Uid;
 use std::alloc::{AllocError, Allocator};
 
-/// The context id, the byte of the result, and the sub-items of a presentation context.
+/// Splits a presentation context into its id, the byte of its result, and its sub-items.
 fn split_context(content: &[u8]) -> Option<(u8, u8, &[u8])>
     ensures { MatchOption result ((id : ℕ) → (outcome : ℕ) → (text : List ℕ) → IsContextHead content.now id outcome text → ⊥)
         (λ x. IsContextHead content.now x.0 x.1 x.2.now) }
@@ -24,15 +24,15 @@ fn split_context(content: &[u8]) -> Option<(u8, u8, &[u8])>
     }
 }
 
-/// A proposed presentation context that is still in the bytes, but for its transfer syntaxes.
+/// A proposed presentation context without its transfer syntaxes, which stay in the bytes.
 #[derive(Clone, Copy)]
 pub(crate) struct ProposedHead {
     id: u8,
     abstract_syntax: Uid,
 }
 
-/// The abstract syntax among the sub-items of a proposed presentation context, where its transfer syntaxes are
-/// right too.
+/// Reads the abstract syntax from the sub-items of a proposed presentation context, or returns None if they are
+/// malformed, transfer syntaxes included.
 fn abstract_syntax_of(text: &[u8]) -> Option<Uid>
     ensures { MatchOption result
         ((uid : List ℕ) → (transfer_syntaxes : List (List ℕ)) → AreSyntaxes text.now uid transfer_syntaxes → ⊥)
@@ -67,7 +67,7 @@ impl Spelled for ProposedHead {
     }
 }
 
-/// The answer of a presentation context, from its result and its sub-items.
+/// Reads the answer to a presentation context from its result and its sub-items.
 fn answer_of(outcome: u8, text: &[u8]) -> Option<ContextAnswer>
     ensures { MatchOption result ((answer : ContextAnswer) → AnswersBy text.now outcome answer → ⊥) (AnswersBy text.now outcome) }
 {
@@ -95,7 +95,7 @@ impl Spelled for AnsweredContext {
     }
 }
 
-/// Whether the ids of the presentation contexts, which are items of this type, are odd and differ.
+/// Returns whether the ids of the presentation contexts, which are items of type `kind`, are odd and different.
 pub(crate) fn ids_differ(kind: u8, bytes: &[u8]) -> bool
     ensures { (found : List (List ℕ)) → HasContents kind bytes.now found → IsTrue result ↔ IsTrue (are_context_ids (map first_byte found)) }
 {
@@ -118,7 +118,7 @@ pub(crate) fn ids_differ(kind: u8, bytes: &[u8]) -> bool
     true
 }
 
-/// The proposed presentation context that an item spells.
+/// Reads the proposed presentation context in an item, or returns None if it is malformed.
 fn proposed_context_of<A: Allocator + Copy>(
     alloc: A,
     content: &[u8],
@@ -139,7 +139,7 @@ fn proposed_context_of<A: Allocator + Copy>(
     }))
 }
 
-/// The proposed presentation contexts, in order, but for items that spell none.
+/// Reads the proposed presentation contexts, in order, and skips malformed ones.
 pub(crate) fn proposed_contexts_of<A: Allocator + Copy>(
     alloc: A,
     bytes: &[u8],

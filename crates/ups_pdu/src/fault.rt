@@ -1,4 +1,4 @@
-//! Why bytes are no PDU.
+//! The reasons why bytes are not a PDU.
 
 ghost use Rattle.std.specs.Prelude.{◌≡◌};
 ghost use Rattle.ups_pdu.specs.declared.fault.PduFault.TheVariants.{Memory};
@@ -6,7 +6,7 @@ ghost use Rattle.ups_pdu.specs.declared.fault.PduFault.TheVariants.{Memory};
 use std::alloc::{AllocError, AllocFailed};
 use thiserror::Error;
 
-/// Why no PDU was read: the first of the tests that fails (PS3.8 section 9.3).
+/// The reason why no PDU was read: the first check that failed (PS3.8 section 9.3).
 #[derive(Clone, Copy, Debug, PartialEq, Eq, Error)]
 pub enum PduFault {
     /// The bytes end before the PDU does.
@@ -15,10 +15,10 @@ pub enum PduFault {
     /// The first byte is not the type of a PDU.
     #[error("no PDU has this type")]
     UnknownType,
-    /// A length does not fill what it is the length of.
+    /// A length does not match what it measures.
     #[error("a length does not fill what it is the length of")]
     BadLength,
-    /// An item or a fragment is not one that may stand there.
+    /// An item or a fragment is not allowed there.
     #[error("an item is not one that may stand there")]
     BadItem,
     /// The length is over the limit for this type of PDU.

@@ -9,7 +9,7 @@ use crate::number::be_u32_at;
 use crate::pdv::{Pdv, Pdvs};
 use std::alloc::{AllocError, Allocator};
 
-/// The bytes behind the length at the front, and what follows them.
+/// Reads a length and that many bytes, and returns these with the bytes that follow.
 fn chunk_at(bytes: &[u8]) -> Option<(&[u8], &[u8])>
     ensures { MatchOption result ((chunk : List ℕ) → (rest : List ℕ) → IsChunk bytes.now chunk rest → ⊥) (λ x. IsChunk bytes.now x.0.now x.1.now) }
 {
@@ -21,7 +21,8 @@ fn chunk_at(bytes: &[u8]) -> Option<(&[u8], &[u8])>
     Some(rest.split_at(len))
 }
 
-/// The context id, the control byte and the bytes of the message of the value at the front, and what follows it.
+/// Reads the context id, the control byte and the message bytes of the PDV at the front, and returns them with the
+/// bytes that follow.
 fn fragment_at(bytes: &[u8]) -> Option<(u8, u8, &[u8], &[u8])>
     ensures { MatchOption result ((fragment : Fragment) → (rest : List ℕ) → IsFragment bytes.now fragment rest → ⊥)
         (λ x. IsFragment bytes.now (record { context = x.0; control = x.1; message = x.2.now }) x.3.now) }
@@ -33,7 +34,7 @@ fn fragment_at(bytes: &[u8]) -> Option<(u8, u8, &[u8], &[u8])>
     Some((*context, *control, message, rest))
 }
 
-/// Whether the lengths of the values fill the bytes.
+/// Returns whether PDVs fill the bytes exactly.
 pub(crate) fn fragments_fill(bytes: &[u8]) -> bool
     ensures { IsTrue result ↔ FragmentsFill bytes.now }
 {
@@ -47,7 +48,7 @@ pub(crate) fn fragments_fill(bytes: &[u8]) -> bool
     true
 }
 
-/// The value of a context id, a control byte and the bytes of the message.
+/// Builds a PDV from a context id, a control byte and a copy of the message bytes.
 fn pdv_of<A: Allocator + Copy>(
     alloc: A,
     context: u8,
@@ -64,7 +65,7 @@ fn pdv_of<A: Allocator + Copy>(
     })
 }
 
-/// The values that fill the body.
+/// Reads the PDVs that fill the body.
 pub(crate) fn pdvs_of<A: Allocator + Copy>(alloc: A, body: &[u8]) -> Result<Pdvs<A>, AllocError>
     ensures { FragmentsFill body.now → IfOk result (λ pdvs. Each SpellsPdv body.now pdvs) }
 {

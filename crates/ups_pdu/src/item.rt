@@ -9,7 +9,7 @@ ghost use Rattle.ups_pdu.specs.Item.{Item, IsItem, is_one_of, EachSpells, HasCon
 use crate::number::be_u16_at;
 use std::alloc::{AllocError, Allocator};
 
-/// The type and the content of the item at the front, and what follows it.
+/// Reads the type and the content of the item at the front, and returns them with the bytes that follow.
 pub(crate) fn item_at(bytes: &[u8]) -> Option<(u8, &[u8], &[u8])>
     ensures { MatchOption result ((item : Item) → (rest : List ℕ) → IsItem bytes.now item rest → ⊥)
         (λ x. IsItem bytes.now (record { kind = x.0; content = x.1.now }) x.2.now) }
@@ -26,7 +26,7 @@ pub(crate) fn item_at(bytes: &[u8]) -> Option<(u8, &[u8], &[u8])>
     Some((*kind, content, rest))
 }
 
-/// The content of the first item of this type, and what follows that item.
+/// Returns the content of the first item of type `kind`, and the bytes that follow that item.
 pub(crate) fn next_of(kind: u8, bytes: &[u8]) -> Option<(&[u8], &[u8])>
     ensures next { (found : List (List ℕ)) → HasContents kind bytes.now found → MatchOption result (found ≡ []) (λ x. IsNext kind x.0.now x.1.now found) }
     ensures shorter { IfSome result (λ x. length x.1.now < length bytes.now) }
@@ -41,7 +41,7 @@ pub(crate) fn next_of(kind: u8, bytes: &[u8]) -> Option<(&[u8], &[u8])>
     None
 }
 
-/// Whether each item has one of these types.
+/// Returns whether each item has one of the types in `kinds`.
 pub(crate) fn has_only(kinds: &[u8], bytes: &[u8]) -> bool
     ensures { (items : List Item) → Each IsItem bytes.now items → result ≡ list_all (is_one_of kinds.now) items }
 {
@@ -55,14 +55,14 @@ pub(crate) fn has_only(kinds: &[u8], bytes: &[u8]) -> bool
     true
 }
 
-/// Whether there is an item of this type.
+/// Returns whether there is an item of type `kind`.
 pub(crate) fn has(kind: u8, bytes: &[u8]) -> bool
     ensures { (found : List (List ℕ)) → HasContents kind bytes.now found → IsTrue result ↔ (found ≡ [] → ⊥) }
 {
     next_of(kind, bytes).is_some()
 }
 
-/// The content of the item of this type where there is one; None where there are several.
+/// Returns the content of the item of type `kind` if there is one, or None if there are several.
 pub(crate) fn optional_content(kind: u8, bytes: &[u8]) -> Option<Option<&[u8]>>
     ensures { (found : List (List ℕ)) → HasContents kind bytes.now found
         → MatchOption result ((content : Option (List ℕ)) → found ≡ option_to_list content → ⊥) (λ x. found ≡ option_to_list (option_copied x)) }
@@ -76,7 +76,7 @@ pub(crate) fn optional_content(kind: u8, bytes: &[u8]) -> Option<Option<&[u8]>>
     }
 }
 
-/// What the content of an item spells, read without memory.
+/// A value encoded in the content of an item, read without allocating memory.
 pub(crate) trait Spelled: Copy {
     ghost spells: { List ℕ → Self → Type 0 };
 
@@ -84,7 +84,7 @@ pub(crate) trait Spelled: Copy {
         ensures { MatchOption result ((x : Self) → spells content.now x → ⊥) (spells content.now) };
 }
 
-/// What the item of this type spells where there is one; None where it spells nothing, or there are several.
+/// Returns the value of the item of type `kind` if there is one, or None if it is malformed or there are several.
 pub(crate) fn optional<T: Spelled>(kind: u8, bytes: &[u8]) -> Option<Option<T>>
     ensures { (found : List (List ℕ)) → HasContents kind bytes.now found
         → MatchOption result ((x : Option T) → EachSpells T.spells found (option_to_list x) → ⊥) (λ x. EachSpells T.spells found (option_to_list x)) }
@@ -96,7 +96,7 @@ pub(crate) fn optional<T: Spelled>(kind: u8, bytes: &[u8]) -> Option<Option<T>>
     Some(Some(x))
 }
 
-/// What the only item of this type spells.
+/// Returns the value of the only item of type `kind`.
 pub(crate) fn only<T: Spelled>(kind: u8, bytes: &[u8]) -> Option<T>
     ensures { (found : List (List ℕ)) → HasContents kind bytes.now found
         → MatchOption result ((x : T) → EachSpells T.spells found (x ∷ []) → ⊥) (λ x. EachSpells T.spells found (x ∷ [])) }
@@ -104,7 +104,7 @@ pub(crate) fn only<T: Spelled>(kind: u8, bytes: &[u8]) -> Option<T>
     optional(kind, bytes)?
 }
 
-/// Whether each item of this type spells something.
+/// Returns whether each item of type `kind` encodes a value.
 pub(crate) fn are_all<T: Spelled>(kind: u8, bytes: &[u8]) -> bool
     ensures { (found : List (List ℕ)) → HasContents kind bytes.now found → IsTrue result ↔ ((xs : List T) × EachSpells T.spells found xs) }
 {
@@ -118,7 +118,7 @@ pub(crate) fn are_all<T: Spelled>(kind: u8, bytes: &[u8]) -> bool
     true
 }
 
-/// What the items of this type spell, in order, but for those that spell nothing.
+/// Returns the values of the items of type `kind`, in order, and skips malformed items.
 pub(crate) fn all_of<A: Allocator + Copy, T: Spelled>(
     alloc: A,
     kind: u8,

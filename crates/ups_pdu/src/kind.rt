@@ -1,4 +1,4 @@
-//! The types of PDU, and the header that each begins with (PS3.8 section 9.3.1).
+//! The types of PDUs, and the header of each PDU (PS3.8 section 9.3.1).
 
 ghost use Rattle.std.specs.Prelude.{◌≡◌, ◌≢◌, ◌<◌, ◌≤◌, ℕ, List, length, MatchOption, MatchResult};
 ghost use Rattle.ups_pdu.specs.declared.fault.PduFault.TheVariants.{Short, Memory};
@@ -22,7 +22,7 @@ pub enum PduKind {
 }
 
 impl PduKind {
-    /// The type that a type byte stands for.
+    /// Returns the type that has this type byte, or None if no type has it.
     fn of(byte: u8) -> Option<PduKind>
         ensures { MatchOption result ((kind : PduKind) → type_code kind ≡ byte → ⊥) (λ kind. type_code kind ≡ byte) }
     {
@@ -38,7 +38,7 @@ impl PduKind {
         }
     }
 
-    /// The type byte.
+    /// Returns the type byte.
     pub fn code(self) -> u8
         ensures { result ≡ type_code self }
     {
@@ -53,7 +53,7 @@ impl PduKind {
         }
     }
 
-    /// How many bytes may follow the header.
+    /// Returns the maximum number of bytes after the header.
     pub fn limit(self) -> usize
         ensures { result ≡ limit self }
     {
@@ -64,7 +64,7 @@ impl PduKind {
     }
 }
 
-/// The type byte, the length and what follows them.
+/// Reads the type byte and the length, and returns them with the bytes that follow.
 fn split_header(bytes: &[u8]) -> Option<(u8, u32, &[u8])>
     ensures { MatchOption result (length bytes.now < 6) (λ x. IsHeader bytes.now x.0 x.1 x.2.now) }
 {
@@ -75,7 +75,8 @@ fn split_header(bytes: &[u8]) -> Option<(u8, u32, &[u8])>
     Some((*code, len, rest))
 }
 
-/// The type and the body of the PDU at the front, and what follows it; or the first fault of its header.
+/// Returns the type and the body of the PDU at the front, and the bytes that follow it, or the first fault of its
+/// header.
 pub(crate) fn split_pdu(bytes: &[u8]) -> Result<(PduKind, &[u8], &[u8]), PduFault>
     ensures { MatchResult result (λ x. IsWhole bytes.now x.0 x.1.now x.2.now) (HeaderFails bytes.now) }
 {
@@ -96,8 +97,11 @@ pub(crate) fn split_pdu(bytes: &[u8]) -> Result<(PduKind, &[u8], &[u8]), PduFaul
     Ok((kind, body, rest))
 }
 
-/// How many bytes follow a header of six bytes. An unknown type and a length over the limit are known from
-/// the header alone, so that nobody waits for such a body.
+/// Returns the number of bytes that follow a header of six bytes.
+///
+/// # Errors
+///
+/// `UnknownType` and `TooLong`: the header alone shows them, so that nobody waits for such a body.
 pub fn body_len(header: &[u8]) -> Result<usize, PduFault>
     requires { length header.now ≡ 6 }
     ensures { MatchResult result (λ n. (kind : PduKind) × (rest : List ℕ) × IsHeader header.now (type_code kind) n rest × (n ≤ limit kind))

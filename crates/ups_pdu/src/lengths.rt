@@ -1,4 +1,4 @@
-//! Whether the lengths inside a body fill what they are the lengths of (PS3.8 section 9.3).
+//! Checks that the lengths inside a body match what they measure (PS3.8 section 9.3).
 
 ghost use Rattle.std.specs.Prelude.{◌↔◌, ◌≤◌, List, ℕ, IsTrue, length, drop};
 ghost use Rattle.ups_pdu.specs.Lengths.{AreFilled, AnyContent, UserItemFills, ContextFills, AssociationItemFills, LengthsFill};
@@ -8,16 +8,16 @@ use crate::item::item_at;
 use crate::kind::PduKind;
 use crate::role::split_role;
 
-/// A place where items stand, by the lengths inside the items there.
+/// A place for items in a PDU, which determines the lengths inside the items.
 pub(crate) trait Place {
     ghost filled: { ℕ → List ℕ → Type 0 };
 
-    /// Whether the lengths inside the content of an item of this type fill it.
+    /// Returns whether the lengths inside the content of an item of type `kind` fill it exactly.
     fn is_filled(kind: u8, content: &[u8]) -> bool
         ensures { IsTrue result ↔ filled kind content.now };
 }
 
-/// Items with no lengths inside.
+/// A place for items with no lengths inside.
 pub(crate) struct Plain;
 
 impl Place for Plain {
@@ -28,7 +28,7 @@ impl Place for Plain {
     }
 }
 
-/// The sub-items of the user information: a role selection has a length inside.
+/// The sub-items of the user information, of which a role selection has a length inside.
 struct InUserInformation;
 
 impl Place for InUserInformation {
@@ -61,7 +61,7 @@ impl Place for InAnswer {
     }
 }
 
-/// Whether items fill the bytes, and the lengths inside each fill it.
+/// Returns whether items fill the bytes exactly, and the lengths inside each item fill it exactly.
 pub(crate) fn items_fill<P: Place>(bytes: &[u8]) -> bool
     ensures { IsTrue result ↔ AreFilled P.filled bytes.now }
 {
@@ -78,14 +78,15 @@ pub(crate) fn items_fill<P: Place>(bytes: &[u8]) -> bool
     true
 }
 
-/// Whether sub-items fill a presentation context behind its first four bytes.
+/// Returns whether sub-items exactly fill a presentation context after its first four bytes.
 fn context_fills(content: &[u8]) -> bool
     ensures { IsTrue result ↔ ContextFills content.now }
 {
     content.len() >= 4 && items_fill::<Plain>(&content[4..])
 }
 
-/// Whether the lengths inside an item of an association PDU, whose contexts have this type, fill it.
+/// Returns whether the lengths inside an item of an association PDU, whose presentation contexts are items of type
+/// `context_kind`, fill it exactly.
 fn association_item_fills(context_kind: u8, kind: u8, content: &[u8]) -> bool
     ensures { IsTrue result ↔ AssociationItemFills context_kind kind content.now }
 {
@@ -98,7 +99,7 @@ fn association_item_fills(context_kind: u8, kind: u8, content: &[u8]) -> bool
     }
 }
 
-/// Whether items fill an association PDU behind its first 68 bytes.
+/// Returns whether items exactly fill the body of an association PDU after its first 68 bytes.
 fn association_fills<P: Place>(body: &[u8]) -> bool
     ensures { IsTrue result ↔ ((68 ≤ length body.now) × AreFilled P.filled (drop 68 body.now)) }
 {
@@ -109,7 +110,7 @@ fn association_fills<P: Place>(body: &[u8]) -> bool
     items_fill::<P>(items)
 }
 
-/// Whether the lengths inside a body fill it.
+/// Returns whether the lengths inside a body fill it exactly.
 pub(crate) fn lengths_fill(kind: PduKind, body: &[u8]) -> bool
     ensures { IsTrue result ↔ LengthsFill kind body.now }
 {

@@ -1,5 +1,5 @@
-//! The upper layer protocol of DICOM: UIDs, application entity titles, and the protocol data units with
-//! their bytes (PS3.8 section 9.3, PS3.5 section 9), read and written exactly.
+//! The upper layer protocol of DICOM: UIDs (PS3.5 section 9), application entity titles, and protocol data units
+//! (PS3.8 section 9.3), which are read and written exactly.
 #![tactic(auto)]
 
 mod ae;

@@ -1,4 +1,4 @@
-//! Lists that stand in association PDUs.
+//! The lists in association PDUs.
 
 ghost use Rattle.std.specs.Prelude.{◌≡◌};
 
@@ -7,7 +7,7 @@ use crate::uid::Uid;
 use std::alloc::Allocator;
 use std::marker::Model;
 
-/// UIDs, in order. A contract sees them as a list.
+/// UIDs, in order. Contracts see them as a list.
 #[derive(Drop)]
 pub struct Uids<A: Allocator + Copy> {
     uids: Vec<Uid, A>,
@@ -23,14 +23,14 @@ impl<A: Allocator + Copy> Model for Uids<A> {
 }
 
 impl<A: Allocator + Copy> Uids<A> {
-    /// The list of a vector. It takes no memory.
+    /// Wraps a vector, without allocating memory.
     pub fn from_vec(uids: Vec<Uid, A>) -> Uids<A>
         ensures { result ≡ uids.items }
     {
         Uids { uids }
     }
 
-    /// The vector of the list. It takes no memory.
+    /// Returns the vector, without allocating memory.
     pub fn into_vec(self) -> Vec<Uid, A>
         ensures { result.items ≡ self }
     {
@@ -38,7 +38,7 @@ impl<A: Allocator + Copy> Uids<A> {
         uids
     }
 
-    /// The list, lent.
+    /// Returns the list as a slice.
     pub fn as_slice(&self) -> &[Uid]
         ensures { result.now ≡ self.now }
     {
@@ -46,7 +46,7 @@ impl<A: Allocator + Copy> Uids<A> {
     }
 }
 
-/// Proposed presentation contexts, in order. A contract sees them as a list.
+/// Proposed presentation contexts, in order. Contracts see them as a list.
 #[derive(Drop)]
 pub struct ProposedContexts<A: Allocator + Copy> {
     contexts: Vec<ProposedContext<A>, A>,
@@ -62,14 +62,14 @@ impl<A: Allocator + Copy> Model for ProposedContexts<A> {
 }
 
 impl<A: Allocator + Copy> ProposedContexts<A> {
-    /// The list of a vector. It takes no memory.
+    /// Wraps a vector, without allocating memory.
     pub fn from_vec(contexts: Vec<ProposedContext<A>, A>) -> ProposedContexts<A>
         ensures { result ≡ contexts.items }
     {
         ProposedContexts { contexts }
     }
 
-    /// The vector of the list. It takes no memory.
+    /// Returns the vector, without allocating memory.
     pub fn into_vec(self) -> Vec<ProposedContext<A>, A>
         ensures { result.items ≡ self }
     {
@@ -77,7 +77,7 @@ impl<A: Allocator + Copy> ProposedContexts<A> {
         contexts
     }
 
-    /// The list, lent.
+    /// Returns the list as a slice.
     pub fn as_slice(&self) -> &[ProposedContext<A>]
         ensures { result.now ≡ self.now }
     {
@@ -85,7 +85,7 @@ impl<A: Allocator + Copy> ProposedContexts<A> {
     }
 }
 
-/// Answered presentation contexts, in order. A contract sees them as a list.
+/// Answered presentation contexts, in order. Contracts see them as a list.
 #[derive(Drop)]
 pub struct AnsweredContexts<A: Allocator + Copy> {
     answers: Vec<AnsweredContext, A>,
@@ -101,14 +101,14 @@ impl<A: Allocator + Copy> Model for AnsweredContexts<A> {
 }
 
 impl<A: Allocator + Copy> AnsweredContexts<A> {
-    /// The list of a vector. It takes no memory.
+    /// Wraps a vector, without allocating memory.
     pub fn from_vec(answers: Vec<AnsweredContext, A>) -> AnsweredContexts<A>
         ensures { result ≡ answers.items }
     {
         AnsweredContexts { answers }
     }
 
-    /// The vector of the list. It takes no memory.
+    /// Returns the vector, without allocating memory.
     pub fn into_vec(self) -> Vec<AnsweredContext, A>
         ensures { result.items ≡ self }
     {
@@ -116,7 +116,7 @@ impl<A: Allocator + Copy> AnsweredContexts<A> {
         answers
     }
 
-    /// The list, lent.
+    /// Returns the list as a slice.
     pub fn as_slice(&self) -> &[AnsweredContext]
         ensures { result.now ≡ self.now }
     {
@@ -124,7 +124,7 @@ impl<A: Allocator + Copy> AnsweredContexts<A> {
     }
 }
 
-/// Roles, in order. A contract sees them as a list.
+/// Roles, in order. Contracts see them as a list.
 #[derive(Drop)]
 pub struct Roles<A: Allocator + Copy> {
     roles: Vec<Role, A>,
@@ -140,14 +140,14 @@ impl<A: Allocator + Copy> Model for Roles<A> {
 }
 
 impl<A: Allocator + Copy> Roles<A> {
-    /// The list of a vector. It takes no memory.
+    /// Wraps a vector, without allocating memory.
     pub fn from_vec(roles: Vec<Role, A>) -> Roles<A>
         ensures { result ≡ roles.items }
     {
         Roles { roles }
     }
 
-    /// The vector of the list. It takes no memory.
+    /// Returns the vector, without allocating memory.
     pub fn into_vec(self) -> Vec<Role, A>
         ensures { result.items ≡ self }
     {
@@ -155,7 +155,7 @@ impl<A: Allocator + Copy> Roles<A> {
         roles
     }
 
-    /// The list, lent.
+    /// Returns the list as a slice.
     pub fn as_slice(&self) -> &[Role]
         ensures { result.now ≡ self.now }
     {

@@ -1,10 +1,10 @@
-//! Numbers at the front of bytes: with the highest byte first as in PDUs (PS3.8 section 9.3.1), and with
-//! the lowest byte first as in data sets (PS3.5 section 7.3).
+//! Numbers at the front of bytes: big-endian as in PDUs (PS3.8 section 9.3.1), and little-endian as in data sets
+//! (PS3.5 section 7.3).
 
 ghost use Rattle.std.specs.Prelude.{◌≡◌, ◌<◌, ◌++◌, length, MatchOption};
 ghost use Rattle.std.specs.Int.{w16, w32, to_be_bytes, to_le_bytes};
 
-/// The number in the first two bytes, the highest first, and the rest.
+/// Reads a big-endian number from the first two bytes, and returns it with the rest.
 pub fn be_u16_at(bytes: &[u8]) -> Option<(u16, &[u8])>
     ensures { MatchOption result (length bytes.now < 2) (λ x. bytes.now ≡ to_be_bytes w16 x.0 ++ x.1.now) }
 {
@@ -15,7 +15,7 @@ pub fn be_u16_at(bytes: &[u8]) -> Option<(u16, &[u8])>
     Some((u16::from_be_bytes([front[0], front[1]]), rest))
 }
 
-/// The number in the first four bytes, the highest first, and the rest.
+/// Reads a big-endian number from the first four bytes, and returns it with the rest.
 pub fn be_u32_at(bytes: &[u8]) -> Option<(u32, &[u8])>
     ensures { MatchOption result (length bytes.now < 4) (λ x. bytes.now ≡ to_be_bytes w32 x.0 ++ x.1.now) }
 {
@@ -27,7 +27,7 @@ pub fn be_u32_at(bytes: &[u8]) -> Option<(u32, &[u8])>
     Some((number, rest))
 }
 
-/// The number in the first two bytes, the lowest first, and the rest.
+/// Reads a little-endian number from the first two bytes, and returns it with the rest.
 pub fn le_u16_at(bytes: &[u8]) -> Option<(u16, &[u8])>
     ensures { MatchOption result (length bytes.now < 2) (λ x. bytes.now ≡ to_le_bytes w16 x.0 ++ x.1.now) }
 {
@@ -38,7 +38,7 @@ pub fn le_u16_at(bytes: &[u8]) -> Option<(u16, &[u8])>
     Some((u16::from_le_bytes([front[0], front[1]]), rest))
 }
 
-/// The number in the first four bytes, the lowest first, and the rest.
+/// Reads a little-endian number from the first four bytes, and returns it with the rest.
 pub fn le_u32_at(bytes: &[u8]) -> Option<(u32, &[u8])>
     ensures { MatchOption result (length bytes.now < 4) (λ x. bytes.now ≡ to_le_bytes w32 x.0 ++ x.1.now) }
 {

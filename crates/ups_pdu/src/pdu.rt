@@ -11,24 +11,24 @@ use std::alloc::Allocator;
 /// A protocol data unit of the upper layer.
 #[derive(Drop)]
 pub enum Pdu<A: Allocator + Copy> {
-    /// A-ASSOCIATE-RQ (PS3.8 section 9.3.2): an association is asked for.
+    /// A-ASSOCIATE-RQ (PS3.8 section 9.3.2): a request for an association.
     AssociateRq(AssociateRq<A>),
-    /// A-ASSOCIATE-AC (PS3.8 section 9.3.3): it is accepted.
+    /// A-ASSOCIATE-AC (PS3.8 section 9.3.3): the acceptance of a request.
     AssociateAc(AssociateAc<A>),
-    /// A-ASSOCIATE-RJ (PS3.8 section 9.3.4): it is rejected.
+    /// A-ASSOCIATE-RJ (PS3.8 section 9.3.4): the rejection of a request.
     AssociateRj { result: u8, source: u8, reason: u8 },
     /// P-DATA-TF (PS3.8 section 9.3.5): fragments of messages.
     Data(Pdvs<A>),
-    /// A-RELEASE-RQ (PS3.8 section 9.3.6): the end of the association is asked for.
+    /// A-RELEASE-RQ (PS3.8 section 9.3.6): a request to end the association.
     ReleaseRq,
-    /// A-RELEASE-RP (PS3.8 section 9.3.7): the end is answered.
+    /// A-RELEASE-RP (PS3.8 section 9.3.7): the answer to a request to end the association.
     ReleaseRp,
-    /// A-ABORT (PS3.8 section 9.3.8): the association ends at once.
+    /// A-ABORT (PS3.8 section 9.3.8): the immediate end of the association.
     Abort { source: u8, reason: u8 },
 }
 
 impl<A: Allocator + Copy> Pdu<A> {
-    /// The type of this PDU.
+    /// Returns the type of this PDU.
     pub fn kind(&self) -> PduKind
         ensures { result ≡ pdu_kind self.now }
     {

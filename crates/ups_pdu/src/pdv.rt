@@ -6,20 +6,20 @@ use crate::bytes::Bytes;
 use std::alloc::Allocator;
 use std::marker::Model;
 
-/// A presentation data value: a fragment of a command or of a data set, on a presentation context.
+/// A presentation data value (PDV): a fragment of a command set or of a data set, on a presentation context.
 #[derive(Drop)]
 pub struct Pdv<A: Allocator + Copy> {
     /// The presentation context id.
     pub context: u8,
-    /// Whether the fragment is of a command.
+    /// Whether the fragment belongs to a command set.
     pub command: bool,
-    /// Whether it is the last of its command or data set.
+    /// Whether the fragment is the last of its command set or data set.
     pub last: bool,
-    /// The bytes of the message.
+    /// The bytes of the message in this fragment.
     pub bytes: Bytes<A>,
 }
 
-/// The presentation data values of one PDU, in order. A contract sees them as a list.
+/// The PDVs of one PDU, in order. Contracts see them as a list.
 #[derive(Drop)]
 pub struct Pdvs<A: Allocator + Copy> {
     pdvs: Vec<Pdv<A>, A>,
@@ -35,14 +35,14 @@ impl<A: Allocator + Copy> Model for Pdvs<A> {
 }
 
 impl<A: Allocator + Copy> Pdvs<A> {
-    /// The values of a vector. It takes no memory.
+    /// Wraps a vector, without allocating memory.
     pub fn from_vec(pdvs: Vec<Pdv<A>, A>) -> Pdvs<A>
         ensures { result ≡ pdvs.items }
     {
         Pdvs { pdvs }
     }
 
-    /// The vector of the values. It takes no memory.
+    /// Returns the vector, without allocating memory.
     pub fn into_vec(self) -> Vec<Pdv<A>, A>
         ensures { result.items ≡ self }
     {
@@ -50,7 +50,7 @@ impl<A: Allocator + Copy> Pdvs<A> {
         pdvs
     }
 
-    /// The values, lent.
+    /// Returns the PDVs as a slice.
     pub fn as_slice(&self) -> &[Pdv<A>]
         ensures { result.now ≡ self.now }
     {

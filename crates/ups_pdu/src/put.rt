@@ -32,7 +32,7 @@ fn put_item<A: Allocator + Copy>(
     Ok(())
 }
 
-/// Sets the length of the item that begins at a place to that of what follows its header.
+/// Sets the length field of the item that begins at `start` to the number of bytes after its header.
 #[tactic(auto, unfolding(crate::specs::Written::written_item))]
 fn close_item<A: Allocator + Copy>(out: &mut Vec<u8, A>, start: usize)
     requires some { start + 4 ≤ vec_len out.old }
@@ -98,7 +98,7 @@ fn put_all_proposed<A: Allocator + Copy>(
     Ok(())
 }
 
-/// The result of an answer.
+/// Returns the result of an answer, which is 0 if it accepts.
 fn result_of(answer: ContextAnswer) -> u8
     ensures { result ≡ context_result answer }
 {
@@ -108,7 +108,7 @@ fn result_of(answer: ContextAnswer) -> u8
     }
 }
 
-/// The transfer syntax that is written for an answer.
+/// Returns the transfer syntax to write for an answer.
 fn syntax_of(answer: ContextAnswer) -> Uid
     ensures syntax { result ≡ syntax_of answer }
     ensures short { length result ≤ 64 }
@@ -224,7 +224,7 @@ fn put_user<A: Allocator + Copy>(
     Ok(())
 }
 
-/// Writes the fields before the items.
+/// Writes the fields before the items of an association PDU.
 #[tactic(auto, unfolding(crate::specs::Written::associate_head))]
 fn put_head<A: Allocator + Copy>(
     out: &mut Vec<u8, A>,

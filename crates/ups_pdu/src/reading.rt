@@ -15,7 +15,7 @@ use crate::pdu::Pdu;
 use crate::pdv::Pdvs;
 use std::alloc::Allocator;
 
-/// The presentation data values of a body, of which there is one at least.
+/// Reads the presentation data values (PDVs) of a body, which has at least one.
 fn data_of<A: Allocator + Copy>(alloc: A, body: &[u8]) -> Result<Pdvs<A>, PduFault>
     requires { LengthsFill PduKind.Data body.now }
     ensures { Gives (SpellsData body.now) result }
@@ -27,7 +27,7 @@ fn data_of<A: Allocator + Copy>(alloc: A, body: &[u8]) -> Result<Pdvs<A>, PduFau
     Ok(pdvs)
 }
 
-/// What a body spells.
+/// Reads the body of a PDU of type `kind`.
 fn body_of<A: Allocator + Copy>(alloc: A, kind: PduKind, body: &[u8]) -> Result<Pdu<A>, PduFault>
     requires { LengthsFill kind body.now }
     ensures { Gives (IsBody kind body.now) result }
@@ -56,7 +56,7 @@ fn body_of<A: Allocator + Copy>(alloc: A, kind: PduKind, body: &[u8]) -> Result<
     }
 }
 
-/// The PDU at the front of the bytes, or the first fault.
+/// Reads the PDU at the front of the bytes, or returns the first fault.
 fn front_of<A: Allocator + Copy>(alloc: A, bytes: &[u8]) -> Result<(Pdu<A>, usize), PduFault>
     ensures { MatchResult result (λ x. IsFront bytes.now x.0 x.1) (IsFault A bytes.now) }
 {
@@ -68,12 +68,14 @@ fn front_of<A: Allocator + Copy>(alloc: A, bytes: &[u8]) -> Result<(Pdu<A>, usiz
     Ok((pdu, 6 + body.len()))
 }
 
-/// The PDU at the front of the bytes, and how many bytes it takes.
+/// Reads the PDU at the front of the bytes, and returns it with the number of its bytes.
 ///
-/// The fault is the first of these: fewer than 6 bytes (Short), a type that no PDU has (UnknownType), a length
-/// over the limit of the type (TooLong), fewer bytes than the length (Short), a length inside that does not fill
-/// what it is the length of (BadLength), anything else that the PDU's grammar does not have (BadItem). Memory
-/// is for bytes that do spell a PDU.
+/// # Errors
+///
+/// The first of these: fewer than 6 bytes (`Short`), an unknown type (`UnknownType`), a length over the limit of the
+/// type (`TooLong`), fewer bytes than the length (`Short`), a length inside the body that does not match what it
+/// measures (`BadLength`), anything else that the grammar of the PDU does not allow (`BadItem`). `Memory` is returned
+/// only for bytes that do encode a PDU.
 pub fn read_pdu<A: Allocator + Copy>(alloc: A, bytes: &[u8]) -> Result<(Pdu<A>, usize), PduFault>
     ensures found { IfOk result (λ x. (x.1 ≤ length bytes.now) × SpellsPdu (take x.1 bytes.now) x.0) }
     ensures only { (n : ℕ) → (pdu : Pdu A) → n ≤ length bytes.now → SpellsPdu (take n bytes.now) pdu

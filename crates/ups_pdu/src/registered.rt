@@ -1,11 +1,11 @@
-//! The UIDs that the service speaks of (PS3.6 annex A, PS3.4 annex CC).
+//! The UIDs that the service uses (PS3.6 annex A, PS3.4 annex CC).
 
 ghost use Rattle.std.specs.Prelude.{◌≡◌};
 ghost use Rattle.ups_pdu.specs.Registered.{text_of};
 
 use crate::uid::Uid;
 
-/// A UID with a meaning of its own.
+/// A UID that the service knows.
 #[derive(Clone, Copy, Debug, PartialEq, Eq)]
 pub enum RegisteredUid {
     /// Verification SOP Class.
@@ -33,7 +33,7 @@ pub enum RegisteredUid {
 }
 
 impl RegisteredUid {
-    /// The bytes of the UID.
+    /// Returns the bytes of the UID.
     pub fn text(self) -> &'static [u8]
         ensures { result.now ≡ text_of self }
     {
@@ -52,7 +52,7 @@ impl RegisteredUid {
         }
     }
 
-    /// The UID.
+    /// Returns the UID.
     pub fn uid(self) -> Uid
         ensures { result ≡ text_of self }
     {

@@ -8,7 +8,7 @@ use crate::item::Spelled;
 use crate::number::be_u16_at;
 use crate::uid::Uid;
 
-/// The bytes of the UID and the two roles.
+/// Splits a role selection into the bytes of its UID, the SCU role and the SCP role.
 pub(crate) fn split_role(content: &[u8]) -> Option<(&[u8], u8, u8)>
     ensures { MatchOption result ((text : List ℕ) → (scu : ℕ) → (scp : ℕ) → IsRole content.now text scu scp → ⊥)
         (λ x. IsRole content.now x.0.now x.1 x.2) }

@@ -3,14 +3,14 @@
 ghost use Rattle.std.specs.Prelude.{◌≡◌};
 ghost use Rattle.ups_pdu.specs.Padding.{is_padding, without_padding};
 
-/// Whether a byte is a space or a NUL.
+/// Returns whether the byte is a space or a NUL.
 pub fn is_padding(byte: u8) -> bool
     ensures { result ≡ is_padding byte }
 {
     byte == 0 || byte == b' '
 }
 
-/// The bytes without the spaces and NULs at their end.
+/// Returns the bytes without the spaces and NULs at their end.
 #[tactic(auto, using(crate::proofs::Trailing::padding_goes, crate::proofs::Trailing::others_stay))]
 pub fn without_padding(bytes: &[u8]) -> &[u8]
     ensures { result.now ≡ without_padding bytes.now }

@@ -8,8 +8,8 @@ use crate::text::without_padding;
 use std::hash::{Hash, Hasher};
 use std::marker::Model;
 
-/// A unique identifier (PS3.5 section 9): 1 to 64 bytes, digits and dots. It holds its bytes in place, so
-/// copying takes no memory. A contract sees it as the list of its bytes.
+/// A unique identifier (PS3.5 section 9): 1 to 64 bytes, digits and dots. It holds its bytes in place, so copying it
+/// allocates no memory. Contracts see it as the list of its bytes.
 #[derive(Clone, Copy)]
 pub struct Uid {
     bytes: [u8; 64],
@@ -56,7 +56,7 @@ fn is_uid(text: &[u8]) -> bool
     !text.is_empty() && text.len() <= 64 && are_components(text)
 }
 
-/// A text, and zeros behind it.
+/// Returns the text, followed by zeros.
 fn in_place(text: &[u8]) -> [u8; 64]
     requires { length text.now ≤ 64 }
     ensures { result ≡ text.now ++ replicate (64 - length text.now) 0 }
@@ -69,7 +69,7 @@ fn in_place(text: &[u8]) -> [u8; 64]
 }
 
 impl Uid {
-    /// The UID that the bytes spell, with spaces and NULs behind it; None where they spell none.
+    /// Returns the UID encoded in the bytes, without the spaces and NULs after it, or None if they encode no UID.
     pub fn of(bytes: &[u8]) -> Option<Uid>
         ensures { MatchOption result ((uid : List ℕ) → SpellsUid bytes.now uid → ⊥) (SpellsUid bytes.now) }
     {
@@ -83,7 +83,7 @@ impl Uid {
         })
     }
 
-    /// The bytes of the UID, without padding.
+    /// Returns the bytes of the UID, without padding.
     pub fn as_bytes(&self) -> &[u8]
         ensures bytes { result.now ≡ self.now }
         ensures is_uid { IsUid self.now }

@@ -47,7 +47,7 @@ impl Spelled for AsynchronousWindow {
     }
 }
 
-/// User information that is still in the bytes, but for its roles.
+/// The user information without its roles, which stay in the bytes.
 #[derive(Clone, Copy)]
 pub(crate) struct UserParts<'a> {
     maximum_length: u32,
@@ -56,7 +56,7 @@ pub(crate) struct UserParts<'a> {
     implementation_version: Option<&'a [u8]>,
 }
 
-/// The user information in the content of its item.
+/// Reads the user information from the content of its item, or returns None if it is malformed, roles included.
 pub(crate) fn user_parts(content: &[u8]) -> Option<UserParts<'_>>
     ensures { MatchOption result
         ((maximum : ℕ) → (class : Option (List ℕ)) → (window : Option AsynchronousWindow) → (roles : List Role) → (version : Option (List ℕ))
@@ -81,7 +81,7 @@ pub(crate) fn user_parts(content: &[u8]) -> Option<UserParts<'_>>
     })
 }
 
-/// A copy of bytes, where there are some.
+/// Copies the bytes, or returns None for None.
 fn copy_of<A: Allocator + Copy>(
     alloc: A,
     bytes: Option<&[u8]>,
@@ -94,7 +94,7 @@ fn copy_of<A: Allocator + Copy>(
     }
 }
 
-/// The user information, in memory of its own.
+/// Reads the roles, and returns the user information in memory of its own.
 pub(crate) fn user_information_of<A: Allocator + Copy>(
     alloc: A,
     content: &[u8],

@@ -13,7 +13,7 @@ use crate::pdv::Pdv;
 use crate::put::{put_answer, put_request};
 use std::alloc::{AllocError, Allocator};
 
-/// The message control header (PS3.8 annex E.2).
+/// Returns the message control header of a PDV (PS3.8 annex E.2).
 fn control_of<A: Allocator + Copy>(pdv: &Pdv<A>) -> u8
     ensures { result ≡ control_of pdv.now }
 {
@@ -44,7 +44,7 @@ fn put_pdvs<A: Allocator + Copy>(out: &mut Vec<u8, A>, pdvs: &[Pdv<A>]) -> Resul
     Ok(())
 }
 
-/// Writes what follows the header.
+/// Writes the body of a PDU.
 fn put_body<A: Allocator + Copy>(out: &mut Vec<u8, A>, pdu: &Pdu<A>) -> Result<(), AllocError>
     requires { Fits pdu.now }
     ensures { OnOk result (out.new.items ≡ out.old.items ++ written_body pdu.now) }
@@ -63,7 +63,7 @@ fn put_body<A: Allocator + Copy>(out: &mut Vec<u8, A>, pdu: &Pdu<A>) -> Result<(
     }
 }
 
-/// Sets the length of a PDU to that of what follows its header.
+/// Sets the length field of a PDU to the number of bytes after its header.
 fn close_pdu<A: Allocator + Copy>(out: &mut Vec<u8, A>)
     requires some { 6 ≤ vec_len out.old }
     requires fits { vec_len out.old < 2 ^ 32 }
@@ -78,7 +78,7 @@ fn close_pdu<A: Allocator + Copy>(out: &mut Vec<u8, A>)
     out[5] = fourth;
 }
 
-/// How many bytes a P-DATA-TF takes, and for another PDU those that each has at least.
+/// Returns the number of bytes of a P-DATA-TF, or 10 for another PDU, since each has at least 10 bytes.
 fn capacity_for<A: Allocator + Copy>(pdu: &Pdu<A>) -> usize {
     let Pdu::Data(pdvs) = pdu else {
         return 10;
@@ -90,11 +90,11 @@ fn capacity_for<A: Allocator + Copy>(pdu: &Pdu<A>) -> usize {
     capacity
 }
 
-/// The bytes of a PDU.
+/// Encodes a PDU as bytes.
 pub fn write_pdu<A: Allocator + Copy>(alloc: A, pdu: &Pdu<A>) -> Result<Vec<u8, A>, AllocError>
     requires { Fits pdu.now }
     ensures written { IfOk result (λ v. v.items ≡ written_pdu pdu.now) }
-    // They are read again, whatever follows.
+    // Reading the bytes gives the PDU again, no matter which bytes follow.
     ensures again { IfOk result (λ v. SpellsPdu v.items pdu.now) }
 {
     let mut out = Vec::with_capacity(alloc, capacity_for(pdu))?;
@@ -104,19 +104,19 @@ pub fn write_pdu<A: Allocator + Copy>(alloc: A, pdu: &Pdu<A>) -> Result<Vec<u8, 
     Ok(out)
 }
 
-/// A PDU can be written exactly where some bytes spell it, and its written spelling is within the limits. (The
-/// written spelling can be longer than another: a maximum length is always written, and so is a transfer syntax
-/// of a refused presentation context.)
+/// Does nothing at run time: its contract tells a proof that a PDU can be written if and only if some bytes encode it
+/// and its written form is within the limits. (The written form can be longer than another encoding: a maximum length
+/// is always written, and so is a transfer syntax of a refused presentation context.)
 pub fn fits_where_spelled<A: Allocator + Copy>()
     ensures { (pdu : Pdu A) → Fits pdu ↔ (((bytes : List ℕ) × SpellsPdu bytes pdu) × IsWithin pdu) }
 {}
 
-/// Bytes spell one PDU at most.
+/// Does nothing at run time: its contract tells a proof that bytes encode at most one PDU.
 pub fn pdu_is_unique<A: Allocator + Copy>()
     ensures { (bytes : List ℕ) → (first second : Pdu A) → SpellsPdu bytes first → SpellsPdu bytes second → first ≡ second }
 {}
 
-/// What short bytes spell can be written.
+/// Does nothing at run time: its contract tells a proof that a PDU encoded in at most 30,000 bytes can be written.
 pub fn short_is_writable<A: Allocator + Copy>()
     ensures { (bytes : List ℕ) → (pdu : Pdu A) → SpellsPdu bytes pdu → length bytes ≤ 30000 → Fits pdu }
 {}

@@ -1,5 +1,5 @@
-//! Plain programs: each answers a question to a history by walking it, entry by entry, and its contract is the definition of
-//! the answer. Tests compare with them what is answered from tables.
+//! Plain programs that answer questions about a history by walking it, entry by entry. The contract of each is the
+//! definition of its answer. Tests compare the answers from tables with them.
 #![tactic(auto)]
 
 mod reporting;

@@ -1,4 +1,4 @@
-//! What watchers are told, by walking the history: plain and slow.
+//! The event reports to watchers, found by walking the history: plain and slow.
 
 ghost use Rattle.std.specs.Prelude.{◌≡◌, ◌∷◌, [], ◌++◌, ◌+◌, ◌&&◌, length, map, filter, take, nat_lt, is_some, All, IfOk, OnOk, MatchResult, if◌then◌else◌};
 ghost use Rattle.std.specs.List.{list_any};
@@ -21,9 +21,9 @@ use ups_life::{
 use ups_pdu::Ae;
 use ups_rules::{add_if, cancel_reports, readiness_in, report, set_reports};
 
-/// One report.
+/// Returns a list of one report.
 ///
-/// Errors: where memory runs out.
+/// Errors: if memory runs out.
 fn alone<A: Allocator + Copy>(alloc: A, report: Report) -> Result<Vec<Report, A>, AllocError>
     ensures { IfOk result (λ v. v.items ≡ report ∷ []) }
 {
@@ -32,7 +32,7 @@ fn alone<A: Allocator + Copy>(alloc: A, report: Report) -> Result<Vec<Report, A>
     Ok(reports)
 }
 
-/// The readiness of a step's input.
+/// Returns the readiness of a step's input.
 ///
 /// Errors: those of `row`.
 fn readiness<A: Allocator + Copy>(
@@ -49,7 +49,7 @@ fn readiness<A: Allocator + Copy>(
     Ok(readiness_in(&row))
 }
 
-/// A State Report of a step as it is.
+/// Returns a State Report of the present state of a step.
 ///
 /// Errors: those of `row`.
 fn as_it_is<A: Allocator + Copy>(
@@ -67,8 +67,8 @@ fn as_it_is<A: Allocator + Copy>(
     Ok(report(EventKind::StateReport, step, state, readiness))
 }
 
-/// What is told of a request to whoever watches this step, which it is on: `earlier` are the entries before it, and
-/// `so_far` those with it.
+/// Returns the reports of a request to those who watch its step: `earlier` are the entries before it, and `so_far`
+/// those with it.
 ///
 /// Errors: those of `row`.
 fn told_of<A: Allocator + Copy>(
@@ -104,8 +104,8 @@ fn told_of<A: Allocator + Copy>(
     }
 }
 
-/// What is told of the creation of a step, which ends `so_far`, to a watcher whose global subscription is as after
-/// `earlier`, the entries before it.
+/// Returns the reports of the creation of a step, the last entry of `so_far`, to a watcher, by its global subscription
+/// after `earlier`, the entries before it.
 ///
 /// Errors: those of `row`.
 fn created<A: Allocator + Copy>(
@@ -128,7 +128,7 @@ fn created<A: Allocator + Copy>(
     Ok(reports)
 }
 
-/// Whether a subscription to this target takes in a step.
+/// Returns whether a subscription to this target includes a step.
 ///
 /// Errors: those of `row`.
 fn is_taken_in<A: Allocator + Copy>(
@@ -146,7 +146,7 @@ fn is_taken_in<A: Allocator + Copy>(
     Ok(takes_in(target, step, &row))
 }
 
-/// What is told of a subscription to this target: each of these steps that it takes in, as it is.
+/// Returns the reports of a subscription to this target: the present state of each of these steps that it includes.
 ///
 /// Errors: those of `row`.
 fn taken_in<A: Allocator + Copy>(
@@ -169,7 +169,7 @@ fn taken_in<A: Allocator + Copy>(
     Ok(reports)
 }
 
-/// What a watcher is told of a subscription of the receiver after these entries.
+/// Returns the reports to a watcher of a subscription of the receiver after these entries.
 ///
 /// Errors: those of `is_due`.
 fn subscribed<A: Allocator + Copy>(
@@ -192,8 +192,8 @@ fn subscribed<A: Allocator + Copy>(
     }
 }
 
-/// What is told of a step to who watches it only after the last of these entries, in this way or not at all: a State Report
-/// alone.
+/// Returns the reports of a step to one who was not subscribed to it before the last of these entries: a State Report
+/// if it is subscribed now, as `watching` says, or else none.
 ///
 /// Errors: those of `row`.
 fn told_newly<A: Allocator + Copy>(
@@ -215,7 +215,7 @@ fn told_newly<A: Allocator + Copy>(
     }
 }
 
-/// What a watcher is told of the request of an entry, where it watches the step of that, or begins to: `earlier` are the
+/// Returns the reports of an entry to a watcher, if it is subscribed to the step or becomes so: `earlier` are the
 /// entries before it, and `so_far` those with it.
 ///
 /// Errors: those of `row`.
@@ -244,7 +244,7 @@ fn told_if_watched<A: Allocator + Copy>(
     }
 }
 
-/// What a watcher is told of an entry: `earlier` are the entries before it, and `so_far` those with it.
+/// Returns the reports of an entry to a watcher: `earlier` are the entries before it, and `so_far` those with it.
 ///
 /// Errors: those of `is_due`.
 fn reports_of<A: Allocator + Copy>(
@@ -272,9 +272,9 @@ fn reports_of<A: Allocator + Copy>(
     }
 }
 
-/// Adds reports of the entry at this place, each with the next number.
+/// Adds the reports of the entry at this place, each with the next number.
 ///
-/// Errors: where memory runs out.
+/// Errors: if memory runs out.
 fn add_events<A: Allocator + Copy>(
     events: &mut Vec<Event, A>,
     place: usize,
@@ -296,8 +296,8 @@ fn add_events<A: Allocator + Copy>(
     Ok(())
 }
 
-/// All that a watcher was told, oldest first, whether it acknowledged it or not (PS3.4 CC.2.4). It is slow: of each entry
-/// it asks whether the watcher is subscribed to its step, for which it walks the entries before it.
+/// Returns all events of a watcher, oldest first, acknowledged or not (PS3.4 CC.2.4). It is slow: for each entry it
+/// finds out whether the watcher is subscribed to its step, by walking the entries before it.
 ///
 /// # Errors
 ///
@@ -322,7 +322,7 @@ pub fn plain_events<A: Allocator + Copy>(
     Ok(events)
 }
 
-/// Up to which number a watcher has acknowledged its events after a request of `ae`, where it was so before.
+/// Returns the number up to which a watcher has acknowledged its events after a request of `ae`, given the one before.
 fn acked_after<A: Allocator + Copy>(watcher: Ae, ae: Ae, before: u64, request: &Request<A>) -> u64
     ensures { result ≡ acked_after watcher ae before request.now }
 {
@@ -332,7 +332,7 @@ fn acked_after<A: Allocator + Copy>(watcher: Ae, ae: Ae, before: u64, request: &
     }
 }
 
-/// Up to which number a watcher has acknowledged its events; 0 where it has not.
+/// Returns the number up to which a watcher has acknowledged its events, or 0 if it has acknowledged none.
 pub fn acked<A: Allocator + Copy>(entries: &[Entry<A>], ae: Ae) -> u64
     ensures { result ≡ acked (past entries.now) ae }
 {
@@ -343,7 +343,7 @@ pub fn acked<A: Allocator + Copy>(entries: &[Entry<A>], ae: Ae) -> u64
     found
 }
 
-/// Whether a report is a State Report.
+/// Returns whether a report is a State Report.
 fn is_state_report(kind: EventKind) -> bool
     ensures { result ≡ is_state_report kind }
 {
@@ -353,21 +353,21 @@ fn is_state_report(kind: EventKind) -> bool
     }
 }
 
-/// Whether an event is a State Report of this step.
+/// Returns whether an event is a State Report of this step.
 fn is_report_of(step: StepUid, event: &Event) -> bool
     ensures { result ≡ is_report_of step event.now }
 {
     event.step.as_bytes() == step.as_bytes() && is_state_report(event.kind)
 }
 
-/// Whether one of these events is a State Report of this step.
+/// Returns whether one of these events is a State Report of this step.
 fn has_report_of(step: StepUid, events: &[Event]) -> bool
     ensures { result ≡ list_any (is_report_of step) events.now }
 {
     events.iter().any(|event| is_report_of(step, event))
 }
 
-/// Whether an event is a State Report, and there is one of the same step among these.
+/// Returns whether an event is a State Report and one of the same step is among the later ones.
 fn is_superseded(event: &Event, later: &[Event]) -> bool
     ensures { result ≡ (is_state_report event.now.kind && list_any (is_report_of event.now.step) later.now) }
 {
@@ -376,7 +376,7 @@ fn is_superseded(event: &Event, later: &[Event]) -> bool
 
 /// Adds an event, unless it is superseded.
 ///
-/// Errors: where memory runs out.
+/// Errors: if memory runs out.
 fn add_current<A: Allocator + Copy>(
     events: &mut Vec<Event, A>,
     is_superseded: bool,
@@ -390,10 +390,10 @@ fn add_current<A: Allocator + Copy>(
     Ok(())
 }
 
-/// Events without each State Report that a later one of the same step supersedes. It is slow: for each State Report it
-/// looks at those behind it.
+/// Returns the events without each State Report that a later one of the same step supersedes. It is slow: for each
+/// State Report it looks at those after it.
 ///
-/// Errors: where memory runs out.
+/// Errors: if memory runs out.
 fn current<A: Allocator + Copy>(alloc: A, events: &[Event]) -> Result<Vec<Event, A>, AllocError>
     ensures { IfOk result (λ v. v.items ≡ current events.now) }
 {
@@ -407,7 +407,7 @@ fn current<A: Allocator + Copy>(alloc: A, events: &[Event]) -> Result<Vec<Event,
 
 /// Adds an event, unless it is acknowledged.
 ///
-/// Errors: where memory runs out.
+/// Errors: if memory runs out.
 fn add_later<A: Allocator + Copy>(
     events: &mut Vec<Event, A>,
     acked: u64,
@@ -421,9 +421,9 @@ fn add_later<A: Allocator + Copy>(
     Ok(())
 }
 
-/// Those of these events that have a greater number than one.
+/// Returns those of these events that have a number greater than `acked`.
 ///
-/// Errors: where memory runs out.
+/// Errors: if memory runs out.
 fn later<A: Allocator + Copy>(
     alloc: A,
     acked: u64,
@@ -438,8 +438,8 @@ fn later<A: Allocator + Copy>(
     Ok(later)
 }
 
-/// The first `max` events that a watcher has not acknowledged, oldest first, without each State Report that a later one of
-/// the same step supersedes (PS3.4 CC.2.4). It is slow, as `plain_events` is.
+/// Returns the first `max` events that a watcher has not acknowledged, oldest first, without each State Report that a
+/// later one of the same step supersedes (PS3.4 CC.2.4). It is as slow as `plain_events`.
 ///
 /// # Errors
 ///

@@ -1,4 +1,4 @@
-//! The questions to a history, answered by walking it: plain and slow.
+//! Answers to questions about a history, found by walking it: plain and slow.
 
 ghost use Rattle.std.specs.Prelude.{◌≡◌, ◌≤◌, ◌||◌, ◌∷◌, ◌++◌, [], length, take, map, filter, All, IfErr, OnOk, MatchResult, true, if◌then◌else◌};
 ghost use Rattle.ups_dataset.specs.Data.{answer};
@@ -27,14 +27,14 @@ fn creates<A: Allocator + Copy>(uid: &StepUid, request: &Request<A>) -> bool
     }
 }
 
-/// Whether a step with this UID was created before a request, or is by it.
+/// Returns whether a step with this UID was created before a request, or is created by it.
 fn used_after<A: Allocator + Copy>(uid: &StepUid, before: bool, request: &Request<A>) -> bool
     ensures { result ≡ (creates uid.now request.now || before) }
 {
     creates(uid, request) || before
 }
 
-/// Whether a step with this UID was created.
+/// Returns whether a step with this UID was created.
 pub fn used<A: Allocator + Copy>(history: &[Entry<A>], uid: StepUid) -> bool
     ensures { result ≡ used (past history.now) uid }
 {
@@ -45,7 +45,7 @@ pub fn used<A: Allocator + Copy>(history: &[Entry<A>], uid: StepUid) -> bool
     found
 }
 
-/// Whether a request creates a step under a UID that is used.
+/// Returns whether a request creates a step with a UID that is already used.
 pub fn repeats<A: Allocator + Copy>(history: &[Entry<A>], request: &Request<A>) -> bool
     ensures { result ≡ repeats (past history.now) request.now }
 {
@@ -55,7 +55,7 @@ pub fn repeats<A: Allocator + Copy>(history: &[Entry<A>], request: &Request<A>) 
     }
 }
 
-/// Whether a request is on this step.
+/// Returns whether a request is on this step.
 pub(crate) fn is_on<A: Allocator + Copy>(uid: StepUid, request: &Request<A>) -> bool
     ensures { result ≡ is_on uid request.now }
 {
@@ -65,14 +65,14 @@ pub(crate) fn is_on<A: Allocator + Copy>(uid: StepUid, request: &Request<A>) -> 
     }
 }
 
-/// What is held of a step after the first entries of a history, so many as are counted.
+/// What is held of a step after the first `count` entries of a history.
 #[derive(Drop)]
 pub(crate) struct RowWalk<A: Allocator + Copy> {
     pub(crate) count: usize,
     pub(crate) row: Row<A>,
 }
 
-/// What is held of a step after no entry.
+/// Returns what is held of a step before any entry.
 pub(crate) fn unwalked<A: Allocator + Copy>(alloc: A) -> RowWalk<A>
     ensures count { result.count ≡ 0 }
     ensures row { result.row ≡ nothing }
@@ -86,9 +86,9 @@ pub(crate) fn unwalked<A: Allocator + Copy>(alloc: A) -> RowWalk<A>
     RowWalk { count: 0, row }
 }
 
-/// Goes over to what is held of a step after an entry, which may be on another.
+/// Updates what is held of a step after an entry, which may be on another step.
 ///
-/// Errors: those of `change`; what is held is as it was.
+/// Errors: those of `change`; what is held stays as it was.
 fn take_up<A: Allocator + Copy>(
     alloc: A,
     configuration: &Configuration<A>,
@@ -112,9 +112,9 @@ fn take_up<A: Allocator + Copy>(
     Ok(())
 }
 
-/// Goes on to what is held of a step after so many of these entries, from what is held after the first of them.
+/// Walks on to what is held of a step after the first `count` of these entries.
 ///
-/// Errors: Memory; TooDeep, only where the entries are no legal history.
+/// Errors: Memory; TooDeep, only if the entries are not a legal history.
 pub(crate) fn go_on<A: Allocator + Copy>(
     alloc: A,
     configuration: &Configuration<A>,
@@ -140,7 +140,7 @@ pub(crate) fn go_on<A: Allocator + Copy>(
     Ok(())
 }
 
-/// The attributes of a step, by each entry on it in turn.
+/// Returns the attributes of a step, by applying each entry on it in turn.
 ///
 /// Errors: those of `go_on`.
 pub(crate) fn row<A: Allocator + Copy>(
@@ -165,7 +165,7 @@ pub(crate) fn row<A: Allocator + Copy>(
     Ok(walk.row.attributes)
 }
 
-/// Adds what a row answers to keys, where it matches them.
+/// Adds the answer of a row to the keys, if it matches them.
 fn add_answer<A: Allocator + Copy>(
     sets: &mut Sets<A>,
     keys: &Keys<A>,
@@ -180,12 +180,12 @@ fn add_answer<A: Allocator + Copy>(
     Ok(())
 }
 
-/// The worklist (PS3.4 sections CC.2.8 and C.4.1): of each step that matches the keys, in order of creation, the keys'
-/// attributes. It is slow: for each step it walks the entries again.
+/// Returns the worklist (PS3.4 sections CC.2.8 and C.4.1): for each step that matches the keys, in order of creation,
+/// the attributes of the keys. It is slow: it walks the entries again for each step.
 ///
 /// # Errors
 ///
-/// `Memory` where memory runs out; `TooDeep`, only where the entries are no legal history.
+/// `Memory` if memory runs out; `TooDeep`, only if the entries are not a legal history.
 pub fn plain_find<A: Allocator + Copy>(
     alloc: A,
     configuration: &Configuration<A>,

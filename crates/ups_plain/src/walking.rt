@@ -1,4 +1,4 @@
-//! Who watches which steps, and which steps are held, by walking the history: plain and slow.
+//! The steps that are held, and who watches them, found by walking the history: plain and slow.
 
 ghost use Rattle.std.specs.Prelude.{◌≡◌, ◌<◌, ◌≤◌, ◌+◌, ◌-◌, ◌∷◌, [], ◌++◌, ◌&&◌, length, take, not, filter, is_some, All, Some, None, IfOk, IfErr, OnOk, MatchResult, if◌then◌else◌};
 ghost use Rattle.std.specs.List.{filter_map};
@@ -23,7 +23,7 @@ use ups_match::{Matcher, Probe};
 use ups_pdu::Ae;
 use ups_rules::{finished, state_then};
 
-/// How a watcher is subscribed that asks for a deletion lock, or for none.
+/// Returns the subscription of a watcher, with a Deletion Lock if it asks for one and may have it.
 fn granted(peers: &[Peer], ae: Ae, lock: bool) -> Subscription
     ensures { result ≡ granted peers.now ae lock }
 {
@@ -34,7 +34,7 @@ fn granted(peers: &[Peer], ae: Ae, lock: bool) -> Subscription
     }
 }
 
-/// Whether a subscription to this target takes in a step that has these attributes.
+/// Returns whether a subscription to this target includes a step with these attributes.
 pub(crate) fn takes_in<A: Allocator + Copy>(
     target: &Target<A>,
     step: StepUid,
@@ -50,7 +50,7 @@ pub(crate) fn takes_in<A: Allocator + Copy>(
     }
 }
 
-/// Whether subscriptions end at this step.
+/// Returns whether an end of subscriptions at this place includes this step.
 fn is_at(place: &Place, step: StepUid) -> bool
     ensures { result ≡ is_at place.now step }
 {
@@ -61,7 +61,7 @@ fn is_at(place: &Place, step: StepUid) -> bool
     }
 }
 
-/// What a subscription to this target makes of the global one, for steps with these attributes.
+/// Returns the global subscription, for steps with these attributes, after a subscription to this target.
 fn global_after<A: Allocator + Copy>(
     target: &Target<A>,
     attributes: &DataSet<A>,
@@ -83,7 +83,7 @@ fn global_after<A: Allocator + Copy>(
     }
 }
 
-/// The same, of any request.
+/// Returns the same after any request.
 fn cover_after<A: Allocator + Copy>(
     peers: &[Peer],
     ae: Ae,
@@ -111,8 +111,8 @@ fn cover_after<A: Allocator + Copy>(
     }
 }
 
-/// How a watcher's global subscription subscribes it to a step with these attributes; None where it does not (PS3.4
-/// CC.2.3).
+/// Returns how a watcher's global subscription subscribes it to a step with these attributes, or None if it does not
+/// (PS3.4 CC.2.3).
 pub(crate) fn cover<A: Allocator + Copy>(
     peers: &[Peer],
     entries: &[Entry<A>],
@@ -140,8 +140,8 @@ pub(crate) fn same_ae(ae: Ae, other: Ae) -> bool
     ae.as_bytes() == other.as_bytes()
 }
 
-/// The keys of a watcher's global subscription after a request, where they were so before; None where there is none, or it
-/// has no keys.
+/// Returns the keys of a watcher's global subscription after a request, given those before, or None if there is no such
+/// subscription or it has no keys.
 fn filter_after<'a, A: Allocator + Copy>(
     ae: Ae,
     before: Option<&'a Filter<A>>,
@@ -170,14 +170,14 @@ fn filter_after<'a, A: Allocator + Copy>(
     }
 }
 
-/// Whether attributes match the keys of a filter.
+/// Returns whether attributes match the keys of a filter.
 fn is_match<A: Allocator + Copy>(filter: &Filter<A>, attributes: &DataSet<A>) -> bool
     ensures { result ≡ is_match filter.now attributes.now }
 {
     Probe::new().matches(filter.keys(), attributes)
 }
 
-/// How a watcher is subscribed to a step which a subscription takes in or not, where it was so before.
+/// Returns the subscription to a step after a new one, which includes it or not, given the one before.
 fn if_taken_in(
     taken_in: bool,
     how: Subscription,
@@ -188,8 +188,8 @@ fn if_taken_in(
     if taken_in { Some(how) } else { before }
 }
 
-/// How a watcher is subscribed to a step after these entries, which end with the creation of `new`, where it was so
-/// before: to a new step as its global subscription says after `earlier`, the entries before.
+/// Returns how a watcher is subscribed to a step after `so_far`, which ends with the creation of `new`, given how it
+/// was before: to a new step by its global subscription after `earlier`, the entries before.
 ///
 /// Errors: those of `row`.
 fn created<A: Allocator + Copy>(
@@ -215,8 +215,8 @@ fn created<A: Allocator + Copy>(
     }
 }
 
-/// How a watcher's global subscription with these keys subscribes it to a step that the entry at this place changes: it
-/// takes in the new attributes, and did not take in those before.
+/// Returns how a watcher's global subscription with these keys newly subscribes it to a step that the entry at this
+/// place changes: it includes the new attributes, and did not include those before.
 ///
 /// Errors: those of `go_on`.
 fn newly_covered<A: Allocator + Copy>(
@@ -252,7 +252,7 @@ fn newly_covered<A: Allocator + Copy>(
     Ok(cover(configuration.peers(), earlier, ae, &walk.row.attributes))
 }
 
-/// Whether this step is the one that a request names.
+/// Returns whether this step is the one that a request names.
 fn is_step(step: StepUid, named: Option<StepUid>) -> bool
     ensures { result ≡ is_step step named }
 {
@@ -262,9 +262,9 @@ fn is_step(step: StepUid, named: Option<StepUid>) -> bool
     }
 }
 
-/// How a watcher is subscribed to a step after an N-SET of the step that is named, the entry at this place, where it was so
-/// before: who is not subscribed to it may be so newly, by its global subscription after the entries before. `filter` are
-/// the keys of that; where it has none, no step is looked at.
+/// Returns how a watcher is subscribed to a step after an N-SET of the step `named`, the entry at this place, given how
+/// it was before: one who is not subscribed may be so newly, by the global subscription after the entries before.
+/// `filter` has the keys of that; if it has none, no step is looked at.
 ///
 /// Errors: those of `go_on`.
 fn set<A: Allocator + Copy>(
@@ -301,7 +301,7 @@ fn set<A: Allocator + Copy>(
     }
 }
 
-/// How a watcher is subscribed to a step after a subscription of the receiver, where it was so before.
+/// Returns how a watcher is subscribed to a step after a subscription of the receiver, given how it was before.
 ///
 /// Errors: those of `row`.
 fn subscribed<A: Allocator + Copy>(
@@ -329,7 +329,7 @@ fn subscribed<A: Allocator + Copy>(
     }
 }
 
-/// How a watcher is subscribed to a step after the end of subscriptions of the receiver, where it was so before.
+/// Returns how a watcher is subscribed to a step after subscriptions of the receiver end, given how it was before.
 fn ended(
     place: &Place,
     receiver: Ae,
@@ -346,8 +346,9 @@ fn ended(
     }
 }
 
-/// How a watcher is subscribed to a step after the entry at this place, where it was so before; `filter` are the keys of
-/// the watcher's global subscription before it, and `walk` is what is held of the step after some of the entries before.
+/// Returns how a watcher is subscribed to a step after the entry at this place, given how it was before; `filter` has
+/// the keys of its global subscription before it, and `walk` is what is held of the step after some of the entries
+/// before.
 ///
 /// Errors: those of `go_on`.
 fn watch_after<A: Allocator + Copy>(
@@ -428,15 +429,15 @@ fn watch_after<A: Allocator + Copy>(
     }
 }
 
-/// How a watcher is subscribed to a step before the last entry of a history, and after it.
+/// How a watcher is subscribed to a step before and after the last entry of a history.
 #[derive(Clone, Copy)]
 pub(crate) struct Watching {
     pub(crate) before: Option<Subscription>,
     pub(crate) after: Option<Subscription>,
 }
 
-/// How a watcher is subscribed to a step that is held (PS3.4 CC.2.3), before the last of these entries and after it; None
-/// where it is not.
+/// Returns how a watcher is subscribed to a step that is held (PS3.4 CC.2.3) before and after the last of these
+/// entries, with None if it is not.
 ///
 /// Errors: those of `row`.
 pub(crate) fn watch_last<A: Allocator + Copy>(
@@ -475,7 +476,7 @@ pub(crate) fn watch_last<A: Allocator + Copy>(
     Ok(Watching { before, after })
 }
 
-/// How a watcher is subscribed to a step that is held (PS3.4 CC.2.3); None where it is not.
+/// Returns how a watcher is subscribed to a step that is held (PS3.4 CC.2.3), or None if it is not.
 ///
 /// Errors: those of `row`.
 pub(crate) fn watch<A: Allocator + Copy>(
@@ -493,7 +494,7 @@ pub(crate) fn watch<A: Allocator + Copy>(
     Ok(found.after)
 }
 
-/// Whether a subscription has a deletion lock.
+/// Returns whether a subscription has a Deletion Lock.
 fn is_locked(subscription: Option<Subscription>) -> bool
     ensures { result ≡ is_locked subscription }
 {
@@ -503,7 +504,7 @@ fn is_locked(subscription: Option<Subscription>) -> bool
     }
 }
 
-/// Whether a peer keeps a step by a deletion lock.
+/// Returns whether a peer keeps a step by a Deletion Lock.
 ///
 /// Errors: those of `row`.
 fn is_kept<A: Allocator + Copy>(
@@ -525,7 +526,7 @@ fn is_kept<A: Allocator + Copy>(
     Ok(false)
 }
 
-/// The state of a step after a request, which may be on another.
+/// Returns the state of a step after a request, which may be on another step.
 fn state_after<A: Allocator + Copy>(
     step: StepUid,
     before: StepState,
@@ -540,7 +541,7 @@ fn state_after<A: Allocator + Copy>(
     }
 }
 
-/// The state of a step.
+/// Returns the state of a step.
 pub(crate) fn state<A: Allocator + Copy>(entries: &[Entry<A>], step: StepUid) -> StepState
     ensures { result ≡ state (past entries.now) step }
 {
@@ -551,7 +552,8 @@ pub(crate) fn state<A: Allocator + Copy>(entries: &[Entry<A>], step: StepUid) ->
     state
 }
 
-/// When the state of a step became final, after an entry, which may be on another; `state` is what it was before.
+/// Returns when the state of a step became final, after an entry, which may be on another step; `state` is the state
+/// before it.
 fn final_after<A: Allocator + Copy>(
     step: StepUid,
     state: StepState,
@@ -568,7 +570,7 @@ fn final_after<A: Allocator + Copy>(
     }
 }
 
-/// When the state of a step became final, in seconds since 1970-01-01 UTC; None where it is not.
+/// Returns when the state of a step became final, in seconds since 1970-01-01 UTC, or None if it is not final.
 fn final_at<A: Allocator + Copy>(entries: &[Entry<A>], step: StepUid) -> Option<u64>
     ensures { result ≡ final_at (past entries.now) step }
 {
@@ -581,7 +583,7 @@ fn final_at<A: Allocator + Copy>(entries: &[Entry<A>], step: StepUid) -> Option<
     found
 }
 
-/// Whether so many seconds have passed since then.
+/// Returns whether at least `seconds` have passed between `since` and `moment`.
 fn has_passed(seconds: u32, moment: u64, since: Option<u64>) -> bool
     ensures { result ≡ has_passed seconds moment since }
 {
@@ -591,12 +593,13 @@ fn has_passed(seconds: u32, moment: u64, since: Option<u64>) -> bool
     }
 }
 
-/// Whether a sweep at a moment removes a step that is held: its state is final for as long as it is kept, and no peer
-/// keeps it by a deletion lock. It is slow: for each peer it walks the entries, and those before each of them.
+/// Returns whether a sweep at a moment removes a step that is held: its state has been final for the time that it is
+/// kept, and no peer keeps it by a Deletion Lock. It is slow: for each peer it walks the entries, and those before each
+/// of them.
 ///
 /// # Errors
 ///
-/// `Memory` where memory runs out; `TooDeep`, only where the entries are no legal history.
+/// `Memory` if memory runs out; `TooDeep`, only if the entries are not a legal history.
 pub fn is_due<A: Allocator + Copy>(
     alloc: A,
     configuration: &Configuration<A>,
@@ -617,7 +620,7 @@ pub fn is_due<A: Allocator + Copy>(
 
 /// Adds a step, unless it is due.
 ///
-/// Errors: where memory runs out.
+/// Errors: if memory runs out.
 fn add_left<A: Allocator + Copy>(
     left: &mut Vec<StepUid, A>,
     step: StepUid,
@@ -631,7 +634,7 @@ fn add_left<A: Allocator + Copy>(
     Ok(())
 }
 
-/// Those of these steps that a sweep at a moment leaves.
+/// Returns those of these steps that a sweep at a moment leaves.
 ///
 /// Errors: those of `is_due`.
 fn left<A: Allocator + Copy>(
@@ -653,7 +656,7 @@ fn left<A: Allocator + Copy>(
     Ok(left)
 }
 
-/// The steps held after an entry, where these were held before; `earlier` are the entries before it.
+/// Returns the steps held after an entry, given those held before; `earlier` are the entries before it.
 ///
 /// Errors: those of `is_due`.
 fn held_after<A: Allocator + Copy>(
@@ -683,7 +686,8 @@ fn held_after<A: Allocator + Copy>(
     }
 }
 
-/// The steps held, in order of creation. It is slow: for each sweep it asks of each step whether it is due.
+/// Returns the steps held, in order of creation. It is slow: for each sweep it finds out of each step whether it is
+/// due.
 ///
 /// # Errors
 ///
@@ -704,9 +708,9 @@ pub fn plain_held<A: Allocator + Copy>(
     Ok(steps)
 }
 
-/// Adds a step, where a watcher is subscribed to it.
+/// Adds a step, if a watcher is subscribed to it.
 ///
-/// Errors: where memory runs out.
+/// Errors: if memory runs out.
 fn add_watched<A: Allocator + Copy>(
     found: &mut Vec<Watched, A>,
     step: StepUid,
@@ -720,7 +724,7 @@ fn add_watched<A: Allocator + Copy>(
     Ok(())
 }
 
-/// Those of these steps that a watcher is subscribed to, each with how it is.
+/// Returns those of these steps that a watcher is subscribed to, each with its subscription.
 ///
 /// Errors: those of `is_due`.
 pub fn watched_among<A: Allocator + Copy>(
@@ -742,7 +746,8 @@ pub fn watched_among<A: Allocator + Copy>(
     Ok(found)
 }
 
-/// The steps that a watcher is subscribed to, in order of creation, each with how it is (PS3.4 CC.2.3). It is slow.
+/// Returns the steps that a watcher is subscribed to, in order of creation, each with its subscription (PS3.4 CC.2.3).
+/// It is slow.
 ///
 /// # Errors
 ///

@@ -1,11 +1,11 @@
-//! The types of events.
+//! The Event Type IDs.
 
 ghost use Rattle.std.specs.Prelude.{◌≡◌};
 ghost use Rattle.ups_reports.specs.Payloads.{type_id};
 
 use ups_life::EventKind;
 
-/// The Event Type ID of an N-EVENT-REPORT of this kind (PS3.4 table CC.2.4-1).
+/// Returns the Event Type ID of an N-EVENT-REPORT of this kind (PS3.4 table CC.2.4-1).
 pub fn type_id(kind: EventKind) -> u16
     ensures { result ≡ type_id kind }
 {

@@ -1,4 +1,5 @@
-//! What event reports of Unified Procedure Steps say (PS3.4 CC.2.4): the type of each event, and its Event Information.
+//! The content of event reports of Unified Procedure Steps (PS3.4 CC.2.4): the type of each event, and its Event
+//! Information.
 #![tactic(auto)]
 
 mod kinds;

@@ -21,13 +21,13 @@ use ups_dataset::{DataSet, Element, Tag, Value, Vr};
 use ups_life::{Entry, Event, EventKind, InputReadiness, Request};
 use ups_pdu::Bytes;
 
-/// The reason of a cancel request, as a code and as a text (PS3.4 CC.2.2).
+/// The attributes for the reason of a cancel request: a code and a text (PS3.4 CC.2.2).
 const REASONS: [Tag; 2] = [
     PROCEDURE_STEP_DISCONTINUATION_REASON_CODE_SEQUENCE,
     REASON_FOR_CANCELLATION,
 ];
 
-/// What the performer of a step is told of a cancel request: whom to ask about it, and its reason (PS3.4 CC.2.4).
+/// The attributes of a cancel request that its report has: whom to contact, and the reason (PS3.4 CC.2.4).
 const CANCEL_ATTRIBUTES: [Tag; 4] = [
     CONTACT_URI,
     CONTACT_DISPLAY_NAME,
@@ -35,7 +35,7 @@ const CANCEL_ATTRIBUTES: [Tag; 4] = [
     REASON_FOR_CANCELLATION,
 ];
 
-/// A text as a value: with a space behind it where its length is odd (PS3.5 section 6.2).
+/// Encodes a text as a value, with a space after it if its length is odd (PS3.5 section 6.2).
 fn padded<A: Allocator + Copy>(alloc: A, text: &[u8]) -> Result<Bytes<A>, AllocError>
     ensures value { IfOk result (λ b. b ≡ text_value text.now) }
     ensures even { IfOk result (λ b. (length b % 2) ≡ 0) }
@@ -48,7 +48,7 @@ fn padded<A: Allocator + Copy>(alloc: A, text: &[u8]) -> Result<Bytes<A>, AllocE
     Ok(Bytes::from_vec(bytes))
 }
 
-/// Puts a text in the place of its tag.
+/// Inserts a text element, replacing the one with the same tag if there is one.
 fn put_text<A: Allocator + Copy>(
     alloc: A,
     set: &mut DataSet<A>,
@@ -66,7 +66,7 @@ fn put_text<A: Allocator + Copy>(
     set.replace(Element::of_bytes(tag, vr, value))
 }
 
-/// The text of a readiness; none where it is not known.
+/// Returns the text of a readiness, or an empty text if it is not known.
 fn readiness_text(readiness: Option<InputReadiness>) -> &'static [u8]
     ensures text { result.now ≡ readiness_word readiness }
     ensures short { length result.now ≤ 64 }
@@ -77,7 +77,7 @@ fn readiness_text(readiness: Option<InputReadiness>) -> &'static [u8]
     }
 }
 
-/// The reason of a cancel request, for the report that its step is CANCELED.
+/// Returns the reason of a cancel request for the report that its step is CANCELED.
 fn reason_told<A: Allocator + Copy>(
     alloc: A,
     state: StepState,
@@ -91,7 +91,7 @@ fn reason_told<A: Allocator + Copy>(
     }
 }
 
-/// What a State Report says: the state of a step, and whether its input is ready.
+/// Returns what a State Report tells: the state of a step, the readiness of its input, and why it was canceled.
 fn state_report<A: Allocator + Copy>(
     alloc: A,
     event: &Event,
@@ -117,7 +117,7 @@ fn state_report<A: Allocator + Copy>(
     Ok(set)
 }
 
-/// What the performer of a step is told of a request to cancel it: who asks, whom to ask about it, and why.
+/// Returns what the performer of a step is told of a request to cancel it: who asks, whom to contact about it, and why.
 fn cancel_requested<A: Allocator + Copy>(
     alloc: A,
     entry: &Entry<A>,
@@ -132,7 +132,7 @@ fn cancel_requested<A: Allocator + Copy>(
     Ok(set)
 }
 
-/// What a Progress Report says: the progress information that is set.
+/// Returns what a Progress Report tells: the progress information that is set.
 fn progress_report<A: Allocator + Copy>(
     alloc: A,
     request: &Request<A>,
@@ -147,7 +147,7 @@ fn progress_report<A: Allocator + Copy>(
     }
 }
 
-/// A human performer of whom nothing is said.
+/// Returns a human performer with an empty code and organization.
 fn no_performer<A: Allocator + Copy>(alloc: A) -> Result<DataSet<A>, AllocError>
     ensures { IfOk result (λ set. set ≡ NO_PERFORMER) }
 {
@@ -158,7 +158,7 @@ fn no_performer<A: Allocator + Copy>(alloc: A) -> Result<DataSet<A>, AllocError>
     Ok(set)
 }
 
-/// The first item of a sequence.
+/// Returns the first item of a sequence.
 fn first_item<A: Allocator + Copy>(value: &Value<A>) -> Option<&DataSet<A>>
     ensures { MatchOption result (first_item (value_view value.now) ≡ []) (λ item. first_item (value_view value.now) ≡ item.now) }
 {
@@ -168,7 +168,7 @@ fn first_item<A: Allocator + Copy>(value: &Value<A>) -> Option<&DataSet<A>>
     }
 }
 
-/// The code and the organization of the first human performer that an N-SET gives.
+/// Returns the code and organization of the first human performer that an N-SET gives.
 fn performer<A: Allocator + Copy>(
     alloc: A,
     attributes: &DataSet<A>,
@@ -185,7 +185,7 @@ fn performer<A: Allocator + Copy>(
     }
 }
 
-/// What an Assigned event says: the station and the human performer that are to do a step.
+/// Returns what an Assigned event tells: the station and the human performer for a step.
 fn assignment<A: Allocator + Copy>(
     alloc: A,
     attributes: &DataSet<A>,
@@ -196,7 +196,7 @@ fn assignment<A: Allocator + Copy>(
     performer(alloc, attributes)?.laid_over(&station)
 }
 
-/// What an event says of an N-SET that assigns a step.
+/// Returns what an Assigned event tells of an N-SET that assigns a step.
 fn assigned<A: Allocator + Copy>(alloc: A, request: &Request<A>) -> Result<DataSet<A>, AllocError>
     ensures { IfOk result (λ set. set ≡ assignment (sent_to_set request.now)) }
 {
@@ -206,12 +206,12 @@ fn assigned<A: Allocator + Copy>(alloc: A, request: &Request<A>) -> Result<DataS
     }
 }
 
-/// The Event Information of an event (PS3.4 table CC.2.4-1). `entry` is the request that made the event: the one at the
-/// place `event.entry` of the history.
+/// Returns the Event Information of an event (PS3.4 table CC.2.4-1). `entry` is the request that caused the event: the
+/// one at the index `event.entry` of the history.
 ///
 /// # Errors
 ///
-/// Where memory runs out.
+/// Returns an error if memory runs out.
 pub fn payload<A: Allocator + Copy>(
     alloc: A,
     event: &Event,

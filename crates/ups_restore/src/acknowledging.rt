@@ -1,4 +1,4 @@
-//! What watchers acknowledge behind a compact history.
+//! The acknowledgements of watchers that follow a compact history.
 
 ghost use Rattle.std.specs.Prelude.{◌≡◌, ◌<◌, ◌++◌, length, IfOk, IfErr, OnOk};
 ghost use Rattle.ups_life.specs.Events.{pending};
@@ -17,10 +17,10 @@ use ups_life::{Entry, EventReport, EventReports, Reply, Request};
 use ups_manager::Manager;
 use ups_pdu::Ae;
 
-/// The caller of the acknowledgements behind a compact history. No pass to a service has this number.
+/// The caller of the acknowledgements that follow a compact history. No pass to a service has this number.
 pub const COMPACTOR: u32 = 0;
 
-/// How many reports these are: fewer than there are numbers of 64 bits, since each takes memory.
+/// Returns the number of reports, which is less than `u64::MAX`, since each takes memory.
 fn count_of(reports: &[EventReport<Global>]) -> usize
     ensures count { result ≡ length reports.now }
     ensures few { result < u64.MAX }
@@ -28,9 +28,9 @@ fn count_of(reports: &[EventReport<Global>]) -> usize
     reports.len()
 }
 
-/// All that is pending for a peer.
+/// Returns the reports of all events that are pending for a peer.
 ///
-/// Errors: where memory runs out.
+/// Errors: if memory runs out.
 fn pending_of(manager: &Manager<Global>, ae: Ae) -> Result<EventReports<Global>, CompactFault>
     ensures events { IfOk result (λ reports. events_of reports ≡ pending manager.now.settings (past manager.now.history) ae) }
     ensures only { IfErr result (λ fault. fault ≡ Memory) }
@@ -45,10 +45,10 @@ fn pending_of(manager: &Manager<Global>, ae: Ae) -> Result<EventReports<Global>,
     }
 }
 
-/// The number up to which a peer knows what is pending in a fresh manager, where these steps were held in another; None where
-/// it knows nothing of it.
+/// Returns the number up to which a peer knows the events pending in a fresh manager, or None if it knows none of them.
+/// `steps` are those that were held in `manager`.
 ///
-/// Errors: where memory runs out.
+/// Errors: if memory runs out.
 fn known_by(
     manager: &Manager<Global>,
     fresh: &Manager<Global>,
@@ -67,7 +67,7 @@ fn known_by(
 
 /// Adds the acknowledgement of a peer up to a number, if there is one.
 ///
-/// Errors: where memory runs out.
+/// Errors: if memory runs out.
 fn add_known(
     entries: &mut Vec<Entry<Global>, Global>,
     moment: u64,
@@ -87,10 +87,10 @@ fn add_known(
     Ok(())
 }
 
-/// The acknowledgements of those peers that know something of what is pending in a fresh manager, where these steps were held
-/// in another.
+/// Returns the acknowledgements of the peers that know some of the events pending in a fresh manager. `steps` are those
+/// that were held in `manager`.
 ///
-/// Errors: where memory runs out.
+/// Errors: if memory runs out.
 fn acknowledgements(
     alloc: Global,
     manager: &Manager<Global>,
@@ -111,10 +111,10 @@ fn acknowledgements(
     Ok(entries)
 }
 
-/// Enters the acknowledgements of those peers into a fresh manager that know something of what is pending in it, where these
-/// steps were held in another.
+/// Enters into a fresh manager the acknowledgements of the peers that know some of the events pending in it. `steps`
+/// are those that were held in `manager`.
 ///
-/// Errors: at the first that is not entered. Where they go on legally from its history, only for want of memory.
+/// Errors: at the first that is not entered. If they legally continue its history, only if memory runs out.
 pub(crate) fn acknowledge(
     alloc: Global,
     manager: &Manager<Global>,

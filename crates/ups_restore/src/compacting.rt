@@ -21,9 +21,9 @@ use ups_ledger::Ledger;
 use ups_life::Entry;
 use ups_manager::Manager;
 
-/// Enters an entry of another history again, as its record tells it, behind those that were.
+/// Enters an entry of another history again, as read from its record, after those in `fresh`.
 ///
-/// Errors: those of an entry that can't be recorded; want of memory. The manager is then as it was.
+/// Errors: those of an entry that can't be recorded; lack of memory. The manager then stays the same.
 fn carry(
     alloc: Global,
     fresh: &mut Manager<Global>,
@@ -43,9 +43,9 @@ fn carry(
     }
 }
 
-/// Enters an entry of another history again, where it is left for these steps.
+/// Enters an entry of another history again if it stays in a compact history of these steps.
 ///
-/// Errors: those of an entry that can't be recorded; want of memory. The manager is then as it was.
+/// Errors: those of an entry that can't be recorded; lack of memory. The manager then stays the same.
 fn carry_left(
     alloc: Global,
     steps: &KeptSteps<Global>,
@@ -65,9 +65,9 @@ fn carry_left(
     Ok(())
 }
 
-/// Enters what is left of another history for these steps, behind the entries that were.
+/// Enters the entries of another history that stay in a compact history of these steps, after those in `fresh`.
 ///
-/// Errors: at the first entry that is not entered: those of one that can't be recorded; want of memory.
+/// Errors: at the first entry that is not entered: those of one that can't be recorded; lack of memory.
 fn carry_each(
     alloc: Global,
     steps: &KeptSteps<Global>,
@@ -87,7 +87,7 @@ fn carry_each(
     Ok(())
 }
 
-/// Makes a new manager one with the compacted history of another, as [`compact_into`] does.
+/// Gives a new manager the compacted history of another, as [`compact_into`] does.
 fn compact(
     alloc: Global,
     manager: &Manager<Global>,
@@ -110,16 +110,16 @@ fn compact(
     acknowledge(alloc, manager, fresh, &steps, moment)
 }
 
-/// Makes a new manager one with the compacted history of another: what is left of it for the steps held, and behind that one
-/// acknowledgement of each watcher that knows something of it, so that nobody is told anew what he knows. The
-/// acknowledgements are made at this moment, by [`COMPACTOR`](crate::COMPACTOR). Then the records of its history are put into
-/// a ledger, behind those that are there, in groups.
+/// Gives a new manager the compacted history of another: the entries that stay for the held steps, followed by one
+/// acknowledgement of each watcher that knows some of the pending events, so that no watcher is told again what it
+/// knows. The acknowledgements are made at `moment`, by [`COMPACTOR`](crate::COMPACTOR). Then appends the records of
+/// the new history to a ledger, in groups.
 ///
 /// # Errors
 ///
-/// `Recording` at the first entry that has no record; `Entering` at the first that is not entered, and with the settings of a
-/// manager only for want of memory; `Ledger` where the ledger does not take records: what was put stays there; `Memory` where
-/// memory runs out.
+/// `Recording` at the first entry that has no record; `Entering` at the first that is not entered (with the settings of
+/// a manager, only if memory runs out); `Ledger` if the ledger does not take records (those that it took stay there);
+/// `Memory` if memory runs out.
 pub fn compact_into<L: Ledger>(
     alloc: Global,
     manager: &Manager<Global>,
@@ -142,11 +142,11 @@ pub fn compact_into<L: Ledger>(
     put_history(alloc, fresh.history(), ledger)
 }
 
-/// Whether a compaction of a manager's history pays: of its entries fewer stay than go.
+/// Returns whether a compaction of a manager's history pays: fewer of its entries stay than go.
 ///
 /// # Errors
 ///
-/// Where memory runs out.
+/// If memory runs out.
 pub fn compaction_pays(alloc: Global, manager: &Manager<Global>) -> Result<bool, AllocError>
     ensures { IfOk result (λ pays. pays ≡ (let after = length (compact manager.now.settings (past manager.now.history)) in nat_lt after (length manager.now.history - after))) }
 {

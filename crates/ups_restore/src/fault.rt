@@ -1,4 +1,4 @@
-//! Why entries were not all entered again.
+//! The reasons why entries were not all entered again.
 
 ghost use Rattle.std.specs.Prelude.{◌≡◌};
 
@@ -7,7 +7,7 @@ use thiserror::Error;
 use ups_journal::{Operation, RecordFault, RecordingFault};
 use ups_ledger::LedgerFault;
 
-/// Why an entry was not entered again. Each text goes on from the number of its request.
+/// The reason why an entry was not entered again. Each text follows the number of its request.
 #[derive(Clone, Copy, Debug, PartialEq, Eq, Error)]
 pub enum Refusal {
     /// Its moment is above `MAX_MOMENT`, so that it has no date up to the year 9999.
@@ -21,20 +21,20 @@ pub enum Refusal {
     NoRoom,
 }
 
-/// Where a replay stopped, and why.
+/// The place where a replay stopped, and the reason.
 #[derive(Clone, Copy, Debug, PartialEq, Eq, Error)]
 #[error("behind {place} requests: {refusal}")]
 pub struct ReplayFault {
-    /// How many entries were entered before the one that was not.
+    /// The number of entries that were entered before the one that was not.
     pub place: usize,
-    /// Why that one was not.
+    /// The reason why that one was not entered.
     pub refusal: Refusal,
 }
 
-/// Why a record was not entered again. Each text goes on from the number of its request.
+/// The reason why a record was not entered again. Each text follows the number of its request.
 #[derive(Clone, Copy, Debug, PartialEq, Eq, Error)]
 pub enum RestoreRefusal {
-    /// It stands for no entry, or memory ran out.
+    /// It is not the record of an entry, or memory ran out.
     #[error("{0}")]
     Record(RecordFault),
     /// Its entry was not entered.
@@ -42,7 +42,7 @@ pub enum RestoreRefusal {
     Entry(Refusal),
 }
 
-/// Which record was not entered again, and why.
+/// The record that was not entered again, and the reason.
 #[derive(Clone, Copy, Debug, PartialEq, Eq, Error)]
 #[error("request {number} ({operation}): {refusal}")]
 pub struct RestoreFault {
@@ -50,11 +50,11 @@ pub struct RestoreFault {
     pub number: u64,
     /// The operation of the record.
     pub operation: Operation,
-    /// Why it was not entered.
+    /// The reason why it was not entered.
     pub refusal: RestoreRefusal,
 }
 
-/// Why a manager was not given the compacted history of another.
+/// The reason why a manager was not given the compacted history of another.
 #[derive(Clone, Copy, Debug, PartialEq, Eq, Error)]
 pub enum CompactFault {
     /// Memory ran out.

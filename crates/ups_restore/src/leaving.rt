@@ -1,4 +1,4 @@
-//! Records, entered again one by one, where some may be left out.
+//! Enters records again one by one, and may leave some of them out.
 
 ghost use Rattle.std.specs.Prelude.{◌≡◌, [], ◌∷◌, ◌++◌, List, OnErr, IfOk, IfErr, MatchResult};
 ghost use Rattle.ups_life.specs.declared.entry.Entry.{Entry};
@@ -22,17 +22,17 @@ pub enum Restored {
     LeftOut,
 }
 
-/// How many records were entered again, and how many were left out.
+/// The numbers of the records that were entered again and of those that were left out.
 #[derive(Clone, Copy, Debug, PartialEq, Eq)]
 pub struct Restoration {
-    /// How many were entered.
+    /// The number of records that were entered.
     pub entered: u64,
-    /// How many were left out.
+    /// The number of records that were left out.
     pub left_out: u64,
 }
 
 impl Restoration {
-    /// No record yet.
+    /// Returns counts of zero.
     pub fn new() -> Restoration
         ensures { result ≡ record { entered = 0; left_out = 0 } }
     {
@@ -42,14 +42,13 @@ impl Restoration {
         }
     }
 
-    /// Enters the entry of a record again, behind those that were, or leaves the record out, where it may be: its entry has
-    /// to be one that is not accepted after those before it, with the manager's settings. The record is counted as what
-    /// became of it.
+    /// Enters the entry of a record again, after those in the manager, or leaves the record out if it may be left out
+    /// and its entry is not accepted after those before it, with the manager's settings. Counts the record accordingly.
     ///
     /// # Errors
     ///
-    /// `Record` where the record stands for no entry, or memory ran out; `Entry` where its entry is not entered, and with
-    /// `Refused` only where it may not be left out. The manager and the counts are then as they were.
+    /// `Record` if it is not the record of an entry, or memory ran out; `Entry` if its entry is not entered, with
+    /// `Refused` only if the record may not be left out. The manager and the counts then stay the same.
     pub fn take<A: Allocator + Copy>(
         &mut self,
         alloc: A,
@@ -80,13 +79,14 @@ impl Restoration {
     }
 }
 
-/// Enters the entries of records again, one behind the other, or leaves records out, where they may be, as
-/// [`Restoration::take`] does; and counts them.
+/// Enters the entries of records again, one after the other, or leaves records out if they may be, as
+/// [`Restoration::take`] does, and counts them.
 ///
 /// # Errors
 ///
-/// At the first record that is neither entered nor left out, by its number: `Record`, `Entry`. Those before it are. Of records
-/// as they were made, with the settings of their time, only want of memory; and none of these is left out.
+/// `Record` or `Entry`, with the number of the first record that is neither entered nor left out; those before it are.
+/// With records as they were made, and the settings of their time, this happens only if memory runs out, and none of
+/// them is left out.
 pub fn restore_each<A: Allocator + Copy>(
     alloc: A,
     manager: &mut Manager<A>,

@@ -1,5 +1,5 @@
-//! A manager as it was: the entries of its history, submitted again, and so the records of these. And one that is shorter:
-//! with the compacted history of another.
+//! Restores a manager by submitting the entries of its history again, or those of their records. Also makes a manager
+//! with a shorter history: the compacted history of another.
 #![tactic(auto)]
 
 mod acknowledging;

@@ -1,4 +1,4 @@
-//! The records of a history, put into a ledger.
+//! Appends the records of a history to a ledger.
 
 ghost use Rattle.std.specs.Prelude.{◌≡◌, ◌+◌, ◌<◌, ◌++◌, length, map, take, drop, OnOk, OnErr, IfOk, IfErr};
 ghost use Rattle.ups_journal.specs.Columns.{recorded};
@@ -11,12 +11,12 @@ use ups_ledger::{Ledger, Recorder};
 use ups_life::Entry;
 use ups_service::Observer;
 
-/// How many records are put into a ledger as one group, at most.
+/// The greatest number of records that are appended to a ledger as one group.
 const MAX_GROUP: usize = 256;
 
-/// The records of the entries of a history from a place on, as many as one group has.
+/// Returns the records of the entries of a history from an index on, up to the size of a group.
 ///
-/// Errors: those of an entry that can't be recorded; Memory.
+/// Errors: those of an entry that can't be recorded; `Memory`.
 fn group_of(
     alloc: Global,
     history: &[Entry<Global>],
@@ -29,9 +29,10 @@ fn group_of(
     recorder.into_records()
 }
 
-/// Puts the records of the entries of a history from a place on into a ledger, as one group. Returns the place behind them.
+/// Appends the records of the entries of a history from an index on to a ledger, as one group. Returns the index after
+/// them.
 ///
-/// Errors: those of an entry that can't be recorded; those of the ledger. Nothing is put.
+/// Errors: those of an entry that can't be recorded; those of the ledger. Nothing is appended then.
 fn put_group<L: Ledger>(
     alloc: Global,
     history: &[Entry<Global>],
@@ -50,11 +51,11 @@ fn put_group<L: Ledger>(
     Ok(from + group.len())
 }
 
-/// Puts the records of a history into a ledger, behind those that are there, in groups.
+/// Appends the records of a history to a ledger, in groups.
 ///
 /// # Errors
 ///
-/// Those of the first entry that can't be recorded; those of the ledger. What was put stays there.
+/// Those of the first entry that can't be recorded; those of the ledger. The groups that were appended stay there.
 pub fn put_history<L: Ledger>(
     alloc: Global,
     history: &[Entry<Global>],

@@ -1,4 +1,4 @@
-//! Entries, submitted again.
+//! Submits entries again.
 
 ghost use Rattle.std.specs.Prelude.{◌≡◌, ◌↔◌, [], ◌∷◌, ◌++◌, All, IsTrue, OnOk, OnErr, IfErr};
 ghost use Rattle.ups_life.specs.declared.request.Reply.TheVariants.{Status as Answered};
@@ -15,7 +15,7 @@ use ups_cycle::Status;
 use ups_life::{Entry, MAX_MOMENT, Reply};
 use ups_manager::Manager;
 
-/// Whether a reply accepts a request.
+/// Returns whether a reply accepts a request.
 fn is_accepted<A: Allocator + Copy>(reply: &Reply<A>) -> bool
     ensures { result ≡ accepts reply.now }
 {
@@ -26,7 +26,7 @@ fn is_accepted<A: Allocator + Copy>(reply: &Reply<A>) -> bool
     }
 }
 
-/// Whether a reply tells that there is no room.
+/// Returns whether a reply says that there is no room.
 fn is_no_room<A: Allocator + Copy>(reply: &Reply<A>) -> bool
     ensures { IsTrue result ↔ (reply.now ≡ Answered ResourceLimitation) }
 {
@@ -36,12 +36,12 @@ fn is_no_room<A: Allocator + Copy>(reply: &Reply<A>) -> bool
     }
 }
 
-/// Enters an entry again, behind those that were.
+/// Enters an entry again, after those in the manager.
 ///
 /// # Errors
 ///
-/// `BadMoment`, `Refused`, `NoRoom`; the manager is then as it was. `NoRoom` may tell of memory where the entry would be
-/// accepted, and never comes in the place of `Refused`.
+/// `BadMoment`, `Refused` or `NoRoom`; the manager then stays the same. `NoRoom` may mean that memory ran out for an
+/// entry that would be accepted, and never takes the place of `Refused`.
 pub fn replay_one<A: Allocator + Copy>(
     manager: &mut Manager<A>,
     entry: Entry<A>,
@@ -66,13 +66,13 @@ pub fn replay_one<A: Allocator + Copy>(
     Err(Refusal::Refused)
 }
 
-/// Enters entries again, one behind the other: the manager has them in its history, behind those that it had.
+/// Enters entries again, one after the other: the manager then has them in its history, after those that it had.
 ///
 /// # Errors
 ///
-/// At the first entry that is not entered: `BadMoment`, `Refused`, `NoRoom`. Those before it are. Where the entries go on
-/// legally from the manager's history, with its settings, and each has a moment of which there is a date, only `NoRoom`
-/// comes, for want of memory.
+/// `BadMoment`, `Refused` or `NoRoom` at the first entry that is not entered; those before it are. If the entries
+/// legally continue the manager's history, with its settings, and the moment of each has a date, it is `NoRoom`, and
+/// only if memory runs out.
 pub fn replay<A: Allocator + Copy>(
     manager: &mut Manager<A>,
     entries: Vec<Entry<A>, A>,

@@ -1,4 +1,4 @@
-//! Records, entered again.
+//! Enters records again.
 
 ghost use Rattle.std.specs.Prelude.{◌≡◌, [], ◌∷◌, ◌++◌, List, OnOk, OnErr, IfErr, MatchResult};
 ghost use Rattle.ups_life.specs.declared.entry.Entry.{Entry};
@@ -11,12 +11,12 @@ use std::alloc::Allocator;
 use ups_journal::{Record, entry_of};
 use ups_manager::Manager;
 
-/// Enters the entry of a record again, behind those that were.
+/// Enters the entry of a record again, after those in the manager.
 ///
 /// # Errors
 ///
-/// `Record` where the record stands for no entry, or memory ran out; `Entry` where its entry is not entered. The manager is
-/// then as it was.
+/// `Record` if it is not the record of an entry, or memory ran out; `Entry` if its entry is not entered. The manager
+/// then stays the same.
 pub fn restore_one<A: Allocator + Copy>(
     alloc: A,
     manager: &mut Manager<A>,
@@ -42,13 +42,13 @@ pub fn restore_one<A: Allocator + Copy>(
     }
 }
 
-/// Enters the entries of records again, one behind the other. Where these are the records of entries that a legal history
-/// goes on by, the manager has exactly these entries behind those that it had.
+/// Enters the entries of records again, one after the other. If these are the records of entries that legally continue
+/// the manager's history, it then has exactly these entries after those that it had.
 ///
 /// # Errors
 ///
-/// At the first record that is not entered: `Record`, `Entry`. Those before it are. Of records as they were made only want
-/// of memory.
+/// `Record` or `Entry` at the first record that is not entered; those before it are. With records as they were made,
+/// this happens only if memory runs out.
 pub fn restore<A: Allocator + Copy>(
     alloc: A,
     manager: &mut Manager<A>,

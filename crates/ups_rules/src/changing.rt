@@ -1,4 +1,4 @@
-//! What a request makes of the row of its step.
+//! The effect of a request on the row of its step.
 
 ghost use Rattle.std.specs.Prelude.{◌≡◌, ◌%◌, ◌&&◌, not, ◌∷◌, [], length, false, None, Some, IfOk, IfErr, OnOk, if◌then◌else◌};
 ghost use Rattle.std.specs.List.{list_any};
@@ -26,13 +26,13 @@ use ups_life::{ChangeFault, Request, Row, StepUid, Transaction};
 use ups_match::write_dt;
 use ups_pdu::{Bytes, RegisteredUid, Uid};
 
-/// What is kept of a cancel request: its reason, as a code and as a text (PS3.4 CC.2.2).
+/// The attributes kept of a cancel request: its reason, as a code and as a text (PS3.4 CC.2.2).
 const REASONS: [Tag; 2] = [
     PROCEDURE_STEP_DISCONTINUATION_REASON_CODE_SEQUENCE,
     REASON_FOR_CANCELLATION,
 ];
 
-/// A text as a value: with the padding behind it where its length is odd (PS3.5 section 6.2).
+/// Returns a text as a value, followed by the padding `pad` if its length is odd (PS3.5 section 6.2).
 fn padded<A: Allocator + Copy>(alloc: A, pad: u8, text: &[u8]) -> Result<Bytes<A>, AllocError>
     ensures value { IfOk result (λ b. b ≡ padded pad text.now) }
     ensures even { IfOk result (λ b. (length b % 2) ≡ 0) }
@@ -44,7 +44,7 @@ fn padded<A: Allocator + Copy>(alloc: A, pad: u8, text: &[u8]) -> Result<Bytes<A
     Ok(Bytes::from_vec(bytes))
 }
 
-/// An element that holds a UID.
+/// Returns an element that holds a UID.
 fn uid_element<A: Allocator + Copy>(
     alloc: A,
     tag: Tag,
@@ -56,7 +56,7 @@ fn uid_element<A: Allocator + Copy>(
     Ok(Element::of_bytes(tag, Vr::Ui, value))
 }
 
-/// An element that holds a text.
+/// Returns an element that holds a text.
 fn text_element<A: Allocator + Copy>(
     alloc: A,
     tag: Tag,
@@ -69,7 +69,7 @@ fn text_element<A: Allocator + Copy>(
     Ok(Element::of_bytes(tag, vr, value))
 }
 
-/// The attributes of a new step: those that were sent, without a Transaction UID, and its class and instance
+/// Returns the attributes of a new step: those that were sent, without a Transaction UID, and its class and instance
 /// UIDs (PS3.4 CC.2.5).
 fn new_row<A: Allocator + Copy>(
     alloc: A,
@@ -85,14 +85,14 @@ fn new_row<A: Allocator + Copy>(
     Ok(row)
 }
 
-/// A state as an element.
+/// Returns a state as an element.
 fn state_element<A: Allocator + Copy>(alloc: A, state: StepState) -> Result<Element<A>, AllocError>
     ensures { IfOk result (λ e. element_view e ≡ state_element state) }
 {
     text_element(alloc, PROCEDURE_STEP_STATE, Vr::Cs, state.text())
 }
 
-/// A set with a state alone.
+/// Returns a set that holds only a state.
 fn state_alone<A: Allocator + Copy>(alloc: A, state: StepState) -> Result<DataSet<A>, AllocError>
     ensures { IfOk result (λ set. set ≡ state_element state ∷ []) }
 {
@@ -101,7 +101,7 @@ fn state_alone<A: Allocator + Copy>(alloc: A, state: StepState) -> Result<DataSe
     Ok(set)
 }
 
-/// When a step was canceled, and why.
+/// Returns a set that says when a step was canceled, and why.
 #[tactic(auto, unfolding(ups_life::specs::Steps::cancellation))]
 fn cancellation<A: Allocator + Copy>(
     alloc: A,
@@ -119,7 +119,7 @@ fn cancellation<A: Allocator + Copy>(
     Ok(item)
 }
 
-/// A set as the only item of a sequence.
+/// Returns a set as the only item of a sequence.
 fn one_item<A: Allocator + Copy>(
     alloc: A,
     set: DataSet<A>,
@@ -131,7 +131,7 @@ fn one_item<A: Allocator + Copy>(
     Ok(items)
 }
 
-/// The progress information of a step that is canceled by request (PS3.4 CC.2.2).
+/// Returns the progress information of a step that is canceled by request (PS3.4 CC.2.2).
 fn progress_element<A: Allocator + Copy>(
     alloc: A,
     moment: u64,
@@ -146,7 +146,7 @@ fn progress_element<A: Allocator + Copy>(
     Ok(Element::of_items(PROCEDURE_STEP_PROGRESS_INFORMATION_SEQUENCE, items))
 }
 
-/// A state over another element of a set that has no other.
+/// Returns a set of an element and a state. The state replaces the element if they have the same tag.
 fn state_over<A: Allocator + Copy>(
     alloc: A,
     state: StepState,
@@ -161,28 +161,28 @@ fn state_over<A: Allocator + Copy>(
     Ok(set)
 }
 
-/// Whether an element is a reason for a cancellation that nests too deep to stand in an item.
+/// Returns whether an element is a reason for a cancellation that nests too deep to be in an item.
 fn is_deep_reason<A: Allocator + Copy>(element: &Element<A>) -> bool
     ensures { result ≡ is_deep_reason (element_view element.now) }
 {
     REASONS.iter().any(|tag| *tag == element.tag) && element.value.depth() >= MAX_DEPTH
 }
 
-/// Whether one of these elements is such a reason.
+/// Returns whether one of these elements is such a reason.
 fn has_deep_reason<A: Allocator + Copy>(elements: &[Element<A>]) -> bool
     ensures { result ≡ list_any (λ e. is_deep_reason (element_view e)) elements.now }
 {
     elements.iter().any(|element| is_deep_reason(element))
 }
 
-/// Whether the reasons of a cancel request nest too deep to stand in an item.
+/// Returns whether the reasons of a cancel request nest too deep to be in an item.
 fn nest_too_deep<A: Allocator + Copy>(reasons: &DataSet<A>) -> bool
     ensures { result ≡ nest_too_deep reasons.now }
 {
     has_deep_reason(reasons.elements())
 }
 
-/// What a request to cancel gives to a step that nobody has claimed: CANCELED, and when and why.
+/// Returns what a cancel request gives to a step that nobody has claimed: CANCELED, and when and why.
 #[tactic(auto, using(crate::proofs::Cancels::good))]
 fn canceled<A: Allocator + Copy>(
     alloc: A,
@@ -199,9 +199,9 @@ fn canceled<A: Allocator + Copy>(
     state_over(alloc, StepState::Canceled, progress)
 }
 
-/// The same, where the items of the reasons do not nest too deep.
+/// Does the same as `canceled`, if the items of the reasons do not nest too deep.
 ///
-/// Errors: TooDeep where the items of the reasons nest 8 deep; Memory.
+/// Errors: TooDeep if the items of the reasons nest 8 deep; Memory.
 #[tactic(auto, using(crate::proofs::Cancels::too_deep, crate::proofs::Cancels::not_too_deep))]
 fn canceled_by_request<A: Allocator + Copy>(
     alloc: A,
@@ -221,7 +221,7 @@ fn canceled_by_request<A: Allocator + Copy>(
     Ok(canceled(alloc, moment, offset, reasons)?)
 }
 
-/// What a request at a moment gives to its step, which was in this state.
+/// Returns the attributes that a request gives at a moment to its step, whose state was `before`.
 #[tactic(auto, using(crate::proofs::Cancels::new_shallow, crate::proofs::Cancels::set_shallow))]
 fn given<A: Allocator + Copy>(
     alloc: A,
@@ -249,7 +249,7 @@ fn given<A: Allocator + Copy>(
     }
 }
 
-/// The state of a step after a request on it (PS3.4 CC.1.1).
+/// Returns the state of a step after a request on it (PS3.4 CC.1.1).
 pub fn state_then<A: Allocator + Copy>(before: StepState, request: &Request<A>) -> StepState
     ensures { result ≡ state_then before request.now }
 {
@@ -264,7 +264,7 @@ pub fn state_then<A: Allocator + Copy>(before: StepState, request: &Request<A>) 
     }
 }
 
-/// The Transaction UID that a request claims its step with.
+/// Returns the Transaction UID with which a request claims its step, if it does.
 fn taken<A: Allocator + Copy>(request: &Request<A>) -> Option<Uid>
     ensures { result ≡ taken request.now }
 {
@@ -278,7 +278,7 @@ fn taken<A: Allocator + Copy>(request: &Request<A>) -> Option<Uid>
     }
 }
 
-/// The moment of a request, where it makes the state a final one.
+/// Returns the moment of a request, if it makes the state final.
 pub fn finished(before: StepState, moment: u64, after: StepState) -> Option<u64>
     ensures { result ≡ (if not (is_final before) && is_final after then Some moment else None) }
 {
@@ -289,7 +289,7 @@ pub fn finished(before: StepState, moment: u64, after: StepState) -> Option<u64>
     }
 }
 
-/// The state of a row; of nothing it is that of a new step.
+/// Returns the state of a row, or that of a new step if there is none.
 fn state_of<A: Allocator + Copy>(row: Option<&Row<A>>) -> StepState
     ensures { result ≡ (unwrap_or (option_copied row.entry) nothing).state }
 {
@@ -299,21 +299,21 @@ fn state_of<A: Allocator + Copy>(row: Option<&Row<A>>) -> StepState
     }
 }
 
-/// The Transaction UID of the claim of a row.
+/// Returns the Transaction UID of the claim of a row.
 fn transaction_of<A: Allocator + Copy>(row: Option<&Row<A>>) -> Option<Uid>
     ensures { result ≡ (unwrap_or (option_copied row.entry) nothing).transaction }
 {
     row?.transaction
 }
 
-/// When the state of a row became final.
+/// Returns when the state of a row became final.
 fn final_of<A: Allocator + Copy>(row: Option<&Row<A>>) -> Option<u64>
     ensures { result ≡ (unwrap_or (option_copied row.entry) nothing).final_at }
 {
     row?.final_at
 }
 
-/// A set over the attributes of a row; alone where there is none.
+/// Returns a set laid over the attributes of a row, or alone if there is no row.
 #[tactic(auto, using(crate::proofs::Laying::laid_over_nothing))]
 fn over<A: Allocator + Copy>(
     set: DataSet<A>,
@@ -330,12 +330,13 @@ fn over<A: Allocator + Copy>(
     }
 }
 
-/// What is held of a step after a request on it that was accepted: `row` is what was held before, or nothing.
-/// `moment` is in seconds since 1970-01-01 UTC, `offset` that of the local time from UTC in minutes, east of it
-/// above 0.
+/// Returns the row of a step after an accepted request; `row` is the one before, or None. `moment` is in seconds since
+/// 1970-01-01 UTC, `offset` is that of the local time in minutes east of UTC.
 ///
-/// Errors: TooDeep where the items that a cancel request gives would nest more than 8 deep, and only there; else Memory
-/// where memory runs out.
+/// # Errors
+///
+/// `TooDeep` if the items that a cancel request gives would nest more than 8 deep, and only then; otherwise `Memory` if
+/// memory runs out.
 pub fn change<A: Allocator + Copy>(
     alloc: A,
     row: Option<&Row<A>>,

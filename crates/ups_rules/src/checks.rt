@@ -1,4 +1,4 @@
-//! How the attributes whose values are checked are judged.
+//! The checks of attributes whose values are restricted.
 
 ghost use Rattle.std.specs.Prelude.{◌≡◌};
 ghost use Rattle.ups_dataset.specs.Data.{element_at};
@@ -41,7 +41,7 @@ fn attribute_status<A: Allocator + Copy>(checked: Checked, set: &DataSet<A>) -> 
     }
 }
 
-/// The first fault of the attributes of a table, or Success.
+/// Returns the first fault of the attributes of a table, or Success.
 pub(crate) fn first_fault<A: Allocator + Copy>(table: &[Checked], set: &DataSet<A>) -> Status
     ensures { result ≡ first_fault table.now set.now }
 {
@@ -63,7 +63,7 @@ fn given_status<A: Allocator + Copy>(checked: Checked, set: &DataSet<A>) -> Stat
     }
 }
 
-/// The first fault of the attributes of a table that are given, or Success.
+/// Returns the first fault of those attributes of a table that are given, or Success.
 pub(crate) fn first_given_fault<A: Allocator + Copy>(table: &[Checked], set: &DataSet<A>) -> Status
     ensures { result ≡ first_given_fault table.now set.now }
 {

@@ -1,4 +1,4 @@
-//! What is decided of a request: the life cycle of a step.
+//! The decision on a request: the life cycle of a step.
 
 ghost use Rattle.std.specs.Prelude.{◌≡◌, Option, codes};
 ghost use Rattle.std.specs.Option.{option_copied};
@@ -40,8 +40,8 @@ fn is_blank_value<A: Allocator + Copy>(value: &Value<A>) -> bool
     }
 }
 
-/// What is decided of the attributes of a Create (PS3.4 CC.2.5): its state, then its Transaction UID, then
-/// the checked attributes by rising tag.
+/// Returns the status of the attributes of a Create (PS3.4 CC.2.5): its state is checked first, then its Transaction
+/// UID, then the checked attributes by rising tag.
 fn create_status<A: Allocator + Copy>(attributes: &DataSet<A>) -> Status
     ensures { result ≡ create_status attributes.now }
 {
@@ -62,7 +62,7 @@ fn create_status<A: Allocator + Copy>(attributes: &DataSet<A>) -> Status
     first_fault(&CHECKED, attributes)
 }
 
-/// Whether a Transaction UID is a UID.
+/// Returns whether a Transaction UID is a UID.
 fn is_proper(transaction: &Transaction) -> bool
     ensures { result ≡ is_proper transaction.now }
 {
@@ -72,7 +72,7 @@ fn is_proper(transaction: &Transaction) -> bool
     }
 }
 
-/// Whether there is a Transaction UID, be it a UID or not.
+/// Returns whether there is a Transaction UID, even one that is not a UID.
 fn is_given(transaction: &Transaction) -> bool
     ensures { result ≡ is_given transaction.now }
 {
@@ -82,7 +82,7 @@ fn is_given(transaction: &Transaction) -> bool
     }
 }
 
-/// Whether a Transaction UID is that of the claim.
+/// Returns whether a Transaction UID is that of the claim.
 fn is_right(claimed: &Option<Uid>, transaction: &Transaction) -> bool
     ensures { result ≡ is_right claimed.now transaction.now }
 {
@@ -92,7 +92,7 @@ fn is_right(claimed: &Option<Uid>, transaction: &Transaction) -> bool
     }
 }
 
-/// A change of a step to a state (PS3.4 CC.2.1).
+/// Returns the status of a change of a step to a state (PS3.4 CC.2.1).
 fn change_status<A: Allocator + Copy>(
     row: &Row<A>,
     state: StepState,
@@ -116,7 +116,7 @@ fn change_status<A: Allocator + Copy>(
     }
 }
 
-/// Whether an N-SET gives which step it is, or its state.
+/// Returns whether an N-SET gives the class, the instance or the state of its step.
 fn gives_fixed<A: Allocator + Copy>(attributes: &DataSet<A>) -> bool
     ensures { result ≡ gives_fixed attributes.now }
 {
@@ -125,7 +125,7 @@ fn gives_fixed<A: Allocator + Copy>(attributes: &DataSet<A>) -> bool
         || attributes.get(PROCEDURE_STEP_STATE).is_some()
 }
 
-/// What is decided of the attributes of an N-SET (PS3.4 CC.2.6).
+/// Returns the status of the attributes of an N-SET (PS3.4 CC.2.6).
 fn set_attributes_status<A: Allocator + Copy>(attributes: &DataSet<A>) -> Status
     ensures { result ≡ set_attributes_status attributes.now }
 {
@@ -135,7 +135,7 @@ fn set_attributes_status<A: Allocator + Copy>(attributes: &DataSet<A>) -> Status
     first_given_fault(&CHECKED, attributes)
 }
 
-/// An N-SET on a step (PS3.4 CC.2.6).
+/// Returns the status of an N-SET on a step (PS3.4 CC.2.6).
 fn update_status<A: Allocator + Copy>(
     row: &Row<A>,
     transaction: &Transaction,
@@ -150,7 +150,7 @@ fn update_status<A: Allocator + Copy>(
     }
 }
 
-/// A request that is allowed on each step that is held, and on no other.
+/// Returns the status of a request that is allowed on each held step, and on no other.
 fn held_status<A: Allocator + Copy>(row: Option<&Row<A>>) -> Status
     ensures { result ≡ if_held (option_copied row.entry) (λ _. Success) }
 {
@@ -161,8 +161,9 @@ fn held_status<A: Allocator + Copy>(row: Option<&Row<A>>) -> Status
     }
 }
 
-/// What is decided of a request by what is known of the step that it names: what is held of it, and whether its UID was
-/// ever used (PS3.4 CC.2.1 to CC.2.3, CC.2.5, CC.2.6). The peers, and the room that is left, are not looked at here.
+/// Returns the status of a request, decided by what is known of the step that it names: what is held of it, and whether
+/// its UID was ever used (PS3.4 CC.2.1 to CC.2.3, CC.2.5, CC.2.6). It does not consider the peers, nor the room that is
+/// left.
 pub fn verdict<A: Allocator + Copy>(
     row: Option<&Row<A>>,
     used: bool,

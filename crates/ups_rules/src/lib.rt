@@ -1,5 +1,5 @@
-//! The rules of one request on one step (PS3.4 annex CC): what is decided of the request, what it makes of the step, and what
-//! is reported of it. The definitions stand in `ups_life`.
+//! The rules for one request on one step (PS3.4 annex CC): the decision on the request, its effect on the step, and the
+//! reports of it. The definitions are in `ups_life`.
 #![tactic(auto)]
 
 mod changing;

@@ -1,4 +1,4 @@
-//! What a request tells of its step.
+//! The reports that a request makes of its step.
 
 ghost use Rattle.std.specs.Prelude.{◌≡◌, ◌++◌, IfOk, OnOk, OnErr};
 ghost use Rattle.ups_life.specs.Readiness.{readiness_in, readiness_word, is_same_readiness};
@@ -13,7 +13,7 @@ use ups_dataset::dictionary::{
 use ups_dataset::{DataSet, Tag, Value};
 use ups_life::{EventKind, InputReadiness, Report, StepUid};
 
-/// The readiness that attributes tell of; None where they name none.
+/// Returns the readiness state that attributes name, or None if they name none.
 pub fn readiness_in<A: Allocator + Copy>(attributes: &DataSet<A>) -> Option<InputReadiness>
     ensures { result ≡ readiness_in attributes.now }
 {
@@ -23,7 +23,7 @@ pub fn readiness_in<A: Allocator + Copy>(attributes: &DataSet<A>) -> Option<Inpu
     }
 }
 
-/// The text of what is told of readiness; empty where nothing is.
+/// Returns the text of a readiness state, or an empty one if there is none.
 fn readiness_word(readiness: Option<InputReadiness>) -> &'static [u8]
     ensures { result.now ≡ readiness_word readiness }
 {
@@ -33,14 +33,14 @@ fn readiness_word(readiness: Option<InputReadiness>) -> &'static [u8]
     }
 }
 
-/// Whether the same is told.
+/// Returns whether two readiness states are the same.
 fn is_same_readiness(one: Option<InputReadiness>, other: Option<InputReadiness>) -> bool
     ensures { result ≡ is_same_readiness one other }
 {
     readiness_word(one) == readiness_word(other)
 }
 
-/// A report of a step.
+/// Returns a report of a step.
 pub fn report(
     kind: EventKind,
     step: StepUid,
@@ -57,18 +57,18 @@ pub fn report(
     }
 }
 
-/// Whether a set has this attribute.
+/// Returns whether a set has an attribute.
 fn has<A: Allocator + Copy>(attributes: &DataSet<A>, tag: Tag) -> bool
     ensures { result ≡ has attributes.now tag }
 {
     attributes.get(tag).is_some()
 }
 
-/// Adds a report, where there is something to be told.
+/// Adds a report if `told`.
 ///
 /// # Errors
 ///
-/// Where memory runs out. The reports are then as they were.
+/// If memory runs out. The reports are then unchanged.
 pub fn add_if<A: Allocator + Copy>(
     reports: &mut Vec<Report, A>,
     told: bool,
@@ -83,11 +83,11 @@ pub fn add_if<A: Allocator + Copy>(
     Ok(())
 }
 
-/// What is told of a cancel request on a step in this state (PS3.4 CC.2.2).
+/// Returns the reports of a cancel request on a step in this state (PS3.4 CC.2.2).
 ///
 /// # Errors
 ///
-/// Where memory runs out.
+/// If memory runs out.
 pub fn cancel_reports<A: Allocator + Copy>(
     alloc: A,
     step: StepUid,
@@ -112,11 +112,12 @@ pub fn cancel_reports<A: Allocator + Copy>(
     Ok(reports)
 }
 
-/// What is told of an N-SET of a step in this state, by the readiness of its input before and after (PS3.4 CC.2.6).
+/// Returns the reports of an N-SET on a step in this state, by the readiness of its input before and after (PS3.4
+/// CC.2.6).
 ///
 /// # Errors
 ///
-/// Where memory runs out.
+/// If memory runs out.
 pub fn set_reports<A: Allocator + Copy>(
     alloc: A,
     step: StepUid,

@@ -1,4 +1,4 @@
-//! What the attributes of a step have to say before it is final.
+//! The attributes that a step must have before it is final.
 
 ghost use Rattle.std.specs.Prelude.{◌≡◌};
 ghost use Rattle.ups_dataset.specs.Data.{element_at, elements_of};
@@ -16,7 +16,7 @@ use ups_dataset::dictionary::{
 use ups_dataset::{DataSet, Tag, Value};
 use ups_pdu::without_padding;
 
-/// Whether a value is a text that is not empty.
+/// Returns whether a value is a text that is not empty.
 fn has_text<A: Allocator + Copy>(value: &Value<A>) -> bool
     ensures { result ≡ has_text (value_view value.now) }
 {
@@ -26,7 +26,7 @@ fn has_text<A: Allocator + Copy>(value: &Value<A>) -> bool
     }
 }
 
-/// Whether an item has an attribute with a text that is not empty.
+/// Returns whether an item has an attribute with a text that is not empty.
 #[tactic(auto, using(crate::proofs::Items::said_in))]
 fn is_said_in<A: Allocator + Copy>(item: &DataSet<A>, tag: Tag) -> bool
     ensures { result ≡ is_said_in (elements_of item.now) tag }
@@ -37,7 +37,7 @@ fn is_said_in<A: Allocator + Copy>(item: &DataSet<A>, tag: Tag) -> bool
     }
 }
 
-/// Whether an item has each of these attributes with a text that is not empty.
+/// Returns whether an item has each of these attributes with a text that is not empty.
 fn all_said_in<A: Allocator + Copy>(item: &DataSet<A>, tags: &[Tag]) -> bool
     ensures { result ≡ list_all (is_said_in (elements_of item.now)) tags.now }
 {
@@ -49,7 +49,7 @@ fn all_said_in<A: Allocator + Copy>(item: &DataSet<A>, tags: &[Tag]) -> bool
     true
 }
 
-/// Whether an attribute is a sequence of exactly one item, in which each of these has a text.
+/// Returns whether an attribute is a sequence of exactly one item, which has a text for each of `tags`.
 fn has_item_with<A: Allocator + Copy>(set: &DataSet<A>, sequence: Tag, tags: &[Tag]) -> bool
     ensures { result ≡ has_item_with tags.now (element_at sequence set.now) }
 {
@@ -62,8 +62,8 @@ fn has_item_with<A: Allocator + Copy>(set: &DataSet<A>, sequence: Tag, tags: &[T
     }
 }
 
-/// Whether what COMPLETED needs is there: one performed procedure, with its start and its end (PS3.4 table
-/// CC.2.5-3).
+/// Returns whether the requirements of COMPLETED are met: one performed procedure, with its start and its end (PS3.4
+/// table CC.2.5-3).
 pub(crate) fn is_performed<A: Allocator + Copy>(attributes: &DataSet<A>) -> bool
     ensures { result ≡ is_performed attributes.now }
 {
@@ -77,8 +77,8 @@ pub(crate) fn is_performed<A: Allocator + Copy>(attributes: &DataSet<A>) -> bool
     )
 }
 
-/// Whether what CANCELED needs is there: one item of progress information, with the time of the cancellation
-/// (PS3.4 table CC.2.5-3).
+/// Returns whether the requirements of CANCELED are met: one item of progress information, with the time of the
+/// cancellation (PS3.4 table CC.2.5-3).
 pub(crate) fn is_discontinued<A: Allocator + Copy>(attributes: &DataSet<A>) -> bool
     ensures { result ≡ is_discontinued attributes.now }
 {

@@ -1,4 +1,4 @@
-//! What a line asks.
+//! The request that a line makes.
 
 ghost use Rattle.std.specs.Prelude.{◌≡◌, ◌≢◌, ◌<◌, ◌+◌, ◌^◌, ◌∷◌, [], ℕ, List, length, IfOk, IfErr, OnOk, OnErr};
 ghost use Rattle.std.specs.Option.{option_copied};
@@ -19,47 +19,47 @@ use ups_lines::{
 };
 use ups_pdu::{Ae, RegisteredUid, Uid};
 
-/// Where the arguments of a change stand in its data set: Procedure Step State and Transaction UID (PS3.4 table CC.2.1-1).
+/// The attributes of the arguments of a change: Procedure Step State and Transaction UID (PS3.4 table CC.2.1-1).
 const STATE: &[u8] = b"00741000";
 
 const TRANSACTION: &[u8] = b"00081195";
 
-/// Where those of a subscription do: Receiving AE and Deletion Lock (PS3.4 CC.2.3).
+/// The attributes of the arguments of a subscription: Receiving AE and Deletion Lock (PS3.4 CC.2.3).
 const RECEIVER: &[u8] = b"00741234";
 
 const LOCK: &[u8] = b"00741230";
 
-/// A question. Nothing of it lies in its line.
+/// A request. It borrows nothing from its line.
 #[derive(Drop)]
 pub(crate) enum Question<A: Allocator + Copy> {
-    /// What a message asks: its operation, and the bytes of its data set in Explicit VR Little Endian.
+    /// A message: its operation, and the bytes of its data set in Explicit VR Little Endian.
     Message(Operation<A>, Vec<u8, A>),
-    /// Which events the application entity that asks has not acknowledged, so many of them at most.
+    /// The events that the requesting application entity has not acknowledged, at most this many.
     Pending(u64),
-    /// To acknowledge the events of the application entity that asks, up to this number.
+    /// Acknowledging the events of the requesting application entity, up to this number.
     Acknowledge(u64),
-    /// Which steps the application entity that asks is subscribed to.
+    /// The steps that the requesting application entity is subscribed to.
     Watches,
-    /// To remove the steps that are due.
+    /// Removing the steps that are due.
     Sweep,
-    /// Which steps are held.
+    /// The steps that are held.
     Held,
-    /// Who holds the step with this UID; None for what is no UID.
+    /// The holder of the step with this UID; None if the word was not a valid UID.
     Holder(Option<Uid>),
 }
 
-/// A question, with when it is asked and by whom.
+/// A request, with its time and who makes it.
 #[derive(Drop)]
 pub(crate) struct Asked<A: Allocator + Copy> {
     /// In seconds since 1970-01-01 UTC.
     pub moment: u64,
-    /// The title of the application entity that asks.
+    /// The title of the application entity that makes the request.
     pub ae: Ae,
     pub question: Question<A>,
     ghost in_range: { IsMoment moment },
 }
 
-/// The instance that a word names; None where it is no UID.
+/// Returns the instance that a word names, or None if that is not a valid UID.
 ///
 /// Errors: Escape; lack of memory.
 fn instance_by<A: Allocator + Copy>(alloc: A, word: &[u8]) -> Result<Option<Uid>, LineFault>
@@ -76,7 +76,7 @@ fn instance_by<A: Allocator + Copy>(alloc: A, word: &[u8]) -> Result<Option<Uid>
     Ok(Uid::of(text.bytes(alloc)?.as_slice()))
 }
 
-/// The instance that the next word names; None where it is no UID.
+/// Reads the next word, and returns the instance that it names, or None if that is not a valid UID.
 ///
 /// Errors: MissingWord or EmptyWord; Escape; lack of memory.
 fn instance_of<A: Allocator + Copy>(
@@ -91,7 +91,7 @@ fn instance_of<A: Allocator + Copy>(
     instance_by(alloc, word)
 }
 
-/// The attribute of a tag that the next word is the value of.
+/// Reads the next word as the value of an attribute.
 ///
 /// Errors: MissingWord or EmptyWord; Escape.
 fn argument_of<'a>(tag: &'static [u8], words: &mut Words<'a>) -> Result<Attribute<'a>, LineReason>
@@ -101,7 +101,7 @@ fn argument_of<'a>(tag: &'static [u8], words: &mut Words<'a>) -> Result<Attribut
     Attribute::new(tag, word)
 }
 
-/// The Transaction UID that the next word is; None where it is `-`.
+/// Reads the next word as a Transaction UID, or None if it is `-`.
 ///
 /// Errors: MissingWord or EmptyWord; Escape.
 fn transaction_of<'a>(words: &mut Words<'a>) -> Result<Option<Attribute<'a>>, LineReason>
@@ -114,9 +114,9 @@ fn transaction_of<'a>(words: &mut Words<'a>) -> Result<Option<Attribute<'a>>, Li
     Ok(Some(Attribute::new(TRANSACTION, word)?))
 }
 
-/// The tags that words are.
+/// Returns the tags in words.
 ///
-/// Errors: EmptyWord or Tag where a word is none; lack of memory.
+/// Errors: EmptyWord or Tag if a word is not a tag; lack of memory.
 fn tags_of<A: Allocator + Copy>(alloc: A, words: Words<'_>) -> Result<Tags<A>, LineFault> {
     let mut tags = Vec::with_capacity(alloc, words.count())?;
     for word in words {
@@ -125,9 +125,9 @@ fn tags_of<A: Allocator + Copy>(alloc: A, words: Words<'_>) -> Result<Tags<A>, L
     Ok(Tags::from_vec(tags))
 }
 
-/// What a message with this operation asks, and with the attributes that arguments and the words behind them give.
+/// Returns the message with this operation, and with the attributes of its arguments and the remaining words.
 ///
-/// Errors: EmptyWord, Attribute or Escape where a word is not an attribute; TooManyItems; lack of memory.
+/// Errors: EmptyWord, Attribute or Escape if a word is not an attribute; TooManyItems; lack of memory.
 fn message<'a, A: Allocator + Copy>(
     alloc: A,
     operation: Operation<A>,
@@ -141,7 +141,7 @@ fn message<'a, A: Allocator + Copy>(
     Ok(Question::Message(operation, data_set))
 }
 
-/// What `create UID attr..` asks.
+/// Parses `create UID attr..`.
 fn creating<A: Allocator + Copy>(alloc: A, mut words: Words<'_>) -> Result<Question<A>, LineFault>
     ensures { IfOk result (IsOf Verb.Create (words_left (option_copied words.entry.rest))) }
 {
@@ -149,7 +149,7 @@ fn creating<A: Allocator + Copy>(alloc: A, mut words: Words<'_>) -> Result<Quest
     message(alloc, Operation::Create { instance }, &[], words)
 }
 
-/// What `get UID tag..` asks.
+/// Parses `get UID tag..`.
 fn getting<A: Allocator + Copy>(alloc: A, mut words: Words<'_>) -> Result<Question<A>, LineFault>
     ensures { IfOk result (IsOf Verb.Get (words_left (option_copied words.entry.rest))) }
 {
@@ -160,7 +160,7 @@ fn getting<A: Allocator + Copy>(alloc: A, mut words: Words<'_>) -> Result<Questi
     Ok(Question::Message(operation, Vec::new(alloc)))
 }
 
-/// What `set UID TX attr..` asks.
+/// Parses `set UID TX attr..`.
 fn setting<A: Allocator + Copy>(alloc: A, mut words: Words<'_>) -> Result<Question<A>, LineFault>
     ensures { IfOk result (IsOf Verb.Set (words_left (option_copied words.entry.rest))) }
 {
@@ -169,7 +169,7 @@ fn setting<A: Allocator + Copy>(alloc: A, mut words: Words<'_>) -> Result<Questi
     message(alloc, Operation::Set { instance }, &arguments, words)
 }
 
-/// What `change UID STATE TX` asks.
+/// Parses `change UID STATE TX`.
 fn changing<A: Allocator + Copy>(alloc: A, mut words: Words<'_>) -> Result<Question<A>, LineFault>
     ensures { IfOk result (IsOf Verb.Change (words_left (option_copied words.entry.rest))) }
 {
@@ -183,7 +183,7 @@ fn changing<A: Allocator + Copy>(alloc: A, mut words: Words<'_>) -> Result<Quest
     message(alloc, operation, &arguments, words)
 }
 
-/// What `cancel UID attr..` asks.
+/// Parses `cancel UID attr..`.
 fn canceling<A: Allocator + Copy>(alloc: A, mut words: Words<'_>) -> Result<Question<A>, LineFault>
     ensures { IfOk result (IsOf Verb.Cancel (words_left (option_copied words.entry.rest))) }
 {
@@ -194,7 +194,7 @@ fn canceling<A: Allocator + Copy>(alloc: A, mut words: Words<'_>) -> Result<Ques
     message(alloc, operation, &[], words)
 }
 
-/// What `subscribe UID RECEIVER LOCK attr..` asks.
+/// Parses `subscribe UID RECEIVER LOCK attr..`.
 fn subscribing<A: Allocator + Copy>(
     alloc: A,
     mut words: Words<'_>,
@@ -210,7 +210,7 @@ fn subscribing<A: Allocator + Copy>(
     message(alloc, operation, &arguments, words)
 }
 
-/// What `unsubscribe UID RECEIVER` and `suspend UID RECEIVER` ask, each with the type of its action.
+/// Parses `unsubscribe UID RECEIVER` or `suspend UID RECEIVER`, with `action` as the type of the action.
 fn ending<A: Allocator + Copy>(
     alloc: A,
     action: u16,
@@ -228,7 +228,7 @@ fn ending<A: Allocator + Copy>(
     message(alloc, operation, &arguments, words)
 }
 
-/// What `holder UID` asks.
+/// Parses `holder UID`.
 fn holding<A: Allocator + Copy>(alloc: A, mut words: Words<'_>) -> Result<Question<A>, LineFault>
     ensures asks { IfOk result (IsOf Verb.Holder (words_left (option_copied words.entry.rest))) }
     ensures bad { IfErr result (λ fault. OnBad fault (λ _. FailsArguments Verb.Holder (words_left (option_copied words.entry.rest)))) }
@@ -238,7 +238,7 @@ fn holding<A: Allocator + Copy>(alloc: A, mut words: Words<'_>) -> Result<Questi
     Ok(Question::Holder(instance))
 }
 
-/// The number that the last word is.
+/// Reads the last word as a number.
 ///
 /// Errors: MissingWord or EmptyWord; Number; ExtraWord.
 fn last_number(mut words: Words<'_>) -> Result<u64, LineReason>
@@ -250,9 +250,9 @@ fn last_number(mut words: Words<'_>) -> Result<u64, LineReason>
     Ok(number)
 }
 
-/// What is asked with a verb and the words behind it.
+/// Returns the request made by a verb and the words after it.
 ///
-/// Errors: the first of the reasons for which they are not such as the verb takes; lack of memory.
+/// Errors: the first reason why the verb does not take these words; lack of memory.
 fn question_of<A: Allocator + Copy>(
     alloc: A,
     verb: Verb,
@@ -289,9 +289,9 @@ fn question_of<A: Allocator + Copy>(
     }
 }
 
-/// What a line asks.
+/// Returns the request that a line makes.
 ///
-/// Errors: the first of the reasons for which the bytes are no line; lack of memory.
+/// Errors: the first reason why the bytes are not a valid line; lack of memory.
 pub(crate) fn asked_by<A: Allocator + Copy>(alloc: A, bytes: &[u8]) -> Result<Asked<A>, LineFault>
     ensures asks { IfOk result (λ asked. AsksAt (words_of bytes.now) asked.moment asked.ae asked.question) }
     ensures bad { IfErr result (λ fault. OnBad fault (IsBad bytes.now)) }

@@ -1,4 +1,4 @@
-//! Why a script ends early.
+//! The errors that end a script early.
 
 ghost use Rattle.std.specs.Prelude.{◌≡◌};
 ghost use Rattle.ups_script.specs.declared.fault.ScriptFault.TheVariants.{Memory};
@@ -8,12 +8,12 @@ use std::fmt::{self, Display, Formatter};
 use thiserror::Error;
 use ups_lines::LineReason;
 
-/// A line that is none of a script.
+/// An invalid line of a script.
 #[derive(Clone, Copy, Debug, PartialEq, Eq)]
 pub struct BadLine {
     /// Its number, counted from 1.
     pub number: u64,
-    /// Why it is none.
+    /// Why it is invalid.
     pub reason: LineReason,
     /// Whether it ends in a carriage return, which is a byte of its last word.
     pub ends_in_return: bool,
@@ -32,7 +32,7 @@ impl Display for BadLine {
 /// Why a script ended before its input did.
 #[derive(Clone, Copy, Debug, PartialEq, Eq, Error)]
 pub enum ScriptFault {
-    /// A line is none of a script. Its number was written among the replies.
+    /// A line is invalid. Its number was written among the replies.
     #[error("{0}")]
     BadLine(BadLine),
     /// The script has more than 1,000,000 lines.
@@ -44,7 +44,7 @@ pub enum ScriptFault {
     /// A write failed.
     #[error("a write failed")]
     Write,
-    /// Memory ran out, but not in the service, which answers that by a status.
+    /// Memory ran out outside of the service, which answers that with a status.
     #[error("out of memory")]
     Memory,
 }

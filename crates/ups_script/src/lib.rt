@@ -1,6 +1,6 @@
-//! Scripts: requests to a service of Unified Procedure Steps (PS3.4 annex CC), a line each, and a line for each reply.
-//! A line becomes the operation and the data set that a message would bring, and is asked of a manager as that is. Of
-//! words, escapes and the bytes of attributes `ups_lines` knows.
+//! Scripts: requests to a Unified Procedure Step service (PS3.4 annex CC), one per line, with one line for each reply.
+//! A line becomes the operation and the data set of a message, and a manager answers it in the same way. `ups_lines`
+//! handles words, escapes and the bytes of attributes.
 #![tactic(auto)]
 
 mod asking;

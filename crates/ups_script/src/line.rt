@@ -1,4 +1,4 @@
-//! How the lines of a script begin: when is asked, by whom and what for.
+//! The first words of a line: the time of the request, who makes it, and its verb.
 
 ghost use Rattle.std.specs.Prelude.{◌≡◌, ◌∷◌, ℕ, IfOk, IfErr, MatchOption};
 ghost use Rattle.std.specs.Option.{IfSome, IfNone, option_copied};
@@ -11,43 +11,43 @@ use ups_life::MAX_MOMENT;
 use ups_lines::{LineFault, LineReason, Text, Words, number_of};
 use ups_pdu::Ae;
 
-/// What a line asks for.
+/// The kind of request that a line makes.
 #[derive(Clone, Copy, Debug, PartialEq, Eq)]
 pub(crate) enum Verb {
-    /// To create a step (N-CREATE, PS3.4 CC.2.5).
+    /// Creating a step (N-CREATE, PS3.4 CC.2.5).
     Create,
-    /// To show attributes of a step (N-GET, PS3.4 CC.2.7).
+    /// Reading attributes of a step (N-GET, PS3.4 CC.2.7).
     Get,
-    /// To set attributes of a step (N-SET, PS3.4 CC.2.6).
+    /// Setting attributes of a step (N-SET, PS3.4 CC.2.6).
     Set,
-    /// To change the state of a step (N-ACTION type 1, PS3.4 CC.2.1).
+    /// Changing the state of a step (N-ACTION type 1, PS3.4 CC.2.1).
     Change,
-    /// To cancel a step (N-ACTION type 2, PS3.4 CC.2.2).
+    /// Requesting the cancellation of a step (N-ACTION type 2, PS3.4 CC.2.2).
     Cancel,
-    /// To subscribe a watcher (N-ACTION type 3, PS3.4 CC.2.3).
+    /// Subscribing a watcher (N-ACTION type 3, PS3.4 CC.2.3).
     Subscribe,
-    /// To end subscriptions of a watcher (N-ACTION type 4, PS3.4 CC.2.3).
+    /// Ending subscriptions of a watcher (N-ACTION type 4, PS3.4 CC.2.3).
     Unsubscribe,
-    /// To end the global subscription of a watcher (N-ACTION type 5, PS3.4 CC.2.3).
+    /// Ending the global subscription of a watcher (N-ACTION type 5, PS3.4 CC.2.3).
     Suspend,
-    /// Which steps match keys (C-FIND, PS3.4 CC.2.8).
+    /// The steps that match keys (C-FIND, PS3.4 CC.2.8).
     Find,
-    /// Which events a watcher has not acknowledged (PS3.4 CC.2.4).
+    /// The events that a watcher has not acknowledged (PS3.4 CC.2.4).
     Pending,
-    /// To acknowledge events of a watcher.
+    /// Acknowledging events of a watcher.
     Ack,
-    /// Which steps a watcher is subscribed to.
+    /// The steps that a watcher is subscribed to.
     Watches,
-    /// To remove the steps that are due.
+    /// Removing the steps that are due.
     Sweep,
-    /// Which steps are held.
+    /// The steps that are held.
     Held,
-    /// Who holds a step.
+    /// The holder of a step.
     Holder,
 }
 
 impl Verb {
-    /// The verb that a word is; None where it is none.
+    /// Returns the verb for a word, or None if there is none.
     fn of(word: &[u8]) -> Option<Verb>
         ensures { MatchOption result ((verb : Verb) → verb_word verb ≡ word.now → ⊥) (λ verb. verb_word verb ≡ word.now) }
     {
@@ -75,18 +75,18 @@ impl Verb {
     }
 }
 
-/// How a line begins: `MOMENT AE VERB`.
+/// The first words of a line: `MOMENT AE VERB`.
 #[derive(Clone, Copy)]
 pub(crate) struct Heading {
-    /// When is asked, in seconds since 1970-01-01 UTC.
+    /// The time of the request, in seconds since 1970-01-01 UTC.
     pub moment: u64,
-    /// The title of the application entity that asks.
+    /// The title of the application entity that makes the request.
     pub ae: Ae,
-    /// What is asked for.
+    /// The kind of request.
     pub verb: Verb,
 }
 
-/// The moment that a word is; None where it is none.
+/// Returns the moment that a word encodes, or None if it encodes none.
 fn moment_of(word: &[u8]) -> Option<u64>
     ensures moment { IfSome result IsMoment }
     ensures value { IfSome result (IsMomentWord word.now) }
@@ -99,7 +99,7 @@ fn moment_of(word: &[u8]) -> Option<u64>
     Some(moment)
 }
 
-/// The title that a word is.
+/// Returns the title that a word encodes.
 ///
 /// Errors: Escape; Title; lack of memory.
 fn title_of<A: Allocator + Copy>(alloc: A, word: &[u8]) -> Result<Ae, LineFault>
@@ -111,7 +111,7 @@ fn title_of<A: Allocator + Copy>(alloc: A, word: &[u8]) -> Result<Ae, LineFault>
     Ok(title)
 }
 
-/// The verb that the next word is.
+/// Reads the verb from the next word.
 ///
 /// Errors: MissingWord or EmptyWord; Verb.
 fn verb_in(words: &mut Words<'_>) -> Result<Verb, LineReason>
@@ -123,7 +123,7 @@ fn verb_in(words: &mut Words<'_>) -> Result<Verb, LineReason>
 }
 
 impl Heading {
-    /// The heading that the next words are.
+    /// Reads the heading from the next words.
     ///
     /// Errors: MissingWord or EmptyWord; Moment; Escape or Title; Verb; lack of memory.
     pub(crate) fn of<A: Allocator + Copy>(

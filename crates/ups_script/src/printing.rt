@@ -1,4 +1,4 @@
-//! Replies as lines: a status, and what is shown.
+//! Writing replies as lines: a status, and the results.
 
 ghost use Rattle.std.specs.Prelude.{◌≡◌, ◌∷◌, [], ◌++◌, true, map, OnOk};
 ghost use Rattle.std.specs.Fmt.{decimal};
@@ -24,7 +24,7 @@ use ups_lines::{Way, put_hex, put_set, put_text};
 use ups_pdu::Ae;
 use ups_reports::type_id;
 
-/// Flushes a writer. A call that a signal interrupts is made again.
+/// Flushes a writer. Tries again if a signal interrupts the call.
 fn flush<W: Write>(writer: &mut W) -> io::Result<()>
     ensures { OnOk result (Keeps (W.contents writer.old) (W.contents writer.new)) }
 {
@@ -46,7 +46,7 @@ pub(crate) fn end<W: Write>(writer: &mut W) -> io::Result<()>
     flush(writer)
 }
 
-/// Prints the attributes of one of several sets, in brackets.
+/// Writes the attributes of one of several sets, in brackets.
 fn put_bracketed<A: Allocator + Copy, W: Write>(writer: &mut W, set: &DataSet<A>) -> io::Result<()>
     ensures { OnOk result (Appends (W.contents writer.old) (W.contents writer.new) (32 ∷ bracketed set.now)) }
 {
@@ -55,7 +55,7 @@ fn put_bracketed<A: Allocator + Copy, W: Write>(writer: &mut W, set: &DataSet<A>
     writer.write_all(b"]")
 }
 
-/// Prints the sets that were found.
+/// Writes the sets that were found.
 fn put_sets<A: Allocator + Copy, W: Write>(writer: &mut W, sets: &[DataSet<A>]) -> io::Result<()>
     ensures { OnOk result (Appends (W.contents writer.old) (W.contents writer.new) (spaced true (map bracketed sets.now))) }
 {
@@ -65,7 +65,7 @@ fn put_sets<A: Allocator + Copy, W: Write>(writer: &mut W, sets: &[DataSet<A>]) 
     Ok(())
 }
 
-/// Prints the UIDs of steps.
+/// Writes the UIDs of steps.
 fn put_steps<W: Write>(writer: &mut W, steps: &[StepUid]) -> io::Result<()>
     ensures { OnOk result (Appends (W.contents writer.old) (W.contents writer.new) (spaced true (map printed steps.now))) }
 {
@@ -76,7 +76,7 @@ fn put_steps<W: Write>(writer: &mut W, steps: &[StepUid]) -> io::Result<()>
     Ok(())
 }
 
-/// The text of how a step is watched.
+/// Returns the text of a subscription.
 fn subscription_text(subscription: Subscription) -> &'static [u8]
     ensures { result.now ≡ subscription_text subscription }
 {
@@ -86,7 +86,7 @@ fn subscription_text(subscription: Subscription) -> &'static [u8]
     }
 }
 
-/// Prints a step that a watcher is subscribed to, behind a space.
+/// Writes a step that a watcher is subscribed to, after a space.
 fn put_watched<W: Write>(writer: &mut W, watched: &Watched) -> io::Result<()>
     ensures { OnOk result (Appends (W.contents writer.old) (W.contents writer.new) (32 ∷ watched_word watched.now)) }
 {
@@ -96,7 +96,7 @@ fn put_watched<W: Write>(writer: &mut W, watched: &Watched) -> io::Result<()>
     writer.write_all(subscription_text(watched.subscription))
 }
 
-/// Prints the steps that a watcher is subscribed to.
+/// Writes the steps that a watcher is subscribed to.
 fn put_watches<W: Write>(writer: &mut W, watches: &[Watched]) -> io::Result<()>
     ensures { OnOk result (Appends (W.contents writer.old) (W.contents writer.new) (spaced true (map watched_word watches.now))) }
 {
@@ -106,7 +106,7 @@ fn put_watches<W: Write>(writer: &mut W, watches: &[Watched]) -> io::Result<()>
     Ok(())
 }
 
-/// Prints a value behind a colon.
+/// Writes a value after a colon.
 fn put_part<W: Write>(writer: &mut W, value: &[u8]) -> io::Result<()>
     ensures { OnOk result (Appends (W.contents writer.old) (W.contents writer.new) (58 ∷ printed value.now)) }
 {
@@ -114,7 +114,7 @@ fn put_part<W: Write>(writer: &mut W, value: &[u8]) -> io::Result<()>
     put_text(writer, value)
 }
 
-/// The text of a step's readiness; empty where its attributes name none.
+/// Returns the text of a step's readiness, or an empty one if its attributes have none.
 fn readiness_text(readiness: Option<InputReadiness>) -> &'static [u8]
     ensures { result.now ≡ readiness_word readiness }
 {
@@ -124,7 +124,7 @@ fn readiness_text(readiness: Option<InputReadiness>) -> &'static [u8]
     }
 }
 
-/// Prints the number and the type of an event, behind a space.
+/// Writes the number and the type of an event, after a space.
 fn put_event_number<W: Write>(writer: &mut W, event: &Event) -> io::Result<()>
     ensures { OnOk result (Appends (W.contents writer.old) (W.contents writer.new) (32 ∷ (decimal event.now.number ++ (58 ∷ decimal (type_id event.now.kind))))) }
 {
@@ -133,7 +133,7 @@ fn put_event_number<W: Write>(writer: &mut W, event: &Event) -> io::Result<()>
     write!(writer, " {number}:{kind}")
 }
 
-/// Prints an event, behind a space.
+/// Writes an event, after a space.
 fn put_event<W: Write>(writer: &mut W, event: &Event) -> io::Result<()>
     ensures { OnOk result (Appends (W.contents writer.old) (W.contents writer.new) (32 ∷ event_word event.now)) }
 {
@@ -143,7 +143,7 @@ fn put_event<W: Write>(writer: &mut W, event: &Event) -> io::Result<()>
     put_part(writer, readiness_text(event.readiness))
 }
 
-/// Prints the events of reports.
+/// Writes the events of reports.
 fn put_reports<A: Allocator + Copy, W: Write>(
     writer: &mut W,
     reports: &[EventReport<A>],
@@ -156,7 +156,7 @@ fn put_reports<A: Allocator + Copy, W: Write>(
     Ok(())
 }
 
-/// Prints who holds a step: a title, or `-` where nobody does.
+/// Writes who holds a step: a title, or `-` if nobody does.
 fn put_holder<W: Write>(writer: &mut W, holder: Option<Ae>) -> io::Result<()>
     ensures { OnOk result (Appends (W.contents writer.old) (W.contents writer.new) (32 ∷ title_word holder)) }
 {
@@ -167,14 +167,14 @@ fn put_holder<W: Write>(writer: &mut W, holder: Option<Ae>) -> io::Result<()>
     }
 }
 
-/// Prints how many steps a sweep removed.
+/// Writes how many steps a sweep removed.
 fn put_count<W: Write>(writer: &mut W, count: u64) -> io::Result<()>
     ensures { OnOk result (Appends (W.contents writer.old) (W.contents writer.new) (32 ∷ decimal count)) }
 {
     write!(writer, " {count}")
 }
 
-/// Prints the reply to a message, without the end of its line.
+/// Writes the reply to a message, without the end of its line.
 fn put_reply<A: Allocator + Copy, W: Write>(writer: &mut W, reply: &Reply<A>) -> io::Result<()>
     ensures { OnOk result (Appends (W.contents writer.old) (W.contents writer.new) (reply_head reply.now ++ spaced true (reply_words reply.now))) }
 {
@@ -201,7 +201,7 @@ fn put_reply<A: Allocator + Copy, W: Write>(writer: &mut W, reply: &Reply<A>) ->
     }
 }
 
-/// Writes what a question is told, as a line, and flushes it.
+/// Writes an answer as a line, and flushes it.
 pub(crate) fn put_told<A: Allocator + Copy, W: Write>(
     writer: &mut W,
     told: &Told<A>,

@@ -1,4 +1,4 @@
-//! The lines of a script, as a reader gives them.
+//! Reading the lines of a script.
 
 ghost use Rattle.std.specs.Prelude.{◌≡◌, ◌≢◌, ◌≤◌, ◌<◌, ℕ, List, Some, Ok, true, false, All, length, take, IfOk, IfErr, OnErr, OnSome};
 ghost use Rattle.std.specs.Io.KnownBytes.{Keeps, Consumes, IsAtEnd};
@@ -10,12 +10,12 @@ use crate::limits::MAX_LINE;
 use std::alloc::Allocator;
 use std::io::{BufRead, Error, ErrorKind};
 
-/// Whether a signal interrupted what failed, so that it is tried again.
+/// Returns whether a signal interrupted the failed call, so that it is tried again.
 pub(crate) fn is_interrupted(error: &Error) -> bool {
     error.kind() == ErrorKind::Interrupted
 }
 
-/// Whether a reader has nothing to give; None where a signal interrupted it.
+/// Returns whether the reader has nothing left, or None if a signal interrupted it.
 ///
 /// Errors: Read.
 fn gives_nothing<R: BufRead>(reader: &mut R) -> Result<Option<bool>, ScriptFault>
@@ -36,7 +36,7 @@ fn gives_nothing<R: BufRead>(reader: &mut R) -> Result<Option<bool>, ScriptFault
     }
 }
 
-/// Whether the input is at its end. A read that a signal interrupts is made again.
+/// Returns whether the input is at its end. Tries again if a signal interrupts the read.
 ///
 /// Errors: Read.
 pub(crate) fn is_at_end<R: BufRead>(reader: &mut R) -> Result<bool, ScriptFault>
@@ -53,7 +53,7 @@ pub(crate) fn is_at_end<R: BufRead>(reader: &mut R) -> Result<bool, ScriptFault>
     Err(ScriptFault::Read)
 }
 
-/// How many of these bytes stand before their first line feed; so many at most.
+/// Returns how many bytes come before the first line feed, or at most `most`.
 fn before_feed(bytes: &[u8], most: usize) -> usize
     ensures within { result ≤ length bytes.now }
     ensures none { All (λ b. b ≢ 10) (take result bytes.now) }
@@ -69,19 +69,19 @@ fn before_feed(bytes: &[u8], most: usize) -> usize
     count
 }
 
-/// How a line goes on in the bytes that a reader shows.
+/// The continuation of a line in the bytes that a reader shows.
 #[derive(Clone, Copy)]
 struct Part {
-    /// How many of them are of the line.
+    /// How many of the bytes belong to the line.
     count: usize,
-    /// How many are taken: those, and the line feed behind them.
+    /// How many bytes to consume: those, and the line feed after them.
     taken: usize,
-    /// Whether the line is whole then.
+    /// Whether this completes the line.
     is_whole: bool,
 }
 
-/// How a line that has so many bytes goes on in those that a reader shows. It is whole where its line feed is among
-/// them, where there are none, and where it is too long: then it has one byte more than a line may have.
+/// Returns how a line of `before` bytes continues in the bytes that a reader shows. The line is complete if its line
+/// feed is among them, if there are none, or if it is too long: then it has one byte more than a line may have.
 fn part_in(shown: &[u8], before: usize) -> Part
     ensures within { (result.count ≤ length shown.now) × (result.taken ≤ length shown.now) }
     ensures none { All (λ b. b ≢ 10) (take result.count shown.now) }
@@ -103,8 +103,8 @@ fn part_in(shown: &[u8], before: usize) -> Part
     }
 }
 
-/// Puts what a reader shows of a line behind its first bytes, and takes it from the reader, with the line feed that ends
-/// the line. Gives whether the line is whole. Nothing is put or taken where a signal interrupts the read.
+/// Appends what a reader shows of a line to its first bytes, and consumes it with the line feed that ends the line.
+/// Returns whether the line is complete. Nothing is appended or consumed if a signal interrupts the read.
 ///
 /// Errors: Read; Memory.
 fn lengthen<A: Allocator + Copy, R: BufRead>(
@@ -131,8 +131,8 @@ fn lengthen<A: Allocator + Copy, R: BufRead>(
     Ok(part.is_whole)
 }
 
-/// The next line, without its line feed. Of a line that is too long it has the first bytes: one more than a line may
-/// have. A read that a signal interrupts is made again.
+/// Reads the next line, without its line feed. A line that is too long is cut to one byte more than a line may have.
+/// Tries again if a signal interrupts the read.
 ///
 /// Errors: Read; Memory.
 pub(crate) fn next_line<A: Allocator + Copy, R: BufRead>(

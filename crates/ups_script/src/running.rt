@@ -26,7 +26,7 @@ use ups_life::{MAX_HISTORY, Peer};
 use ups_lines::LineFault;
 use ups_manager::Manager;
 
-/// Writes that the line of a number is none.
+/// Writes that the line with this number is invalid.
 fn put_bad_line<W: Write>(writer: &mut W, number: u64) -> io::Result<()>
     ensures { OnOk result (Appends (W.contents writer.old) (W.contents writer.new) (bad_text number)) }
 {
@@ -34,7 +34,7 @@ fn put_bad_line<W: Write>(writer: &mut W, number: u64) -> io::Result<()>
     end(writer)
 }
 
-/// Asks a manager, and writes what it tells.
+/// Makes a request to a manager, and writes the answer.
 ///
 /// Errors: Write; Memory, and then nothing was done.
 fn put_answer<A: Allocator + Copy, W: Write>(
@@ -54,7 +54,7 @@ fn put_answer<A: Allocator + Copy, W: Write>(
     }
 }
 
-/// What a line asks, of which nothing is kept.
+/// Returns the request that a line makes, and drops the line.
 fn asked_of<A: Allocator + Copy>(alloc: A, line: Vec<u8, A>) -> Result<Asked<A>, LineFault>
     ensures asks { IfOk result (λ asked. AsksAt (words_of line.items) asked.moment asked.ae asked.question) }
     ensures bad { IfErr result (λ fault. OnBad fault (IsBad line.items)) }
@@ -62,9 +62,9 @@ fn asked_of<A: Allocator + Copy>(alloc: A, line: Vec<u8, A>) -> Result<Asked<A>,
     asked_by(alloc, &line)
 }
 
-/// Writes the reply to the line of a number.
+/// Writes the reply to the line with this number.
 ///
-/// Errors: BadLine, which is told before; Write; Memory.
+/// Errors: BadLine, after writing it among the replies; Write; Memory.
 fn answer<A: Allocator + Copy, W: Write>(
     alloc: A,
     manager: &mut Manager<A>,
@@ -93,11 +93,11 @@ fn answer<A: Allocator + Copy, W: Write>(
     }
 }
 
-/// Answers line after line of a script by a manager: so many lines at most.
+/// Answers at most `limit` lines of a script with a manager.
 ///
 /// # Errors
 ///
-/// Those of [`run`]; TooManyLines where there are more than `limit`.
+/// Those of [`run`]; TooManyLines if there are more than `limit`.
 pub fn answer_lines<A: Allocator + Copy, R: BufRead, W: Write>(
     alloc: A,
     manager: &mut Manager<A>,
@@ -123,15 +123,15 @@ pub fn answer_lines<A: Allocator + Copy, R: BufRead, W: Write>(
     }
 }
 
-/// Runs a script on a manager without history: reads line after line, and writes and flushes a line for each reply
-/// before the next one is read. `peers` are those that may watch steps; a finished step is kept for `keep` seconds at
-/// least; `offset` is that of the local time from UTC in minutes, above 0 east of it.
+/// Runs a script on a manager without history: reads line by line, and writes and flushes a line for each reply before
+/// it reads the next. `peers` may watch steps; a finished step is kept for at least `keep` seconds; `offset` is the
+/// offset of the local time from UTC in minutes, positive east of it.
 ///
 /// # Errors
 ///
-/// BadLine at the first line that is none, which is told among the replies; TooManyLines where there are more than
-/// 1,000,000; Read where a read failed; Write where a write failed; Memory where memory ran out. What was accepted was
-/// then answered as far as it was written.
+/// BadLine at the first invalid line, which is written among the replies too; TooManyLines if there are more than
+/// 1,000,000; Read if a read failed; Write if a write failed; Memory if memory ran out. What was accepted before is
+/// answered as far as it was written.
 pub fn run<A: Allocator + Copy, R: BufRead, W: Write>(
     alloc: A,
     reader: &mut R,

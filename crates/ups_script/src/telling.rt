@@ -1,4 +1,4 @@
-//! What the questions of a script are told by a manager.
+//! The answers of a manager to the requests of a script.
 
 ghost use Rattle.std.specs.Prelude.{◌≡◌, Ok, IfOk, IfErr, OnErr};
 ghost use Rattle.ups_life.specs.Settings.{IsMoment};
@@ -15,20 +15,20 @@ use ups_manager::Manager;
 use ups_pdu::{Ae, TransferSyntax, Uid};
 use ups_service::Service;
 
-/// What a question is told.
+/// The answer to a request.
 #[derive(Drop)]
 pub(crate) enum Told<A: Allocator + Copy> {
-    /// The reply to a message, a sweep, an acknowledgement, and to who asks for events.
+    /// The reply to a message, a sweep, an acknowledgment, or a request for events.
     Replied(Reply<A>),
     /// The steps that are held.
     Steps(Vec<StepUid, A>),
     /// The steps that a watcher is subscribed to.
     Watched(Vec<Watched, A>),
-    /// The title of who holds a step; None where nobody does.
+    /// The title of who holds a step; None if nobody does.
     Holder(Option<Ae>),
 }
 
-/// Why a message asks nothing of the manager.
+/// Why a message makes no request to the manager.
 pub(crate) enum Unasked {
     /// It is refused with a status.
     Refused(Status),
@@ -36,7 +36,7 @@ pub(crate) enum Unasked {
     Memory,
 }
 
-/// The status of a message whose data set can't be read (PS3.7 annex C, PS3.4 section C.4.1.1.4).
+/// Returns the status of a message whose data set can't be read (PS3.7 annex C, PS3.4 section C.4.1.1.4).
 fn unread<A: Allocator + Copy>(operation: &Operation<A>) -> Status
     ensures { result ≡ unread operation.now }
 {
@@ -46,7 +46,7 @@ fn unread<A: Allocator + Copy>(operation: &Operation<A>) -> Status
     }
 }
 
-/// What a fault in reading a data set makes of its message.
+/// Returns what a fault in reading the data set of a message leads to.
 fn without_set<A: Allocator + Copy>(operation: &Operation<A>, fault: SetFault) -> Unasked
     ensures { result ≡ without_set operation.now fault }
 {
@@ -56,8 +56,8 @@ fn without_set<A: Allocator + Copy>(operation: &Operation<A>, fault: SetFault) -
     }
 }
 
-/// What a message asks, by its operation and the bytes of its data set in Explicit VR Little Endian. `offset` is that
-/// of the local time from UTC in minutes, by which a key's DT is read that says none.
+/// Returns the request of a message, given its operation and the bytes of its data set in Explicit VR Little Endian.
+/// `offset` is the offset of the local time from UTC in minutes, for keys of DT without one.
 fn ask_of<A: Allocator + Copy>(
     alloc: A,
     operation: &Operation<A>,
@@ -78,9 +78,9 @@ fn ask_of<A: Allocator + Copy>(
     }
 }
 
-/// The reply to a message that is asked at a moment, in seconds since 1970-01-01 UTC.
+/// Returns the reply to a message sent at `moment`, in seconds since 1970-01-01 UTC.
 ///
-/// Errors: lack of memory outside of the manager, which then has not changed.
+/// Errors: lack of memory outside of the manager, which has then not changed.
 fn reply_to<A: Allocator + Copy>(
     alloc: A,
     manager: &mut Manager<A>,
@@ -101,7 +101,7 @@ fn reply_to<A: Allocator + Copy>(
     }
 }
 
-/// The title of who holds the step that an instance is.
+/// Returns the title of who holds the step `instance`.
 fn title_of<A: Allocator + Copy>(manager: &Manager<A>, instance: Option<Uid>) -> Option<Ae>
     ensures { result ≡ title_of manager.now.settings manager.now.history instance }
 {
@@ -110,9 +110,9 @@ fn title_of<A: Allocator + Copy>(manager: &Manager<A>, instance: Option<Uid>) ->
     Some(holder.ae)
 }
 
-/// What a question is told at its moment.
+/// Returns the answer to a request, at its moment.
 ///
-/// Errors: lack of memory outside of the manager, which then has not changed.
+/// Errors: lack of memory outside of the manager, which has then not changed.
 pub(crate) fn tell<A: Allocator + Copy>(
     alloc: A,
     manager: &mut Manager<A>,

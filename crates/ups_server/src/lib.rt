@@ -1,5 +1,5 @@
-//! A server as a command line asks for it: its manager, its desk and its threads, from the door on which it listens until
-//! each of its threads has done as much as it is to do. What the words of the command line are is read by `ups_args`.
+//! A server as requested by a command line: its manager, desk and threads, from the door on which it listens until each
+//! thread has done as much as it should. `ups_args` parses the words of the command line.
 #![tactic(auto)]
 
 mod opener;

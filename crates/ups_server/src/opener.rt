@@ -1,29 +1,29 @@
-//! What opens the store of a server.
+//! Opening the store of a server.
 
 use std::alloc::Global;
 use ups_ledger::{Keeper, Ledger};
 use ups_manager::Manager;
 
-/// Why a store is not opened.
+/// Why a store was not opened.
 #[derive(Clone, Copy, Debug, PartialEq, Eq)]
 pub enum Unopened {
     /// Memory ran out.
     Memory,
-    /// For another reason, which was told.
+    /// Another reason, which was printed.
     Told,
 }
 
-/// What opens the store in which a server keeps its accepted requests. How these are kept, no crate below the program knows.
+/// Opens the store in which a server keeps its accepted requests. Only the program itself knows how they are kept.
 pub trait StoreOpener<'a, L: Ledger> {
     ghost use Rattle.std.specs.Prelude.{◌≡◌, [], length, IfOk};
     ghost use Rattle.ups_ledger.specs.Keeping.{IsKept};
 
-    /// Opens the store in a file, or makes one, and enters the requests that it has into a manager that has none. Requests
-    /// that are not accepted with its settings are left out where they may be. Returns the ledger that goes on from there.
+    /// Opens the store in a file, or creates one, and enters its requests into a manager without requests. Requests
+    /// that are not accepted with its settings are left out if allowed. Returns the ledger that continues the store.
     ///
     /// # Errors
     ///
-    /// Memory; Told, where it was told why the store is not opened, or its requests are not entered.
+    /// Memory; Told after printing why the store was not opened, or its requests were not entered.
     fn open(
         &self,
         file: &'a str,

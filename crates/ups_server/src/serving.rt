@@ -28,27 +28,27 @@ use ups_net::{Door, Network, Premises, ServerOptions, run};
 use ups_settings::MAX_WORKERS;
 use ups_turn::{Desk, Pass};
 
-/// What a server leaves: whether its threads began, its desk, the passes there, and its ledger.
+/// What a server leaves: whether its threads began, its desk, its passes, and its ledger.
 #[derive(Drop)]
 pub struct RanServer<L: Ledger> {
-    /// Whether its threads began. Where one could not be started, or memory ran out before, none did.
+    /// Whether its threads began. If one could not be started, or memory ran out before, none did.
     pub begun: bool,
     /// The desk.
     pub desk: Desk<Manager<Global>, Global>,
-    /// The passes of the workers, of those that deliver and of the sweeper, in this order.
+    /// The passes of the workers, of the deliverers and of the sweeper, in this order.
     pub passes: Vec<Pass<Manager<Global>, Global>>,
-    /// What has its requests, where they are kept.
+    /// The ledger with its requests, if they are kept.
     pub keeper: Option<Keeper<L>>,
 }
 
-/// A manager with what its store has, and the ledger that goes on from there, where there is a store.
+/// A manager with the requests of its store, and the ledger that continues the store, if there is one.
 #[derive(Drop)]
 struct Begun<L: Ledger> {
     manager: Manager<Global>,
     keeper: Option<Keeper<L>>,
 }
 
-/// Listens where the command line says. With port 0 the port that was taken is printed, so that a client can be told.
+/// Listens where the command line says. Prints the port if port 0 was requested, so that a client can be told.
 ///
 /// Errors: those of the network, and of the output.
 fn listen<R: Network + Print + Log>(rt: &R, asked: &ServeArguments<'_>) -> io::Result<Door> {
@@ -63,8 +63,8 @@ fn listen<R: Network + Print + Log>(rt: &R, asked: &ServeArguments<'_>) -> io::R
     Ok(door)
 }
 
-/// How the threads of a server work, as the command line asks: each worker for so many associations, and the sweeper and each
-/// deliverer for so many rounds.
+/// Returns the options for the threads of a server: those of the command line, with the number of associations of each
+/// worker and the number of rounds of the sweeper and each deliverer.
 fn options_of(
     alloc: Global,
     asked: ServeArguments<'_>,
@@ -98,11 +98,11 @@ fn options_of(
     }
 }
 
-/// How many deliver event reports at most.
+/// The maximum number of deliverers of event reports.
 const MAX_DELIVERERS: usize = 8;
 
-/// How many deliver event reports beside so many workers: one for each watcher, eight at most; no more than the desk has seats
-/// for, and at least one.
+/// Returns the number of deliverers of event reports besides `workers` workers: one for each watcher, at most eight; no
+/// more than the desk has seats for, and at least one.
 fn deliverers_of(workers: u32, watchers: usize) -> u32
     requires most { workers ≤ workers_limit }
     ensures number { result ≡ deliverers_of workers watchers }
@@ -114,7 +114,7 @@ fn deliverers_of(workers: u32, watchers: usize) -> u32
     wanted.min(seats).max(1)
 }
 
-/// A manager without requests, as the command line asks.
+/// Returns a manager without requests, with the settings of the command line.
 ///
 /// Errors: lack of memory.
 fn new_manager(alloc: Global, asked: &ServeArguments<'_>) -> Result<Manager<Global>, AllocError>
@@ -129,7 +129,8 @@ fn new_manager(alloc: Global, asked: &ServeArguments<'_>) -> Result<Manager<Glob
     }
 }
 
-/// The manager as the command line asks, with what its store has; None where that is not opened, which is told.
+/// Returns the manager for the command line, with the requests of its store, or None after printing why that was not
+/// opened.
 ///
 /// Errors: lack of memory.
 fn begin<'a, L: Ledger, O: StoreOpener<'a, L>>(
@@ -160,7 +161,7 @@ fn begin<'a, L: Ledger, O: StoreOpener<'a, L>>(
     }
 }
 
-/// What the answers of a server wait for: where nothing is kept, for nothing.
+/// Returns what the answers of a server wait for: nothing, if nothing is kept.
 fn commits_of<L: Ledger>(keeper: &Option<Keeper<L>>) -> Commits {
     match keeper {
         Some(keeper) => Commits::new(keeper.count()),
@@ -168,9 +169,9 @@ fn commits_of<L: Ledger>(keeper: &Option<Keeper<L>>) -> Commits {
     }
 }
 
-/// Runs a server at a door, as the command line asks, until each worker has served so many associations, and the sweeper and
-/// each deliverer has made so many rounds; and hands back what it leaves: its manager is the one that it was given, and
-/// each of its threads has done its job as it is asked for, or none has begun.
+/// Runs a server at a door until each worker has served `associations` associations, and the sweeper and each deliverer
+/// have made `rounds` rounds. Returns what it leaves: its manager is the one that was given, and either each thread has
+/// done its job as requested, or none has begun.
 ///
 /// Errors: lack of memory before the threads are started.
 fn serve_on<L: Ledger, R>(
@@ -213,11 +214,11 @@ where
     })
 }
 
-/// Answers associations over TCP and delivers event reports, as the command line asks, until each worker has served so many
-/// associations, and the sweeper and each deliverer has made so many rounds; and hands back what the server leaves, whose
-/// passes are at its desk. Where a store is asked for, its manager begins with the requests of the store, and its ledger has
-/// the first entries of the history that the sweeper's pass has seen, as many as are committed. None where the store is not
-/// opened, or it can't listen, which is told.
+/// Answers associations over TCP and delivers event reports until each worker has served `associations` associations,
+/// and the sweeper and each deliverer have made `rounds` rounds. Returns what the server leaves, whose passes are at
+/// its desk. If a store is requested, the manager begins with the requests of the store, and the ledger has the first
+/// entries of the history that the sweeper's pass has seen, as many as are committed. Returns None after printing why
+/// the store was not opened, or why it can't listen.
 ///
 /// # Errors
 ///
@@ -257,11 +258,11 @@ where
     }
 }
 
-/// Reads what a command line asks of `serve`, and does that as [`answer_network`] does.
+/// Parses the words of `serve`, and runs the server as [`answer_network`] does.
 ///
 /// # Errors
 ///
-/// Those of its words, as [`ArgumentFault`] has them; Memory also where memory ran out before the threads were started.
+/// Those of the words, as in [`ArgumentFault`]; Memory also if memory ran out before the threads were started.
 pub fn serve_words<'a, L: Ledger, O: StoreOpener<'a, L>, R>(
     rt: &R,
     opener: &O,

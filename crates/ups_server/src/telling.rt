@@ -1,11 +1,11 @@
-//! What the log tells of a server when it begins.
+//! What is logged when a server begins.
 
 use log::{Log, info};
 use std::str;
 use ups_args::{ServeArguments, VERSION};
 use ups_settings::ServerLimits;
 
-/// Tells the version and what is asked of a server, and where each watcher is: of the other peers, how many there are.
+/// Logs the version, the settings of a server, and the address of each watcher; other peers are only counted.
 pub(crate) fn tell_settings<R: Log>(rt: &R, asked: &ServeArguments<'_>) {
     let ServeArguments {
         bind,

@@ -1,5 +1,5 @@
-//! What a caller of a service may rely on, and what services that share a history build on: laws, each the contract of a
-//! function that does nothing.
+//! The laws that a caller of a service may rely on, and that services sharing a history build on: each is the contract
+//! of a function that does nothing.
 
 ghost use Rattle.std.specs.Prelude.{◌≡◌, ◌≤◌, ◌+◌, ◌++◌, ℕ, List, [], length, Some};
 ghost use Rattle.std.specs.List.{AllByRecursion};
@@ -19,38 +19,38 @@ pub fn a_legal_history_is_within_its_limit<A: Allocator + Copy>()
     ensures { (s : Settings) → (history : List (Entry A)) → is_legal s history → length history ≤ s.limit }
 {}
 
-/// What a legal history begins with is legal.
+/// Each beginning of a legal history is legal.
 pub fn a_beginning_of_a_legal_history_is_legal<A: Allocator + Copy>()
     ensures { (s : Settings) → (first rest : List (Entry A)) → is_legal s (first ++ rest) → is_legal s first }
 {}
 
-/// What a call enters has the number of its caller.
+/// The entries that a call makes have the number of its caller.
 pub fn an_entry_has_the_number_of_its_caller<A: Allocator + Copy>()
     ensures { (caller : ℕ) → (ae : List ℕ) → (moment : ℕ) → (ask : Ask A) → (reply : Reply A)
         → AllByRecursion (λ e. e.caller ≡ caller) (entered caller ae moment ask reply) }
 {}
 
-/// Where memory ran out nothing is entered.
+/// A call for which memory ran out enters nothing.
 pub fn want_of_memory_enters_nothing<A: Allocator + Copy>()
     ensures { (caller : ℕ) → (ae : List ℕ) → (moment : ℕ) → (ask : Ask A) → entered caller ae moment ask (Answered (lacking ask)) ≡ [] }
 {}
 
-/// Each ask takes one call, and as long as calls are left each reply is the one by the history.
+/// Each ask takes one call, and while calls are left, each reply follows from the history.
 pub fn each_ask_takes_a_call<A: Allocator + Copy>()
     ensures { (s : Settings) → (others : Others) → (caller : ℕ) → (seen after : Seen A) → (ae : List ℕ) → (asks : List (Ask A)) → (moments : List ℕ) → (replies : List (Reply A)) → (made most : ℕ)
         → seen.calls ≡ bounded made most → made + length asks ≤ most → Calls s others caller seen ae asks moments replies after
         → (after.calls ≡ all_made (length asks) seen.calls) × AllGranted s others caller seen ae asks moments replies after }
 {}
 
-/// Each ask of who alone has the history is answered by it.
+/// Each ask of a caller that alone has the history is answered by the history.
 pub fn who_is_alone_is_never_refused<A: Allocator + Copy>()
     ensures { (s : Settings) → (others : Others) → (caller : ℕ) → (seen after : Seen A) → (ae : List ℕ) → (asks : List (Ask A)) → (moments : List ℕ) → (replies : List (Reply A))
         → seen.calls ≡ unbounded → Calls s others caller seen ae asks moments replies after
         → (after.calls ≡ unbounded) × AllGranted s others caller seen ae asks moments replies after }
 {}
 
-/// Two calls that change one step to IN PROGRESS and were both answered with success are the same call, where one legal
-/// history goes on from what each of their callers has seen. Their caller is the holder of the step there (PS3.4 CC.1.1).
+/// Two calls that change a step to IN PROGRESS and were both answered with success are the same call if one legal
+/// history continues what each of their callers has seen. Their caller is the holder of the step in it (PS3.4 CC.1.1).
 pub fn a_step_has_one_holder<A: Allocator + Copy>()
     ensures { (s : Settings) → (u : List ℕ) → (history : List (Entry A)) → (o1 o2 : Others) → (c1 c2 : ℕ) → (ae1 ae2 : List ℕ) → (m1 m2 : ℕ) → (after1 after2 : Seen A)
         → is_legal s history → HasClaimed s o1 c1 ae1 m1 u after1 → HasClaimed s o2 c2 ae2 m2 u after2 → BeginsHistory after1.history history → BeginsHistory after2.history history

@@ -1,5 +1,5 @@
-//! What answers a session: a service, and the law that it keeps over a history of accepted requests (PS3.4 annex CC). A
-//! manager is one, and so is a pass to a manager that others share. What passes share is a service of many callers.
+//! The service that answers a session, and the law that it keeps over a history of accepted requests (PS3.4 annex CC).
+//! A manager is a service, and so is a pass to a shared manager. The passes share one service, which has many callers.
 #![tactic(auto)]
 
 pub mod laws;

@@ -1,14 +1,14 @@
-//! What observes the history that callers share.
+//! The observer of the history that callers share.
 
 use std::alloc::Allocator;
 use ups_life::Entry;
 
-/// What observes a history, and takes from it what it is for.
+/// An observer of a history, which takes from it what it needs.
 pub trait Observer<A: Allocator + Copy> {
     ghost use Rattle.std.specs.Prelude.{List};
     ghost use Rattle.ups_life.specs.declared.entry.Entry.{Entry};
 
-    /// What it is before, the accepted requests, oldest first, and what it is then.
+    /// Relates the observer before, the accepted requests, oldest first, and the observer after.
     ghost observed: { Self → List (Entry A) → Self → Type 0 };
 
     /// Observes a history.

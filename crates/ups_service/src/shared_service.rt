@@ -1,10 +1,10 @@
-//! What callers with numbers share, in turns.
+//! The service that numbered callers share, one call at a time.
 
 use std::alloc::Allocator;
 use ups_life::{Ask, Entry, Reply};
 use ups_pdu::Ae;
 
-/// What callers share, one call at a time: it has what was fixed at the start, and one history, in which each entry has the
+/// A service that callers share, one call at a time. It has the settings, and one history, in which each entry has the
 /// number of its caller. A manager is one.
 pub trait SharedService<A: Allocator + Copy>: Drop {
     ghost use Rattle.std.specs.Prelude.{◌≡◌, ◌++◌, ℕ, true, is_some, length};
@@ -13,26 +13,26 @@ pub trait SharedService<A: Allocator + Copy>: Drop {
     ghost use Rattle.ups_service.specs.Law.{Answers, SmallReply, entered, is_legal};
     ghost use Rattle.ups_service.specs.State.{State};
 
-    /// What was fixed at the start, and the accepted requests, oldest first.
+    /// The settings, and the accepted requests, oldest first.
     ghost state: { Self → State A };
 
-    /// How many requests may be entered.
+    /// Returns the maximum number of requests in the history.
     fn limit(&self) -> u64
         ensures { result ≡ (state self.now).settings.limit };
 
-    /// How many requests are entered.
+    /// Returns the number of requests in the history.
     fn entries(&self) -> usize
         ensures count { result ≡ length (state self.now).history }
         ensures legal { is_legal (state self.now).settings (state self.now).history };
 
-    /// The accepted requests, oldest first.
+    /// Returns the accepted requests, oldest first.
     fn history(&self) -> &[Entry<A>]
         ensures { result.now ≡ (state self.now).history };
 
-    /// Takes an ask from its place and answers it for an application entity by the history, and enters it where it is a
-    /// request that is accepted. `caller` is the number of the caller, and `moment` is in seconds since 1970-01-01 UTC. The
-    /// ask is not passed by value, since the toolchain proves no impl yet whose method takes a value that is generic in its
-    /// allocator.
+    /// Takes the ask out of its option, answers it for an application entity by the history, and enters it there if it
+    /// is an accepted request. `caller` is the number of the caller, and `moment` is in seconds since 1970-01-01 UTC.
+    /// The ask is not passed by value, since the toolchain can't yet prove an impl whose method takes a value that is
+    /// generic in its allocator.
     fn answer_as(&mut self, caller: u32, ae: Ae, moment: u64, ask: &mut Option<Ask<A>>) -> Reply<A>
         requires given { is_some ask.old ≡ true }
         requires moment { IsMoment moment }

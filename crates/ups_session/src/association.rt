@@ -1,4 +1,4 @@
-//! An association, as its sides keep it.
+//! The state of an association, on either side.
 
 ghost use Rattle.std.specs.Prelude.{◌≡◌, ◌≢◌, ◌≤◌, Bool, [], ◌∷◌, ℕ, List, Option, None, Some, MatchOption, IfOk, IfErr, OnErr, OnOk, true, false};
 ghost use Rattle.std.specs.List.{AllByRecursion};
@@ -58,7 +58,7 @@ pub(crate) struct Established<A: Allocator + Copy> {
     pub assembler: Assembler<A>,
 }
 
-/// Tells a lack of memory from any other fault in a fragment, for which the association is aborted.
+/// Returns an error for a lack of memory alone: for any other fault in a fragment, the association is aborted.
 ///
 /// Errors: out of memory.
 pub(crate) fn unless_memory(fault: AssocFault) -> Result<(), SessionFault>
@@ -72,8 +72,7 @@ pub(crate) fn unless_memory(fault: AssocFault) -> Result<(), SessionFault>
     }
 }
 
-/// Feeds a PDV to the assembler and returns what the session does then. Returns None if the association is aborted
-/// for it.
+/// Feeds a PDV to the assembler and returns what the session does then, or None if the association is aborted for it.
 ///
 /// Errors: out of memory; the fragment then has no fault.
 fn on_pdv<A: Allocator + Copy>(
@@ -110,7 +109,7 @@ pub(crate) struct Association<A: Allocator + Copy> {
     pub ending: End,
 }
 
-/// How an action ends the association, if it does (PS3.8 tables 9-6 to 9-9).
+/// Returns how an action ends the association, if it does (PS3.8 tables 9-6 to 9-9).
 fn end_after(event: UlEvent, action: UlAction) -> Option<End>
     ensures { result ≡ end_after event action }
 {
@@ -125,7 +124,7 @@ fn end_after(event: UlEvent, action: UlAction) -> Option<End>
     }
 }
 
-/// The reason of an abort by the service provider for bytes that are no PDU (PS3.8 table 9-26).
+/// Returns the reason of an abort by the service provider for bytes that are not a PDU (PS3.8 table 9-26).
 pub(crate) fn reason_of(fault: PduFault) -> u8
     ensures { result ≡ reason_of fault }
 {
@@ -135,7 +134,7 @@ pub(crate) fn reason_of(fault: PduFault) -> u8
     }
 }
 
-/// Whether the state machine takes an association request as acceptable.
+/// Returns whether the state machine takes an association request as acceptable.
 fn is_acceptable<A: Allocator + Copy>(outcome: &Outcome<A>) -> bool
     ensures { result ≡ is_acceptable outcome.now }
 {
@@ -157,7 +156,7 @@ fn single<A: Allocator + Copy>(alloc: A, pdu: Pdu<A>) -> Result<Vec<Pdu<A>, A>, 
     Ok(said)
 }
 
-/// What an action sends to the peer.
+/// Returns the PDUs that an action sends to the peer.
 ///
 /// Errors: out of memory.
 fn sent<A: Allocator + Copy>(

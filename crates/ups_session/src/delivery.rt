@@ -1,4 +1,4 @@
-//! A delivery: an association that this side asks for, and the reports that it sends over it.
+//! A delivery: an association that this side requests, and the reports that it sends over it.
 
 ghost use Rattle.std.specs.Prelude.{◌≡◌, ◌≢◌, ◌≤◌, [], true, false, Option, None, Some, IfOk, IfErr, IfSome, OnOk, OnErr, ◌<◌};
 ghost use Rattle.std.specs.Option.{option_map};
@@ -45,16 +45,16 @@ pub(crate) struct ReportInFlight {
     pub event: u64,
 }
 
-/// What a delivery asks of the service.
+/// A call to the service from a delivery.
 #[derive(Clone, Copy)]
 pub(crate) enum DeliveryCall {
-    /// Which events are pending.
+    /// Asks which events are pending.
     Pendings,
-    /// That the events up to this number are acknowledged.
+    /// Acknowledges the events up to this number.
     Acknowledgement(u64),
 }
 
-/// Where reports go.
+/// The route of reports to a peer.
 #[derive(Clone, Copy)]
 pub(crate) struct Route {
     /// The presentation context.
@@ -68,17 +68,17 @@ pub(crate) struct Route {
 pub(crate) struct Delivery<A: Allocator + Copy> {
     /// The association with the peer.
     pub association: Association<A>,
-    /// The reports that the service told of last.
+    /// The reports that the service returned last.
     pub reports: EventReports<A>,
-    /// How many of those reports were sent.
+    /// The number of those reports that were sent.
     pub taken: usize,
     /// The report whose response is awaited.
     pub in_flight: Option<ReportInFlight>,
-    /// How many reports were sent in all.
+    /// The number of reports sent in all.
     pub sent: u16,
 }
 
-/// Tells a lack of memory from any other fault in reading a command, for which the association is aborted.
+/// Returns an error for a lack of memory alone: for any other fault in a command set, the association is aborted.
 ///
 /// Errors: out of memory.
 fn unless_no_room(fault: DimseFault) -> Result<(), SessionFault>
@@ -91,7 +91,7 @@ fn unless_no_room(fault: DimseFault) -> Result<(), SessionFault>
     }
 }
 
-/// The event of the report in flight, if this is the response to it.
+/// Returns the number of the event in flight, if this is the response to its report.
 fn event_answered(in_flight: Option<ReportInFlight>, response: &ResponseCommand) -> Option<u64>
     ensures { result ≡ event_answered in_flight response.now }
 {
@@ -104,7 +104,7 @@ fn event_answered(in_flight: Option<ReportInFlight>, response: &ResponseCommand)
     }
 }
 
-/// What an answer leaves: an association with this peer, over the proposed presentation context.
+/// Returns what an answer establishes: an association with this peer, over the proposed presentation context.
 ///
 /// Errors: out of memory.
 fn established_by<A: Allocator + Copy>(
@@ -151,7 +151,7 @@ impl<A: Allocator + Copy> Delivery<A> {
         }
     }
 
-    /// Takes up that the transport connection stands, on which the A-ASSOCIATE-RQ is sent (PS3.8 table 9-6, AE-2).
+    /// Notes that the transport connection is open, on which the A-ASSOCIATE-RQ is sent (PS3.8 table 9-6, AE-2).
     pub fn on_connected(&mut self)
         requires { delivery_view self.old ≡ unconnected }
         ensures proposed { delivery_view self.new ≡ proposed }
@@ -160,7 +160,7 @@ impl<A: Allocator + Copy> Delivery<A> {
         self.association.state = UlState::Sta5;
     }
 
-    /// Where reports go, once the association is established.
+    /// Returns the route of reports, once the association is established.
     fn route(&self) -> Option<Route>
         ensures route { result ≡ route_of (option_map established_view self.now.association.established) }
         ensures roomy { IsRoomy self.now.association.established → IfSome result (λ route. 8 ≤ route.max) }
@@ -232,7 +232,7 @@ impl<A: Allocator + Copy> Delivery<A> {
         self.on_event(alloc, UNEXPECTED, UlEvent::ReleaseRequest)
     }
 
-    /// Sends a report of those that the service told of.
+    /// Sends the next report of those that the service returned, or asks again for those that are pending.
     ///
     /// Errors: out of memory.
     fn report(&mut self, alloc: A) -> Result<Effect<A, DeliveryCall>, SessionFault>
@@ -277,7 +277,7 @@ impl<A: Allocator + Copy> Delivery<A> {
         self.report(alloc)
     }
 
-    /// Takes up what the service tells of the events that are pending.
+    /// Processes the reply of the service about the pending events.
     ///
     /// Errors: out of memory.
     pub fn on_pendings(&mut self, alloc: A, reply: Reply<A>) -> Result<Vec<Pdu<A>, A>, SessionFault>
@@ -303,7 +303,8 @@ impl<A: Allocator + Copy> Delivery<A> {
         }
     }
 
-    /// Goes on once the service has taken an acknowledgement; there may have been no room for it.
+    /// Goes on once the service has replied to an acknowledgement, or releases the association if it had no room for
+    /// it.
     ///
     /// Errors: out of memory.
     pub fn on_acknowledged(
@@ -324,7 +325,7 @@ impl<A: Allocator + Copy> Delivery<A> {
         }
     }
 
-    /// Takes up the answer to the association request: it asks which events are pending, or releases the association.
+    /// Processes the answer to the association request: asks which events are pending, or releases the association.
     ///
     /// Errors: out of memory.
     fn establish(
@@ -397,7 +398,7 @@ impl<A: Allocator + Copy> Delivery<A> {
         }
     }
 
-    /// Processes a response: one to the report in flight is told to the service, and any other taken.
+    /// Processes a response: passes one to the report in flight to the service, and ignores any other.
     fn on_response(&mut self, alloc: A, response: &ResponseCommand) -> Effect<A, DeliveryCall>
         ensures reaction { delivery_reaction_of (delivery_view self.new) result ≡ on_response (delivery_view self.old) (event_answered self.old.in_flight response.now) }
         ensures writable { IsSendableDelivery result }
@@ -437,7 +438,7 @@ impl<A: Allocator + Copy> Delivery<A> {
         }
     }
 
-    /// Processes a whole message; if its command can't be read, the association is aborted.
+    /// Processes a whole message; if its command set can't be read, the association is aborted.
     ///
     /// Errors: out of memory.
     fn on_message(
@@ -490,8 +491,8 @@ impl<A: Allocator + Copy> Delivery<A> {
         }
     }
 
-    /// Processes a PDV in a state in which messages are received. Where nothing is agreed on, it is on a context that
-    /// wasn't accepted, and the association is aborted.
+    /// Processes a PDV in a state in which messages are received. If nothing is agreed on, it is on a presentation
+    /// context that wasn't accepted, and the association is aborted.
     ///
     /// Errors: out of memory.
     fn receive(

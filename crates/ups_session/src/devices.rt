@@ -19,7 +19,7 @@ pub struct CutReader<'a> {
 }
 
 impl<'a> CutReader<'a> {
-    /// Reads these bytes, and then fails if `fails` is true, or ends.
+    /// Creates a reader of these bytes, which then fails if `fails` is true, and else ends.
     pub fn new(rest: &'a [u8], fails: bool) -> CutReader<'a>
         ensures rest { result.rest.now ≡ rest.now }
         ensures fails { result.fails ≡ fails }
@@ -49,7 +49,7 @@ pub struct CutWriter<A: Allocator + Copy> {
 }
 
 impl<A: Allocator + Copy> CutWriter<A> {
-    /// Takes `room` bytes.
+    /// Creates a writer that takes `room` bytes.
     pub fn new(alloc: A, room: usize) -> CutWriter<A>
         ensures written { result.written.items ≡ [] }
         ensures room { result.room ≡ room }
@@ -60,7 +60,7 @@ impl<A: Allocator + Copy> CutWriter<A> {
         }
     }
 
-    /// The bytes that were written.
+    /// Returns the bytes that were written.
     pub fn written(&self) -> &[u8]
         ensures { result.now ≡ self.now.written.items }
     {
@@ -98,7 +98,7 @@ pub struct ListGate<'a, A: Allocator + Copy> {
 }
 
 impl<'a, A: Allocator + Copy> ListGate<'a, A> {
-    /// A gate of these moments: seconds since 1970-01-01 UTC. One after the year 9999 ends the list.
+    /// Creates a gate of these moments, in seconds since 1970-01-01 UTC. One above `MAX_MOMENT` ends the list.
     pub fn new(alloc: A, moments: &'a [u64]) -> ListGate<'a, A>
         ensures moments { result.moments.now ≡ moments.now }
         ensures given { result.given ≡ 0 }
@@ -113,14 +113,14 @@ impl<'a, A: Allocator + Copy> ListGate<'a, A> {
         }
     }
 
-    /// The recorded calls, in order.
+    /// Returns the recorded calls, in order.
     pub fn calls(&self) -> &[GateCall]
         ensures { result.now ≡ self.now.calls.items }
     {
         self.calls.as_slice()
     }
 
-    /// The next moment of the list, or moment 0 behind it.
+    /// Returns the next moment of the list, or moment 0 after it.
     fn moment(&mut self) -> u64
         ensures within { IsMoment result }
         ensures next { self.old.given < length self.old.moments.now → IsMoment (slice_index self.old.moments.now self.old.given)

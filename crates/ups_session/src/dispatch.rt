@@ -39,7 +39,7 @@ pub(crate) enum Dispatch<A: Allocator + Copy> {
     Question(Ask<A>),
 }
 
-/// Whether a SOP class supports the operation (PS3.4 section A.4, CC.2).
+/// Returns whether a SOP class supports the operation (PS3.4 section A.4, CC.2).
 fn supports_operation<A: Allocator + Copy>(class: SopClass, operation: &Operation<A>) -> bool
     ensures { result ≡ supports_operation class operation.now }
 {
@@ -64,7 +64,7 @@ fn supports_operation<A: Allocator + Copy>(class: SopClass, operation: &Operatio
     }
 }
 
-/// Whether a SOP class has this action type (PS3.4 table CC.2-1).
+/// Returns whether a SOP class has this action type (PS3.4 table CC.2-1).
 fn has_action_type(class: SopClass, action: u16) -> bool
     ensures { result ≡ has_action_type class action }
 {
@@ -76,7 +76,7 @@ fn has_action_type(class: SopClass, action: u16) -> bool
     }
 }
 
-/// Whether the SOP class has the action type of a request; any other operation than N-ACTION has none to test.
+/// Returns whether the SOP class has the action type of a request; any operation but an N-ACTION has none to test.
 fn supports_action_type<A: Allocator + Copy>(class: SopClass, operation: &Operation<A>) -> bool
     ensures { result ≡ supports_action_type class operation.now }
 {
@@ -86,7 +86,8 @@ fn supports_action_type<A: Allocator + Copy>(class: SopClass, operation: &Operat
     }
 }
 
-/// Whether a request may name this SOP class on a presentation context: the context's own, or for a step UPS Push.
+/// Returns whether a request may name this SOP class on a presentation context: the context's own, or UPS Push for a
+/// step.
 fn accepts_sop_class<A: Allocator + Copy>(
     class: SopClass,
     operation: &Operation<A>,
@@ -104,7 +105,7 @@ fn accepts_sop_class<A: Allocator + Copy>(
     }
 }
 
-/// Tells a lack of memory from any other fault in reading a data set, after which the message has none.
+/// Returns None for a fault in reading a data set, or an error if memory ran out.
 fn no_set<A: Allocator + Copy>(fault: SetFault) -> Result<Option<DataSet<A>>, AllocError>
     ensures none { IfOk result (λ found. (found ≡ None) × (fault ≢ NoRoomForSet)) }
     ensures memory { OnErr result (fault ≡ NoRoomForSet) }
@@ -115,7 +116,7 @@ fn no_set<A: Allocator + Copy>(fault: SetFault) -> Result<Option<DataSet<A>>, Al
     }
 }
 
-/// Reads the data set of a message; None if its bytes are no data set.
+/// Reads the data set of a message. Returns None if its bytes are not a data set.
 ///
 /// Errors: out of memory; the bytes then are a data set.
 fn data_set_of<A: Allocator + Copy>(
@@ -135,7 +136,7 @@ fn data_set_of<A: Allocator + Copy>(
     }
 }
 
-/// The status of a request whose data set can't be read (PS3.7 annex C, PS3.4 section C.4.1.1.4).
+/// Returns the status of a request whose data set can't be read (PS3.7 annex C, PS3.4 section C.4.1.1.4).
 fn unreadable_status<A: Allocator + Copy>(operation: &Operation<A>) -> Status
     ensures { result ≡ unreadable_status operation.now }
 {
@@ -145,8 +146,8 @@ fn unreadable_status<A: Allocator + Copy>(operation: &Operation<A>) -> Status
     }
 }
 
-/// The outcome of a request with its data set; a C-ECHO is answered at once. `offset` is the offset of the local time
-/// from UTC, in minutes.
+/// Returns the outcome of a request with its data set; a C-ECHO is answered at once. `offset` is the offset of the
+/// local time from UTC, in minutes.
 ///
 /// Errors: out of memory; the request then asks something of the service.
 fn dispatched<A: Allocator + Copy>(
@@ -170,9 +171,9 @@ fn dispatched<A: Allocator + Copy>(
     }
 }
 
-/// The outcome of a request on a presentation context. The first refusal that applies is the answer: 0211 if the SOP
-/// class of the context doesn't support the operation, 0118 if the request names another SOP class, 0123 if the SOP
-/// class doesn't have the action type, and 0110 (C000 for a C-FIND) if the data set can't be read. `config` has the
+/// Returns the outcome of a request on a presentation context. The first refusal that applies is the answer: 0211 if
+/// the SOP class of the context doesn't support the operation, 0118 if the request names another SOP class, 0123 if the
+/// SOP class doesn't have the action type, and 0110 (C000 for a C-FIND) if the data set can't be read. `config` has the
 /// offset of the local time from UTC.
 ///
 /// Errors: out of memory; none of the refusals then applies.
@@ -202,14 +203,14 @@ pub(crate) fn dispatch_request<A: Allocator + Copy>(
     dispatched(alloc, config.offset, &request.operation, set)
 }
 
-/// The accepted presentation context with an id.
+/// Returns the accepted presentation context with an id.
 pub(crate) fn context_at(id: u8, contexts: &[AcceptedContext]) -> Option<AcceptedContext>
     ensures { result ≡ context_at id contexts.now }
 {
     contexts.iter().copied().find(|context| context.id == id)
 }
 
-/// What the session does with a request: it answers at once, or awaits the reply of the service.
+/// Returns the effect of a request: the session answers at once, or awaits the reply of the service.
 ///
 /// Errors: out of memory.
 fn effect_of<A: Allocator + Copy>(
@@ -240,7 +241,7 @@ fn effect_of<A: Allocator + Copy>(
     }
 }
 
-/// What the session does with a request message; None if its presentation context was not accepted.
+/// Returns the effect of a request message, or None if its presentation context was not accepted.
 ///
 /// Errors: out of memory; the presentation context was then accepted.
 fn on_request_message<A: Allocator + Copy>(
@@ -264,9 +265,10 @@ fn on_request_message<A: Allocator + Copy>(
     Ok(Some(effect_of(alloc, parameters, context, command, dispatch)?))
 }
 
-/// What the session does with a whole message; None if its command can't be read, for which the association is aborted.
+/// Returns the effect of a whole message, or None if its command set can't be read or its presentation context was not
+/// accepted, for which the association is aborted.
 ///
-/// Errors: out of memory; the command can then be read.
+/// Errors: out of memory; the command set can then be read.
 pub(crate) fn on_message<A: Allocator + Copy>(
     alloc: A,
     config: &Config,
@@ -291,7 +293,7 @@ pub(crate) fn on_message<A: Allocator + Copy>(
     }
 }
 
-/// Tells a lack of memory from any other fault in reading a command, for which the association is aborted.
+/// Returns None for a fault in reading a command set, for which the association is aborted.
 ///
 /// Errors: out of memory.
 fn on_unreadable_command<A: Allocator + Copy>(

@@ -1,4 +1,4 @@
-//! What a party does upon one indication.
+//! The effects of indications.
 
 use std::alloc::Allocator;
 use ups_assoc::AcceptedContext;
@@ -6,12 +6,12 @@ use ups_dimse::RequestCommand;
 use ups_life::Ask;
 use ups_pdu::{Ae, Pdu};
 
-/// A request whose reply is awaited of the service.
+/// A request whose reply is awaited from the service.
 #[derive(Drop)]
 pub(crate) struct AwaitedRequest<A: Allocator + Copy> {
     /// The title of the AE in whose name it is made.
     pub ae: Ae,
-    /// What is asked.
+    /// The request or the query.
     pub ask: Ask<A>,
     /// The longest P-DATA-TF that the peer receives, in bytes.
     pub max: u32,
@@ -28,11 +28,11 @@ pub(crate) struct BareResponse<A: Allocator + Copy> {
     pub max: u32,
     /// The id of the presentation context.
     pub context: u8,
-    /// The bytes of its command.
+    /// The bytes of its command set.
     pub command: Vec<u8, A>,
 }
 
-/// What a party does upon one indication. `C` is what it calls the service for.
+/// The effect of an indication: what a party does. `C` is the type of its calls to the service.
 #[derive(Drop)]
 pub(crate) enum Effect<A: Allocator + Copy, C> {
     /// Sends these PDUs.

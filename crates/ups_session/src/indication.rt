@@ -23,7 +23,7 @@ pub(crate) enum UlIndication<A: Allocator + Copy> {
 }
 
 impl<A: Allocator + Copy> UlIndication<A> {
-    /// Takes what it holds, and leaves an event in its place.
+    /// Takes the indication, and leaves an event in its place.
     pub fn take(&mut self) -> UlIndication<A>
         ensures { result ≡ self.old }
     {

@@ -1,4 +1,4 @@
-//! Sessions: one association over a transport connection, on the side that accepts it, or on the side that asks for it
+//! Sessions: one association over a transport connection, on the side that accepts it, or on the side that requests it
 //! and reports events over it.
 //!
 //! PDUs are read from any reader and written to any writer (PS3.8 section 9).

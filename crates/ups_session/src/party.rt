@@ -22,25 +22,25 @@ pub(crate) trait Party<A: Allocator + Copy> {
     ghost use Rattle.ups_session.specs.Settled.{IsSettled};
     ghost use Rattle.ups_session.specs.World.{world, Performed};
 
-    /// What it calls the service for.
+    /// The type of its calls to the service.
     type Call: Drop;
 
-    /// What is set up before the association: titles, and the offset of the local time.
+    /// The setup before the association: the titles, and the offset of the local time from UTC.
     ghost Setup: { Type 0 };
 
-    /// How the definitions see a party.
+    /// The view of a party in the definitions.
     ghost View: { Type 0 };
 
-    /// How the definitions see a call.
+    /// The view of a call in the definitions.
     ghost CallView: { Type 0 };
 
-    /// The side of the association that a party is, by its setup.
+    /// The side of the association that a party takes, by its setup.
     ghost side: { Setup → Side A View CallView };
 
-    /// A party before anything happens.
+    /// The view of a party before anything happens.
     ghost start: { View };
 
-    /// How the association ends by what has happened.
+    /// How the association ends, by what has happened.
     ghost ending: { View → End };
 
     /// The setup of a party.
@@ -58,7 +58,7 @@ pub(crate) trait Party<A: Allocator + Copy> {
     /// Whether a party can send the reply to a call.
     ghost is_roomy: { Self.Call → Type 0 };
 
-    /// Begins: the requestor sends its A-ASSOCIATE-RQ, and the acceptor awaits one.
+    /// Begins the association: the requestor sends its A-ASSOCIATE-RQ, and the acceptor awaits one.
     ///
     /// Errors: a failed write; out of memory.
     fn begin<W: Write, G: Gate>(
@@ -75,7 +75,7 @@ pub(crate) trait Party<A: Allocator + Copy> {
         ensures ready { OnOk result (is_ready self.new) }
         ensures setup { setup self.new ≡ setup self.old };
 
-    /// Reacts to an indication, by the state transition table (PS3.8 section 9.2). It takes what the indication holds.
+    /// Reacts to an indication, by the state transition table (PS3.8 section 9.2), and takes what the indication holds.
     ///
     /// Errors: out of memory.
     fn react(
@@ -91,8 +91,7 @@ pub(crate) trait Party<A: Allocator + Copy> {
         ensures setup { setup self.new ≡ setup self.old }
         ensures memory { IfErr result (λ e. e ≡ Memory) };
 
-    /// Makes a call of the service, and sends what its reply leads to. The buffer is for the bytes of
-    /// one PDU after the other.
+    /// Calls the service, and sends what its reply leads to. The buffer is for the bytes of one PDU after the other.
     ///
     /// Errors: a failed write; out of memory. What the service accepted stays accepted.
     fn settle<W: Write, S: Service<A>, G: Gate>(

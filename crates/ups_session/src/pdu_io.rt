@@ -60,7 +60,7 @@ pub(crate) fn fill<R: Read>(reader: &mut WatchedReader<R>, buf: &mut [u8], from:
     }
 }
 
-/// Writes bytes for which the gate was called just before. If a write fails, a beginning of them was written.
+/// Writes bytes for which the gate was called just before. If a write fails, a prefix of them was written.
 ///
 /// Errors: a failed write.
 pub(crate) fn write_announced<W: Write, G: Gate>(
@@ -89,7 +89,7 @@ const HEADER_LENGTH: usize = 6;
 pub(crate) enum PduRead<A: Allocator + Copy> {
     /// A PDU.
     Pdu(Pdu<A>),
-    /// Bytes that begin no PDU, whatever follows.
+    /// Bytes that are not the beginning of a PDU, whatever follows.
     Bad(PduFault),
     /// The input ended before a PDU.
     Closed,
@@ -99,7 +99,7 @@ pub(crate) enum PduRead<A: Allocator + Copy> {
     Failed,
 }
 
-/// The outcome of reading a header or a body that did not come whole.
+/// Returns the outcome of reading an incomplete header or body.
 fn cut_off<A: Allocator + Copy>(filled: Filled) -> PduRead<A>
     ensures failed { filled.failed ≡ true → result ≡ Failed }
     ensures ended { filled.failed ≡ false → result ≡ Cut }
@@ -111,7 +111,7 @@ fn cut_off<A: Allocator + Copy>(filled: Filled) -> PduRead<A>
     }
 }
 
-/// The outcome of reading bytes that are not a PDU.
+/// Returns the outcome of reading bytes that are not a PDU.
 ///
 /// Errors: out of memory.
 fn no_pdu<A: Allocator + Copy>(fault: PduFault) -> Result<PduRead<A>, SessionFault>
@@ -123,10 +123,10 @@ fn no_pdu<A: Allocator + Copy>(fault: PduFault) -> Result<PduRead<A>, SessionFau
     }
 }
 
-/// The most bytes of memory that a buffer keeps between two PDUs.
+/// The maximum number of bytes of memory that a buffer keeps between two PDUs.
 const KEPT_CAPACITY: usize = 16_384;
 
-/// Gives back the memory of a buffer that a long PDU made larger than what is kept.
+/// Frees the memory of a buffer if a long PDU made it larger than what is kept.
 fn trim<A: Allocator + Copy>(buffer: &mut Vec<u8, A>)
     ensures { vec_capacity buffer.new ≤ 16384 }
 {
@@ -136,8 +136,8 @@ fn trim<A: Allocator + Copy>(buffer: &mut Vec<u8, A>)
     }
 }
 
-/// Makes the buffer a header, and room for the body that it announces. Bytes of an earlier PDU stay behind the header, until the
-/// body is read over them: filling all of it with zeros would take longer than to read it.
+/// Fills the buffer with a header and with room for the body that it announces. Bytes of an earlier PDU stay after the
+/// header until the body is read over them: filling all of it with zeros would take longer than reading it.
 ///
 /// Errors: out of memory.
 fn begin_pdu<A: Allocator + Copy>(
@@ -185,7 +185,7 @@ fn read_body<A: Allocator + Copy, R: Read>(
 
 /// Reads the header of a PDU.
 ///
-/// Errors: the outcome where no header came.
+/// Errors: the outcome if no header came.
 fn read_header<A: Allocator + Copy, R: Read>(
     reader: &mut WatchedReader<R>,
 ) -> Result<[u8; 6], PduRead<A>>
@@ -225,7 +225,7 @@ pub(crate) fn read_one<A: Allocator + Copy, R: Read>(
 
 /// Sends the bytes of one PDU, between two calls of the gate.
 ///
-/// Errors: a failed write; a beginning of the bytes was then written.
+/// Errors: a failed write; a prefix of the bytes was then written.
 pub(crate) fn send_bytes<W: Write, G: Gate>(
     writer: &mut WatchedWriter<W>,
     gate: &mut G,
@@ -242,7 +242,7 @@ pub(crate) fn send_bytes<W: Write, G: Gate>(
 
 /// Sends one PDU, between two calls of the gate.
 ///
-/// Errors: a failed write, or out of memory; a beginning of the bytes was then written.
+/// Errors: a failed write, or out of memory; a prefix of the bytes was then written.
 pub(crate) fn send_pdu<A: Allocator + Copy, W: Write, G: Gate>(
     alloc: A,
     writer: &mut WatchedWriter<W>,
@@ -258,7 +258,7 @@ pub(crate) fn send_pdu<A: Allocator + Copy, W: Write, G: Gate>(
 
 /// Sends PDUs, each written by itself.
 ///
-/// Errors: a failed write, or out of memory; a beginning of the bytes was then written.
+/// Errors: a failed write, or out of memory; a prefix of the bytes was then written.
 pub(crate) fn send_pdus<A: Allocator + Copy, W: Write, G: Gate>(
     alloc: A,
     writer: &mut WatchedWriter<W>,

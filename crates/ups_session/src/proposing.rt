@@ -1,4 +1,4 @@
-//! What is proposed where an association is asked for, and what is taken of the answer.
+//! The association request of a requestor, and what the answer to it leaves.
 
 ghost use Rattle.std.specs.Prelude.{◌≡◌, ◌≤◌, ◌-◌, ◌++◌, ◌==◌, find, length, replicate, IfOk, IfSome, false};
 ghost use Rattle.ups_pdu.specs.declared.pdu.Pdu.TheVariants as pdus;
@@ -17,7 +17,7 @@ use ups_pdu::{
 /// The id of the one presentation context that is proposed.
 pub(crate) const PROPOSED_ID: u8 = 1;
 
-/// A text, and spaces behind it.
+/// Returns a text followed by spaces.
 fn spaced(text: &[u8]) -> [u8; 16]
     requires { length text.now ≤ 16 }
     ensures { result ≡ text.now ++ replicate (16 - length text.now) 32 }
@@ -29,7 +29,7 @@ fn spaced(text: &[u8]) -> [u8; 16]
     bytes
 }
 
-/// A title as it stands in a request (PS3.8 section 9.3.2).
+/// Encodes a title for an association request (PS3.8 section 9.3.2).
 fn padded_title(ae: Ae) -> [u8; 16]
     ensures title { result ≡ padded_title ae }
     ensures short { length ae ≤ 16 }
@@ -37,7 +37,7 @@ fn padded_title(ae: Ae) -> [u8; 16]
     spaced(ae.as_bytes())
 }
 
-/// The presentation context over which events are reported.
+/// Returns the presentation context over which events are reported.
 ///
 /// Errors: out of memory.
 fn event_context<A: Allocator + Copy>(alloc: A) -> Result<ProposedContext<A>, AllocError>
@@ -53,7 +53,7 @@ fn event_context<A: Allocator + Copy>(alloc: A) -> Result<ProposedContext<A>, Al
     })
 }
 
-/// What is said of this requestor: it is the SCP of the events (PS3.7 annexes D.3.3.2 and D.3.3.4).
+/// Returns the user information of this requestor, which is the SCP of the events (PS3.7 annexes D.3.3.2 and D.3.3.4).
 ///
 /// Errors: out of memory.
 fn proposed_information<A: Allocator + Copy>(alloc: A) -> Result<UserInformation<A>, AllocError>
@@ -75,7 +75,7 @@ fn proposed_information<A: Allocator + Copy>(alloc: A) -> Result<UserInformation
     })
 }
 
-/// The association request of this application entity to another.
+/// Returns the association request of this application entity to another.
 ///
 /// Errors: out of memory.
 #[tactic(auto, unfolding(crate::specs::Proposing::association_request))]
@@ -101,7 +101,7 @@ pub(crate) fn association_request<A: Allocator + Copy>(
     })
 }
 
-/// The transfer syntax of a UID, if it is one of the two that were proposed.
+/// Returns the transfer syntax of a UID, if it is one of the two that were proposed.
 fn known_syntax(uid: &Uid) -> Option<TransferSyntax>
     ensures { result ≡ known_syntax uid.now }
 {
@@ -114,7 +114,7 @@ fn known_syntax(uid: &Uid) -> Option<TransferSyntax>
     }
 }
 
-/// The transfer syntax of an answer to a context, if it accepts with one of the two.
+/// Returns the transfer syntax of an answer to a presentation context, if it accepts one of the two.
 fn syntax_answered(answer: ContextAnswer) -> Option<TransferSyntax>
     ensures { result ≡ syntax_answered answer }
 {
@@ -124,7 +124,7 @@ fn syntax_answered(answer: ContextAnswer) -> Option<TransferSyntax>
     }
 }
 
-/// The answer to the proposed context.
+/// Returns the answer to the proposed presentation context.
 fn answer_among(contexts: &[AnsweredContext]) -> Option<AnsweredContext>
     ensures { result ≡ find (λ c. c.id == proposed_id) contexts.now }
 {
@@ -134,7 +134,7 @@ fn answer_among(contexts: &[AnsweredContext]) -> Option<AnsweredContext>
         .find(|context| context.id == PROPOSED_ID)
 }
 
-/// The transfer syntax that the answers leave for the proposed context.
+/// Returns the transfer syntax that the answers accept for the proposed presentation context.
 fn syntax_among(contexts: &[AnsweredContext]) -> Option<TransferSyntax>
     ensures { result ≡ syntax_at (find (λ c. c.id == proposed_id) contexts.now) }
 {
@@ -144,14 +144,14 @@ fn syntax_among(contexts: &[AnsweredContext]) -> Option<TransferSyntax>
     }
 }
 
-/// Whether a maximum length has no room for a fragment of two bytes.
+/// Returns whether a maximum length has no room for a fragment of two bytes.
 fn is_too_small(max: u32) -> bool
     ensures { result ≡ is_too_small max }
 {
     max > 0 && max < 8
 }
 
-/// A peer's maximum length as it counts: 0 is none, and no more than 16,384 is used (PS3.8 annex D.1).
+/// Returns the maximum length used for a peer, in bytes: 0 sets no limit, and at most 16,384 is used (PS3.8 annex D.1).
 pub(crate) fn counted(max: u32) -> u32
     ensures { result ≡ counted max }
 {
@@ -162,8 +162,8 @@ pub(crate) fn counted(max: u32) -> u32
     }
 }
 
-/// The transfer syntax in which events are reported, if the answer leaves one, and the peer takes PDUs that have room
-/// for a fragment.
+/// Returns the transfer syntax in which events are reported, if the answer accepts one and the peer receives PDUs that
+/// have room for a fragment.
 pub(crate) fn agreement<A: Allocator + Copy>(ac: &AssociateAc<A>) -> Option<TransferSyntax>
     ensures syntax { result ≡ agreement ac.now }
     ensures roomy { IfSome result (λ _. 8 ≤ counted ac.now.user_information.maximum_length) }

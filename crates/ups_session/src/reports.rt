@@ -39,7 +39,7 @@ fn report_bytes<A: Allocator + Copy>(
     write_command(alloc, &Command::Request(command))
 }
 
-/// A report with its message ID, in PDUs. Event Information of 2^32 bytes or more counts as out of memory.
+/// Builds a report with its message ID, in PDUs. Event Information of 2^32 bytes or more counts as out of memory.
 ///
 /// Errors: out of memory.
 #[tactic(auto, unfolding(crate::specs::Reports::report_pdus))]

@@ -34,7 +34,7 @@ use ups_pdu::{Ae, Pdu};
 use ups_service::Service;
 use ups_ulstate::UlEvent;
 
-/// How many events are asked for at a time.
+/// The number of events that are asked for at a time.
 const EVENTS_ASKED_FOR: u64 = 16;
 
 /// The requestor of an association: it proposes a presentation context, and delivers each report that is pending.
@@ -75,7 +75,7 @@ fn ask_pendings<A: Allocator + Copy, W: Write, S: Service<A>, G: Gate>(
     send_pdus(alloc, writer, gate, said.as_slice())
 }
 
-/// Has the service take the acknowledgement of the events up to a number, and goes on with the next report.
+/// Passes the acknowledgement of the events up to a number to the service, and goes on with the next report.
 ///
 /// Errors: a failed write; out of memory. What the service accepted stays accepted.
 fn acknowledge<A: Allocator + Copy, W: Write, S: Service<A>, G: Gate>(
@@ -213,7 +213,7 @@ impl<'a, A: Allocator + Copy> Party<A> for Requestor<'a, A> {
     }
 }
 
-/// Reports the events that are pending for an application entity, over one association that is asked for on an open
+/// Reports the events that are pending for an application entity, over one association that is requested on an open
 /// transport connection (PS3.4 CC.2.4, PS3.8 section 9.2), until it has ended or `turns` PDUs were read. Each event is
 /// acknowledged once its report was responded to. `config` has the title of this AE, and `ae` is that of the peer.
 ///

@@ -1,4 +1,4 @@
-//! Responses: built as PDUs, and sent.
+//! Responses, built as PDUs and sent.
 
 ghost use Rattle.std.specs.Prelude.{◌≡◌, ◌≤◌, ◌<◌, ◌⊎◌, ◌^◌, length, Some, IfOk, IfErr, option_copied};
 ghost use Rattle.std.specs.List.{AllByRecursion, flat_map};
@@ -29,7 +29,7 @@ use ups_dimse::{Command, RequestCommand, write_command};
 use ups_life::Reply;
 use ups_pdu::{Pdu, RegisteredUid, Uid};
 
-/// The SOP class of a response: that of the request, or the Push class where it names none.
+/// Returns the SOP class of a response: that of the request, or the Push class if the request names none.
 fn class_of<A: Allocator + Copy>(request: &RequestCommand<A>) -> Uid
     ensures { result ≡ unwrap_or request.now.sop_class (text_of UpsPush) }
 {
@@ -76,7 +76,7 @@ pub(crate) fn pieces<A: Allocator + Copy>(
     }
 }
 
-/// A response without a data set, in PDUs of at most `max` bytes.
+/// Builds a response without a data set, in PDUs of at most `max` bytes.
 ///
 /// Errors: out of memory.
 pub(crate) fn bare_response<A: Allocator + Copy>(
@@ -97,7 +97,7 @@ pub(crate) fn bare_response<A: Allocator + Copy>(
 
 /// Sends a response without a data set. The buffer is for the bytes of one PDU after the other.
 ///
-/// Errors: a failed write, or out of memory; a beginning of the bytes was then written.
+/// Errors: a failed write, or out of memory; a prefix of the bytes was then written.
 fn send_status<A: Allocator + Copy, W: Write, G: Gate>(
     writer: &mut WatchedWriter<W>,
     gate: &mut G,
@@ -114,10 +114,10 @@ fn send_status<A: Allocator + Copy, W: Write, G: Gate>(
     send_command(writer, gate, buffer, max, context.id, &command)
 }
 
-/// Sends a response with its data set, whose command set `command` is, encoded. The buffer is for the bytes of one PDU
+/// Sends a response with its data set. `command` is its encoded command set. The buffer is for the bytes of one PDU
 /// after the other.
 ///
-/// Errors: a failed write, or out of memory; a beginning of the bytes was then written.
+/// Errors: a failed write, or out of memory; a prefix of the bytes was then written.
 fn send_small_set<A: Allocator + Copy, W: Write, G: Gate>(
     writer: &mut WatchedWriter<W>,
     gate: &mut G,
@@ -135,10 +135,10 @@ fn send_small_set<A: Allocator + Copy, W: Write, G: Gate>(
     send_message(writer, gate, buffer, max, context.id, command, &body)
 }
 
-/// Sends a response with its data set, whose command set `command` is, encoded. The buffer is for the bytes of one PDU
+/// Sends a response with its data set. `command` is its encoded command set. The buffer is for the bytes of one PDU
 /// after the other. A data set of 2^32 bytes or more counts as out of memory.
 ///
-/// Errors: a failed write, or out of memory; a beginning of the bytes was then written.
+/// Errors: a failed write, or out of memory; a prefix of the bytes was then written.
 fn send_set<A: Allocator + Copy, W: Write, G: Gate>(
     writer: &mut WatchedWriter<W>,
     gate: &mut G,
@@ -157,10 +157,10 @@ fn send_set<A: Allocator + Copy, W: Write, G: Gate>(
     send_small_set(writer, gate, buffer, max, context, command, set)
 }
 
-/// Sends the matches of a query, one after another; memory is taken for one at a time, and the buffer serves all. All have
-/// the same command set, of status Pending, which is encoded once.
+/// Sends the matches of a query, one after another. Memory is taken for one at a time, and the buffer serves all. All
+/// have the same command set, of status Pending, which is encoded once.
 ///
-/// Errors: a failed write, or out of memory; a beginning of the bytes was then written.
+/// Errors: a failed write, or out of memory; a prefix of the bytes was then written.
 fn send_matches<A: Allocator + Copy, W: Write, G: Gate>(
     writer: &mut WatchedWriter<W>,
     gate: &mut G,
@@ -183,7 +183,7 @@ fn send_matches<A: Allocator + Copy, W: Write, G: Gate>(
 /// Sends the reply of the service to a request, in PDUs of at most `max` bytes. The buffer is for the bytes of one PDU after
 /// the other.
 ///
-/// Errors: a failed write, or out of memory; a beginning of the bytes was then written.
+/// Errors: a failed write, or out of memory; a prefix of the bytes was then written.
 pub(crate) fn send_reply<A: Allocator + Copy, W: Write, G: Gate>(
     writer: &mut WatchedWriter<W>,
     gate: &mut G,

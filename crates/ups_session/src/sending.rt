@@ -1,4 +1,5 @@
-//! Messages sent fragment by fragment (PS3.8 section 9.3.5 and annex E): the bytes of each PDU are made in one buffer.
+//! Messages sent fragment by fragment (PS3.8 section 9.3.5 and annex E): the bytes of each PDU are encoded in one
+//! buffer.
 
 ghost use Rattle.std.specs.Prelude.{◌≤◌, ◌<◌, ◌-◌, ◌∷◌, [], None, Some, length};
 ghost use Rattle.ups_pdu.specs.Limits.{max_data_length};
@@ -15,7 +16,7 @@ use ups_assoc::{put_fragment, room};
 
 /// Sends one fragment, in a PDU of its own. The buffer is emptied, and then holds the bytes of that PDU.
 ///
-/// Errors: a failed write, or out of memory; a beginning of the bytes was then written.
+/// Errors: a failed write, or out of memory; a prefix of the bytes was then written.
 fn send_fragment<A: Allocator + Copy, W: Write, G: Gate>(
     writer: &mut WatchedWriter<W>,
     gate: &mut G,
@@ -33,9 +34,9 @@ fn send_fragment<A: Allocator + Copy, W: Write, G: Gate>(
     send_bytes(writer, gate, buffer.as_slice())
 }
 
-/// Sends the fragments of a command or of a data set, each in a PDU of its own. All but the last have this many bytes.
+/// Sends the fragments of a command set or of a data set, each in a PDU of its own. All but the last have `size` bytes.
 ///
-/// Errors: a failed write, or out of memory; a beginning of the bytes was then written.
+/// Errors: a failed write, or out of memory; a prefix of the bytes was then written.
 fn send_run<A: Allocator + Copy, W: Write, G: Gate>(
     writer: &mut WatchedWriter<W>,
     gate: &mut G,
@@ -61,7 +62,7 @@ fn send_run<A: Allocator + Copy, W: Write, G: Gate>(
 /// Sends a message without a data set, in PDUs of at most `max` bytes: the fragments of its command. The buffer is for the
 /// bytes of one PDU after the other.
 ///
-/// Errors: a failed write, or out of memory; a beginning of the bytes was then written.
+/// Errors: a failed write, or out of memory; a prefix of the bytes was then written.
 pub(crate) fn send_command<A: Allocator + Copy, W: Write, G: Gate>(
     writer: &mut WatchedWriter<W>,
     gate: &mut G,
@@ -79,7 +80,7 @@ pub(crate) fn send_command<A: Allocator + Copy, W: Write, G: Gate>(
 /// Sends a message with a data set, in PDUs of at most `max` bytes: the fragments of its command, then those of its
 /// data set. The buffer is for the bytes of one PDU after the other.
 ///
-/// Errors: a failed write, or out of memory; a beginning of the bytes was then written.
+/// Errors: a failed write, or out of memory; a prefix of the bytes was then written.
 pub(crate) fn send_message<A: Allocator + Copy, W: Write, G: Gate>(
     writer: &mut WatchedWriter<W>,
     gate: &mut G,

@@ -20,14 +20,14 @@ pub enum LastRead {
     Failed,
 }
 
-/// Whether a call failed because a signal interrupted it, so that it is tried again.
+/// Returns whether a call failed because a signal interrupted it, so that it is tried again.
 fn is_interrupted(error: &Error) -> bool
     ensures { IsTrue result ↔ (error_kind error.now ≡ ErrorKind.Interrupted) }
 {
     error.kind() == ErrorKind::Interrupted
 }
 
-/// Reads, again if a signal interrupts it.
+/// Reads, and tries again if a signal interrupts the read.
 ///
 /// Errors: that of the reader; Other after 2^64 - 1 interruptions.
 fn read_again<R: Read>(reader: &mut R, buf: &mut [u8]) -> io::Result<usize>
@@ -45,7 +45,7 @@ fn read_again<R: Read>(reader: &mut R, buf: &mut [u8]) -> io::Result<usize>
     Err(Error::from(ErrorKind::Other))
 }
 
-/// Writes, again if a signal interrupts it.
+/// Writes, and tries again if a signal interrupts the write.
 ///
 /// Errors: that of the writer; WriteZero if it took none of the bytes; Other after 2^64 - 1 interruptions.
 fn write_again<W: Write>(writer: &mut W, buf: &[u8]) -> io::Result<usize>

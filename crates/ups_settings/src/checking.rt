@@ -1,4 +1,4 @@
-//! What is looked at before there is a manager.
+//! The checks of the settings of a manager.
 
 ghost use Rattle.std.specs.Prelude.{◌≡◌};
 ghost use Rattle.ups_settings.specs.Refusal.{is_named, is_twice, refusal};
@@ -7,14 +7,14 @@ use crate::fault::ManagerFault;
 use ups_life::{MAX_HISTORY, MAX_OFFSET, MIN_OFFSET, Peer};
 use ups_pdu::Ae;
 
-/// Whether one of the peers has this title.
+/// Returns whether one of the peers has this title.
 fn is_named(ae: Ae, peers: &[Peer]) -> bool
     ensures { result ≡ is_named ae peers.now }
 {
     peers.iter().any(|peer| peer.ae == ae)
 }
 
-/// Whether two of the peers have one title.
+/// Returns whether two of the peers have the same title.
 fn is_twice(peers: &[Peer]) -> bool
     ensures { result ≡ is_twice peers.now }
 {
@@ -26,7 +26,7 @@ fn is_twice(peers: &[Peer]) -> bool
     false
 }
 
-/// Why no manager is made with these settings: the first reason.
+/// Returns the first reason why no manager is made with these settings, if any.
 pub fn refusal(peers: &[Peer], offset: i16, limit: u64) -> Option<ManagerFault>
     ensures { result ≡ refusal peers.now offset limit }
 {

@@ -1,5 +1,5 @@
-//! The settings of a service and of its server: for which no manager is made, where event reports of a watcher go, and what a
-//! server allows its peers.
+//! The settings of a service and of its server: which of them are refused, where the event reports of a watcher go, and
+//! what a server allows its peers.
 #![tactic(auto)]
 
 mod checking;

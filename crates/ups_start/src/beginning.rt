@@ -31,9 +31,9 @@ pub(crate) struct Begun<S: Store> {
     pub(crate) run: u64,
 }
 
-/// The store, of which all requests were taken, with a run that begins in it.
+/// Begins a run in a store, all of whose requests were read.
 ///
-/// Errors: Write; with Short where requests are lost that an earlier run had committed.
+/// Errors: Write, with Short if requests that an earlier run had committed are lost; Read if not all were read.
 pub(crate) fn begin_run<S: Store + Drop>(
     replay: Replay<S>,
     about: &Run<'_>,
@@ -50,15 +50,15 @@ pub(crate) fn begin_run<S: Store + Drop>(
     }
 }
 
-/// Tells how many requests were left out for good.
+/// Logs how many requests were left out for good.
 fn tell_left_out<R: Log>(telling: &R, left_out: u64) {
     info!(telling; target: "upsd", "store: {left_out} requests are left out from now on");
 }
 
-/// Has the store the history of a manager, where requests were left out; or a compacted one, and the manager with it, where
-/// that pays.
+/// Replaces the history of the store and of the manager by a compacted one if that pays, or else the requests of the
+/// store by those of the manager if some were left out.
 ///
-/// Errors: Write, Compact, Memory. The requests of the store are those that were there.
+/// Errors: Write, Compact, Memory. The store keeps its requests, or may have the new ones if the commit failed.
 fn settled<S: Store + Drop, R: Log>(
     alloc: Global,
     telling: &R,
@@ -84,10 +84,11 @@ fn settled<S: Store + Drop, R: Log>(
     Ok(begun)
 }
 
-/// Enters the requests of a store that was just opened, and begins a run in it; where requests were left out, or a compaction
-/// pays, it replaces them.
+/// Enters the requests of a store that was just opened, and begins a run in it; replaces them if some were left out, or
+/// if a compaction pays.
 ///
-/// Errors: Read, Restore, Write, Compact, Memory. The requests of the store are those that were there.
+/// Errors: Read, Restore, Write, Compact, Memory. The store keeps its requests, or may have the new ones if the commit
+/// failed.
 fn begin_over<S: Store + Drop, R: Clock + Log>(
     alloc: Global,
     telling: &R,
@@ -119,7 +120,7 @@ pub(crate) fn opened<P: StorePlace>(place: &P) -> Result<Replay<P::Store>, Start
     }
 }
 
-/// Opens the store at a place, or makes it; enters its requests into a manager, in their order, and begins a run in it.
+/// Opens or creates the store at a place, enters its requests into a manager, in their order, and begins a run in it.
 pub fn begin<'a, P: StorePlace, R: Clock + Log>(
     alloc: Global,
     telling: &R,

@@ -1,4 +1,4 @@
-//! A store that is compacted at a start.
+//! Compacting a store at a start.
 
 ghost use Rattle.std.specs.Prelude.{◌≡◌, ◌≤◌, [], map, length, IfOk, OnOk};
 ghost use Rattle.sqlite_trees.specs.View.{IsClean};
@@ -21,7 +21,7 @@ use ups_manager::Manager;
 use ups_restore::compact_into;
 use ups_store::Run;
 
-/// A manager without history that has the settings of another.
+/// Returns a manager with the settings of another, without history.
 ///
 /// Errors: Memory.
 fn emptied(alloc: Global, manager: &Manager<Global>) -> Result<Manager<Global>, StartFault>
@@ -44,7 +44,7 @@ fn emptied(alloc: Global, manager: &Manager<Global>) -> Result<Manager<Global>, 
     }
 }
 
-/// The moment at which a run began, or the last one that has a date.
+/// Returns the time at which a run began, or the last one that has a date if it is later.
 fn moment_of(about: &Run<'_>) -> u64
     ensures is { result ≡ moment_in about.now }
     ensures dated { IsMoment result }
@@ -52,9 +52,10 @@ fn moment_of(about: &Run<'_>) -> u64
     about.moment.min(MAX_MOMENT)
 }
 
-/// Has the store the requests of the compacted history of a manager, and no others; and a new manager that history.
+/// Replaces the requests of the store by those of the compacted history of a manager, and gives a new manager that
+/// history.
 ///
-/// Errors: Write, Compact. The requests of the store are those that were there.
+/// Errors: Write, Compact. The store keeps its requests, or may have the new ones if the commit failed.
 pub(crate) fn compacted_to<S: Store + Drop>(
     alloc: Global,
     begun: Begun<S>,
@@ -78,14 +79,15 @@ pub(crate) fn compacted_to<S: Store + Drop>(
     }
 }
 
-/// Tells that a store was compacted.
+/// Logs that a store was compacted.
 fn tell_compacted<R: Log>(telling: &R, before: usize, after: usize) {
     info!(telling; target: "upsd", "store: compacted from {before} requests to {after}");
 }
 
-/// Has a store the requests of the compacted history of a manager, and the manager that history.
+/// Replaces the requests of the store and the history of the manager by the compacted history.
 ///
-/// Errors: Write, Compact, Memory. The requests of the store are those that were there, and the manager is as it was.
+/// Errors: Write, Compact, Memory. The store keeps its requests, or may have the new ones if the commit failed; the
+/// manager is as it was.
 pub(crate) fn compacted<S: Store + Drop, R: Log>(
     alloc: Global,
     telling: &R,

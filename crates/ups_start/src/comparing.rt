@@ -1,4 +1,4 @@
-//! Whether two records say the same.
+//! Comparing records.
 
 ghost use Rattle.std.specs.Prelude.{◌≡◌, IsTrue};
 ghost use Rattle.ups_start.specs.Alike.{HaveOneTarget, HaveOneWatcher};
@@ -7,7 +7,7 @@ use std::alloc::Global;
 use ups_journal::{Columns, Record};
 use ups_pdu::Bytes;
 
-/// Whether two optional texts are the same.
+/// Returns whether two optional texts are equal.
 fn same_bytes(a: &Option<Bytes<Global>>, b: &Option<Bytes<Global>>) -> bool
     ensures { IsTrue result → a.now ≡ b.now }
 {
@@ -18,7 +18,7 @@ fn same_bytes(a: &Option<Bytes<Global>>, b: &Option<Bytes<Global>>) -> bool
     }
 }
 
-/// Whether the same is done to the same step.
+/// Returns whether both do the same to the same step.
 fn same_target(a: &Columns<Global>, b: &Columns<Global>) -> bool
     ensures { IsTrue result → HaveOneTarget a.now b.now }
 {
@@ -31,7 +31,7 @@ fn same_target(a: &Columns<Global>, b: &Columns<Global>) -> bool
     same_bytes(&a.transaction, &b.transaction)
 }
 
-/// Whether it is for the same watcher, and with the same attributes.
+/// Returns whether both are for the same watcher, with the same attributes.
 fn same_watcher(a: &Columns<Global>, b: &Columns<Global>) -> bool
     ensures { IsTrue result → HaveOneWatcher a.now b.now }
 {
@@ -44,7 +44,7 @@ fn same_watcher(a: &Columns<Global>, b: &Columns<Global>) -> bool
     same_bytes(&a.attributes, &b.attributes)
 }
 
-/// Whether two records say the same.
+/// Returns whether two records are equal.
 pub(crate) fn is_same(a: &Record<Global>, b: &Record<Global>) -> bool
     ensures { IsTrue result → a.now ≡ b.now }
 {

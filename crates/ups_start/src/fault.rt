@@ -1,4 +1,4 @@
-//! Why a server is not started on a store.
+//! The errors of a start on a store.
 
 ghost use Rattle.std.specs.Prelude.{◌≡◌};
 ghost use Rattle.ups_start.specs.Faults.{ledger_fault_of};
@@ -8,7 +8,7 @@ use ups_ledger::LedgerFault;
 use ups_restore::{CompactFault, RestoreFault};
 use ups_store::{OpenFault, StoreFault};
 
-/// Why a start on a store ended. Nothing that was asked is lost: the requests in the file are those that were there.
+/// Why a start on a store failed. No request is lost: the file keeps its requests, or has those that replace them.
 #[derive(Clone, Copy, Debug, PartialEq, Eq, Error)]
 pub enum StartFault {
     /// The file was not opened.
@@ -20,7 +20,7 @@ pub enum StartFault {
     /// It could not be written.
     #[error("{0}")]
     Write(StoreFault),
-    /// A request was not entered again.
+    /// A request could not be entered again.
     #[error("{0}")]
     Restore(RestoreFault),
     /// Its requests could not be replaced by those of a shorter history.
@@ -31,7 +31,7 @@ pub enum StartFault {
     Memory,
 }
 
-/// What a ledger tells of a fault of its store.
+/// Returns the `LedgerFault` for a fault of the store.
 pub(crate) fn fault_of(fault: StoreFault) -> LedgerFault
     ensures { result ≡ ledger_fault_of fault }
 {

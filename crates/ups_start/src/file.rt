@@ -1,4 +1,4 @@
-//! A store that lies in a file. This module alone names its type.
+//! A store in a file. This module alone names its type.
 
 ghost use Rattle.std.specs.Prelude.{◌≡◌, [], IsTrue, IfOk};
 ghost use Rattle.ups_store.specs.Shown.{requests_shown, given_out};
@@ -9,7 +9,7 @@ use sqlite_std_file::{File, Unknown};
 use sqlite_store::FileStore;
 use ups_store::{OpenFault, Replay, RequestStore, StoreFault, open};
 
-/// The file at a path, and its log beside it.
+/// The file at a path, with its log next to it.
 #[derive(Clone, Copy)]
 pub struct FilePlace<'a> {
     rt: &'a HostRuntime,
@@ -17,13 +17,13 @@ pub struct FilePlace<'a> {
 }
 
 impl<'a> FilePlace<'a> {
-    /// The file at a path.
+    /// Returns the place of the file at `path`.
     pub fn new(rt: &'a HostRuntime, path: &'a str) -> FilePlace<'a> {
         FilePlace { rt, path }
     }
 }
 
-/// A ledger in a store that lies in a file.
+/// A ledger in a store in a file.
 pub type FileLedger<'a> = StoreLedger<'a, FilePlace<'a>>;
 
 impl StorePlace for FilePlace<'_> {

@@ -15,8 +15,8 @@ use ups_journal::Record;
 use ups_ledger::{Ledger, LedgerFault};
 use ups_store::Run;
 
-/// A ledger in the store at a place. Where a failed sync has shut the store, the next append opens it anew: it has to have
-/// as many requests as were committed, and behind them none but those that the failed append wanted to put.
+/// A ledger in the store at a place. If a failed sync has shut the store, the next append reopens it: it must then have
+/// all the committed requests, followed by nothing but records that the failed append was to add.
 #[derive(Drop)]
 pub struct StoreLedger<'a, P: StorePlace> {
     place: P,
@@ -27,7 +27,7 @@ pub struct StoreLedger<'a, P: StorePlace> {
 }
 
 impl<'a, P: StorePlace> StoreLedger<'a, P> {
-    /// The ledger that goes on from a start.
+    /// Returns the ledger that continues a start.
     pub(crate) fn of(place: P, about: Run<'a>, begun: Begun<P::Store>) -> StoreLedger<'a, P>
         ensures clean { IsSound result.shelf → IsClean (requests_shown begun.store) }
         ensures kept { kept_in result.shelf ≡ said (requests begun.store) }
@@ -41,9 +41,9 @@ impl<'a, P: StorePlace> StoreLedger<'a, P> {
         }
     }
 
-    /// Opens the store anew, and gives how many of these records it has already.
+    /// Reopens the store, and returns how many of these records it already has.
     ///
-    /// Errors: Shut where it can't be opened now; Lost where it has other requests than were committed.
+    /// Errors: Shut if it can't be opened now; Lost if it is damaged, or has other requests than were committed.
     fn reopen(&mut self, records: &[Record<Global>]) -> Result<usize, LedgerFault>
         ensures within { IfOk result (λ there. there ≤ length records.now) }
         ensures doubtful { self.new.shelf.is_first ≡ false }
@@ -62,7 +62,7 @@ impl<'a, P: StorePlace> StoreLedger<'a, P> {
         }
     }
 
-    /// Notes why it was not opened anew.
+    /// Notes why reopening failed, and returns the fault.
     fn missed(&mut self, fault: LedgerFault) -> LedgerFault
         ensures doubtful { self.old.shelf.is_first ≡ false → self.new.shelf.is_first ≡ false }
     {
@@ -72,7 +72,7 @@ impl<'a, P: StorePlace> StoreLedger<'a, P> {
         fault
     }
 
-    /// Opens the store anew, and puts those of these records that it has not.
+    /// Reopens the store, and appends the records that it does not have yet.
     fn append_anew(&mut self, records: &[Record<Global>]) -> Result<(), LedgerFault>
         ensures doubtful { ¬ IsSound self.new.shelf }
     {

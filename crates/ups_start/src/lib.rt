@@ -1,5 +1,5 @@
-//! The start of a server on a store of accepted requests, and the ledger that goes on from it. All of it is over any
-//! place where a store may lie; one module names the type of a store in a file.
+//! The start of a server on a store of accepted requests, and the ledger that continues it. Everything is generic over
+//! the place of the store; one module alone names the type of a store in a file.
 #![tactic(auto)]
 
 mod beginning;

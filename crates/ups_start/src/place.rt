@@ -1,4 +1,4 @@
-//! Where a store lies.
+//! The place of a store.
 
 ghost use Rattle.std.specs.Prelude.{◌≡◌, [], IsTrue, IfOk};
 ghost use Rattle.ups_store.specs.Shown.{requests_shown, given_out};
@@ -6,13 +6,13 @@ ghost use Rattle.ups_store.specs.Shown.{requests_shown, given_out};
 use sqlite_trees::store::Store;
 use ups_store::{OpenFault, Replay, RequestStore, StoreFault};
 
-/// Where a store lies: what opens it, and what copies all that belongs to it to where it lies. A start and a ledger are
-/// written over any place, so that no more than an `impl` of this names the type of a store in a file.
+/// The place of a store: how to open it, and how to copy what belongs to it into it. The start and the ledger are
+/// generic over it, so that only its `impl` names the type of a store in a file.
 pub trait StorePlace: Drop {
     /// The store.
     type Store: Store + Drop;
 
-    /// Opens the store, or makes it, for its requests to be read.
+    /// Opens the store for reading its requests, or creates it.
     ///
     /// # Errors
     ///
@@ -20,7 +20,7 @@ pub trait StorePlace: Drop {
     fn open(&self) -> Result<Replay<Self::Store>, OpenFault>
         ensures first { IfOk result (λ r. given_out r ≡ []) };
 
-    /// Copies what lies beside an open store into it.
+    /// Copies what is stored next to an open store into it.
     ///
     /// # Errors
     ///

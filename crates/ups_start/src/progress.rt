@@ -1,26 +1,26 @@
-//! How far the requests of a store were taken, told in the log.
+//! Logging how many requests of a store were entered.
 
 use log::{Log, info};
 use std::time::{Clock, Duration, Instant};
 
-/// How often the log is told, in seconds.
+/// The interval between two messages, in seconds.
 const EVERY: u64 = 1;
 
-/// When the log was last told how far the requests were taken; None where the clock fails, and nothing is told.
+/// The time of the last message, or None if the clock fails and nothing is logged.
 #[derive(Drop)]
 pub(crate) struct Progress {
     told: Option<Instant>,
 }
 
 impl Progress {
-    /// Nothing is to be told for a second.
+    /// Begins, with nothing to log for a second.
     pub(crate) fn begin<R: Clock>(rt: &R) -> Progress {
         Progress {
             told: Instant::now(rt).ok(),
         }
     }
 
-    /// Tells how many requests were taken, where that was not told for a second.
+    /// Logs how many requests were entered, at most once a second.
     pub(crate) fn tell<R: Clock + Log>(&mut self, rt: &R, count: u64) {
         let Some(told) = self.told else {
             return;

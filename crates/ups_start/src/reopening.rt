@@ -1,4 +1,4 @@
-//! A store that is opened anew, where a sync failed and shut it.
+//! Reopening a store that a failed sync has shut.
 
 ghost use Rattle.std.specs.Prelude.{◌≡◌, ◌+◌, ◌≤◌, ◌++◌, ◌∷◌, [], false, true, None, length, take, IfOk, IfSome, OnOk, IsTrue};
 ghost use Rattle.sqlite_trees.specs.View.{IsClean};
@@ -13,16 +13,16 @@ use ups_journal::Record;
 use ups_ledger::LedgerFault;
 use ups_store::{OpenFault, Replay, RequestStore, StoreFault, StoredRequest};
 
-/// A store that was opened anew.
+/// A store that was reopened.
 #[derive(Drop)]
 pub(crate) struct Reopened<S: Store> {
     /// The store.
     pub(crate) store: RequestStore<S>,
-    /// How many of the records that are to be put it has already.
+    /// How many of the records to be appended it already has.
     pub(crate) there: usize,
 }
 
-/// What is told where a store was not opened anew: Shut where it may be at the next try.
+/// Returns the `LedgerFault` for a store that could not be reopened: Shut if another try may succeed.
 pub(crate) fn fault_of_open(fault: OpenFault) -> LedgerFault {
     match fault {
         OpenFault::Memory
@@ -35,7 +35,7 @@ pub(crate) fn fault_of_open(fault: OpenFault) -> LedgerFault {
     }
 }
 
-/// What is told where it was not read.
+/// Returns the `LedgerFault` for a store that could not be read.
 fn fault_of_reading(fault: StoreFault) -> LedgerFault {
     match fault {
         StoreFault::Memory | StoreFault::Disk | StoreFault::Full | StoreFault::Shut => {
@@ -45,9 +45,9 @@ fn fault_of_reading(fault: StoreFault) -> LedgerFault {
     }
 }
 
-/// The next request, or None at the end.
+/// Returns the next request, or None at the end.
 ///
-/// Errors: Shut; Lost where the store is not what was written.
+/// Errors: Shut; Lost if the store is not what was written.
 fn next_of<S: Store>(replay: &mut Replay<S>) -> Result<Option<StoredRequest>, LedgerFault>
     ensures given { IfOk result (λ found. IsClean (shown_by replay.new) → GivesRequest (all_of replay.new) (given_out replay.old) (given_out replay.new) found) }
     ensures ended { IfOk result (λ found. found ≡ None → IsTrue (has_ended replay.new)) }
@@ -59,9 +59,9 @@ fn next_of<S: Store>(replay: &mut Replay<S>) -> Result<Option<StoredRequest>, Le
     }
 }
 
-/// Passes over as many requests as were committed.
+/// Skips the first `committed` requests.
 ///
-/// Errors: Lost where there are fewer; those of the reading.
+/// Errors: Lost if there are fewer; those of reading.
 fn pass_over<S: Store>(replay: &mut Replay<S>, committed: u64) -> Result<(), LedgerFault>
     ensures passed { OnOk result (IsClean (shown_by replay.new) → length (said (given_out replay.new)) ≡ length (said (given_out replay.old)) + committed) }
     ensures clean { IsClean (shown_by replay.new) → IsClean (shown_by replay.old) }
@@ -75,9 +75,9 @@ fn pass_over<S: Store>(replay: &mut Replay<S>, committed: u64) -> Result<(), Led
     Ok(())
 }
 
-/// Whether the next request is this record; false at the end.
+/// Returns whether the next request is this record, or false at the end.
 ///
-/// Errors: Lost where it is another one; those of the reading.
+/// Errors: Lost if it is another one; those of reading.
 fn is_next<S: Store>(replay: &mut Replay<S>, expected: &Record<Global>) -> Result<bool, LedgerFault>
     ensures next { IfOk result (λ next. IsClean (shown_by replay.new) → ComesNext replay.old replay.new expected.now next) }
     ensures ended { IfOk result (λ next. next ≡ false → IsTrue (has_ended replay.new)) }
@@ -93,9 +93,9 @@ fn is_next<S: Store>(replay: &mut Replay<S>, expected: &Record<Global>) -> Resul
     Ok(true)
 }
 
-/// Whether all requests were given.
+/// Checks that all requests were read.
 ///
-/// Errors: Lost where there is one more; those of the reading.
+/// Errors: Lost if there is one more; those of reading.
 fn is_end<S: Store>(replay: &mut Replay<S>) -> Result<(), LedgerFault>
     ensures end { OnOk result (IsClean (shown_by replay.new) → (given_out replay.new ≡ given_out replay.old) × (given_out replay.new ≡ all_of replay.new)) }
     ensures ended { OnOk result (IsTrue (has_ended replay.new)) }
@@ -107,9 +107,9 @@ fn is_end<S: Store>(replay: &mut Replay<S>) -> Result<(), LedgerFault>
     }
 }
 
-/// How many of these records come next, as the last requests.
+/// Returns how many of these records come next, as the last requests.
 ///
-/// Errors: Lost where another request comes; those of the reading.
+/// Errors: Lost if another request comes; those of reading.
 fn count_there<S: Store>(
     replay: &mut Replay<S>,
     records: &[Record<Global>],
@@ -128,10 +128,10 @@ fn count_there<S: Store>(
     Ok(records.len())
 }
 
-/// Goes through the requests of a store that was opened anew: as many as were committed, and behind them those of these
-/// records, from the first on, that an append put which was not told so.
+/// Reads the requests of a store that was reopened: the first `committed` ones, and after them those of these records,
+/// from the first on, that an append wrote without returning `Ok`.
 ///
-/// Errors: Lost where it has others; Shut where it could not be read.
+/// Errors: Lost if it has others; Shut if it could not be read.
 pub(crate) fn go_through<S: Store + Drop>(
     mut replay: Replay<S>,
     committed: u64,

@@ -1,4 +1,4 @@
-//! Requests of a store, replaced by those of a manager.
+//! Replacing the requests of a store by those of a manager.
 
 ghost use Rattle.std.specs.Prelude.{◌≡◌, [], map, IfOk};
 ghost use Rattle.sqlite_trees.specs.View.{IsClean};
@@ -17,7 +17,7 @@ use ups_manager::Manager;
 use ups_restore::put_history;
 use ups_store::{Rewrite, Run, StoreFault};
 
-/// A rewrite of a store's requests, as a ledger that begins empty. Nothing that is put into it is committed before all is.
+/// A rewrite of the requests of a store, as a ledger that begins empty. Nothing is committed before everything is put.
 #[derive(Drop)]
 pub struct Anew<S: Store> {
     rewrite: Rewrite<S>,
@@ -45,7 +45,7 @@ impl<S: Store + Drop> Anew<S> {
         }
     }
 
-    /// Commits: the store has what was put, and nothing else.
+    /// Commits: the store then has exactly what was put.
     ///
     /// Errors: Write.
     pub(crate) fn commit(self, about: &Run<'_>) -> Result<Begun<S>, StartFault>
@@ -91,9 +91,10 @@ impl<S: Store + Drop> Ledger for Anew<S> {
     fn tidy(&mut self) {}
 }
 
-/// Has the store the requests of a manager, and no others.
+/// Replaces the requests of the store by those of a manager.
 ///
-/// Errors: Write; Compact where an entry can't be recorded. The requests of the store are those that were there.
+/// Errors: Write; Compact if an entry can't be recorded. The store keeps its requests, or may have the new ones if the
+/// commit failed.
 pub(crate) fn rewritten<S: Store + Drop>(
     alloc: Global,
     begun: Begun<S>,

@@ -1,4 +1,4 @@
-//! A store in which records are kept, as far as it is open.
+//! The store of a ledger, which may have to be reopened.
 
 ghost use Rattle.std.specs.Prelude.{◌≡◌, ◌++◌, false, OnOk, OnErr};
 ghost use Rattle.sqlite_trees.specs.View.{IsClean};
@@ -15,14 +15,14 @@ use ups_journal::Record;
 use ups_ledger::LedgerFault;
 use ups_store::{RequestStore, Run};
 
-/// A store, as far as it is open.
+/// A store, open or not.
 #[derive(Drop)]
 pub enum Held<S: Store> {
     /// It is open.
     Open(RequestStore<S>),
-    /// It has to be opened anew. So many requests were committed.
+    /// It has to be reopened. This many requests were committed.
     Shut(u64),
-    /// It could be opened anew, and has other requests than were committed.
+    /// It can't be reopened, or has other requests than were committed.
     Lost,
 }
 
@@ -30,11 +30,11 @@ pub enum Held<S: Store> {
 #[derive(Drop)]
 pub struct Shelf<S: Store> {
     held: Held<S>,
-    /// Whether it never had to be opened anew.
+    /// Whether it never had to be reopened.
     is_first: bool,
 }
 
-/// Puts records behind those that are there.
+/// Appends records.
 fn append_to<S: Store>(
     held: &mut Held<S>,
     run: u64,
@@ -54,7 +54,7 @@ fn append_to<S: Store>(
     }
 }
 
-/// Writes into an open store how many requests there are, and says whether it did.
+/// Writes the number of requests into an open store, and returns whether it did.
 fn note_in<S: Store>(held: &mut Held<S>, run: u64, about: &Run<'_>) -> bool
     ensures same { IsOpenStore held.new → records_in held.new ≡ records_in held.old }
     ensures sound { IsOpenStore held.new → IsOpenStore held.old }
@@ -68,7 +68,7 @@ fn note_in<S: Store>(held: &mut Held<S>, run: u64, about: &Run<'_>) -> bool
     }
 }
 
-/// Copies what lies beside an open store into it.
+/// Copies what is stored next to an open store into it.
 fn copy_in<P: StorePlace>(held: &mut Held<P::Store>)
     ensures same { IsOpenStore held.new → records_in held.new ≡ records_in held.old }
     ensures sound { IsOpenStore held.new → IsOpenStore held.old }
@@ -79,7 +79,7 @@ fn copy_in<P: StorePlace>(held: &mut Held<P::Store>)
 }
 
 impl<S: Store> Shelf<S> {
-    /// A store that was just opened, for the first time.
+    /// Returns the shelf of a store that was opened for the first time.
     pub(crate) fn first(store: RequestStore<S>) -> Shelf<S>
         ensures clean { IsSound result → IsClean (requests_shown store) }
         ensures kept { kept_in result ≡ said (requests store) }
@@ -90,9 +90,9 @@ impl<S: Store> Shelf<S> {
         }
     }
 
-    /// Puts records behind those that are there, as entered in this run, all or none.
+    /// Appends records as entered in the run `run`, all or none.
     ///
-    /// Errors: Full, Write: nothing is put; Shut where the store has to be opened anew; Lost.
+    /// Errors: Full, Write: nothing is appended; Shut if the store has to be reopened; Lost.
     pub(crate) fn append(&mut self, run: u64, records: &[Record<Global>]) -> Result<(), LedgerFault>
         ensures put { OnOk result (IsSound self.new → kept_in self.new ≡ kept_in self.old ++ records.now) }
         ensures same { OnErr result (IsSound self.new → kept_in self.new ≡ kept_in self.old) }
@@ -101,7 +101,7 @@ impl<S: Store> Shelf<S> {
         append_to(&mut self.held, run, records)
     }
 
-    /// Lets the store go, which has to be opened anew, and gives how many requests are committed.
+    /// Drops the store, so that it has to be reopened, and returns the number of committed requests.
     ///
     /// Errors: Lost.
     pub(crate) fn let_go(&mut self) -> Result<u64, LedgerFault>
@@ -119,7 +119,7 @@ impl<S: Store> Shelf<S> {
         Ok(committed)
     }
 
-    /// Takes up the store, which was opened anew.
+    /// Takes the reopened store.
     pub(crate) fn take_up(&mut self, store: RequestStore<S>)
     where
         S: Drop,
@@ -129,7 +129,7 @@ impl<S: Store> Shelf<S> {
         self.held = Held::Open(store);
     }
 
-    /// Gives the store up for good.
+    /// Gives up the store for good.
     pub(crate) fn give_up(&mut self)
     where
         S: Drop,
@@ -140,7 +140,7 @@ impl<S: Store> Shelf<S> {
     }
 }
 
-/// Tidies up: writes how many requests there are, and copies what lies beside the store into it. What fails is met by the
+/// Writes the number of requests into the store, and copies what is stored next to it into it. A failure shows at the
 /// next call.
 pub(crate) fn tidy<P: StorePlace>(shelf: &mut Shelf<P::Store>, run: u64, about: &Run<'_>)
     ensures same { IsSound shelf.new → kept_in shelf.new ≡ kept_in shelf.old }

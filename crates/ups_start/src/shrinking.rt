@@ -1,4 +1,4 @@
-//! A store that is compacted while no server runs on it.
+//! Compacting a store on which no server runs.
 
 ghost use Rattle.std.specs.Prelude.{◌≡◌, [], map, length, IfOk, OnOk};
 ghost use Rattle.sqlite_trees.specs.View.{IsClean};
@@ -21,7 +21,7 @@ use std::time::Clock;
 use ups_manager::Manager;
 use ups_store::{Replay, RequestStore, Run};
 
-/// How many requests a store had before a compaction, and how many it has.
+/// The number of requests of a store before and after a compaction.
 #[derive(Clone, Copy, Debug, PartialEq, Eq)]
 pub struct Compacted {
     /// Before.
@@ -37,10 +37,10 @@ struct Shrunk<S: Store> {
     before: u64,
 }
 
-/// Enters the requests of a store that was just opened into a manager, and has the store the requests of the compacted history,
-/// and a new manager that history.
+/// Enters the requests of a store that was just opened into a manager, and replaces them by those of the compacted
+/// history, which the manager `fresh` gets.
 ///
-/// Errors: Read, Restore, Write, Compact. The requests of the store are those that were there.
+/// Errors: Read, Restore, Write, Compact. The store keeps its requests, or may have the new ones if the commit failed.
 fn compact_over<S: Store + Drop, R: Clock + Log>(
     alloc: Global,
     telling: &R,
@@ -75,7 +75,7 @@ fn compact_over<S: Store + Drop, R: Clock + Log>(
     }
 }
 
-/// Copies what lies beside a store into it, and lets it go.
+/// Copies what is stored next to a store into it, and drops it.
 ///
 /// Errors: Write.
 fn closed<P: StorePlace>(shrunk: Shrunk<P::Store>) -> Result<Compacted, StartFault> {
@@ -87,13 +87,14 @@ fn closed<P: StorePlace>(shrunk: Shrunk<P::Store>) -> Result<Compacted, StartFau
     }
 }
 
-/// Compacts the store at a place: enters its requests into a manager, in their order, as [`begin`](crate::begin) does, and
-/// has it the requests of the compacted history in their place, in one transaction; then it lets the store go. The two
-/// managers are new, and have the same settings; the second is left with the compacted history.
+/// Compacts the store at a place: enters its requests into a manager, in their order, as [`begin`](crate::begin) does,
+/// replaces them by those of the compacted history, in one transaction, and drops the store. The two managers are new,
+/// and have the same settings; the second is left with the compacted history.
 ///
 /// # Errors
 ///
-/// Those of [`begin`](crate::begin). The requests of the store are those that were there.
+/// Open, Read, Restore, Write, Compact. The store keeps its requests, or may have the new ones if the commit, or what
+/// follows it, failed.
 pub fn compact<P: StorePlace, R: Clock + Log>(
     alloc: Global,
     telling: &R,

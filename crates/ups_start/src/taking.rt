@@ -1,4 +1,4 @@
-//! The requests of a store, entered again one after the other.
+//! Entering the requests of a store again, one by one.
 
 ghost use Rattle.std.specs.Prelude.{◌≡◌, [], map, false, None, OnOk, IfOk, IsTrue};
 ghost use Rattle.sqlite_trees.specs.View.{IsClean};
@@ -16,10 +16,10 @@ use ups_manager::Manager;
 use ups_restore::{Restoration, RestoreFault, Restored};
 use ups_store::{Replay, StoreFault};
 
-/// Enters the next request of a store, which has this number, or leaves it out, where it may be, and tells of it; None at
-/// the end.
+/// Enters the next request of a store, which has the number `number`, or leaves it out if allowed, and logs that.
+/// Returns None at the end.
 ///
-/// Errors: Read; Restore where the request is neither entered nor left out.
+/// Errors: Read; Restore if the request is neither entered nor left out.
 fn take_next<S: Store, R: Log>(
     telling: &R,
     alloc: Global,
@@ -54,8 +54,8 @@ fn take_next<S: Store, R: Log>(
     }
 }
 
-/// Enters all requests of a store again, one behind the other, or leaves requests out, where they may be; counts them, and
-/// tells the log each second how many there were.
+/// Enters all requests of a store again, in their order, leaving requests out if allowed; counts them, and logs their
+/// number every second.
 ///
 /// Errors: Read; Restore at the first request that is neither entered nor left out.
 pub(crate) fn take_all<S: Store, R: Clock + Log>(

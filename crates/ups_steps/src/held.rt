@@ -1,13 +1,13 @@
-//! What is held of a step.
+//! The row and the holder of a step.
 
 use std::alloc::Allocator;
 use ups_life::{Holder, Row};
 
-/// What is held of a step.
+/// The row and the holder of a step.
 #[derive(Drop)]
 pub struct Held<A: Allocator + Copy> {
-    /// Its attributes, its state, and what else is held of it.
+    /// The attributes of the step, its state, and the rest of its row.
     pub row: Row<A>,
-    /// Who has claimed it (PS3.4 CC.2.1); None where nobody has.
+    /// The caller that has claimed the step (PS3.4 CC.2.1), or None if nobody has.
     pub holder: Option<Holder>,
 }

@@ -1,4 +1,4 @@
-//! The iterator over the steps held.
+//! The iterator over the held steps.
 
 ghost use Rattle.std.specs.Prelude.{◌≡◌, ◌<◌, ◌^◌, length};
 ghost use Rattle.std.specs.Iterator.{at_most};
@@ -15,7 +15,8 @@ use std::alloc::Allocator;
 use std::marker::Model;
 use ups_life::StepUid;
 
-/// The steps held, in order of creation, each as its UID and what is held of it. A contract sees those that are left.
+/// An iterator over the held steps, in order of creation, each as its UID and its row and holder. A contract sees the
+/// steps that are left.
 #[derive(Drop)]
 pub struct Iter<'a, A: Allocator + Copy> {
     places: map::Iter<'a, StepUid, Option<Held<A>>>,

@@ -1,4 +1,4 @@
-//! The table of the steps held, in order of creation, from which a step is taken without moving the others.
+//! The table of the held steps, in order of creation, from which a step is removed without moving the others.
 #![tactic(auto)]
 
 mod held;

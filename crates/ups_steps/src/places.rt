@@ -1,4 +1,4 @@
-//! The places of steps, in order of creation. The place of a step that was removed stays, and is free.
+//! The places of steps, in order of creation. The place of a removed step stays, and is free.
 
 ghost use Rattle.std.specs.Prelude.{◌≡◌, ◌≤◌, ◌<◌, ◌+◌, ◌^◌, ◌++◌, ◌∷◌, [], not, None, is_some, true, filter, length, if◌then◌else◌};
 ghost use Rattle.std.specs.Option.{option_copied};
@@ -16,10 +16,10 @@ use std::hash::{BuildHasherDefault, FoldHasher};
 use ups_keep::Final;
 use ups_life::StepUid;
 
-/// Each place, under the UID of the step that was put there; None where the place is free.
+/// The places, keyed by the UID of the step that was put there; None if the place is free.
 pub(crate) type Places<A> = IndexMap<StepUid, Option<Held<A>>, BuildHasherDefault<FoldHasher>, A>;
 
-/// What is held of a step; None where it is not held.
+/// Returns the row and the holder of a step, or None if it is not held.
 pub(crate) fn find<A: Allocator + Copy>(places: &Places<A>, step: StepUid) -> Option<&Held<A>>
     ensures { option_copied result ≡ held_at step (held_in places.now.entries) }
 {
@@ -30,7 +30,7 @@ pub(crate) fn find<A: Allocator + Copy>(places: &Places<A>, step: StepUid) -> Op
     }
 }
 
-/// Puts a step that is not held behind the others. There is room for it.
+/// Appends a step that is not held. There is room for it.
 pub(crate) fn add<A: Allocator + Copy>(places: &mut Places<A>, step: StepUid, held: Held<A>)
     requires fresh { held_at step (held_in places.old.entries) ≡ None }
     requires room { 0 < spare places.old }
@@ -39,7 +39,7 @@ pub(crate) fn add<A: Allocator + Copy>(places: &mut Places<A>, step: StepUid, he
     ensures len { length places.new.entries ≤ length places.old.entries + 1 }
     ensures small { length places.new.entries < 2 ^ 63 }
 {
-    // A free place under its UID would stand before those of steps that are older. No UID is used again, so there is none.
+    // A free place under its UID would come before those of older steps. No UID is used again, so there is none.
     places.shift_remove(&step);
     let Ok(_) = places.insert(step, Some(held)) else {
         unreachable!();
@@ -47,7 +47,7 @@ pub(crate) fn add<A: Allocator + Copy>(places: &mut Places<A>, step: StepUid, he
     places.len();
 }
 
-/// Puts what is held of a step in the place of what was held of it.
+/// Replaces the row and the holder of a step.
 pub(crate) fn replace<A: Allocator + Copy>(places: &mut Places<A>, step: StepUid, held: Held<A>)
     requires { is_some (held_at step (held_in places.old.entries)) ≡ true }
     ensures steps { held_in places.new.entries ≡ put_held step held (held_in places.old.entries) }
@@ -61,7 +61,7 @@ pub(crate) fn replace<A: Allocator + Copy>(places: &mut Places<A>, step: StepUid
     *place = Some(held);
 }
 
-/// Frees the place of a step, and tells whether the step was held.
+/// Frees the place of a step, and returns whether the step was held.
 fn free<A: Allocator + Copy>(places: &mut Places<A>, step: StepUid) -> bool
     ensures steps { held_in places.new.entries ≡ filter (λ e. not (bytes_eq step e.0)) (held_in places.old.entries) }
     ensures count { length (held_in places.new.entries) + (if result then 1 else 0) ≡ length (held_in places.old.entries) }
@@ -75,7 +75,7 @@ fn free<A: Allocator + Copy>(places: &mut Places<A>, step: StepUid) -> bool
     }
 }
 
-/// Frees the places of these steps. Before that `count` places hold a step; how many do after it is returned.
+/// Frees the places of these steps. `count` places hold a step before; returns the number of those that do afterwards.
 pub(crate) fn free_each<A: Allocator + Copy>(
     places: &mut Places<A>,
     steps: &[Final],
@@ -96,7 +96,7 @@ pub(crate) fn free_each<A: Allocator + Copy>(
     left
 }
 
-/// Closes up the free places. It goes over all places once.
+/// Removes the free places. It walks all places once.
 pub(crate) fn close_up<A: Allocator + Copy>(places: &mut Places<A>)
     ensures steps { held_in places.new.entries ≡ held_in places.old.entries }
     ensures spare { spare places.old ≤ spare places.new }

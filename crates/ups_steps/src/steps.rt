@@ -1,4 +1,4 @@
-//! The table of the steps held.
+//! The table of the held steps.
 
 ghost use Rattle.std.specs.Prelude.{◌≡◌, ◌≤◌, ◌<◌, ◌+◌, ◌++◌, ◌∷◌, [], ◌^◌, not, ℕ, List, None, is_some, true, filter, length, IfOk, IsOk, OnOk};
 ghost use Rattle.std.specs.List.{IsDistinct};
@@ -20,11 +20,11 @@ use std::marker::Model;
 use ups_keep::Final;
 use ups_life::StepUid;
 
-/// The steps held, in order of creation, each under its UID. A step that is removed leaves its place free, so that none of the
-/// others is moved; the free places are closed up where they are more than half of all.
+/// The held steps, in order of creation, each under its UID. A removed step leaves its place free, so that none of the
+/// others is moved; the free places are removed when they are more than half of all.
 ///
-/// A contract sees the steps, and how many more there is room for. Room is made by `reserve` alone: what else changes the table
-/// needs no memory, and can't fail.
+/// A contract sees the steps, and the number of further ones for which there is room. Only `reserve` makes room: the
+/// other changes of the table need no memory, and can't fail.
 #[derive(Drop)]
 pub struct Steps<A: Allocator + Copy> {
     places: Places<A>,
@@ -49,7 +49,7 @@ impl<A: Allocator + Copy> Model for Steps<A> {
 }
 
 impl<A: Allocator + Copy> Steps<A> {
-    /// A table in which no step is held. Room is made by `reserve`.
+    /// Returns a table in which no step is held. `reserve` makes room.
     pub fn new(alloc: A) -> Steps<A>
         ensures { result.entries ≡ [] }
     {
@@ -59,12 +59,12 @@ impl<A: Allocator + Copy> Steps<A> {
         }
     }
 
-    /// Makes room for so many more steps.
+    /// Makes room for `more` further steps.
     ///
     /// # Errors
     ///
-    /// Where memory runs out, and never where there is that room already. The steps held stay, and so does the room that there
-    /// was.
+    /// If memory runs out, but never if there is that room already. The held steps stay the same, and there is no less
+    /// room.
     pub fn reserve(&mut self, more: usize) -> Result<(), AllocError>
         ensures room { OnOk result (more ≤ self.new.spare) }
         ensures succeeds { more ≤ self.old.spare → IsOk result }
@@ -74,21 +74,21 @@ impl<A: Allocator + Copy> Steps<A> {
         self.places.reserve(more)
     }
 
-    /// How many steps are held.
+    /// Returns the number of held steps.
     pub fn len(&self) -> usize
         ensures len { result ≡ length self.now.entries }
     {
         self.count
     }
 
-    /// What is held of a step; None where it is not held.
+    /// Returns the row and the holder of a step, or None if it is not held.
     pub fn get(&self, step: StepUid) -> Option<&Held<A>>
         ensures { option_copied result ≡ held_at step self.now.entries }
     {
         find(&self.places, step)
     }
 
-    /// When the state of a step became final; None where it is not final, or the step is not held.
+    /// Returns the time at which the state of a step became final, or None if it is not final or the step is not held.
     pub fn final_at(&self, step: StepUid) -> Option<u64>
         ensures { result ≡ final_of (held_at step self.now.entries) }
     {
@@ -98,7 +98,8 @@ impl<A: Allocator + Copy> Steps<A> {
         }
     }
 
-    /// The steps held, in order of creation. It goes over the free places too, which are no more than half of all.
+    /// Returns an iterator over the held steps, in order of creation. It walks the free places too, which are no more
+    /// than half of all.
     pub fn iter(&self) -> Iter<'_, A>
         ensures rest { result ≡ self.now.entries }
         ensures runs { ShowsInOrder (deref_pair {K = List ℕ} {X = HeldOf A}) }
@@ -108,11 +109,11 @@ impl<A: Allocator + Copy> Steps<A> {
         Iter::over(&self.places)
     }
 
-    /// The UIDs of the steps held, in order of creation.
+    /// Returns the UIDs of the held steps, in order of creation.
     ///
     /// # Errors
     ///
-    /// Where memory runs out.
+    /// If memory runs out.
     pub fn uids(&self, alloc: A) -> Result<Vec<StepUid, A>, AllocError>
         ensures uids { IfOk result (λ v. v.items ≡ keys_of self.now.entries) }
         ensures unique { IsDistinct bytes_eq (keys_of self.now.entries) }
@@ -120,7 +121,7 @@ impl<A: Allocator + Copy> Steps<A> {
         self.iter().map(|(step, _)| *step).collect(alloc)
     }
 
-    /// Adds a step that is not held, behind the others. It takes one place of the room.
+    /// Appends a step that is not held. It uses the room of one step.
     pub fn push(&mut self, step: StepUid, held: Held<A>)
         requires fresh { held_at step self.old.entries ≡ None }
         requires room { 0 < self.old.spare }
@@ -132,7 +133,7 @@ impl<A: Allocator + Copy> Steps<A> {
         *count += 1;
     }
 
-    /// Puts what is held of a step in the place of what was held of it.
+    /// Replaces the row and the holder of a step.
     pub fn put(&mut self, step: StepUid, held: Held<A>)
         requires { is_some (held_at step self.old.entries) ≡ true }
         ensures entries { self.new.entries ≡ put_held step held self.old.entries }

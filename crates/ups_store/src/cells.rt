@@ -1,5 +1,5 @@
-//! Single cells of a row: laying a value, and reading what a cell says. A cell that says no such value reads as zero,
-//! as nothing or as none: whether a row is one that was laid is told by laying it again.
+//! Writing and reading single cells of a row. A cell without a valid value reads as zero, as empty or as None: whether
+//! a row was written here is found out by writing it again.
 
 ghost use Rattle.std.specs.Prelude.{◌≡◌, ◌++◌, ◌∷◌, [], IfOk, OnOk, Some};
 ghost use Rattle.sqlite_value.specs.Value.{owned};
@@ -14,7 +14,7 @@ use ups_cycle::StepState;
 use ups_journal::Operation;
 use ups_pdu::Bytes;
 
-/// Lays a number. One of 2^63 or more stands as a negative integer.
+/// Writes a number. One of 2^63 or more becomes a negative integer.
 pub(crate) fn lay_number(row: &mut Row, number: u64) -> Result<(), AllocError>
     ensures laid { OnOk result (row.new ≡ row.old ++ number_cell number ∷ []) }
     ensures again { number_in (number_cell number) ≡ number }
@@ -22,7 +22,7 @@ pub(crate) fn lay_number(row: &mut Row, number: u64) -> Result<(), AllocError>
     row.push(ValueRef::Int(number.cast_signed()))
 }
 
-/// Lays a number of 32 bits.
+/// Writes a 32-bit number.
 pub(crate) fn lay_short(row: &mut Row, number: u32) -> Result<(), AllocError>
     ensures laid { OnOk result (row.new ≡ row.old ++ number_cell number ∷ []) }
     ensures again { short_in (number_cell number) ≡ number }
@@ -30,7 +30,7 @@ pub(crate) fn lay_short(row: &mut Row, number: u32) -> Result<(), AllocError>
     row.push(ValueRef::Int(u64::from(number).cast_signed()))
 }
 
-/// Lays the number of an event.
+/// Writes the number of an event, or NULL.
 pub(crate) fn lay_event(row: &mut Row, event: Option<u64>) -> Result<(), AllocError>
     ensures laid { OnOk result (row.new ≡ row.old ++ event_cell event ∷ []) }
     ensures again { event_in (event_cell event) ≡ event }
@@ -41,7 +41,7 @@ pub(crate) fn lay_event(row: &mut Row, event: Option<u64>) -> Result<(), AllocEr
     }
 }
 
-/// Lays a deletion lock.
+/// Writes a Deletion Lock, or NULL.
 pub(crate) fn lay_lock(row: &mut Row, lock: Option<bool>) -> Result<(), AllocError>
     ensures laid { OnOk result (row.new ≡ row.old ++ lock_cell lock ∷ []) }
     ensures again { lock_in_cell (lock_cell lock) ≡ lock }
@@ -53,7 +53,7 @@ pub(crate) fn lay_lock(row: &mut Row, lock: Option<bool>) -> Result<(), AllocErr
     }
 }
 
-/// Lays an offset from UTC.
+/// Writes an offset from UTC, in minutes, or NULL.
 pub(crate) fn lay_offset(row: &mut Row, offset: Option<i16>) -> Result<(), AllocError>
     ensures laid { OnOk result (row.new ≡ row.old ++ offset_cell offset ∷ []) }
     ensures again { offset_in (offset_cell offset) ≡ offset }
@@ -64,7 +64,7 @@ pub(crate) fn lay_offset(row: &mut Row, offset: Option<i16>) -> Result<(), Alloc
     }
 }
 
-/// Lays a text, or NULL.
+/// Writes a text, or NULL.
 pub(crate) fn lay_text(row: &mut Row, text: &Option<Bytes<Global>>) -> Result<(), AllocError>
     ensures laid { OnOk result (row.new ≡ row.old ++ text_cell text.now ∷ []) }
 {
@@ -74,7 +74,7 @@ pub(crate) fn lay_text(row: &mut Row, text: &Option<Bytes<Global>>) -> Result<()
     }
 }
 
-/// Lays bytes, or NULL.
+/// Writes bytes, or NULL.
 pub(crate) fn lay_blob(row: &mut Row, blob: &Option<Bytes<Global>>) -> Result<(), AllocError>
     ensures laid { OnOk result (row.new ≡ row.old ++ blob_cell blob.now ∷ []) }
 {
@@ -84,7 +84,7 @@ pub(crate) fn lay_blob(row: &mut Row, blob: &Option<Bytes<Global>>) -> Result<()
     }
 }
 
-/// Lays the text of a state, or NULL.
+/// Writes the text of a state, or NULL.
 pub(crate) fn lay_state(row: &mut Row, state: Option<StepState>) -> Result<(), AllocError>
     ensures laid { OnOk result (row.new ≡ row.old ++ state_cell state ∷ []) }
 {
@@ -155,7 +155,7 @@ pub(crate) fn bytes_in(
     }
 }
 
-/// The bytes of a text or a blob, and none of another cell.
+/// Returns the bytes of a text or a blob, or no bytes for another cell.
 fn lent(cell: ValueRef<'_>) -> &[u8]
     ensures { result.now ≡ bytes (owned cell.entry) }
 {

@@ -1,10 +1,10 @@
-//! Why a call on a store fails.
+//! The errors of a store.
 
 use sqlite_trees::error::StoreError;
 use std::alloc::AllocError;
 use thiserror::Error;
 
-/// Why requests were not read from an open store, or not added to it.
+/// Why requests could not be read from an open store, or added to it.
 #[derive(Clone, Copy, Debug, PartialEq, Eq, Error)]
 pub enum StoreFault {
     /// Memory ran out.
@@ -19,16 +19,16 @@ pub enum StoreFault {
     /// The disk or the file has no room.
     #[error("the store could not be written: no room on the disk")]
     Full,
-    /// An earlier failure has shut the store, and only another open mends it.
+    /// An earlier error has shut the store, and only reopening repairs it.
     #[error("the store was shut by an earlier failure, and has to be opened again")]
     Shut,
-    /// The row of a request would be too large for the file: a billion bytes or more.
+    /// The row of a request or run would be too large for the file: a billion bytes or more.
     #[error("a request is too large for the store")]
     TooLarge,
-    /// There would be 2^63 requests or more.
+    /// There would be 2^63 requests or runs, or more.
     #[error("the store has too many requests")]
     TooMany,
-    /// A row is no request with its place as its number.
+    /// A row is not a request with its position as its number.
     #[error("the store is damaged: a row is no request, or has the number of another one")]
     NotRequest,
     /// The row of the last run counts more requests than there are.
@@ -74,7 +74,7 @@ pub enum OpenFault {
     /// Another process has the file open.
     #[error("the store is held by another process")]
     Busy,
-    /// The system does not open or make the file.
+    /// The system cannot open or create the file.
     #[error("the store can't be opened or made: no such folder, no leave, or something else has its name")]
     Unopened,
     /// The disk failed.
@@ -83,7 +83,7 @@ pub enum OpenFault {
     /// The disk has no room.
     #[error("the store could not be written: no room on the disk")]
     Full,
-    /// A limit of the file's format was met.
+    /// A limit of the file format was reached.
     #[error("the store is at a limit of its file format")]
     AtLimit,
     /// The file is not what was written.

@@ -1,4 +1,4 @@
-//! What is left of the requests after a crash.
+//! The requests that remain after a crash.
 
 ghost use Rattle.std.specs.Prelude.{◌≡◌, ◌⊎◌, ◌++◌, [], false, map, IsTrue, IfOk};
 ghost use Rattle.sqlite_trees.specs.View.{IsClean};
@@ -13,7 +13,7 @@ use sqlite_trees::store::Reopen;
 use std::alloc::Global;
 use ups_journal::Record;
 
-/// A crash at this moment, and the next open.
+/// Crashes now, and opens the store again.
 fn crash_and_reopen<S: Reopen + Drop>(
     alloc: Global,
     store: RequestStore<S>,
@@ -28,9 +28,9 @@ fn crash_and_reopen<S: Reopen + Drop>(
     Ok(Replay::over(alloc, inner))
 }
 
-/// An append that a crash follows, or ends. The next open finds all requests that were committed, and behind them the
-/// records or nothing; once the append has answered `Ok`, it finds the records. Its rows are those of requests, so that
-/// their reading never answers that one is none.
+/// Appends records, and crashes during or after that. The next open finds all requests that were committed, followed by
+/// the records or by nothing; once the append has returned `Ok`, it finds the records. Its rows are requests, so
+/// reading them never returns NotRequest.
 pub fn append_then_crash<S: Reopen + Drop>(
     alloc: Global,
     mut store: RequestStore<S>,

@@ -1,5 +1,5 @@
-//! Accepted requests on a disk: a table of a SQLite file that only grows, and beside it a table of the runs of the
-//! program. This crate alone knows SQLite.
+//! The accepted requests on a disk: a table of a SQLite file that is appended to or replaced as a whole, and a table of
+//! the runs of the program. Only this crate and `ups_start` use the SQLite crates.
 #![tactic(auto)]
 
 mod cells;

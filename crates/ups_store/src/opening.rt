@@ -31,7 +31,7 @@ use sqlite_wal::PageSize;
 use std::alloc::Global;
 use std::hash::{BuildHasher, RandomState};
 
-/// The page size of the file.
+/// The page size of the file, in bytes.
 const PAGE: usize = 4096;
 
 const REQUEST: &str = "request";
@@ -61,7 +61,7 @@ fn fault_of_path(error: PathError) -> OpenFault {
     }
 }
 
-/// The fault with the name that the disk's failure has.
+/// Returns the fault for an error of opening; `named` says what failed on the disk.
 fn fault_of_open(error: StoreOpenError, named: StoreError) -> OpenFault
     ensures { result ≡ fault_of_opening error named }
 {
@@ -88,7 +88,7 @@ fn table(name: &'static str, sql: &'static str) -> Object<'static>
     }
 }
 
-/// Two files that should hold the tables, of which nothing is known yet.
+/// Returns the files as a database that should have the tables, before anything is read from it.
 fn unopened<D: Disk + Drop>(
     alloc: Global,
     files: Files<D>,
@@ -120,7 +120,7 @@ fn unopened<D: Disk + Drop>(
     }
 }
 
-/// Whether the files hold no database.
+/// Returns whether the files have no database.
 fn is_blank<D: Disk>(alloc: Global, files: &mut Files<D>) -> Result<bool, OpenFault>
     requires log { IsTrue (D.Disk.is_usable files.old.log) }
     requires db { IsTrue (D.Disk.is_usable files.old.db) }
@@ -139,7 +139,7 @@ fn is_blank<D: Disk>(alloc: Global, files: &mut Files<D>) -> Result<bool, OpenFa
     }
 }
 
-/// The files with the fault that their failure to open has.
+/// Returns the files with the fault for the error of opening them.
 fn refused<D: Disk>(error: StoreOpenError, named: StoreError, left: Unopened<D>) -> Refusal<D>
     ensures fault { result.fault ≡ fault_of_opening error named }
     ensures files { pair result.files ≡ files_of left }
@@ -150,7 +150,7 @@ fn refused<D: Disk>(error: StoreOpenError, named: StoreError, left: Unopened<D>)
     }
 }
 
-/// Makes the tables in files that hold no database.
+/// Creates the tables in files without a database.
 fn made<D: Disk + Drop>(files: Unopened<D>) -> Result<FileStore<D>, Refusal<D>>
     requires usable { AreUsable files }
     requires table { wanted_by files ≡ the_schema }
@@ -171,7 +171,7 @@ fn made<D: Disk + Drop>(files: Unopened<D>) -> Result<FileStore<D>, Refusal<D>>
     }
 }
 
-/// Opens files that hold the tables.
+/// Opens files that have the tables.
 fn attached<D: Disk + Drop>(files: Unopened<D>) -> Result<FileStore<D>, Refusal<D>>
     requires usable { AreUsable files }
     requires table { wanted_by files ≡ the_schema }
@@ -192,8 +192,8 @@ fn attached<D: Disk + Drop>(files: Unopened<D>) -> Result<FileStore<D>, Refusal<
     }
 }
 
-/// Whether the files recover to a database that lists nothing, as an open leaves it that got no further than the first
-/// page.
+/// Returns whether the files recover to a database with an empty catalog, which an interrupted creation leaves when it
+/// got no further than the first page.
 fn lists_nothing<D: Disk + Drop>(files: &mut Unopened<D>) -> Result<bool, OpenFault>
     requires { AreUsable files.old }
     ensures nothing { IfOk result (λ none. IsTrue (state_of files.new).is_clean → IsTrue none → ListsNothing (state_of files.old).page_size (image files.old)) }
@@ -215,7 +215,7 @@ fn lists_nothing<D: Disk + Drop>(files: &mut Unopened<D>) -> Result<bool, OpenFa
     }
 }
 
-/// Makes the tables in files that list nothing, and opens others.
+/// Creates the tables in files with an empty catalog, and opens others.
 fn opened<D: Disk + Drop>(mut files: Unopened<D>) -> Result<FileStore<D>, Refusal<D>>
     requires usable { AreUsable files }
     requires table { wanted_by files ≡ the_schema }
@@ -238,7 +238,7 @@ fn opened<D: Disk + Drop>(mut files: Unopened<D>) -> Result<FileStore<D>, Refusa
     }
 }
 
-/// Makes the tables in files that should hold no database.
+/// Creates the tables in files that should have no database.
 fn made_in<D: Disk + Drop>(
     alloc: Global,
     files: Files<D>,
@@ -309,7 +309,7 @@ fn is_text(cell: ValueRef<'_>, text: &str) -> bool {
     }
 }
 
-/// Whether the rows of `sqlite_schema` list a table of this name, and with this text.
+/// Returns whether the first row of `sqlite_schema` with this name has this SQL text, or None if no row has the name.
 fn lists(rows: &[Row], name: &str, sql: &str) -> Option<bool> {
     for row in rows {
         if is_text(row.get(2), name) {
@@ -319,7 +319,7 @@ fn lists(rows: &[Row], name: &str, sql: &str) -> Option<bool> {
     None
 }
 
-/// What a database with these rows of `sqlite_schema` is, which was not opened.
+/// Returns the fault for a database that was not opened and has these rows of `sqlite_schema`.
 fn kind_in(rows: &[Row]) -> OpenFault
     ensures { IsKind result }
 {
@@ -330,7 +330,7 @@ fn kind_in(rows: &[Row]) -> OpenFault
     }
 }
 
-/// What files are that hold no sound database of the tables.
+/// Returns the fault for files that have no sound database of the tables.
 fn kind_of<D: Disk + Drop>(files: &mut Unopened<D>) -> OpenFault
     requires { AreUsable files.old }
     ensures kind { IsKind result }
@@ -344,7 +344,7 @@ fn kind_of<D: Disk + Drop>(files: &mut Unopened<D>) -> OpenFault
     }
 }
 
-/// The refusal, with what the files are where they hold no sound database of the tables.
+/// Returns the refusal, with a more precise fault if the files have no sound database of the tables.
 fn told_apart<D: Disk + Drop>(alloc: Global, refusal: Refusal<D>, seed: u64) -> Refusal<D>
     ensures fault { (result ≡ refusal) ⊎ ((refusal.fault ≡ faults.NotStore) × IsKind result.fault) }
     ensures falls { AreCleanFiles D.Disk result.files → AreCleanFiles D.Disk refusal.files × (faults_in D.Disk refusal.files ≤ faults_in D.Disk result.files) }
@@ -369,11 +369,11 @@ fn told_apart<D: Disk + Drop>(alloc: Global, refusal: Refusal<D>, seed: u64) -> 
     }
 }
 
-/// Opens the files, or makes the tables in them where they hold no database or one that lists nothing, for their requests
-/// to be read. The key of the log is made of `seed`.
+/// Opens the files for reading their requests, or creates the tables if there is no database or one with an empty
+/// catalog. The key of the log is derived from `seed`.
 ///
-/// Errors: Memory; Disk, Full and Damaged where a call of the disk failed; AtLimit; Damaged, OtherFormat and NotStore
-/// where the files hold no sound database of the two tables.
+/// Errors: Memory; Disk, Full and Damaged if a call of the disk failed; AtLimit; Damaged, OtherFormat and NotStore if
+/// the files have no sound database of the two tables.
 pub fn open_files<D: Disk + Drop>(
     alloc: Global,
     files: Files<D>,
@@ -391,11 +391,9 @@ pub fn open_files<D: Disk + Drop>(
     }
 }
 
-/// Opens the file at a path and its log, or makes them, for their requests to be read. `S` stands for what the files
-/// held.
+/// Opens the file at a path and its log for reading their requests, or creates them. `S` stands for what the files had.
 ///
-/// Errors: Busy where another process has them open, Unopened where the system does not open them, and those of
-/// `open_files`.
+/// Errors: Busy if another process has them open, Unopened if the system cannot open them, and those of `open_files`.
 pub fn open<S: Start>(
     rt: &HostRuntime,
     path: &str,

@@ -1,4 +1,4 @@
-//! Reading the requests of a store that was just opened, one after the other.
+//! Reading the requests of a store that was just opened, one by one.
 
 ghost use Rattle.std.specs.Prelude.{◌≡◌, ◌≢◌, ◌⊎◌, ◌<◌, Some, drop, ◌+◌, ◌≤◌, ◌^◌, ⊤, [], false, None, pos, length, is_some, IfOk, IfErr, IfSome, MatchOption, OnOk, IsSome, IsTrue};
 ghost use Rattle.sqlite_disk.specs.Disk.{MoreFaults};
@@ -20,7 +20,7 @@ use std::alloc::Global;
 /// The number of the tree of requests.
 pub(crate) const REQUESTS: u32 = 0;
 
-/// How far the reading has come.
+/// The progress of the reading.
 #[derive(Clone, Copy, Debug, PartialEq, Eq)]
 enum Phase {
     Fresh,
@@ -29,18 +29,18 @@ enum Phase {
     Failed,
 }
 
-/// What stands at a place of the table.
+/// What was read at a position of the table.
 #[derive(Drop)]
 enum Taken {
     End,
-    /// A row that is no request, or has another number.
+    /// A row that is not a request, or has another number.
     Other,
-    /// A row behind the last number that there is.
+    /// A row after the last possible number.
     Beyond,
     One(StoredRequest),
 }
 
-/// The number behind so many.
+/// Returns the number of the request that follows `count` requests, or None if there is no such number.
 fn next_number(count: u64) -> Option<i64>
     ensures { MatchOption result (2 ^ 63 ≤ count + 1) (λ number. (number ≡ pos (count + 1)) × (count + 1 < 2 ^ 63)) }
 {
@@ -48,7 +48,7 @@ fn next_number(count: u64) -> Option<i64>
     i64::try_from(count).ok()
 }
 
-/// Takes the next row, which should be the request behind so many.
+/// Reads the next row, which should be the request that follows `count` requests.
 fn take_next<S: Store>(
     alloc: Global,
     store: &mut S,
@@ -76,7 +76,7 @@ fn take_next<S: Store>(
     }
 }
 
-/// Places the cursor at the first row of the requests.
+/// Moves the cursor to the first row of the requests.
 fn rewind<S: Store>(store: &mut S, row: &mut Row) -> Result<(), StoreError>
     requires fresh { IsClean (S.Store.view store.old) → IsFresh (S.Store.view store.old) }
     ensures live { OnOk result (IsSome ((S.Store.view store.new).cursors 0)) }
@@ -90,14 +90,14 @@ fn rewind<S: Store>(store: &mut S, row: &mut Row) -> Result<(), StoreError>
     store.seek(0, REQUESTS, row, Direction::Forward)
 }
 
-/// The requests of a store that was just opened, given one after the other.
+/// The requests of a store that was just opened, returned one by one.
 #[derive(Drop)]
 pub struct Replay<S: Store> {
     alloc: Global,
     store: S,
     row: Row,
     again: Row,
-    /// How many requests were given.
+    /// The number of requests that were returned.
     count: u64,
     phase: Phase,
     ghost live: { phase ≡ Reading → IsSome ((S.Store.view store).cursors 0) },
@@ -110,7 +110,7 @@ pub struct Replay<S: Store> {
 impl<S: Store> Replay<S> {
     ghost use Rattle.ups_store.specs.Shown.{shown_by, all_of, given_out, GivesRequest, HasFailedToShow, has_ended, requests_shown};
 
-    /// The requests of a store that was just opened, of which none is given yet.
+    /// Returns the requests of a store that was just opened, before the first is read.
     pub(crate) fn over(alloc: Global, store: S) -> Replay<S>
         requires fresh { IsClean (S.Store.view store) → IsFresh (S.Store.view store) }
         ensures first { given_out result ≡ [] }
@@ -126,7 +126,7 @@ impl<S: Store> Replay<S> {
         }
     }
 
-    /// Places the cursor at the first request.
+    /// Moves the cursor to the first request.
     fn begin(&mut self) -> Result<(), StoreFault>
         requires fresh { self.old.phase ≡ Fresh }
         ensures reading { OnOk result (self.new.phase ≡ Reading) }
@@ -147,7 +147,7 @@ impl<S: Store> Replay<S> {
         Ok(())
     }
 
-    /// Takes the row at the cursor.
+    /// Reads the row at the cursor.
     fn take(&mut self) -> Result<Option<StoredRequest>, StoreFault>
         requires reading { self.old.phase ≡ Reading }
         ensures given { IfOk result (λ found. IsClean (shown_by self.new) → GivesRequest (all_of self.new) (given_out self.old) (given_out self.new) found) }
@@ -184,11 +184,11 @@ impl<S: Store> Replay<S> {
         }
     }
 
-    /// Gives the next request, or none once all have been given. What it has given is a beginning of what is committed,
-    /// and all of it at the end.
+    /// Returns the next request, or None once all have been returned. Those returned so far are the first of the
+    /// committed requests, and all of them at the end.
     ///
-    /// Errors: Memory, Disk, Damaged, Full; NotRequest where the rows are not those of requests, numbered from 1;
-    /// TooMany; Shut after an error.
+    /// Errors: Memory, Disk, Damaged, Full; NotRequest if the rows are not requests numbered from 1; TooMany; Shut
+    /// after an error.
     pub fn next_request(&mut self) -> Result<Option<StoredRequest>, StoreFault>
         ensures given { IfOk result (λ found. IsClean (shown_by self.new) → GivesRequest (all_of self.new) (given_out self.old) (given_out self.new) found) }
         ensures same { OnOk result (IsClean (shown_by self.new) → all_of self.new ≡ all_of self.old) }
@@ -211,7 +211,7 @@ impl<S: Store> Replay<S> {
         self.take()
     }
 
-    /// The store, once all requests have been given; None before.
+    /// Returns the store once `next_request` has returned None, or else None.
     pub fn finish(self) -> Option<RequestStore<S>>
     where
         S: Drop,

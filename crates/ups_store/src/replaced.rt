@@ -1,4 +1,4 @@
-//! What is left of the requests after a crash while they were being replaced.
+//! The requests that remain after a crash while they were being replaced.
 
 ghost use Rattle.std.specs.Prelude.{◌≡◌, ◌⊎◌, [], false, map, IsTrue, IfOk};
 ghost use Rattle.sqlite_trees.specs.View.{IsClean};
@@ -16,7 +16,7 @@ use sqlite_trees::store::Reopen;
 use std::alloc::Global;
 use ups_journal::Record;
 
-/// A crash at this moment, and the next open.
+/// Crashes now, and opens the store again.
 fn crash_and_reopen<S: Reopen + Drop>(
     alloc: Global,
     rewrite: Rewrite<S>,
@@ -31,9 +31,9 @@ fn crash_and_reopen<S: Reopen + Drop>(
     Ok(Replay::over(alloc, inner))
 }
 
-/// A replacement of all requests, group by group, that a crash follows, or ends. The next open finds all requests that were
-/// committed, or the records of all groups and nothing else; once the commit has answered `Ok`, it finds the records. Its
-/// rows are those of requests, so that their reading never answers that one is none.
+/// Replaces all requests, group by group, and crashes during or after that. The next open finds all requests that were
+/// committed, or exactly the records of all groups; once the commit has returned `Ok`, it finds the records. Its rows
+/// are requests, so reading them never returns NotRequest.
 pub fn rewrite_then_crash<S: Reopen + Drop>(
     alloc: Global,
     store: RequestStore<S>,

@@ -9,16 +9,16 @@ use sqlite_value::value::ValueRef;
 use std::alloc::{AllocError, Global};
 use ups_journal::{Columns, Record};
 
-/// An accepted request in the store. Its number is its place among all, from 1.
+/// An accepted request in the store. Its number is its position, from 1.
 #[derive(Drop)]
 pub struct StoredRequest {
     /// The run of the program in which it was entered.
     pub run: u64,
-    /// What was asked, by whom and when.
+    /// What was requested, by whom and when.
     pub asked: Record<Global>,
 }
 
-/// Lays in which run, who asked and when.
+/// Writes the run, the caller and the time.
 fn lay_caller(row: &mut Row, run: u64, asked: &Record<Global>) -> Result<(), AllocError>
     ensures laid { OnOk result (row.new ≡ row.old ++ caller_cells (stored_in_run run asked.now)) }
     ensures again { OnOk result (IsCallerAgain (stored_in_run run asked.now)) }
@@ -29,7 +29,7 @@ fn lay_caller(row: &mut Row, run: u64, asked: &Record<Global>) -> Result<(), All
     row.push(ValueRef::Text(asked.title.as_slice()))
 }
 
-/// Lays what was done to which step.
+/// Writes the operation and its step.
 fn lay_step(row: &mut Row, columns: &Columns<Global>) -> Result<(), AllocError>
     ensures { OnOk result (row.new ≡ row.old ++ step_cells columns.now) }
 {
@@ -39,7 +39,7 @@ fn lay_step(row: &mut Row, columns: &Columns<Global>) -> Result<(), AllocError>
     cells::lay_state(row, columns.state)
 }
 
-/// Lays for which watcher, and with which attributes.
+/// Writes the watcher and the attributes.
 fn lay_watcher(row: &mut Row, columns: &Columns<Global>) -> Result<(), AllocError>
     ensures laid { OnOk result (row.new ≡ row.old ++ watcher_cells columns.now) }
     ensures again { OnOk result (IsWatcherAgain columns.now) }
@@ -51,7 +51,7 @@ fn lay_watcher(row: &mut Row, columns: &Columns<Global>) -> Result<(), AllocErro
     cells::lay_blob(row, &columns.attributes)
 }
 
-/// Makes `row` the row with this number of a record that is entered in this run.
+/// Makes `row` the row with the number `number` of a record entered in the run `run`.
 pub(crate) fn lay(
     row: &mut Row,
     number: i64,
@@ -96,7 +96,7 @@ fn record_in(alloc: Global, row: &Row) -> Result<Record<Global>, AllocError>
     })
 }
 
-/// What a row says.
+/// Returns the request in a row.
 fn request_in(alloc: Global, row: &Row) -> Result<StoredRequest, AllocError>
     ensures { IfOk result (λ r. r ≡ request_in row.now) }
 {
@@ -106,7 +106,7 @@ fn request_in(alloc: Global, row: &Row) -> Result<StoredRequest, AllocError>
     })
 }
 
-/// The request whose row this is, as the one with this number, or none. `again` becomes the row that it lays.
+/// Returns the request with the number `number` if this is its row, or None. `again` becomes the row of what was read.
 pub(crate) fn read(
     alloc: Global,
     number: i64,

@@ -26,15 +26,15 @@ use ups_journal::Record;
 pub struct Rewrite<S: Store> {
     store: S,
     row: Row,
-    /// How many requests were put.
+    /// The number of requests that were put.
     count: u64,
-    /// The old requests are out, and each group that was put is there as a whole.
+    /// Whether the old requests are deleted, and each group that was put is there as a whole.
     is_whole: bool,
     ghost tables: { is_whole ≡ true → IsTrue (S.Store.view store).is_open → HasTables (S.Store.view store) },
     ghost adding: { is_whole ≡ true → (S.Store.view store).is_broken ≡ false → IsAdding (S.Store.view store) count },
 }
 
-/// Deletes the last of so many rows of requests.
+/// Deletes the last of `count` rows of requests.
 fn delete_last<S: Store>(store: &mut S, count: u64) -> Result<(), StoreError>
     requires table { IsClean (S.Store.view store.old) → (S.Store.view store.old).shape 0 ≡ Table }
     requires adding { IsClean (S.Store.view store.old) → IsAdding (S.Store.view store.old) count }
@@ -50,7 +50,7 @@ fn delete_last<S: Store>(store: &mut S, count: u64) -> Result<(), StoreError>
     store.delete(REQUESTS, count as i64)
 }
 
-/// Deletes the rows of all requests, the last first, so that each is at the end of its tree.
+/// Deletes the rows of all requests, from last to first, so that each is at the end of its tree.
 fn delete_all<S: Store>(store: &mut S, count: u64) -> Result<(), StoreError>
     requires table { IsClean (S.Store.view store.old) → (S.Store.view store.old).is_broken ≡ false → (S.Store.view store.old).shape 0 ≡ Table }
     requires adding { IsClean (S.Store.view store.old) → (S.Store.view store.old).is_broken ≡ false → IsAdding (S.Store.view store.old) count }
@@ -79,11 +79,11 @@ impl<S: Store> RequestStore<S> {
     ghost use Rattle.ups_store.specs.Shown.{requests_shown, count_of};
     ghost use Rattle.ups_store.specs.Rewriting.{seen, written_anew, GoesOnRewriting};
 
-    /// Begins to replace all requests: takes them out, in a transaction. What is committed stays until `Rewrite::commit`,
-    /// and after a crash before it the store has the requests that it had.
+    /// Begins to replace all requests: deletes them in a transaction. What is committed stays until `Rewrite::commit`,
+    /// and after a crash before that the store has the requests that it had.
     ///
-    /// Errors: Memory, Disk, Damaged, Full, Shut. The store is let go with the transaction, so that another open finds what was
-    /// committed. TooMany where there are 2^63 requests or more.
+    /// Errors: Memory, Disk, Damaged, Full, Shut; TooMany if there are 2^63 requests or more. The store is dropped with
+    /// the transaction, so that the next open finds what was committed.
     pub fn rewrite(self) -> Result<Rewrite<S>, StoreFault>
     where
         S: Drop,
@@ -112,7 +112,7 @@ impl<S: Store> Rewrite<S> {
     ghost use Rattle.ups_store.specs.Shown.{requests_shown, requests};
     ghost use Rattle.ups_store.specs.Rewriting.{seen, written_anew, written_count, records_of, GoesOnRewriting, IsReplaced};
 
-    /// Gives the store back.
+    /// Returns the inner store.
     pub(crate) fn into_store(self) -> S
         ensures { result ≡ self.store }
     {
@@ -125,7 +125,7 @@ impl<S: Store> Rewrite<S> {
         store
     }
 
-    /// A rewrite of which no request is out yet.
+    /// Returns a rewrite that has not deleted any request yet.
     pub(crate) fn over(store: RequestStore<S>) -> Rewrite<S>
         ensures store { result.store ≡ store.store }
         ensures count { result.count ≡ store.count }
@@ -140,7 +140,7 @@ impl<S: Store> Rewrite<S> {
         }
     }
 
-    /// Takes all requests out.
+    /// Deletes all requests.
     fn clear(&mut self) -> Result<(), StoreFault>
         requires held { HoldsIfOpen (seen self.old) self.old.count }
         requires waits { self.old.is_whole ≡ false }
@@ -167,16 +167,16 @@ impl<S: Store> Rewrite<S> {
         Ok(())
     }
 
-    /// How many requests were put.
+    /// Returns the number of requests that were put.
     pub fn len(&self) -> u64
         ensures { GoesOnRewriting self.now → result ≡ length (written_anew self.now) }
     {
         self.count
     }
 
-    /// Puts records behind those that were put so far, as entered in this run. Nothing is committed.
+    /// Appends records, entered in the run `run`, to those that were put so far. Nothing is committed.
     ///
-    /// Errors: Memory, Disk, Damaged, Full; TooLarge where the row of a record has a billion bytes or more; TooMany; Shut
+    /// Errors: Memory, Disk, Damaged, Full; TooLarge if the row of a record has a billion bytes or more; TooMany; Shut
     /// after an error.
     pub fn put(&mut self, run: u64, records: &[Record<Global>]) -> Result<(), StoreFault>
         ensures added { OnOk result (IsClean (seen self.new) → written_anew self.new ≡ written_anew self.old ++ map (stored_in_run run) records.now) }
@@ -218,7 +218,7 @@ impl<S: Store> Rewrite<S> {
         Ok(())
     }
 
-    /// Writes the run's row, and commits.
+    /// Writes the row of the run, and commits.
     fn settle(&mut self, number: u64, run: &Run<'_>) -> Result<(), StoreFault>
         ensures held { OnOk result (HoldsIfOpen (seen self.new) self.new.count) }
         ensures replaced { OnOk result (IsClean (seen self.new) → requests_in (seen self.new).committed ≡ written_anew self.old) }
@@ -244,11 +244,11 @@ impl<S: Store> Rewrite<S> {
         Ok(())
     }
 
-    /// Commits: the store has the records that were put and no others, and in the row of the run with this number how many
-    /// they are. It returns once the disk has them.
+    /// Commits, and returns once the disk has the records: the store then has exactly the records that were put, and
+    /// the row of the run `number` has their number.
     ///
-    /// Errors: Memory, Disk, Damaged, Full; TooLarge where the run's row has a billion bytes or more; Shut after an error.
-    /// The store is let go, and another open finds the requests that it had or all the records that were put.
+    /// Errors: Memory, Disk, Damaged, Full; TooLarge if the row of the run has a billion bytes or more; Shut after an
+    /// error. The store is dropped, and the next open finds the requests that it had or all the records that were put.
     pub fn commit(mut self, number: u64, run: &Run<'_>) -> Result<RequestStore<S>, StoreFault>
     where
         S: Drop,
@@ -279,7 +279,7 @@ impl<S: Store> Rewrite<S> {
         Ok(RequestStore { store, count, row })
     }
 
-    /// Takes the requests out, puts groups of records in their place, and commits.
+    /// Deletes the requests, puts groups of records in their place, and commits.
     pub(crate) fn replace(
         &mut self,
         entered_in: u64,

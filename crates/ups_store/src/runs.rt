@@ -21,7 +21,7 @@ use std::alloc::AllocError;
 /// The number of the tree of runs.
 pub(crate) const RUNS: u32 = 1;
 
-/// The last number that a run may have.
+/// The highest number that a run may have.
 const LAST: u64 = (1 << 63) - 1;
 
 /// A run of the program. Runs are numbered from 1.
@@ -31,11 +31,11 @@ pub struct Run<'a> {
     pub moment: u64,
     /// The version of the program.
     pub version: &'a str,
-    /// The settings with which it was begun.
+    /// The settings with which it was started.
     pub settings: &'a str,
 }
 
-/// Makes `row` the row of the run with this number, at whose writing there were so many requests.
+/// Makes `row` the row of the run `number`, written when there were `requests` requests.
 fn lay(row: &mut Row, number: u64, run: &Run<'_>, requests: u64) -> Result<(), AllocError>
     ensures { OnOk result (row.new ≡ row_of_run number run.now requests) }
 {
@@ -48,7 +48,7 @@ fn lay(row: &mut Row, number: u64, run: &Run<'_>, requests: u64) -> Result<(), A
     cells::lay_number(row, requests)
 }
 
-/// Puts the row of the run with this number into a transaction, in place of one that has the number.
+/// Puts the row of the run `number` in a transaction, replacing the row with the same number if there is one.
 pub(crate) fn put_run<S: Store>(
     store: &mut S,
     row: &mut Row,
@@ -72,7 +72,7 @@ pub(crate) fn put_run<S: Store>(
     store.put(RUNS, row)
 }
 
-/// Places the cursor at the last row of the runs.
+/// Moves the cursor to the last row of the runs.
 fn seek_last<S: Store>(store: &mut S, row: &mut Row) -> Result<(), StoreError>
     ensures live { OnOk result (IsSome ((S.Store.view store.new).cursors 0)) }
     ensures left { OnOk result (IsClean (S.Store.view store.new) → (S.Store.view store.new).cursors 0 ≡ Some (reverse ((S.Store.view store.old).trees 1))) }
@@ -87,7 +87,7 @@ fn seek_last<S: Store>(store: &mut S, row: &mut Row) -> Result<(), StoreError>
     store.seek(0, RUNS, row, Direction::Backward)
 }
 
-/// Takes the row at the cursor; an empty one at its end.
+/// Reads the row at the cursor, or an empty one at the end.
 fn take_row<S: Store>(store: &mut S, row: &mut Row) -> Result<(), StoreError>
     requires live { IsSome ((S.Store.view store.old).cursors 0) }
     ensures row { OnOk result (IsClean (S.Store.view store.new) → IsFirst ((S.Store.view store.old).cursors 0) row.new) }
@@ -105,7 +105,7 @@ fn take_row<S: Store>(store: &mut S, row: &mut Row) -> Result<(), StoreError>
     Ok(())
 }
 
-/// Makes `row` the row of the last run, or empty where there is none.
+/// Makes `row` the row of the last run, or empty if there is none.
 fn read_last<S: Store>(store: &mut S, row: &mut Row) -> Result<(), StoreError>
     ensures last { OnOk result (IsClean (S.Store.view store.new) → row.new ≡ last_row ((S.Store.view store.old).trees 1)) }
     ensures same { OnOk result (IsClean (S.Store.view store.new) → S.Store.view store.new ≡ record (S.Store.view store.old) { cursors = (S.Store.view store.new).cursors }) }
@@ -119,7 +119,7 @@ fn read_last<S: Store>(store: &mut S, row: &mut Row) -> Result<(), StoreError>
     take_row(store, row)
 }
 
-/// The number of a run behind the last one, whose row this is.
+/// Returns the number of the run after the last one, whose row is `last`.
 fn number_behind(last: &Row, requests: u64) -> Result<u64, StoreFault>
     ensures number { IfOk result (λ number. (number ≡ number_in (rowid last.now) + 1) × (number < 2 ^ 63)) }
     ensures enough { OnOk result (number_in (column last.now 5) ≤ requests) }
@@ -141,7 +141,7 @@ fn number_behind(last: &Row, requests: u64) -> Result<u64, StoreFault>
     Ok(number + 1)
 }
 
-/// Puts the row of a run behind the last one into a transaction, and gives its number.
+/// Appends the row of a run in a transaction, and returns its number.
 pub(crate) fn enter_run<S: Store>(
     store: &mut S,
     row: &mut Row,

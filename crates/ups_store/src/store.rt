@@ -1,4 +1,4 @@
-//! An open store, to which requests are added.
+//! The open store, to which requests are appended.
 
 ghost use Rattle.std.specs.Prelude.{◌≡◌, ◌⊎◌, ◌+◌, ◌++◌, ◌<◌, ◌≤◌, ◌^◌, ◌∷◌, [], ⊤, false, ℕ, pos, map, length, IsTrue, IfOk, IfErr, OnOk, OnErr, MatchOption};
 ghost use Rattle.sqlite_disk.specs.Disk.{MoreFaults};
@@ -24,20 +24,20 @@ use sqlite_value::row::Row;
 use std::alloc::Global;
 use ups_journal::Record;
 
-/// How many requests there may be.
+/// The maximum number of requests.
 const MOST: u64 = (1 << 63) - 1;
 
-/// The accepted requests on a disk, to which more are added.
+/// The accepted requests on a disk, to which more can be appended.
 #[derive(Drop)]
 pub struct RequestStore<S: Store> {
     pub(crate) store: S,
-    /// How many requests there are.
+    /// The number of requests.
     pub(crate) count: u64,
     pub(crate) row: Row,
     ghost held: { HoldsIfOpen (S.Store.view store) count },
 }
 
-/// Puts the row of a record behind those of a transaction.
+/// Appends the row of a record in a transaction.
 fn put_one<S: Store>(
     store: &mut S,
     row: &mut Row,
@@ -60,7 +60,7 @@ fn put_one<S: Store>(
     store.put(REQUESTS, row)
 }
 
-/// Puts the rows of some records behind those of a transaction.
+/// Appends the rows of records in a transaction.
 pub(crate) fn put_all<S: Store>(
     store: &mut S,
     row: &mut Row,
@@ -90,7 +90,7 @@ pub(crate) fn put_all<S: Store>(
     Ok(())
 }
 
-/// How many requests there are with so many more; None where there would be too many.
+/// Returns the number of requests after adding `more`, or None if there would be too many.
 pub(crate) fn count_with(count: u64, more: usize) -> Option<u64>
     ensures { MatchOption result (2 ^ 63 ≤ count + more) (λ all. (all ≡ count + more) × (count + more < 2 ^ 63)) }
 {
@@ -104,7 +104,7 @@ pub(crate) fn count_with(count: u64, more: usize) -> Option<u64>
 impl<S: Store> RequestStore<S> {
     ghost use Rattle.ups_store.specs.Shown.{requests_shown, requests, count_of};
 
-    /// A store of so many requests.
+    /// Returns a store of `count` requests.
     pub(crate) fn of(store: S, count: u64, row: Row) -> RequestStore<S>
         requires { HoldsIfOpen (S.Store.view store) count }
         ensures { requests_shown result ≡ S.Store.view store }
@@ -112,7 +112,7 @@ impl<S: Store> RequestStore<S> {
         RequestStore { store, count, row }
     }
 
-    /// Gives the store back.
+    /// Returns the inner store.
     pub(crate) fn into_store(self) -> S
         ensures { result ≡ self.store }
     {
@@ -124,18 +124,17 @@ impl<S: Store> RequestStore<S> {
         store
     }
 
-    /// How many requests there are.
+    /// Returns the number of requests.
     pub fn len(&self) -> u64
         ensures { IsTrue (requests_shown self.now).is_open → result ≡ length (requests self.now) }
     {
         self.count
     }
 
-    /// Adds records, which are entered in this run, behind the requests that are there, all or none, and returns once
-    /// the disk has them. After a crash the store has all requests that were committed, and behind them the records or
-    /// none of them.
+    /// Appends records entered in the run `run`, all or none, and returns once they are on the disk. After a crash the
+    /// store has all requests that were committed, followed by the records or by none of them.
     ///
-    /// Errors: Memory, Disk, Damaged, Full; Shut after an error that only another open mends; TooLarge where the row of a
+    /// Errors: Memory, Disk, Damaged, Full; Shut after an error that only reopening repairs; TooLarge if the row of a
     /// record has a billion bytes or more; TooMany.
     pub fn append(&mut self, run: u64, records: &[Record<Global>]) -> Result<(), StoreFault>
         ensures added { OnOk result (IsClean (requests_shown self.new) → requests self.new ≡ requests self.old ++ map (stored_in_run run) records.now) }
@@ -177,11 +176,11 @@ impl<S: Store> RequestStore<S> {
     ghost use Rattle.ups_store.specs.Runs.{row_of_run, last_number, last_requests};
     ghost use Rattle.ups_store.specs.Shown.{requests_shown, requests, runs, count_of};
 
-    /// Enters a run of the program behind the earlier ones, with the number of requests that there are, and gives its
-    /// number: the first is 1. The requests stay as they are, also after a crash.
+    /// Appends a run of the program, with the current number of requests, and returns the number of the run: the first
+    /// is 1. The requests stay as they are, also after a crash.
     ///
-    /// Errors: Short where the row of the last run counts more requests than there are; those of `append`, TooLarge and
-    /// TooMany of the row of the run. An error that leaves the store open changes nothing.
+    /// Errors: Short if the row of the last run counts more requests than there are; those of `append`, with TooLarge
+    /// and TooMany for the row of the run. An error that leaves the store open changes nothing.
     pub fn begin_run(&mut self, run: &Run<'_>) -> Result<u64, StoreFault>
         ensures number { IfOk result (λ number. IsClean (requests_shown self.new) → (number ≡ last_number (runs self.old) + 1) × (number < 2 ^ 63)) }
         ensures enough { OnOk result (IsClean (requests_shown self.new) → last_requests (runs self.old) ≤ length (requests self.old)) }
@@ -213,9 +212,9 @@ impl<S: Store> RequestStore<S> {
         }
     }
 
-    /// Writes the row of a run anew, with the number of requests that there are now. To be called before `checkpoint`.
+    /// Rewrites the row of a run with the current number of requests. Call it before `checkpoint`.
     ///
-    /// Errors: as for `begin_run`, but Short. An error that leaves the store open changes nothing.
+    /// Errors: those of `begin_run` except Short and TooMany. An error that leaves the store open changes nothing.
     pub fn note_requests(&mut self, number: u64, run: &Run<'_>) -> Result<(), StoreFault>
         ensures noted { OnOk result (IsClean (requests_shown self.new) → runs self.new ≡ put_row (row_of_run number run.now (length (requests self.old))) (runs self.old)) }
         ensures requests { OnOk result (IsClean (requests_shown self.new) → requests self.new ≡ requests self.old) }
@@ -249,9 +248,9 @@ impl<S: Store> RequestStore<S> {
 impl<D: Disk> RequestStore<FileStore<D>> {
     ghost use Rattle.ups_store.specs.Shown.{requests_shown};
 
-    /// Copies the log into the file, so that the file alone has the requests. To be called when nobody asks anything.
+    /// Copies the log into the file, so that the file alone has the requests. Call it when no requests arrive.
     ///
-    /// Errors: Memory, Disk, Damaged, Full; Shut after an error that only another open mends. An error that leaves the
+    /// Errors: Memory, Disk, Damaged, Full; Shut after an error that only reopening repairs. An error that leaves the
     /// store open changes nothing.
     pub fn checkpoint(&mut self) -> Result<(), StoreFault>
         ensures same { IsTrue (requests_shown self.new).is_open → requests_shown self.new ≡ requests_shown self.old }
@@ -270,9 +269,9 @@ impl<D: Disk> RequestStore<FileStore<D>> {
         Ok(())
     }
 
-    /// Copies the log into the file, and gives both files back.
+    /// Copies the log into the file, and returns both files.
     ///
-    /// Errors: those of `checkpoint`. The requests that were added are in the log then, and the next open finds them.
+    /// Errors: those of `checkpoint`. The requests that were added are then in the log, and the next open finds them.
     pub fn close(mut self) -> Result<Files<D>, StoreFault>
     where
         D: Drop,

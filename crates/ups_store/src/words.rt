@@ -1,4 +1,4 @@
-//! The words of operations and states.
+//! The names of operations and states.
 
 ghost use Rattle.std.specs.Prelude.{◌≡◌};
 ghost use Rattle.ups_store.specs.Words.{operation_named, state_named};
@@ -6,7 +6,7 @@ ghost use Rattle.ups_store.specs.Words.{operation_named, state_named};
 use ups_cycle::StepState;
 use ups_journal::Operation;
 
-/// The operation with this name.
+/// Returns the operation with this name.
 #[tactic(auto, unfolding(crate::specs::Words::operation_named))]
 pub(crate) fn operation_named(text: &[u8]) -> Option<Operation>
     ensures { result ≡ operation_named text.now }
@@ -34,7 +34,7 @@ pub(crate) fn operation_named(text: &[u8]) -> Option<Operation>
     }
 }
 
-/// The state with this text (PS3.4 CC.1.1), without padding.
+/// Returns the state with this text (PS3.4 CC.1.1), without padding.
 #[tactic(auto, unfolding(crate::specs::Words::state_named))]
 pub(crate) fn state_named(text: &[u8]) -> Option<StepState>
     ensures { result ≡ state_named text.now }

@@ -1,5 +1,5 @@
-//! What each kind of request makes of the tables. Room was made for it: none of this takes memory or can fail. A peer is named
-//! by its place in the list of peers, and an entry by its place in the history.
+//! The effect of each kind of request on the tables. Room was made for it: nothing here takes memory or can fail. A
+//! peer is identified by its index in the list of peers, and an entry by its index in the history.
 
 ghost use Rattle.std.specs.Prelude.{◌≡◌, ◌≤◌, ◌<◌, ℕ, List, None, Some, is_some, true, length, slice_index_or, ◌∷◌, []};
 ghost use Rattle.std.specs.HashSet as set;
@@ -21,8 +21,8 @@ use ups_life::{Place, Report, StepUid, Subscription};
 use ups_steps::Held;
 use ups_watch::Cover;
 
-/// Creates a step (PS3.4 CC.2.5). Each peer is subscribed to it as its global subscription says, and is told the news where it
-/// is (PS3.4 CC.2.3, CC.2.4).
+/// Creates a step (PS3.4 CC.2.5). Each peer whose global subscription takes the step in is subscribed to it and told
+/// `news` (PS3.4 CC.2.3, CC.2.4).
 pub(crate) fn create<A: Allocator + Copy>(
     tables: &mut Tables<A>,
     entry: u64,
@@ -49,9 +49,9 @@ pub(crate) fn create<A: Allocator + Copy>(
     tables.watchers.peers();
 }
 
-/// Puts what is held of a step in the place of what was held of it, for a change of its state, a request to cancel it, or
-/// attributes that are set (PS3.4 CC.2.1, CC.2.2, CC.2.6). Its watchers are told the news. The peers that `newly` subscribes to
-/// it by the way, at the place of each peer, are told `first` alone (PS3.4 CC.2.3, CC.2.4).
+/// Replaces the row and the holder of a step, for a change of its state, a request to cancel it, or attributes that are
+/// set (PS3.4 CC.2.1, CC.2.2, CC.2.6). Its watchers are told `news`. The peers that `newly`, indexed by peer,
+/// subscribes to it as a result are told only `first` (PS3.4 CC.2.3, CC.2.4).
 pub(crate) fn change<A: Allocator + Copy>(
     tables: &mut Tables<A>,
     entry: u64,
@@ -85,8 +85,8 @@ pub(crate) fn change<A: Allocator + Copy>(
     tables.watchers.peers();
 }
 
-/// Puts what is held of a step in the place of what was held of it, for a change of its state, or a request to cancel it (PS3.4
-/// CC.2.1, CC.2.2). Its watchers are told the news, and nobody is subscribed by the way.
+/// Replaces the row and the holder of a step, for a change of its state or a request to cancel it (PS3.4 CC.2.1,
+/// CC.2.2). Its watchers are told `news`, and no peer is newly subscribed.
 pub(crate) fn change_alone<A: Allocator + Copy>(
     tables: &mut Tables<A>,
     entry: u64,
@@ -104,7 +104,7 @@ pub(crate) fn change_alone<A: Allocator + Copy>(
     change(tables, entry, step, held, news, &[], &[]);
 }
 
-/// Subscribes a peer to one step, and tells it the news of it (PS3.4 CC.2.3).
+/// Subscribes a peer to one step, and tells it `news` (PS3.4 CC.2.3).
 pub(crate) fn subscribe_single<A: Allocator + Copy>(
     tables: &mut Tables<A>,
     entry: u64,
@@ -132,8 +132,8 @@ pub(crate) fn subscribe_single<A: Allocator + Copy>(
     tables.watchers.peers();
 }
 
-/// Gives a peer a global subscription, subscribes it to the steps that it takes in, and tells it the news of them (PS3.4
-/// CC.2.3). The steps freed are those among them on which it alone has had a deletion lock and has none now.
+/// Gives a peer a global subscription, subscribes it to the `chosen` steps, and tells it `news` (PS3.4 CC.2.3). The
+/// `freed` steps are those of them on which only this peer had a deletion lock, and has none now.
 pub(crate) fn subscribe_all<A: Allocator + Copy>(
     tables: &mut Tables<A>,
     entry: u64,
@@ -177,7 +177,8 @@ pub(crate) fn end_single<A: Allocator + Copy>(tables: &mut Tables<A>, peer: usiz
     tables.watchers.peers();
 }
 
-/// Ends all subscriptions of a peer (PS3.4 CC.2.3). The steps freed are those on which it alone has had a deletion lock.
+/// Ends all subscriptions of a peer (PS3.4 CC.2.3). The `freed` steps are those on which only this peer had a deletion
+/// lock.
 pub(crate) fn end_everywhere<A: Allocator + Copy>(
     tables: &mut Tables<A>,
     peer: usize,
@@ -206,7 +207,7 @@ pub(crate) fn suspend<A: Allocator + Copy>(tables: &mut Tables<A>, peer: usize)
     tables.watchers.peers();
 }
 
-/// Takes an acknowledgement of a peer's events up to a number, which it may make: they leave its queue.
+/// Acknowledges the events of a peer up to a number, which it may acknowledge: they leave its queue.
 pub(crate) fn acknowledge_upto<A: Allocator + Copy>(tables: &mut Tables<A>, peer: usize, upto: u64)
     requires fits { TablesFit tables.old }
     requires peer { peer < length tables.old.queues }

@@ -1,4 +1,4 @@
-//! How a plan is carried out, for which room was made. It takes no memory, and can't fail.
+//! Carries out a plan for which room was made. This takes no memory, and can't fail.
 
 ghost use Rattle.std.specs.Prelude.{◌≡◌, ◌<◌, ◌++◌, ◌∷◌, [], true, vec_len, vec_capacity};
 ghost use Rattle.ups_life.specs.Steps.{past};
@@ -15,7 +15,7 @@ use crate::tables::Tables;
 use std::alloc::Allocator;
 use ups_life::{Configuration, Entry};
 
-/// Carries out the plan of an entry: the entry goes to the end of the history, and the tables say then what the definitions
+/// Carries out the plan of an entry: appends the entry to the history, and updates the tables to what the definitions
 /// say of the history with it.
 pub fn carry_out<A: Allocator + Copy>(
     configuration: &Configuration<A>,

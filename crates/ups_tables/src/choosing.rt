@@ -1,4 +1,4 @@
-//! Which of the steps held a subscription takes in, and what its watcher is told of them (PS3.4 CC.2.3, CC.2.4).
+//! The held steps that a subscription takes in, and what its watcher is told of them (PS3.4 CC.2.3, CC.2.4).
 
 ghost use Rattle.std.specs.Prelude.{◌≡◌, ◌≢◌, ℕ, List, Some, MatchOption, ◌++◌, ◌∷◌, [], map, IfOk, OnOk, if◌then◌else◌};
 ghost use Rattle.ups_life.specs.declared.watching.Target.TheVariants.{Single};
@@ -16,7 +16,7 @@ use ups_match::{Matcher, Probe};
 use ups_pdu::Ae;
 use ups_watch::Cover;
 
-/// How a watcher is subscribed that asks for a deletion lock, or for none (PS3.4 CC.2.3).
+/// Returns the subscription granted to a watcher that asks for a deletion lock, or for none (PS3.4 CC.2.3).
 pub(crate) fn granted(peers: &[Peer], ae: Ae, lock: bool) -> Subscription
     ensures { result ≡ granted peers.now ae lock }
 {
@@ -27,9 +27,9 @@ pub(crate) fn granted(peers: &[Peer], ae: Ae, lock: bool) -> Subscription
     }
 }
 
-/// The global subscription that a subscription to this target makes; None where the target is one step.
+/// Returns the global subscription that a subscription to this target makes, or None if the target is one step.
 ///
-/// Errors: where memory runs out.
+/// Errors: if memory runs out.
 pub(crate) fn cover_to<A: Allocator + Copy>(
     target: &Target<A>,
     subscription: Subscription,
@@ -52,7 +52,7 @@ pub(crate) fn cover_to<A: Allocator + Copy>(
     }
 }
 
-/// The step of a subscription to one step that is named; None where there is none such.
+/// Returns the step named by a subscription to one step, or None if the target names none.
 pub(crate) fn single_step<A: Allocator + Copy>(target: &Target<A>) -> Option<StepUid>
     ensures { MatchOption result ((step : List ℕ) → target.now ≢ Single (Some step)) (λ step. target.now ≡ Single (Some step)) }
 {
@@ -62,7 +62,7 @@ pub(crate) fn single_step<A: Allocator + Copy>(target: &Target<A>) -> Option<Ste
     }
 }
 
-/// Whether a subscription to this target takes in a step that has these attributes.
+/// Returns whether a subscription to this target takes in a step with these attributes.
 fn takes_in<A: Allocator + Copy>(target: &Target<A>, step: StepUid, attributes: &DataSet<A>) -> bool
     ensures { result ≡ takes_in target.now step attributes.now }
 {
@@ -74,9 +74,9 @@ fn takes_in<A: Allocator + Copy>(target: &Target<A>, step: StepUid, attributes: 
     }
 }
 
-/// Adds a step, where it is taken in.
+/// Adds a step if it is taken in.
 ///
-/// Errors: where memory runs out.
+/// Errors: if memory runs out.
 fn add_step<A: Allocator + Copy>(
     found: &mut Vec<StepUid, A>,
     step: StepUid,
@@ -90,9 +90,9 @@ fn add_step<A: Allocator + Copy>(
     Ok(())
 }
 
-/// Adds a State Report of a step as it is, where the step is taken in.
+/// Adds a State Report of the present state of a step if the step is taken in.
 ///
-/// Errors: where memory runs out.
+/// Errors: if memory runs out.
 fn add_report<A: Allocator + Copy>(
     found: &mut Vec<Report, A>,
     step: StepUid,
@@ -107,9 +107,9 @@ fn add_report<A: Allocator + Copy>(
     Ok(())
 }
 
-/// The steps that a subscription to this target takes in, in order of creation.
+/// Returns the steps that a subscription to this target takes in, in order of creation.
 ///
-/// Errors: where memory runs out.
+/// Errors: if memory runs out.
 pub(crate) fn chosen_steps<A: Allocator + Copy>(
     alloc: A,
     tables: &Tables<A>,
@@ -125,9 +125,9 @@ pub(crate) fn chosen_steps<A: Allocator + Copy>(
     Ok(found)
 }
 
-/// A State Report of each step that a subscription to this target takes in, in order of creation.
+/// Returns a State Report of each step that a subscription to this target takes in, in order of creation.
 ///
-/// Errors: where memory runs out.
+/// Errors: if memory runs out.
 pub(crate) fn chosen_reports<A: Allocator + Copy>(
     alloc: A,
     tables: &Tables<A>,

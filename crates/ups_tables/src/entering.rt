@@ -1,4 +1,4 @@
-//! The tables of an empty history, and room for all that a request makes of the history and the tables.
+//! The tables of an empty history, and room for the effect of a request on the history and the tables.
 
 ghost use Rattle.std.specs.Prelude.{◌≡◌, ◌<◌, ◌∷◌, [], true, vec_len, vec_capacity, IfOk, IsOk, OnOk};
 ghost use Rattle.ups_life.specs.Steps.{past};
@@ -17,11 +17,11 @@ use crate::tables::Tables;
 use std::alloc::{AllocError, Allocator};
 use ups_life::{Configuration, Entry};
 
-/// The tables of a history with nothing in it.
+/// Returns the tables of an empty history.
 ///
 /// # Errors
 ///
-/// Where memory runs out.
+/// If memory runs out.
 pub fn begin<A: Allocator + Copy>(
     alloc: A,
     configuration: &Configuration<A>,
@@ -35,9 +35,9 @@ pub fn begin<A: Allocator + Copy>(
     Ok(tables)
 }
 
-/// Makes room for all that a plan is to make of the tables.
+/// Makes room for the effect of a plan on the tables.
 ///
-/// Errors: where memory runs out, and never where there is that room already. The tables then say the same as before.
+/// Errors: if memory runs out, but never if there is that room already. The contents of the tables stay the same.
 pub(crate) fn room_for_plan<A: Allocator + Copy>(
     configuration: &Configuration<A>,
     history: &[Entry<A>],
@@ -78,13 +78,13 @@ pub(crate) fn room_for_plan<A: Allocator + Copy>(
     }
 }
 
-/// Makes room for all that a request that is accepted makes of the history and the tables, by its plan, so that it can be
+/// Makes room for the effect of an accepted request on the history and the tables, by its plan, so that it can be
 /// carried out.
 ///
 /// # Errors
 ///
-/// Where memory runs out, and never where there is that room already. The history is then as before, and the tables say the
-/// same as before.
+/// If memory runs out, but never if there is that room already. The history and the contents of the tables then stay
+/// the same.
 pub fn make_room<A: Allocator + Copy>(
     configuration: &Configuration<A>,
     history: &mut Vec<Entry<A>, A>,

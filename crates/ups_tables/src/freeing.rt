@@ -1,4 +1,4 @@
-//! Which steps are freed where many deletion locks of a peer end at once: from then on they wait for their removal (PS3.4
+//! The steps that are freed when many deletion locks of a peer end at once: from then on they await removal (PS3.4
 //! CC.2.3).
 
 ghost use Rattle.std.specs.Prelude.{◌≡◌, ◌<◌, ◌++◌, ℕ, List, Option, None, Some, true, length, IfOk, OnOk};
@@ -13,8 +13,8 @@ use std::alloc::{AllocError, Allocator};
 use ups_keep::Final;
 use ups_life::{StepUid, Subscription};
 
-/// Since when a step that is held would wait for its removal that does not now, were the peer subscribed to it so; None where
-/// no deletion lock on it would end, or another would stay, or it is not final.
+/// Returns the moment since which a held step that a peer keeps now would await removal if the peer had this
+/// subscription to it, or None if no deletion lock on it would end, another would stay, or the step is not final.
 fn freed_since<A: Allocator + Copy>(
     tables: &Tables<A>,
     peer: usize,
@@ -35,9 +35,9 @@ fn freed_since<A: Allocator + Copy>(
     tables.steps.final_at(step)
 }
 
-/// Adds a step, where it would wait.
+/// Adds a step if it would await removal.
 ///
-/// Errors: where memory runs out.
+/// Errors: if memory runs out.
 fn add_since<A: Allocator + Copy>(
     found: &mut Vec<Final, A>,
     step: StepUid,
@@ -51,10 +51,10 @@ fn add_since<A: Allocator + Copy>(
     Ok(())
 }
 
-/// Of the steps listed, which are held and none of which is listed twice, those that are freed where the peer is subscribed to
-/// them so, each with the moment since which it waits then.
+/// Returns those of the listed steps that are freed if the peer gets this subscription to them, each with the moment
+/// since which it awaits removal then. The listed steps are held, and none is listed twice.
 ///
-/// Errors: where memory runs out.
+/// Errors: if memory runs out.
 pub(crate) fn freed_steps<A: Allocator + Copy>(
     alloc: A,
     tables: &Tables<A>,
@@ -76,9 +76,10 @@ pub(crate) fn freed_steps<A: Allocator + Copy>(
     Ok(found)
 }
 
-/// The steps that are freed where all subscriptions of a peer end, each with the moment since which it waits then.
+/// Returns the steps that are freed if all subscriptions of a peer end, each with the moment since which it awaits
+/// removal then.
 ///
-/// Errors: where memory runs out.
+/// Errors: if memory runs out.
 pub(crate) fn freed_everywhere<A: Allocator + Copy>(
     alloc: A,
     tables: &Tables<A>,

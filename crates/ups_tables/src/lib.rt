@@ -1,5 +1,5 @@
-//! The tables of the service: what is known of a history of accepted requests without looking at it again. A request that is
-//! accepted is planned first, then room is made for what it makes of the tables, and then it is carried out, which takes no
+//! The tables of the service: what is known about a history of accepted requests without reading it again. An accepted
+//! request is planned first, then room is made for its effect on the tables, and then it is carried out, which takes no
 //! memory and can't fail (PS3.4 annex CC).
 #![tactic(auto)]
 

@@ -1,4 +1,4 @@
-//! Peers by their places in the list of peers.
+//! The index of a peer in the list of peers.
 
 ghost use Rattle.std.specs.Prelude.{◌≡◌};
 ghost use Rattle.ups_tables.specs.Places.{place_of_title};
@@ -6,7 +6,7 @@ ghost use Rattle.ups_tables.specs.Places.{place_of_title};
 use ups_life::Peer;
 use ups_pdu::Ae;
 
-/// The place of the first peer with a title; None where no peer has it.
+/// Returns the index of the first peer with the title, or None if no peer has it.
 pub fn place_of(peers: &[Peer], ae: Ae) -> Option<usize>
     ensures { result ≡ place_of_title peers.now ae }
 {

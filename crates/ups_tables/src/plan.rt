@@ -1,5 +1,5 @@
-//! The plan of a request that is accepted: what it is to make of the tables. All of it is made before the tables are changed.
-//! A peer is named by its place in the list of peers.
+//! The plan of an accepted request: its effect on the tables, computed in full before the tables change. A peer is
+//! identified by its index in the list of peers.
 
 ghost use Rattle.std.specs.Prelude.{◌≡◌};
 ghost use Rattle.ups_tables.specs.Planned.{removed_by, swept_by};
@@ -10,23 +10,23 @@ use ups_life::{Report, StepUid, Subscription};
 use ups_steps::Held;
 use ups_watch::Cover;
 
-/// What a request is to make of the tables.
+/// The effect of a request on the tables.
 #[derive(Drop)]
 pub enum Plan<A: Allocator + Copy> {
-    /// A step is created (PS3.4 CC.2.5). Who is subscribed to it by a global subscription is told the news.
+    /// The creation of a step (PS3.4 CC.2.5). The peers that a global subscription subscribes to it are told `news`.
     Create {
         step: StepUid,
         held: Held<A>,
         news: Vec<Report, A>,
     },
-    /// What is held of a step changes (PS3.4 CC.2.1, CC.2.2). Its watchers are told the news.
+    /// A change of the row or the holder of a step (PS3.4 CC.2.1, CC.2.2). Its watchers are told `news`.
     Change {
         step: StepUid,
         held: Held<A>,
         news: Vec<Report, A>,
     },
-    /// Attributes of a step are set (PS3.4 CC.2.6). Its watchers are told the news; peers that `newly` subscribes to it by
-    /// the way, at the place of each peer, are told `first` alone.
+    /// A change of attributes of a step (PS3.4 CC.2.6). Its watchers are told `news`; the peers that `newly`, indexed
+    /// by peer, subscribes to it as a result are told only `first`.
     Set {
         step: StepUid,
         held: Held<A>,
@@ -34,15 +34,15 @@ pub enum Plan<A: Allocator + Copy> {
         newly: Vec<Option<Subscription>, A>,
         first: Vec<Report, A>,
     },
-    /// A peer is subscribed to one step, and told of it (PS3.4 CC.2.3).
+    /// A subscription of a peer to one step, of which it is told (PS3.4 CC.2.3).
     Single {
         peer: usize,
         step: StepUid,
         subscription: Subscription,
         news: Vec<Report, A>,
     },
-    /// A peer gets a global subscription, is subscribed by it to the steps chosen, and is told of them (PS3.4 CC.2.3). The
-    /// steps freed wait for their removal from now on: the peer alone had a deletion lock on them.
+    /// A global subscription of a peer, which subscribes it to the `chosen` steps and tells it of them (PS3.4 CC.2.3).
+    /// The `freed` steps, on which only this peer had a deletion lock, await removal from now on.
     Global {
         peer: usize,
         cover: Cover<A>,
@@ -50,36 +50,37 @@ pub enum Plan<A: Allocator + Copy> {
         freed: Vec<Final, A>,
         news: Vec<Report, A>,
     },
-    /// The subscription of a peer to one step ends (PS3.4 CC.2.3).
+    /// The end of a peer's subscription to one step (PS3.4 CC.2.3).
     End {
         peer: usize,
         step: StepUid,
     },
-    /// All subscriptions of a peer end (PS3.4 CC.2.3). The steps freed wait for their removal from now on.
+    /// The end of all subscriptions of a peer (PS3.4 CC.2.3). The `freed` steps await removal from now on.
     EndAll {
         peer: usize,
         freed: Vec<Final, A>,
     },
-    /// The global subscription of a peer ends (PS3.4 CC.2.3).
+    /// The end of a peer's global subscription (PS3.4 CC.2.3).
     Suspend {
         peer: usize,
     },
-    /// A peer has acknowledged its events up to a number.
+    /// An acknowledgement of a peer's events up to a number.
     Ack {
         peer: usize,
         upto: u64,
     },
-    /// Steps are removed: those that became final no later than a moment and that no peer has a deletion lock on.
+    /// The removal of the steps that became final no later than a moment and that no peer has a deletion lock on.
     Sweep {
         due: Vec<Final, A>,
         moment: u64,
     },
-    /// Nothing: a sweep for which no step has waited long enough.
+    /// No effect: a sweep when no step has awaited removal long enough.
     Idle,
 }
 
 impl<A: Allocator + Copy> Plan<A> {
-    /// The steps that are removed, each with the moment at which it became final: those of a sweep, and else none.
+    /// Returns the steps that the plan removes, each with the moment at which it became final. Only a sweep removes
+    /// any.
     pub fn removed(&self) -> &[Final]
         ensures { result.now ≡ removed_by self.now }
     {
@@ -89,7 +90,7 @@ impl<A: Allocator + Copy> Plan<A> {
         }
     }
 
-    /// How many steps are removed: what a sweep is answered.
+    /// Returns the number of steps that the plan removes, which is the reply to a sweep.
     pub fn swept(&self) -> usize
         ensures { result ≡ swept_by self.now }
     {

@@ -1,4 +1,4 @@
-//! Room for what a request makes of the tables, so that it can be carried out without memory.
+//! Makes room for the effect of a request on the tables, so that it can be carried out without memory.
 
 ghost use Rattle.std.specs.Prelude.{◌≡◌, ◌≤◌, ◌<◌, ℕ, None, is_some, true, length, slice_index_or, IsOk, OnOk};
 ghost use Rattle.std.specs.HashSet as set;
@@ -13,9 +13,9 @@ use ups_events::Queues;
 use ups_life::{StepUid, Subscription};
 use ups_watch::Watchers;
 
-/// Makes room for so many more events of a peer, where it is wanted.
+/// Makes room for `more` further events of a peer if `wanted`.
 ///
-/// Errors: where memory runs out, and never where there is that room already.
+/// Errors: if memory runs out, but never if there is that room already.
 fn reserve_if<A: Allocator + Copy>(
     queues: &mut Queues<A>,
     wanted: bool,
@@ -34,9 +34,9 @@ fn reserve_if<A: Allocator + Copy>(
     Ok(())
 }
 
-/// Makes room for so many more events of each peer that is subscribed; `cells` are the subscriptions, by the places of peers.
+/// Makes room for `more` further events of each subscribed peer; `cells` are the subscriptions, indexed by peer.
 ///
-/// Errors: where memory runs out, and never where there is that room already.
+/// Errors: if memory runs out, but never if there is that room already.
 fn reserve_cells<A: Allocator + Copy>(
     queues: &mut Queues<A>,
     cells: &[Option<Subscription>],
@@ -54,9 +54,9 @@ fn reserve_cells<A: Allocator + Copy>(
     Ok(())
 }
 
-/// Makes room for so many more events of each peer that has a global subscription.
+/// Makes room for `more` further events of each peer that has a global subscription.
 ///
-/// Errors: where memory runs out, and never where there is that room already.
+/// Errors: if memory runs out, but never if there is that room already.
 fn reserve_covered<A: Allocator + Copy>(
     queues: &mut Queues<A>,
     watchers: &Watchers<A>,
@@ -74,10 +74,10 @@ fn reserve_covered<A: Allocator + Copy>(
     Ok(())
 }
 
-/// Makes room for one step more, and for so many more events of each peer that has a global subscription: it may be subscribed
-/// to the step (PS3.4 CC.2.3).
+/// Makes room for one more step, and for `news` further events of each peer that has a global subscription, which may
+/// subscribe it to the step (PS3.4 CC.2.3).
 ///
-/// Errors: where memory runs out, and never where there is that room already. The tables then say the same as before.
+/// Errors: if memory runs out, but never if there is that room already. The contents of the tables stay the same.
 pub(crate) fn make_room_to_create<A: Allocator + Copy>(
     tables: &mut Tables<A>,
     news: usize,
@@ -97,10 +97,10 @@ pub(crate) fn make_room_to_create<A: Allocator + Copy>(
     reserve_covered(&mut tables.queues, &tables.watchers, news)
 }
 
-/// Makes room for `news` more events of each peer that is subscribed to a step, for `first` more of each peer that `newly`
-/// subscribes to it, at the place of the peer, and for the wait of the step.
+/// Makes room for `news` further events of each peer that is subscribed to a step, for `first` further events of each
+/// peer that `newly`, indexed by peer, subscribes to it, and for one more step that awaits removal.
 ///
-/// Errors: where memory runs out, and never where there is that room already. The tables then say the same as before.
+/// Errors: if memory runs out, but never if there is that room already. The contents of the tables stay the same.
 pub(crate) fn make_room_to_change<A: Allocator + Copy>(
     tables: &mut Tables<A>,
     step: StepUid,
@@ -122,9 +122,9 @@ pub(crate) fn make_room_to_change<A: Allocator + Copy>(
     reserve_cells(&mut tables.queues, newly, first)
 }
 
-/// Makes room for `news` more events of a peer, and for the waits of `freed` steps, or of one where there are none.
+/// Makes room for `news` further events of a peer, and for `freed` more steps that await removal, but for at least one.
 ///
-/// Errors: where memory runs out, and never where there is that room already. The tables then say the same as before.
+/// Errors: if memory runs out, but never if there is that room already. The contents of the tables stay the same.
 pub(crate) fn make_room_to_subscribe<A: Allocator + Copy>(
     tables: &mut Tables<A>,
     peer: usize,
@@ -143,9 +143,9 @@ pub(crate) fn make_room_to_subscribe<A: Allocator + Copy>(
     make_room_to_cover(tables, peer, news, freed.max(1))
 }
 
-/// Makes room for `news` more events of a peer, and for the waits of `freed` steps.
+/// Makes room for `news` further events of a peer, and for `freed` more steps that await removal.
 ///
-/// Errors: where memory runs out, and never where there is that room already. The tables then say the same as before.
+/// Errors: if memory runs out, but never if there is that room already. The contents of the tables stay the same.
 pub(crate) fn make_room_to_cover<A: Allocator + Copy>(
     tables: &mut Tables<A>,
     peer: usize,
@@ -164,9 +164,9 @@ pub(crate) fn make_room_to_cover<A: Allocator + Copy>(
     reserve_if(&mut tables.queues, true, peer, news)
 }
 
-/// Makes room for the waits of so many steps, or of one where there are none.
+/// Makes room for `freed` more steps that await removal, but for at least one.
 ///
-/// Errors: where memory runs out, and never where there is that room already. The tables then say the same as before.
+/// Errors: if memory runs out, but never if there is that room already. The contents of the tables stay the same.
 pub(crate) fn make_room_to_free<A: Allocator + Copy>(
     tables: &mut Tables<A>,
     freed: usize,

@@ -1,4 +1,4 @@
-//! What is held of a step.
+//! A held step.
 
 use std::alloc::Allocator;
 use ups_life::{Holder, Row, StepUid};
@@ -6,10 +6,10 @@ use ups_life::{Holder, Row, StepUid};
 /// A step that is held.
 #[derive(Drop)]
 pub struct HeldStep<A: Allocator + Copy> {
-    /// Its instance UID.
+    /// The instance UID.
     pub step: StepUid,
-    /// Its attributes, its state, and what else is held of it.
+    /// The attributes of the step, its state, and the rest of its row.
     pub row: Row<A>,
-    /// Who has claimed it (PS3.4 CC.2.1); None where nobody has.
+    /// The caller that has claimed the step (PS3.4 CC.2.1), or None if nobody has.
     pub holder: Option<Holder>,
 }

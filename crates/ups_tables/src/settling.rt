@@ -1,5 +1,5 @@
-//! How the list of the steps that wait for their removal follows deletion locks and states: a step waits where it is final and
-//! no peer has a deletion lock on it (PS3.4 CC.2.3).
+//! Keeps the list of the steps that await removal in line with deletion locks and states: a step is listed if it is
+//! final and no peer has a deletion lock on it (PS3.4 CC.2.3).
 
 ghost use Rattle.std.specs.Prelude.{◌≡◌, ◌≤◌, ◌<◌, ◌+◌, ◌&&◌, ℕ, not, List, None, Some, is_some, true, false, length, if◌then◌else◌};
 ghost use Rattle.std.specs.Option.{option_or};
@@ -14,14 +14,15 @@ use ups_keep::{Due, Final};
 use ups_life::{StepUid, Subscription};
 use ups_watch::Watchers;
 
-/// Since when a step waits that became final then, or isn't final: it doesn't while a peer keeps it.
+/// Returns the moment since which a step awaits removal: `final_at`, or None if a peer keeps the step or it isn't
+/// final.
 pub(crate) fn waiting_since(kept: bool, final_at: Option<u64>) -> Option<u64>
     ensures { result ≡ unless_kept kept final_at }
 {
     if kept { None } else { final_at }
 }
 
-/// Whether two are the same moment, or both none.
+/// Returns whether both are the same moment, or both None.
 fn is_same(before: Option<u64>, after: Option<u64>) -> bool
     ensures { result ≡ true → before ≡ after }
 {
@@ -32,7 +33,7 @@ fn is_same(before: Option<u64>, after: Option<u64>) -> bool
     }
 }
 
-/// Takes a step out of the list, if it waits.
+/// Removes a step that is in the list with the moment `before`, unless that is None.
 fn take_if<A: Allocator + Copy>(due: &mut Due<A>, step: StepUid, before: Option<u64>)
     requires once { Distinct (steps_of due.old.steps) }
     requires before { waits step due.old.steps ≡ before }
@@ -46,7 +47,7 @@ fn take_if<A: Allocator + Copy>(due: &mut Due<A>, step: StepUid, before: Option<
     }
 }
 
-/// Adds a step that did not wait, if it waits now. There is room for it.
+/// Adds a step that is not in the list, with the moment `after`, unless that is None. There is room for it.
 fn add_if<A: Allocator + Copy>(due: &mut Due<A>, step: StepUid, after: Option<u64>)
     requires once { Distinct (steps_of due.old.steps) }
     requires absent { waits step due.old.steps ≡ None }
@@ -60,7 +61,8 @@ fn add_if<A: Allocator + Copy>(due: &mut Due<A>, step: StepUid, after: Option<u6
     }
 }
 
-/// Lets the list follow a step that has waited since `before`, if at all, and waits since `after` now. There is room for it.
+/// Updates the list for a step that has awaited removal since `before`, if at all, and awaits it since `after` now, if
+/// at all. There is room for it.
 pub(crate) fn settle<A: Allocator + Copy>(
     due: &mut Due<A>,
     step: StepUid,
@@ -80,7 +82,7 @@ pub(crate) fn settle<A: Allocator + Copy>(
     add_if(due, step, after);
 }
 
-/// Takes out all steps on which a peer has a deletion lock. It goes over the list once.
+/// Removes all steps on which a peer has a deletion lock. It walks the list once.
 pub(crate) fn drop_kept<A: Allocator + Copy>(due: &mut Due<A>, watchers: &Watchers<A>)
     requires once { Distinct (steps_of due.old.steps) }
     ensures waits { (u : List ℕ) → waits u due.new.steps ≡ unless_kept (is_locked_by_any (cells_of watchers.now u)) (waits u due.old.steps) }
@@ -90,7 +92,7 @@ pub(crate) fn drop_kept<A: Allocator + Copy>(due: &mut Due<A>, watchers: &Watche
     due.retain(|step| !watchers.is_kept(step.step));
 }
 
-/// Takes out all steps on which a peer has a deletion lock, where one was given; where none was, none of them is in the list.
+/// Removes all steps on which a peer has a deletion lock, if `locks`: otherwise the list contains no such step.
 fn drop_kept_if<A: Allocator + Copy>(due: &mut Due<A>, watchers: &Watchers<A>, locks: bool)
     requires once { Distinct (steps_of due.old.steps) }
     requires unlocked { locks ≡ false → (u : List ℕ) → is_locked_by_any (cells_of watchers.now u) ≡ true → waits u due.old.steps ≡ None }
@@ -103,7 +105,7 @@ fn drop_kept_if<A: Allocator + Copy>(due: &mut Due<A>, watchers: &Watchers<A>, l
     }
 }
 
-/// Adds many steps that did not wait so far. There is room for them.
+/// Adds many steps that are not in the list. There is room for them.
 fn add_freed<A: Allocator + Copy>(due: &mut Due<A>, freed: &[Final])
     requires once { Distinct (steps_of due.old.steps) }
     requires freed { Distinct (steps_of freed.now) }
@@ -115,7 +117,7 @@ fn add_freed<A: Allocator + Copy>(due: &mut Due<A>, freed: &[Final])
     due.merge(freed);
 }
 
-/// Whether a peer that is subscribed so has a deletion lock (PS3.4 CC.2.3).
+/// Returns whether a subscription has a deletion lock (PS3.4 CC.2.3).
 fn is_lock(subscription: Option<Subscription>) -> bool
     ensures { result ≡ is_locked subscription }
 {
@@ -125,8 +127,8 @@ fn is_lock(subscription: Option<Subscription>) -> bool
     }
 }
 
-/// Lets the list follow many steps at once, to which a peer was subscribed so: those that are kept by it now are taken out, and
-/// those freed by it are added. There is room for them.
+/// Updates the list after a peer's subscription to many steps became `subscription`: removes the steps that are kept
+/// now, and adds those freed by it. There is room for them.
 pub(crate) fn settle_many<A: Allocator + Copy>(
     due: &mut Due<A>,
     watchers: &Watchers<A>,

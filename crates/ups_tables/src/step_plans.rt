@@ -22,7 +22,7 @@ use ups_dataset::DataSet;
 use ups_life::{Configuration, Entry, Request, Row, StepUid, Subscription};
 use ups_steps::Held;
 
-/// The row of a step, by what is held of it.
+/// Returns the row of a step, or None if the step is not held.
 fn row_of<A: Allocator + Copy>(held: Option<&Held<A>>) -> Option<&Row<A>>
     ensures { option_copied result ≡ row_held (option_copied held.entry) }
 {
@@ -32,9 +32,10 @@ fn row_of<A: Allocator + Copy>(held: Option<&Held<A>>) -> Option<&Row<A>>
     }
 }
 
-/// How a change of the attributes of a step subscribes each peer, at the place of the peer, by what was held of the step.
+/// Returns the subscription that each peer gains, indexed by peer, by a change of the attributes of a step, which had
+/// the row `before`.
 ///
-/// Errors: where memory runs out.
+/// Errors: if memory runs out.
 fn newly_of<A: Allocator + Copy>(
     tables: &Tables<A>,
     step: StepUid,
@@ -51,11 +52,12 @@ fn newly_of<A: Allocator + Copy>(
     }
 }
 
-/// The plan of a request that creates or changes a step, and that its state allows, by what is to be held of the step then.
+/// Returns the plan of a request that creates or changes a step and that the state of the step allows; `held` is the
+/// row and the holder of the step after it.
 ///
 /// # Errors
 ///
-/// Where memory runs out.
+/// If memory runs out.
 pub fn plan_step<A: Allocator + Copy>(
     alloc: A,
     configuration: &Configuration<A>,

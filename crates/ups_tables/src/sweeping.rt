@@ -1,5 +1,5 @@
-//! The plan of a sweep, which removes the steps that are final for as long as final steps are kept, and that no peer has a
-//! deletion lock on. That it is a request, and how long they are kept, is the profile's.
+//! The plan of a sweep, which removes the steps that have been final for the retention time and that no peer has a
+//! deletion lock on. The sweep request and the retention time are defined by the profile, not by DICOM.
 
 ghost use Rattle.std.specs.Prelude.{◌≡◌, true, IfOk, OnErr};
 ghost use Rattle.ups_life.specs.declared.request.Reply.TheVariants.{Swept};
@@ -14,11 +14,11 @@ use crate::tables::Tables;
 use std::alloc::{AllocError, Allocator};
 use ups_life::{Configuration, Entry};
 
-/// The plan of a sweep. The reply to it tells how many steps the plan removes.
+/// Returns the plan of a sweep. The reply to the sweep is the number of steps that the plan removes.
 ///
 /// # Errors
 ///
-/// Where memory runs out, and there is a step to remove: that there is none takes no memory.
+/// If memory runs out while there is a step to remove. If there is none, the plan takes no memory.
 pub fn plan_sweep<A: Allocator + Copy>(
     alloc: A,
     configuration: &Configuration<A>,

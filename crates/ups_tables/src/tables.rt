@@ -1,4 +1,4 @@
-//! The tables, and those of a history with nothing in it.
+//! The tables, and their contents for an empty history.
 
 ghost use Rattle.std.specs.Prelude.{◌≡◌, [], ℕ, List, None, replicate, IfOk};
 ghost use Rattle.ups_events.specs.Telling.{empty_line};
@@ -13,27 +13,27 @@ use ups_life::StepUid;
 use ups_steps::Steps;
 use ups_watch::Watchers;
 
-/// What is known of a history of accepted requests. A peer is named by its place in the list of peers.
+/// What is known about a history of accepted requests. A peer is identified by its index in the list of peers.
 #[derive(Drop)]
 pub struct Tables<A: Allocator + Copy> {
-    /// The steps held, in order of creation, each under its UID.
+    /// The held steps, in order of creation, keyed by UID.
     pub steps: Steps<A>,
-    /// The UIDs of all steps that were ever created: none is used again (PS3.4 CC.2.5).
+    /// The UIDs of all steps ever created: none is used again (PS3.4 CC.2.5).
     pub used: HashSet<StepUid, BuildHasherDefault<FoldHasher>, A>,
-    /// The global subscription of each peer, and how each peer is subscribed to each step held (PS3.4 CC.2.3).
+    /// The global subscription of each peer, and the subscription of each peer to each held step (PS3.4 CC.2.3).
     pub watchers: Watchers<A>,
     /// The events of each peer that it has not acknowledged (PS3.4 CC.2.4).
     pub queues: Queues<A>,
-    /// The steps that wait for their removal: they are final, and no peer has a deletion lock on them (PS3.4 CC.2.3).
+    /// The steps that await removal: they are final, and no peer has a deletion lock on them (PS3.4 CC.2.3).
     pub due: Due<A>,
 }
 
 impl<A: Allocator + Copy> Tables<A> {
-    /// The tables of a history with nothing in it, for so many peers.
+    /// Returns the tables of an empty history, for this number of peers.
     ///
     /// # Errors
     ///
-    /// Where memory runs out.
+    /// If memory runs out.
     pub fn new(alloc: A, peers: usize) -> Result<Tables<A>, AllocError>
         ensures steps { IfOk result (λ t. t.steps.entries ≡ []) }
         ensures used { IfOk result (λ t. t.used.keys ≡ []) }

@@ -1,4 +1,4 @@
-//! What a request tells of its step to those who watch the step (PS3.4 CC.2.4).
+//! What a request tells the watchers of its step (PS3.4 CC.2.4).
 
 ghost use Rattle.std.specs.Prelude.{◌≡◌, ◌∷◌, [], IfOk};
 ghost use Rattle.std.specs.Option.{option_copied, unwrap_or};
@@ -11,7 +11,7 @@ use ups_cycle::StepState;
 use ups_life::{EventKind, InputReadiness, Report, Request, Row, StepUid};
 use ups_rules::{cancel_reports, readiness_in, set_reports};
 
-/// A State Report of a step as it is, by what is held of it (PS3.4 CC.2.4).
+/// Returns a State Report of the present state of a step, from its row (PS3.4 CC.2.4).
 pub(crate) fn report_now<A: Allocator + Copy>(step: StepUid, row: &Row<A>) -> Report
     ensures { result ≡ report_now step row.now }
 {
@@ -23,9 +23,9 @@ pub(crate) fn report_now<A: Allocator + Copy>(step: StepUid, row: &Row<A>) -> Re
     }
 }
 
-/// One report.
+/// Returns a list of one report.
 ///
-/// Errors: where memory runs out.
+/// Errors: if memory runs out.
 pub(crate) fn alone<A: Allocator + Copy>(
     alloc: A,
     report: Report,
@@ -37,7 +37,7 @@ pub(crate) fn alone<A: Allocator + Copy>(
     Ok(reports)
 }
 
-/// The state of a step, by what was held of it; SCHEDULED where nothing was.
+/// Returns the state of a step from its row before the request, or SCHEDULED if it had none.
 fn state_of<A: Allocator + Copy>(before: Option<&Row<A>>) -> StepState
     ensures { result ≡ (unwrap_or (option_copied before.entry) nothing).state }
 {
@@ -47,7 +47,7 @@ fn state_of<A: Allocator + Copy>(before: Option<&Row<A>>) -> StepState
     }
 }
 
-/// The readiness of a step's input, by what was held of the step; None where nothing was.
+/// Returns the readiness of a step's input from its row before the request, or None if it had none.
 fn readiness_of<A: Allocator + Copy>(before: Option<&Row<A>>) -> Option<InputReadiness>
     ensures { result ≡ readiness_in (unwrap_or (option_copied before.entry) nothing).attributes }
 {
@@ -57,10 +57,10 @@ fn readiness_of<A: Allocator + Copy>(before: Option<&Row<A>>) -> Option<InputRea
     }
 }
 
-/// What a request tells of its step, by what was held of the step before it, if anything was, and what is held after it.
-/// A request on no step tells nothing.
+/// Returns the reports that a request makes of its step, from the row before the request, if there was one, and the row
+/// after it. A request that is not on a step makes none.
 ///
-/// Errors: where memory runs out.
+/// Errors: if memory runs out.
 pub(crate) fn news<A: Allocator + Copy>(
     alloc: A,
     step: StepUid,

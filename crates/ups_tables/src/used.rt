@@ -1,4 +1,4 @@
-//! The UIDs that were used.
+//! The UIDs that have been used.
 
 ghost use Rattle.std.specs.Prelude.{◌≡◌, ◌<◌, ◌||◌, ℕ, List};
 ghost use Rattle.std.specs.Str.{bytes_eq};

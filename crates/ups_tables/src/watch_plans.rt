@@ -1,4 +1,4 @@
-//! The plans of requests of a watcher: subscriptions begin and end (PS3.4 CC.2.3).
+//! The plans of a watcher's requests, which begin and end subscriptions (PS3.4 CC.2.3).
 
 ghost use Rattle.std.specs.Prelude.{◌≡◌, ◌≢◌, ℕ, List, Some, true, IfOk};
 ghost use Rattle.ups_cycle.specs.Statuses.{is_done};
@@ -20,9 +20,9 @@ use std::alloc::{AllocError, Allocator};
 use ups_life::{Configuration, Entry, Place, StepUid, Target};
 use ups_pdu::Ae;
 
-/// The plan of a subscription of a peer to one step.
+/// Returns the plan of a subscription of a peer to one step.
 ///
-/// Errors: where memory runs out.
+/// Errors: if memory runs out.
 fn plan_single<A: Allocator + Copy>(
     alloc: A,
     configuration: &Configuration<A>,
@@ -53,9 +53,9 @@ fn plan_single<A: Allocator + Copy>(
     })
 }
 
-/// The plan of a global subscription of a peer, with keys or without.
+/// Returns the plan of a global subscription of a peer, with keys or without.
 ///
-/// Errors: where memory runs out.
+/// Errors: if memory runs out.
 fn plan_global<A: Allocator + Copy>(
     alloc: A,
     configuration: &Configuration<A>,
@@ -91,11 +91,11 @@ fn plan_global<A: Allocator + Copy>(
     })
 }
 
-/// The plan of a subscription that is accepted: to one step, to each step, or to those that match keys.
+/// Returns the plan of an accepted subscription: to one step, to every step, or to those that match keys.
 ///
 /// # Errors
 ///
-/// Where memory runs out.
+/// If memory runs out.
 pub fn plan_subscription<A: Allocator + Copy>(
     alloc: A,
     configuration: &Configuration<A>,
@@ -140,11 +140,11 @@ pub fn plan_subscription<A: Allocator + Copy>(
     }
 }
 
-/// The plan of an end of subscriptions that is accepted: at one step, or everywhere.
+/// Returns the plan of an accepted request to end subscriptions: the one to a single step, or all of them.
 ///
 /// # Errors
 ///
-/// Where memory runs out.
+/// If memory runs out.
 pub fn plan_end<A: Allocator + Copy>(
     alloc: A,
     configuration: &Configuration<A>,
@@ -172,7 +172,7 @@ pub fn plan_end<A: Allocator + Copy>(
     }
 }
 
-/// The plan of a suspension of a global subscription that is accepted. It takes no memory.
+/// Returns the plan of an accepted suspension of a global subscription. It takes no memory.
 pub fn plan_suspend<A: Allocator + Copy>(
     configuration: &Configuration<A>,
     history: &[Entry<A>],

@@ -13,9 +13,9 @@ use ups_life::{Ask, Reply};
 use ups_pdu::Ae;
 use ups_service::{Service, SharedService};
 
-/// A pass at its desk: the service that a session of this pass asks. Other passes enter requests between two of its
-/// calls. A pass may make 2^40 calls, each of which is answered by the history, and refuses each later one: with 0213, or
-/// with A700 where it is a query.
+/// A pass at its desk: the service that a session of this pass asks. Other passes may enter requests between two of its
+/// calls. A pass may make 2^40 calls, each of which is answered by the history, and refuses later ones: with A700 if
+/// they are queries, and with 0213 otherwise.
 #[derive(Drop)]
 pub struct At<'a, M: SharedService<A>, A: Allocator + Copy, R: Wait> {
     rt: &'a R,

@@ -26,28 +26,28 @@ use ups_life::{Ask, Reply};
 use ups_pdu::Ae;
 use ups_service::{Observer, SharedService};
 
-/// How many passes a desk may have: with so many, each making all its calls, the tickets stay far below what a
+/// The greatest number of passes of a desk. Even if all of them make all their calls, the tickets stay far below what a
 /// word holds.
 const MOST_SEATS: u32 = 1024;
 
-/// That nobody waits for further entries, and that somebody does.
+/// The values of `awaited`: nobody waits for further entries, or somebody does.
 const NOBODY: u64 = 0;
 
 const SOMEBODY: u64 = 1;
 
-/// How many calls a pass may make.
+/// The greatest number of calls of a pass.
 const MOST_CALLS: u64 = 1 << 40;
 
-/// A desk with one manager, which threads share. A contract sees it as its table, how many passes it has, and the
+/// A desk with one manager, which threads share. A contract sees it as its table, the number of its passes, and the
 /// manager that it opened with.
 #[derive(Drop)]
 pub struct Desk<M: SharedService<A>, A: Allocator + Copy> {
     table: Table<Option<Held<M, A>>, View<A>, Opening<M, A>, InTurn, A>,
     seats: u64,
-    /// A pass draws its ticket with this lock held. So the turn is most often its own at once, and goes to whichever
-    /// pass runs, not to one that sleeps. No contract rests on it.
+    /// A lock that a pass holds from before it draws its ticket to the end of its turn. So the turn is most often its
+    /// own at once, and goes to whichever pass runs, not to one that sleeps. No contract depends on it.
     ticket_lock: Mutex<()>,
-    /// Whether somebody waits for further entries: 0 where nobody does. No contract rests on it.
+    /// Whether somebody waits for further entries: 0 if nobody does. No contract depends on it.
     awaited: AtomicU64,
 }
 
@@ -67,14 +67,14 @@ impl<M: SharedService<A>, A: Allocator + Copy> Model for Desk<M, A> {
     ghost invariant = { λ d. (d.table.shared.table_id.words ≡ 3) × (d.table.shared.table_id.slots ≡ 1) × (d.seats ≡ d.table.shared.key.seats) × (0 < d.seats) };
 }
 
-// Whether a desk may have so many passes.
+// Returns whether a desk may have this number of passes.
 fn are_seats(seats: u32) -> bool
     ensures { result ≡ are_seats seats }
 {
     1 <= seats && seats <= MOST_SEATS
 }
 
-// One seat that stands for all these passes.
+// Joins the seats of all these passes into one.
 fn gather<M: SharedService<A>, A: Allocator + Copy>(
     shelf: &Shelf<M, A>,
     mut passes: Vec<Pass<M, A>, A>,
@@ -97,7 +97,7 @@ fn gather<M: SharedService<A>, A: Allocator + Copy>(
     place
 }
 
-// The manager of a table that was not made.
+// Returns the manager of a table that could not be made.
 fn back<M: SharedService<A>, A: Allocator + Copy>(
     refused: Refused<Option<Held<M, A>>, A>,
 ) -> Held<M, A>
@@ -111,7 +111,7 @@ fn back<M: SharedService<A>, A: Allocator + Copy>(
     manager
 }
 
-// The passes of a new desk, in the order of their numbers.
+// Deals out the passes of a new desk, in the order of their numbers.
 fn deal_out<M: SharedService<A>, A: Allocator + Copy>(
     shelf: &Shelf<M, A>,
     place: Place<M, A>,
@@ -137,8 +137,8 @@ fn deal_out<M: SharedService<A>, A: Allocator + Copy>(
     }
 }
 
-// What a pass that has made all its calls tells: the status of each kind of ask that says that there is no more to
-// be had (PS3.7 annex C, PS3.4 section C.4.1.1.4).
+// Returns the status with which a pass that has made all its calls answers an ask: the one that says, for its kind,
+// that resources are exhausted (PS3.7 annex C, PS3.4 section C.4.1.1.4).
 fn lacking<A: Allocator + Copy>(ask: &Ask<A>) -> Status
     ensures { result ≡ Rattle.ups_service.specs.Law.lacking ask.now }
 {
@@ -149,13 +149,13 @@ fn lacking<A: Allocator + Copy>(ask: &Ask<A>) -> Status
 }
 
 impl<M: SharedService<A>, A: Allocator + Copy> Desk<M, A> {
-    /// A desk over a manager, and its passes, which have the numbers from 1 to `seats` in this order. Its memory is
-    /// `alloc`'s.
+    /// Returns a desk over a manager, and its passes, which have the numbers from 1 to `seats` in this order. It
+    /// allocates from `alloc`.
     ///
     /// # Errors
     ///
-    /// The manager comes back as it was, with the first of these: BadSeats where `seats` is 0 or above 1,024; Memory
-    /// where memory runs out.
+    /// The manager as it was, with the first of these: `BadSeats` if `seats` is 0 or above 1,024; `Memory` if memory
+    /// runs out.
     pub fn open(
         alloc: A,
         manager: M,
@@ -175,7 +175,7 @@ impl<M: SharedService<A>, A: Allocator + Copy> Desk<M, A> {
         }
     }
 
-    // A desk with so many seats; or the manager, where memory runs out.
+    // Returns a desk with this number of seats, or the manager if memory runs out.
     fn with_seats(
         alloc: A,
         manager: Held<M, A>,
@@ -216,7 +216,7 @@ impl<M: SharedService<A>, A: Allocator + Copy> Desk<M, A> {
         }
     }
 
-    /// A pass at this desk, as a service: each of its calls waits for its turn, which `rt` allows.
+    /// Returns a pass at this desk as a service: each of its calls waits for its turn, which `rt` allows.
     pub fn at<'a, R: Wait>(&'a self, rt: &'a R, pass: &'a mut Pass<M, A>) -> At<'a, M, A, R>
         requires here { pass.old.table ≡ self.now.table }
         ensures same_reference { result.pass.ghost_name ≡ pass.entry.ghost_name }
@@ -225,7 +225,7 @@ impl<M: SharedService<A>, A: Allocator + Copy> Desk<M, A> {
         At::new(rt, self, pass)
     }
 
-    /// One call of a pass, in its turn. A pass that has made 2^40 calls is refused.
+    /// Makes one call of a pass, in its turn. A pass that has made 2^40 calls is refused.
     pub(crate) fn call<R: Wait>(
         &self,
         rt: &R,
@@ -259,8 +259,8 @@ impl<M: SharedService<A>, A: Allocator + Copy> Desk<M, A> {
         reply
     }
 
-    /// Has an observer look at the history, in a turn of the pass, which has seen it then. It enters nothing, and counts as a
-    /// call: false, and nobody looks, where the pass has made 2^40 calls.
+    /// Shows the history to an observer in a turn of the pass, which has then seen it too. This enters nothing, but
+    /// counts as a call. Returns false, and shows nothing, if the pass has made 2^40 calls.
     pub fn observe<O: Observer<A>, R: Wait>(
         &self,
         rt: &R,
@@ -284,9 +284,9 @@ impl<M: SharedService<A>, A: Allocator + Copy> Desk<M, A> {
         true
     }
 
-    /// How many requests are entered, as soon as these are not so many as are known, and else in so long at most. It takes no
-    /// turn, and no pass waits for it; one thread at a time may wait so. Others may enter requests meanwhile, so nothing is
-    /// promised of it.
+    /// Waits until the number of entered requests differs from `known`, for at most `limit`, and returns it. This takes
+    /// no turn, and no pass waits for it; one thread at a time may wait like this. Others may enter requests meanwhile,
+    /// so nothing is promised of the result.
     pub fn await_entries<R: Wait>(&self, rt: &R, known: u64, limit: Duration) -> u64 {
         let shelf = &self.table.shared;
         self.awaited.store(SOMEBODY, Ordering::SeqCst);
@@ -297,14 +297,14 @@ impl<M: SharedService<A>, A: Allocator + Copy> Desk<M, A> {
         shelf.peek(COUNT)
     }
 
-    /// Wakes who waits for further entries, where there are not so many as before.
+    /// Wakes the thread that waits for further entries, if there is one, unless their number is still `before`.
     pub(crate) fn announce(&self, before: u64, entries: u64) {
         if entries != before && self.awaited.load(Ordering::SeqCst) != NOBODY {
             self.table.shared.wake_all(COUNT);
         }
     }
 
-    // Has a pass learn what another has seen.
+    // Makes `pass` learn what `from` has seen.
     fn tell(&self, pass: &mut Pass<M, A>, from: &mut Pass<M, A>)
         requires pass { pass.old.table ≡ self.now.table }
         requires from { from.old.table ≡ self.now.table }
@@ -318,8 +318,8 @@ impl<M: SharedService<A>, A: Allocator + Copy> Desk<M, A> {
         pass.front = pass.front.max(from.front);
     }
 
-    /// Has two passes tell each other what they have seen: both then have seen the longer of the two histories.
-    /// Returns how many entries that has. Nobody waits.
+    /// Makes two passes tell each other what they have seen: both then have seen the longer of the two histories.
+    /// Returns the number of its entries. Nobody waits.
     pub fn meet(&self, left: &mut Pass<M, A>, right: &mut Pass<M, A>) -> u64
         requires left { left.old.table ≡ self.now.table }
         requires right { right.old.table ≡ self.now.table }
@@ -341,7 +341,7 @@ impl<M: SharedService<A>, A: Allocator + Copy> Desk<M, A> {
     ///
     /// # Errors
     ///
-    /// Missing where these are not all of its passes: desk and passes come back as they were.
+    /// `Missing` if these are not all of its passes: the desk and the passes are returned as they were.
     pub fn close(
         self,
         passes: Vec<Pass<M, A>, A>,

@@ -1,8 +1,8 @@
-//! Why a desk does not open, or does not close.
+//! The reasons why a desk does not open, or does not close.
 
 use thiserror::Error;
 
-/// Why no desk was opened: the first of the tests that fails.
+/// The reason why no desk was opened: the first of the tests that fails.
 #[derive(Clone, Copy, Debug, PartialEq, Eq, Error)]
 pub enum OpenFault {
     /// There are no seats, or more than 1,024.
@@ -13,7 +13,7 @@ pub enum OpenFault {
     Memory,
 }
 
-/// Why a desk was not closed.
+/// The reason why a desk was not closed.
 #[derive(Clone, Copy, Debug, PartialEq, Eq, Error)]
 pub enum CloseFault {
     /// Not all of its passes are there.

@@ -1,4 +1,4 @@
-//! The manager of a desk, as the desk's table has it.
+//! The manager of a desk, as the desk's table contains it.
 
 ghost use Rattle.std.specs.Prelude.{◌≡◌, ◌++◌, length};
 ghost use Rattle.ups_life.specs.Settings.{IsMoment};
@@ -10,8 +10,8 @@ use ups_life::{Ask, Entry, Reply};
 use ups_pdu::Ae;
 use ups_service::SharedService;
 
-/// The manager that the passes share. A contract sees it as what was fixed at its start and its history, oldest entry first:
-/// the rule of the desk's table speaks of nothing else.
+/// The manager that the passes share. A contract sees it as what was fixed at its start and its history, oldest entry
+/// first: the rule of the desk's table is about nothing else.
 #[derive(Drop)]
 pub struct Held<M: SharedService<A>, A: Allocator + Copy> {
     shared: M,
@@ -48,14 +48,14 @@ impl<M: SharedService<A>, A: Allocator + Copy> Held<M, A> {
         shared
     }
 
-    /// How many requests may be entered.
+    /// Returns the greatest number of requests that may be entered.
     pub(crate) fn limit(&self) -> u64
         ensures { result ≡ self.now.settings.limit }
     {
         self.shared.limit()
     }
 
-    /// How many requests are entered.
+    /// Returns the number of entered requests.
     pub(crate) fn entries(&self) -> u64
         ensures count { result ≡ length self.now.history }
         ensures legal { is_legal self.now.settings self.now.history }
@@ -63,14 +63,14 @@ impl<M: SharedService<A>, A: Allocator + Copy> Held<M, A> {
         self.shared.entries() as u64
     }
 
-    /// The accepted requests, oldest first.
+    /// Returns the accepted requests, oldest first.
     pub(crate) fn history(&self) -> &[Entry<A>]
         ensures { result.now ≡ self.now.history }
     {
         self.shared.history()
     }
 
-    /// Answers what an application entity asks, and enters it where it is a request that is accepted.
+    /// Answers what an application entity asks, and enters it if it is a request that is accepted.
     pub(crate) fn answer_as(&mut self, caller: u32, ae: Ae, moment: u64, ask: Ask<A>) -> Reply<A>
         requires moment { IsMoment moment }
         ensures answer { Answers self.old.settings self.old.history caller ae moment ask result }

@@ -1,4 +1,4 @@
-//! What a history that passes share says of each of them: laws, each the contract of a function that does nothing.
+//! Laws about the passes that share a history, each stated by the contract of a function without effect.
 
 ghost use Rattle.std.specs.Prelude.{◌≡◌, ℕ, List, All, Some};
 ghost use Rattle.ups_cycle.specs.declared.status.Status.TheVariants.{Success};
@@ -16,9 +16,10 @@ ghost use Rattle.ups_turn.specs.Pass.{PassView, IsCall, HasObserved, Learns, End
 
 use std::alloc::Allocator;
 
-/// The requests with a pass's number in what it has seen are those that its calls entered, each once and in their order:
-/// each call adds just what it enters, and what the pass observes, or learns from another, adds none. Those in the history of a closed
-/// desk, behind the one that it opened with, are exactly these.
+/// Does nothing at run time: its contract tells a proof that the requests with a pass's number in what it has seen are
+/// those that its calls entered, each once and in their order. Each call adds just what it enters; what the pass
+/// observes, or learns from another, adds none. Those in the history of a closed desk, after the entries that it opened
+/// with, are exactly these.
 pub fn a_history_has_what_each_pass_entered<A: Allocator + Copy>()
     ensures called { (old new : PassView A) → (ae : List ℕ) → (moment : ℕ) → (ask : Ask A) → (reply : Reply A) → IsCall old ae moment ask reply new → AddsOwn old ae moment ask reply new }
     ensures observed { (old new : PassView A) → HasObserved old new → own old.number new.seen ≡ own old.number old.seen }
@@ -26,9 +27,10 @@ pub fn a_history_has_what_each_pass_entered<A: Allocator + Copy>()
     ensures closed { (opening history : List (Entry A)) → (passes : List (PassView A)) → EndsFor history passes → All (HasOwn opening history) passes }
 {}
 
-/// Two calls of passes that change one step to IN PROGRESS and were both answered with success are the same call, where one
-/// legal history goes on from what each of the passes has seen: so where they have met, and where their desk is closed.
-/// Their pass is the holder of the step there (PS3.4 CC.1.1).
+/// Does nothing at run time: its contract tells a proof that two calls of passes that change one step to IN PROGRESS
+/// and were both answered with success are the same call, if one legal history continues what each of the passes has
+/// seen, as it does when they have met, and when their desk is closed. Their pass is the holder of the step there
+/// (PS3.4 CC.1.1).
 pub fn a_step_is_held_by_one_pass<A: Allocator + Copy>()
     ensures { (s : Settings) → (u : List ℕ) → (history : List (Entry A)) → (old1 new1 old2 new2 : PassView A) → (ae1 ae2 uid1 uid2 : List ℕ) → (m1 m2 : ℕ)
         → is_legal s history → old1.settings ≡ s → old2.settings ≡ s

@@ -1,10 +1,10 @@
-//! The desk: passes that threads hold take turns with one manager, and are answered by one history.
+//! The desk: passes held by threads take turns with one manager, and are answered from one history.
 //!
-//! A desk is a ticket counter. A pass that calls draws the next ticket, waits until it is served, has the
-//! manager to itself for one call, and serves the next ticket before the call returns. Each pass is a service
-//! of the law that `ups_service` gives, under its own caller number, and may make 2^40 calls.
+//! A desk works like a ticket counter. A pass that makes a call draws the next ticket, waits until it is served, has
+//! the manager to itself for one call, and serves the next ticket before the call returns. Each pass is a service of
+//! the law given by `ups_service`, under its own caller number, and may make 2^40 calls.
 //!
-//! The manager is any `SharedService`, a type parameter, so this crate does not stand on that of the manager.
+//! The manager is any `SharedService`, a type parameter, so this crate does not depend on the crate of the manager.
 #![tactic(auto)]
 
 mod at;

@@ -7,14 +7,15 @@ use std::alloc::Allocator;
 use std::marker::Model;
 use ups_service::SharedService;
 
-/// A pass to a desk, which one thread at a time may hold. A contract sees it as its desk's table, what was fixed at
-/// the start of the manager there, its number, how many calls it has made, and the history that it has seen.
+/// A pass to a desk, which one thread at a time may hold. A contract sees it as the table of its desk, what was fixed
+/// at the start of the manager there, its number, the number of calls that it has made, and the history that it has
+/// seen.
 #[derive(Drop)]
 pub struct Pass<M: SharedService<A>, A: Allocator + Copy> {
     pub(crate) place: Place<M, A>,
     pub(crate) number: u32,
     pub(crate) calls: u64,
-    /// How many entries it has seen.
+    /// The number of entries that it has seen.
     pub(crate) front: u64,
 }
 
@@ -36,21 +37,21 @@ impl<M: SharedService<A>, A: Allocator + Copy> Model for Pass<M, A> {
 }
 
 impl<M: SharedService<A>, A: Allocator + Copy> Pass<M, A> {
-    /// The number of the pass, from 1 up. The entries of the pass have it as their caller.
+    /// Returns the number of the pass, from 1 up. The entries of the pass have it as their caller.
     pub fn number(&self) -> u32
         ensures { result ≡ self.now.number }
     {
         self.number
     }
 
-    /// How many entries of the history the pass has seen.
+    /// Returns the number of entries of the history that the pass has seen.
     pub fn seen(&self) -> u64
         ensures { result ≡ length self.now.seen }
     {
         self.front
     }
 
-    /// The seat of the pass.
+    /// Returns the seat of the pass.
     pub(crate) fn into_place(self) -> Place<M, A>
         ensures table { result.table_id ≡ self.table }
         ensures rests { (result.me.0.ticket ≡ None) × (result.me.0.turn ≡ false) × (result.me.1 ≡ []) }

@@ -1,5 +1,5 @@
-//! The rule of the desk's table, and its kinds of step. Taking the manager out of the slot, and giving it back,
-//! are plain memory, and no steps.
+//! The rule of the desk's table, and its kinds of step. Taking the manager out of the slot and giving it back are plain
+//! memory accesses, not steps.
 
 use crate::held::Held;
 use crate::view::{Opening, View};
@@ -18,7 +18,7 @@ impl<M: SharedService<A>, A: Allocator + Copy> TableRule<Option<Held<M, A>>, Vie
     ghost first = { first_seat_view };
 }
 
-/// Draws a ticket.
+/// The step that draws a ticket.
 pub struct Draw;
 
 impl<M: SharedService<A>, A: Allocator + Copy> Play<Option<Held<M, A>>, View<A>> for Draw {
@@ -27,7 +27,7 @@ impl<M: SharedService<A>, A: Allocator + Copy> Play<Option<Held<M, A>>, View<A>>
     ghost then = { Draws };
 }
 
-/// Looks which ticket is served.
+/// The step that reads which ticket is served.
 pub struct Look;
 
 impl<M: SharedService<A>, A: Allocator + Copy> Play<Option<Held<M, A>>, View<A>> for Look {
@@ -36,7 +36,7 @@ impl<M: SharedService<A>, A: Allocator + Copy> Play<Option<Held<M, A>>, View<A>>
     ghost then = { Looks };
 }
 
-/// Decides how many requests the call has entered.
+/// The step that decides how many requests the call has entered.
 pub struct Decide;
 
 impl<M: SharedService<A>, A: Allocator + Copy> Play<Option<Held<M, A>>, View<A>> for Decide {
@@ -45,7 +45,7 @@ impl<M: SharedService<A>, A: Allocator + Copy> Play<Option<Held<M, A>>, View<A>>
     ghost then = { Decides };
 }
 
-/// Serves the next ticket.
+/// The step that serves the next ticket.
 pub struct Serve;
 
 impl<M: SharedService<A>, A: Allocator + Copy> Play<Option<Held<M, A>>, View<A>> for Serve {
@@ -54,7 +54,7 @@ impl<M: SharedService<A>, A: Allocator + Copy> Play<Option<Held<M, A>>, View<A>>
     ghost then = { ServesNext };
 }
 
-/// Enters nothing, and learns what was noted.
+/// The step that enters nothing, and learns what was noted.
 pub struct Settle;
 
 impl<M: SharedService<A>, A: Allocator + Copy> Play<Option<Held<M, A>>, View<A>> for Settle {
@@ -63,7 +63,7 @@ impl<M: SharedService<A>, A: Allocator + Copy> Play<Option<Held<M, A>>, View<A>>
     ghost then = { SettlesNotes };
 }
 
-/// Makes a note of what a seat's passes have seen.
+/// The split that makes a note of what a seat's passes have seen.
 pub struct Note;
 
 impl<A: Allocator + Copy> Split<View<A>> for Note {
@@ -74,7 +74,7 @@ impl<A: Allocator + Copy> Split<View<A>> for Note {
     ghost right = { note_of };
 }
 
-/// Deals out the first of a seat's passes.
+/// The split that deals out the first of a seat's passes.
 pub struct Deal;
 
 impl<A: Allocator + Copy> Split<View<A>> for Deal {
@@ -85,7 +85,7 @@ impl<A: Allocator + Copy> Split<View<A>> for Deal {
     ghost right = { dealt };
 }
 
-/// Puts the passes and the notes of two seats together.
+/// The join of the passes and the notes of two seats.
 pub struct Both;
 
 impl<A: Allocator + Copy> Join<View<A>> for Both {
@@ -99,5 +99,5 @@ impl<A: Allocator + Copy> Join<View<A>> for Both {
 /// The words and the slot, as all passes share them.
 pub type Shelf<M, A> = Shared<Option<Held<M, A>>, View<A>, Opening<M, A>, InTurn>;
 
-/// A pass's seat.
+/// The seat of a pass.
 pub type Place<M, A> = Seat<Option<Held<M, A>>, View<A>>;

@@ -13,8 +13,9 @@ use ups_life::{Ask, Reply};
 use ups_pdu::Ae;
 use ups_service::{Service, SharedService};
 
-/// What stays so throughout a session: the desk of the pass, what was fixed at its opening, and the number of the pass.
-/// A session is over any service, so it says nothing of them; a type that names them keeps them.
+/// What does not change during a session: the desk of the pass, what was fixed at its opening, and the number of the
+/// pass. A session is generic over any service, so its contracts say nothing of them; a type that names them keeps
+/// them.
 pub trait Fixed {
     ghost use Rattle.std.specs.Prelude.{ℕ};
     ghost use Rattle.atomic_table.specs.Seated.{TableId};
@@ -37,8 +38,8 @@ impl Fixed for Brand {
     ghost number = { 0 };
 }
 
-/// A pass at its desk, which it owns. Unlike `At`, it keeps the pass at its desk also where it is served by a function
-/// over any service.
+/// A service that owns a pass, at its desk. Unlike `At`, it keeps the pass at its desk even when a function that is
+/// generic over any service uses it.
 #[derive(Drop)]
 pub struct Seated<'a, F: Fixed, M: SharedService<A>, A: Allocator + Copy, R: Wait> {
     rt: &'a R,
@@ -52,7 +53,7 @@ pub struct Seated<'a, F: Fixed, M: SharedService<A>, A: Allocator + Copy, R: Wai
 }
 
 impl<'a, F: Fixed, M: SharedService<A>, A: Allocator + Copy, R: Wait> Seated<'a, F, M, A, R> {
-    /// A pass at its desk.
+    /// Returns a pass at its desk, as a service.
     pub fn new(rt: &'a R, desk: &'a Desk<M, A>, pass: Pass<M, A>) -> Seated<'a, F, M, A, R>
         requires desk { desk.now.table ≡ F.table }
         requires table { pass.table ≡ F.table }
@@ -68,14 +69,14 @@ impl<'a, F: Fixed, M: SharedService<A>, A: Allocator + Copy, R: Wait> Seated<'a,
         }
     }
 
-    /// How many entries of the history the pass has seen.
+    /// Returns the number of entries of the history that the pass has seen.
     pub fn seen(&self) -> u64
         ensures { result ≡ length self.now.pass.seen }
     {
         self.pass.seen()
     }
 
-    /// The pass.
+    /// Returns the pass.
     pub fn into_pass(self) -> Pass<M, A>
         ensures pass { result ≡ self.entry.pass }
         ensures table { result.table ≡ F.table }

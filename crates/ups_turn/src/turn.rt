@@ -1,5 +1,5 @@
-//! The steps of a turn: draw a ticket, look until it is served, take the manager, give it back, decide, serve; and one call
-//! of them all.
+//! The steps of a turn: draw a ticket, look until it is served, take the manager, give it back, decide, serve; and a
+//! call made of them all.
 ghost use Rattle.std.specs.Prelude.{◌≡◌, ℕ, ◌+◌, ◌^◌, ◌<◌, ◌≤◌, ◌*◌, ◌==◌, length, [], true, false, All, Some, None, MatchBool};
 ghost use Rattle.ups_life.specs.Settings.{IsMoment};
 ghost use Rattle.ups_service.specs.Law.{SmallReply, is_legal};
@@ -15,7 +15,7 @@ use ups_life::{Ask, Reply};
 use ups_pdu::Ae;
 use ups_service::{Observer, SharedService};
 
-/// The word that counts the requests that are entered.
+/// The word that counts the entered requests.
 pub(crate) const COUNT: usize = 0;
 
 /// The word with the ticket that is drawn next.
@@ -24,8 +24,8 @@ const TICKET: usize = 1;
 /// The word with the ticket whose turn it is.
 const SERVING: usize = 2;
 
-/// How often a pass looks before it sleeps. A turn is short: most often it comes while the pass still looks,
-/// and a pass that only looks takes the processor from the one that has the turn.
+/// The number of times that a pass looks before it sleeps. A turn is short: most often it comes while the pass still
+/// looks, but a pass that only looks takes the processor from the one that has the turn.
 const LOOKS: u32 = 100;
 
 /// Draws a ticket.
@@ -42,7 +42,7 @@ fn draw<M: SharedService<A>, A: Allocator + Copy>(
     shelf.fetch_add::<Draw>(place, TICKET, 1)
 }
 
-/// Looks which ticket is served. Where it is the seat's own, the seat has the turn, and the manager.
+/// Reads which ticket is served, and returns it. If it is the seat's own, the seat has the turn, and the manager.
 fn look<M: SharedService<A>, A: Allocator + Copy>(
     shelf: &Shelf<M, A>,
     place: &mut Place<M, A>,
@@ -56,7 +56,7 @@ fn look<M: SharedService<A>, A: Allocator + Copy>(
     shelf.load::<Look>(place, SERVING)
 }
 
-/// Looks a number of times, or until the ticket is served. Returns the ticket that was served last.
+/// Looks a number of times, or until the ticket is served. Returns the ticket that was served at the last look.
 fn look_often<M: SharedService<A>, A: Allocator + Copy>(
     shelf: &Shelf<M, A>,
     place: &mut Place<M, A>,
@@ -99,12 +99,12 @@ fn wait<M: SharedService<A>, A: Allocator + Copy, R: Wait>(
     unreachable!()
 }
 
-// The half of a word that a sleeping thread watches.
+// Returns the half of a word that a sleeping thread watches.
 pub(crate) fn low_half(word: u64) -> u32 {
     (word % (1 << 32)) as u32
 }
 
-/// Enters as many requests as the manager in the seat's hands has more than the pass has seen.
+/// Enters `entered` requests: as many as the manager in the seat's hands has beyond those that the pass has seen.
 fn decide<M: SharedService<A>, A: Allocator + Copy>(
     shelf: &Shelf<M, A>,
     place: &mut Place<M, A>,
@@ -118,7 +118,7 @@ fn decide<M: SharedService<A>, A: Allocator + Copy>(
     shelf.fetch_add::<Decide>(place, COUNT, entered);
 }
 
-/// Sends the manager home and serves the next ticket. Returns the ticket that was served until then.
+/// Gives up the manager and serves the next ticket. Returns the ticket that was served until then.
 fn serve<M: SharedService<A>, A: Allocator + Copy>(
     shelf: &Shelf<M, A>,
     place: &mut Place<M, A>,
@@ -131,8 +131,8 @@ fn serve<M: SharedService<A>, A: Allocator + Copy>(
     shelf.fetch_add::<Serve>(place, SERVING, 1)
 }
 
-/// Wakes the passes that sleep, where a ticket was drawn behind the one that was served until now. Where none was,
-/// nobody waits, and the system is not called.
+/// Wakes the sleeping passes if a ticket was drawn after the one that was served until now. Otherwise nobody waits, and
+/// the system is not called.
 fn wake<M: SharedService<A>, A: Allocator + Copy>(shelf: &Shelf<M, A>, served: u64)
     requires { shelf.now.table_id.words ≡ 3 }
 {
@@ -161,7 +161,7 @@ fn take<M: SharedService<A>, A: Allocator + Copy, R: Wait>(
     manager
 }
 
-/// Gives the manager back with so many new entries, and ends the turn.
+/// Gives the manager back with `count` new entries, and ends the turn.
 fn give<M: SharedService<A>, A: Allocator + Copy>(
     shelf: &Shelf<M, A>,
     place: &mut Place<M, A>,
@@ -181,8 +181,8 @@ fn give<M: SharedService<A>, A: Allocator + Copy>(
     wake(shelf, served);
 }
 
-/// One call in the turn of a seat that rests: the manager is taken, answers, and is given back. Returns the reply, and how
-/// many requests are then entered.
+/// Makes one call in the turn of a seat that rests: takes the manager, lets it answer, and gives it back. Returns the
+/// reply, and the number of requests that are entered then.
 pub(crate) fn call_in_turn<M: SharedService<A>, A: Allocator + Copy, R: Wait>(
     rt: &R,
     shelf: &Shelf<M, A>,
@@ -211,8 +211,8 @@ pub(crate) fn call_in_turn<M: SharedService<A>, A: Allocator + Copy, R: Wait>(
     (reply, after)
 }
 
-/// One look at the history in the turn of a seat that rests: the manager is taken, and given back as it was. Returns how many
-/// requests are entered.
+/// Shows the history to an observer in the turn of a seat that rests: takes the manager, and gives it back as it was.
+/// Returns the number of entered requests.
 pub(crate) fn observe_in_turn<M: SharedService<A>, O: Observer<A>, A: Allocator + Copy, R: Wait>(
     rt: &R,
     shelf: &Shelf<M, A>,
@@ -237,7 +237,7 @@ pub(crate) fn observe_in_turn<M: SharedService<A>, O: Observer<A>, A: Allocator 
     entries
 }
 
-/// Makes a note of what the seat's passes have seen.
+/// Splits off a note of what the seat's passes have seen.
 pub(crate) fn note<M: SharedService<A>, A: Allocator + Copy>(
     shelf: &Shelf<M, A>,
     place: &mut Place<M, A>,
@@ -249,7 +249,7 @@ pub(crate) fn note<M: SharedService<A>, A: Allocator + Copy>(
     shelf.split_seat::<Note>(place)
 }
 
-/// Deals out a seat for the first of the seat's passes.
+/// Splits off a seat for the first of the seat's passes.
 pub(crate) fn deal<M: SharedService<A>, A: Allocator + Copy>(
     shelf: &Shelf<M, A>,
     place: &mut Place<M, A>,
@@ -262,7 +262,7 @@ pub(crate) fn deal<M: SharedService<A>, A: Allocator + Copy>(
     shelf.split_seat::<Deal>(place)
 }
 
-/// Makes the seat stand for the other's passes too, with its notes.
+/// Joins another seat to this one, which then represents the other's passes too, and has its notes.
 pub(crate) fn absorb<M: SharedService<A>, A: Allocator + Copy>(
     shelf: &Shelf<M, A>,
     place: &mut Place<M, A>,
@@ -277,7 +277,7 @@ pub(crate) fn absorb<M: SharedService<A>, A: Allocator + Copy>(
     shelf.join_seat::<Both>(place, other);
 }
 
-/// Has the seat's passes learn what was noted.
+/// Makes the seat's passes learn what was noted.
 pub(crate) fn settle<M: SharedService<A>, A: Allocator + Copy>(
     shelf: &Shelf<M, A>,
     place: &mut Place<M, A>,

@@ -1,5 +1,5 @@
-//! What a seat of the desk's table knows, and what the table is told once. A view is never made: the proofs
-//! alone speak of it.
+//! What a seat of the desk's table knows, and what the table is told once. A view is never made: only proofs refer to
+//! it.
 
 use crate::held::Held;
 use std::alloc::Allocator;
@@ -9,7 +9,8 @@ use std::snapshot::Snapshot;
 use ups_life::{Configuration, Entry};
 use ups_service::SharedService;
 
-/// What the desk opens with: the manager as it is then, and how many passes there are. A contract sees it as these two.
+/// The state with which the desk opens: the manager at that time, and the number of passes. A contract sees it as these
+/// two.
 #[derive(Drop)]
 pub struct Opening<M: SharedService<A>, A: Allocator + Copy> {
     pub manager: Snapshot<Held<M, A>>,
@@ -39,12 +40,12 @@ pub struct Part<A: Allocator + Copy> {
 /// What a seat knows.
 pub struct View<A: Allocator + Copy> {
     pub settings: Configuration<A>,
-    /// How many tickets its passes have drawn.
+    /// The number of tickets that its passes have drawn.
     pub draws: u64,
     /// The ticket with which it waits or has the turn.
     pub ticket: Option<u64>,
     pub turn: bool,
-    /// The passes for which it stands.
+    /// The passes that it represents.
     pub parts: LinkedList<Part<A>>,
     /// Histories that passes of other seats have seen.
     pub notes: LinkedList<LinkedList<Entry<A>>>,

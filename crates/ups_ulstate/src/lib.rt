@@ -1,5 +1,5 @@
-//! The state machine of the DICOM upper layer: its states, events and actions, and which action each event
-//! calls for in each state (PS3.8 section 9.2).
+//! The state machine of the DICOM upper layer: its states, events and actions, and the action that each event calls
+//! for in each state (PS3.8 section 9.2).
 #![tactic(auto)]
 
 mod state;

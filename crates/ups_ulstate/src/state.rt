@@ -31,7 +31,7 @@ pub enum UlState {
     Sta13,
 }
 
-/// What happens to an association: the rows of PS3.8 table 9-10, in their order.
+/// An event of an association: the rows of PS3.8 table 9-10, in their order.
 #[derive(Clone, Copy, Debug, PartialEq, Eq)]
 pub enum UlEvent {
     /// A-ASSOCIATE request primitive, from the local user.
@@ -74,8 +74,8 @@ pub enum UlEvent {
     Invalid,
 }
 
-/// What is done at an event: associate actions (PS3.8 table 9-6), data transfer actions (table 9-7), release
-/// actions (table 9-8) and abort actions (table 9-9).
+/// An action at an event: associate actions (PS3.8 table 9-6), data transfer actions (table 9-7), release actions
+/// (table 9-8) and abort actions (table 9-9).
 #[derive(Clone, Copy, Debug, PartialEq, Eq)]
 pub enum UlAction {
     /// AE-1: issue TRANSPORT CONNECT request primitive to the local transport service.
@@ -123,8 +123,8 @@ pub enum UlAction {
     Aa1,
     /// AA-2: stop ARTIM timer if running; close transport connection.
     Aa2,
-    /// AA-3: issue A-ABORT indication where the service user aborts, A-P-ABORT indication where the service
-    /// provider does, and close transport connection.
+    /// AA-3: issue A-ABORT indication if the service user aborts, A-P-ABORT indication if the service provider does,
+    /// and close transport connection.
     Aa3,
     /// AA-4: issue A-P-ABORT indication primitive.
     Aa4,

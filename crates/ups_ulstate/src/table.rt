@@ -9,10 +9,12 @@ use crate::state::UlState::{
 };
 use crate::state::{UlAction, UlEvent};
 
-/// What an event calls for in a state, and the state after it; None where the table has no such cell, so that
-/// the event can't come there (PS3.8 section 9.2.3). `requestor`: this side requested the association, which
-/// decides the state after a release collision. `acceptable`: the service provider can accept the association
-/// request, which decides the state after the request was read.
+/// Returns the action that an event calls for in a state, and the state after it.
+///
+/// Returns None if the table has no such cell, so that the event can't occur there (PS3.8 section 9.2.3). `requestor`
+/// says whether this side requested the association, which decides the state after a release collision; `acceptable`
+/// says whether the service provider can accept the association request, which decides the state after the request
+/// was read.
 pub fn next(
     state: UlState,
     event: UlEvent,
@@ -25,7 +27,7 @@ pub fn next(
     Some((action, after(action, requestor, acceptable)))
 }
 
-/// The action of a cell.
+/// Returns the action of a cell.
 fn action_at(event: UlEvent, state: UlState) -> Option<UlAction>
     ensures { result ≡ action_of (state_number state) (cells event) }
 {
@@ -173,7 +175,7 @@ fn at_invalid(state: UlState) -> Option<UlAction>
     }
 }
 
-/// The state after an action.
+/// Returns the state after an action.
 fn after(action: UlAction, requestor: bool, acceptable: bool) -> UlState
     ensures { result ≡ after requestor acceptable action }
 {

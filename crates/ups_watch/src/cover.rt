@@ -12,13 +12,13 @@ use ups_match::{Keys, Matcher, Probe};
 /// The global subscription of a peer, filtered or not (PS3.4 CC.2.3).
 #[derive(Drop)]
 pub struct Cover<A: Allocator + Copy> {
-    /// The keys that a step has to match; None where the subscription takes in every step.
+    /// The keys that a step has to match, or None if the subscription takes in every step.
     pub keys: Option<Keys<A>>,
-    /// How the peer is subscribed to a step that is taken in.
+    /// The subscription of the peer to a step that is taken in.
     pub subscription: Subscription,
 }
 
-/// Whether a step with these attributes matches the keys of a global subscription, if it has any.
+/// Returns whether a step with these attributes matches the keys of a global subscription, if it has any.
 fn are_met<A: Allocator + Copy>(keys: &Option<Keys<A>>, attributes: &DataSet<A>) -> bool
     ensures { result ≡ are_met keys.now attributes.now }
 {
@@ -28,7 +28,7 @@ fn are_met<A: Allocator + Copy>(keys: &Option<Keys<A>>, attributes: &DataSet<A>)
     }
 }
 
-/// How a peer with this global subscription is subscribed to a step that is created with these attributes.
+/// Returns the subscription of a peer with this global subscription to a step that is created with these attributes.
 fn covered<A: Allocator + Copy>(
     cover: &Option<Cover<A>>,
     attributes: &DataSet<A>,
@@ -41,7 +41,7 @@ fn covered<A: Allocator + Copy>(
     }
 }
 
-/// Fills the row of a step that is created with these attributes: each peer is subscribed as its global subscription says.
+/// Fills the row of a step that is created with these attributes: subscribes each peer as its global subscription says.
 pub(crate) fn fill<A: Allocator + Copy>(
     row: &mut Row<A>,
     covers: &[Option<Cover<A>>],
@@ -56,7 +56,7 @@ pub(crate) fn fill<A: Allocator + Copy>(
     }
 }
 
-/// Ends the global subscription of a peer whose subscriptions end everywhere; where they end at one step, it stays.
+/// Ends the global subscription of a peer if its subscriptions end everywhere, but not if they end at one step.
 pub(crate) fn end_cover<A: Allocator + Copy>(
     covers: &mut Vec<Option<Cover<A>>, A>,
     place: &Place,
@@ -71,7 +71,7 @@ pub(crate) fn end_cover<A: Allocator + Copy>(
     }
 }
 
-/// Whether a step matches the keys of a global subscription after a change of its attributes and did not match them before.
+/// Returns whether a step matches the keys of a global subscription after a change of its attributes, but not before.
 fn is_newly_met<A: Allocator + Copy>(
     keys: &Option<Keys<A>>,
     before: &DataSet<A>,
@@ -85,8 +85,8 @@ fn is_newly_met<A: Allocator + Copy>(
     }
 }
 
-/// How a peer with this global subscription, subscribed so far as `current` says, is to be subscribed to a step by a change
-/// of its attributes; None where the change does not subscribe it.
+/// Returns the subscription to a step that a peer with this global subscription gains by a change of the step's
+/// attributes, or None if it gains none. `current` is its subscription before the change.
 fn newly_covered<A: Allocator + Copy>(
     cover: &Option<Cover<A>>,
     current: Option<Subscription>,
@@ -101,9 +101,10 @@ fn newly_covered<A: Allocator + Copy>(
     }
 }
 
-/// How each peer, subscribed so far as its cell says, is to be subscribed to a step by a change of its attributes.
+/// Returns the subscription to a step that each peer gains by a change of the step's attributes, indexed by peer.
+/// `cells` are the subscriptions to the step before the change.
 ///
-/// Errors: where memory runs out.
+/// Errors: if memory runs out.
 pub(crate) fn newly_all<A: Allocator + Copy>(
     alloc: A,
     covers: &[Option<Cover<A>>],

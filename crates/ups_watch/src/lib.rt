@@ -1,5 +1,5 @@
-//! The subscriptions to Unified Procedure Steps as they are now (PS3.4 CC.2.3): which peer has which global subscription,
-//! and how each peer is subscribed to each step.
+//! The present subscriptions to Unified Procedure Steps (PS3.4 CC.2.3): the global subscription of each peer, and the
+//! subscription of each peer to each step.
 #![tactic(auto)]
 
 mod cover;

@@ -7,8 +7,8 @@ use std::alloc::{AllocError, Allocator};
 use std::marker::Model;
 use ups_life::Subscription;
 
-/// The subscriptions of all peers to one step: a cell for each peer, at the place of the peer. A contract sees the list of
-/// the cells.
+/// The subscriptions of all peers to one step: a cell for each peer, at the index of the peer. A contract sees the list
+/// of the cells.
 #[derive(Drop)]
 pub(crate) struct Row<A: Allocator + Copy> {
     cells: Vec<Option<Subscription>, A>,
@@ -24,9 +24,9 @@ impl<A: Allocator + Copy> Model for Row<A> {
 }
 
 impl<A: Allocator + Copy> Row<A> {
-    /// A row for so many peers, none of whom is subscribed.
+    /// Returns a row for `width` peers, none of which is subscribed.
     ///
-    /// Errors: where memory runs out.
+    /// Errors: if memory runs out.
     pub fn blank(alloc: A, width: usize) -> Result<Row<A>, AllocError>
         ensures { IfOk result (λ r. r ≡ replicate width None) }
     {
@@ -34,14 +34,14 @@ impl<A: Allocator + Copy> Row<A> {
         Ok(Row { cells })
     }
 
-    /// The cells, lent.
+    /// Returns the cells.
     pub fn as_slice(&self) -> &[Option<Subscription>]
         ensures { result.now ≡ self.now }
     {
         self.cells.as_slice()
     }
 
-    /// Writes how a peer is subscribed.
+    /// Sets the subscription of a peer.
     pub fn set(&mut self, peer: usize, subscription: Option<Subscription>)
         requires { peer < length self.old }
         ensures { self.new ≡ slice_set self.old peer subscription }
@@ -59,7 +59,7 @@ impl<A: Allocator + Copy> Row<A> {
     }
 }
 
-/// How a peer is subscribed; None too where there is no cell for it.
+/// Returns the subscription of a peer, or None if it has none or there is no cell for it.
 pub(crate) fn cell_at(cells: &[Option<Subscription>], peer: usize) -> Option<Subscription>
     ensures { result ≡ slice_index_or cells.now peer None }
 {
@@ -70,7 +70,7 @@ pub(crate) fn cell_at(cells: &[Option<Subscription>], peer: usize) -> Option<Sub
     }
 }
 
-/// Whether a peer that is subscribed so has a deletion lock (PS3.4 CC.2.3).
+/// Returns whether the subscription in a cell has a deletion lock (PS3.4 CC.2.3).
 pub(crate) fn is_locked(cell: Option<Subscription>) -> bool
     ensures { result ≡ is_locked cell }
 {
@@ -80,14 +80,14 @@ pub(crate) fn is_locked(cell: Option<Subscription>) -> bool
     }
 }
 
-/// Whether one of the peers has a deletion lock.
+/// Returns whether any of the peers has a deletion lock.
 pub(crate) fn is_kept(cells: &[Option<Subscription>]) -> bool
     ensures { result ≡ is_locked_by_any cells.now }
 {
     cells.iter().any(|cell| is_locked(*cell))
 }
 
-/// What the cell at a place is where the one at `peer` is replaced.
+/// Returns what the cell at `place` contains after the one at `peer` is replaced.
 fn cell_with(
     place: usize,
     cell: Option<Subscription>,
@@ -99,7 +99,7 @@ fn cell_with(
     if place == peer { subscription } else { cell }
 }
 
-/// Whether one of the peers would have a deletion lock, were the peer subscribed so.
+/// Returns whether any of the peers would have a deletion lock if `peer` had this subscription.
 pub(crate) fn is_kept_with(
     cells: &[Option<Subscription>],
     peer: usize,

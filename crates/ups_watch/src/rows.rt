@@ -1,5 +1,5 @@
-//! The rows of the steps that are known. `width` is the number of peers: most functions take it for their contracts alone,
-//! which say by it that each row has a cell for each peer.
+//! The rows of the known steps. `width` is the number of peers: most functions take it only for their contracts, which
+//! state with it that each row has a cell for each peer.
 
 ghost use Rattle.std.specs.Prelude.{◌≡◌, ◌<◌, ◌≤◌, ◌+◌, ◌&&◌, ◌||◌, not, ℕ, List, None, true, length, nat_eq, slice_index_or, if◌then◌else◌, IsOk, OnOk};
 ghost use Rattle.std.specs.HashMap.{spare};
@@ -16,10 +16,10 @@ use std::collections::HashMap;
 use std::hash::{BuildHasherDefault, FoldHasher};
 use ups_life::{Place, StepUid, Subscription};
 
-/// The row of each step that is known.
+/// The row of each known step.
 pub(crate) type Rows<A> = HashMap<StepUid, Row<A>, BuildHasherDefault<FoldHasher>, A>;
 
-/// Writes how a peer is subscribed to a step that is known.
+/// Sets the subscription of a peer to a known step.
 pub(crate) fn set_cell<A: Allocator + Copy>(
     rows: &mut Rows<A>,
     width: usize,
@@ -55,7 +55,7 @@ fn clear_cells<A: Allocator + Copy>(rows: &mut Rows<A>, width: usize, peer: usiz
     });
 }
 
-/// Removes the row of a step, if it is known.
+/// Removes the row of a step, if the step is known.
 pub(crate) fn take_row<A: Allocator + Copy>(rows: &mut Rows<A>, width: usize, step: StepUid)
     requires width { HasWidth width rows.old.entries }
     ensures watching { (p : ℕ) → (u : List ℕ) → watching_in rows.new.entries p u ≡ (if bytes_eq step u then None else watching_in rows.old.entries p u) }
@@ -86,9 +86,9 @@ pub(crate) fn put_row<A: Allocator + Copy>(
     };
 }
 
-/// Adds rows without a subscription until there are so many.
+/// Adds rows without a subscription until there are `count`.
 ///
-/// Errors: where memory runs out, and never where there are so many already.
+/// Errors: if memory runs out, but never if there are that many already.
 pub(crate) fn add_blanks<A: Allocator + Copy>(
     alloc: A,
     blanks: &mut Vec<Row<A>, A>,
@@ -107,7 +107,7 @@ pub(crate) fn add_blanks<A: Allocator + Copy>(
     Ok(())
 }
 
-/// Ends the subscription of a peer to one step, if it is known.
+/// Ends the subscription of a peer to one step, if the step is known.
 fn end_single<A: Allocator + Copy>(rows: &mut Rows<A>, width: usize, step: StepUid, peer: usize)
     requires width { HasWidth width rows.old.entries }
     requires within { peer < width }
@@ -121,7 +121,7 @@ fn end_single<A: Allocator + Copy>(rows: &mut Rows<A>, width: usize, step: StepU
     }
 }
 
-/// Ends subscriptions of a peer: that to one step, or those to all steps.
+/// Ends subscriptions of a peer: the one to a single step, or those to all steps.
 pub(crate) fn end_at<A: Allocator + Copy>(
     rows: &mut Rows<A>,
     width: usize,
@@ -142,7 +142,7 @@ pub(crate) fn end_at<A: Allocator + Copy>(
     }
 }
 
-/// Writes how a peer is subscribed to each of these steps, which are known.
+/// Sets the subscription of a peer to each of these steps, which are known.
 pub(crate) fn set_cells<A: Allocator + Copy>(
     rows: &mut Rows<A>,
     width: usize,
@@ -163,7 +163,7 @@ pub(crate) fn set_cells<A: Allocator + Copy>(
     }
 }
 
-/// Writes how a peer is subscribed to a step that is known, where a subscription is given.
+/// Sets the subscription of a peer to a known step if a subscription is given.
 fn set_if<A: Allocator + Copy>(
     rows: &mut Rows<A>,
     width: usize,
@@ -184,7 +184,7 @@ fn set_if<A: Allocator + Copy>(
     }
 }
 
-/// Writes how each peer is subscribed to a step that is known, where a subscription is given for the peer.
+/// Sets the subscription to a known step of each peer for which `cells`, indexed by peer, contains one.
 pub(crate) fn put_each<A: Allocator + Copy>(
     rows: &mut Rows<A>,
     width: usize,

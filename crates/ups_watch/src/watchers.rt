@@ -16,9 +16,9 @@ use std::marker::Model;
 use ups_dataset::DataSet;
 use ups_life::{Place, StepUid, Subscription};
 
-/// The subscriptions of all peers (PS3.4 CC.2.3). A peer is named by its place in the list of peers. A step is known from its
-/// creation to its removal. A contract sees the global subscription of each peer, the steps that are known with how each
-/// peer is subscribed to them, and for how many more steps there is room.
+/// The subscriptions of all peers (PS3.4 CC.2.3). A peer is identified by its index in the list of peers. A step is
+/// known from its creation to its removal. A contract sees the global subscription of each peer, the known steps with
+/// the subscription of each peer to them, and the number of further steps for which there is room.
 #[derive(Drop)]
 pub struct Watchers<A: Allocator + Copy> {
     alloc: A,
@@ -47,11 +47,11 @@ impl<A: Allocator + Copy> Model for Watchers<A> {
 }
 
 impl<A: Allocator + Copy> Watchers<A> {
-    /// A table for so many peers, in which no peer is subscribed to anything and no step is known.
+    /// Returns a table for this number of peers, in which no peer is subscribed to anything and no step is known.
     ///
     /// # Errors
     ///
-    /// Where memory runs out.
+    /// If memory runs out.
     pub fn new(alloc: A, peers: usize) -> Result<Watchers<A>, AllocError>
         ensures covers { IfOk result (λ w. w.covers ≡ replicate peers None) }
         ensures rows { IfOk result (λ w. w.rows ≡ []) }
@@ -68,11 +68,11 @@ impl<A: Allocator + Copy> Watchers<A> {
         })
     }
 
-    /// Makes room for so many more steps.
+    /// Makes room for `steps` further steps.
     ///
     /// # Errors
     ///
-    /// Where memory runs out, and never where there is that room already. The subscriptions are then as they were, and there is
+    /// If memory runs out, but never if there is that room already. The subscriptions then stay the same, and there is
     /// no less room.
     pub fn reserve(&mut self, steps: usize) -> Result<(), AllocError>
         ensures room { OnOk result (steps ≤ self.new.spare) }
@@ -93,8 +93,8 @@ impl<A: Allocator + Copy> Watchers<A> {
         add_blanks(*alloc, blanks, covers.len(), steps)
     }
 
-    /// Adds a step that is created with these attributes, for which there is room: each peer is subscribed to it whose global
-    /// subscription takes it in (PS3.4 CC.2.3).
+    /// Adds a step that is created with these attributes, for which there is room, and subscribes to it each peer whose
+    /// global subscription takes it in (PS3.4 CC.2.3).
     pub fn created(&mut self, step: StepUid, attributes: &DataSet<A>)
         requires room { 0 < self.old.spare }
         ensures watching { (p : ℕ) → (u : List ℕ) → watching self.new p u ≡ (if bytes_eq step u then covering self.old p attributes.now else watching self.old p u) }
@@ -115,8 +115,7 @@ impl<A: Allocator + Copy> Watchers<A> {
         put_row(rows, covers.len(), step, row);
     }
 
-    /// Subscribes a peer to a step that is known, in place of the subscription that it has to the step, if any
-    /// (PS3.4 CC.2.3).
+    /// Subscribes a peer to a known step, replacing the subscription that it has to the step, if any (PS3.4 CC.2.3).
     pub fn subscribe(&mut self, peer: usize, step: StepUid, subscription: Subscription)
         requires peer { peer < length self.old.covers }
         requires known { knows self.old step ≡ true }
@@ -129,8 +128,8 @@ impl<A: Allocator + Copy> Watchers<A> {
         set_cell(rows, covers.len(), step, peer, Some(subscription));
     }
 
-    /// Ends subscriptions of a peer: that to one step, or those to all steps and with them the global subscription
-    /// (PS3.4 CC.2.3).
+    /// Ends subscriptions of a peer: the one to a single step, or those to all steps together with the global
+    /// subscription (PS3.4 CC.2.3).
     pub fn unsubscribe(&mut self, peer: usize, place: Place)
         requires peer { peer < length self.old.covers }
         ensures watching { (p : ℕ) → (u : List ℕ) → watching self.new p u ≡ (if nat_eq peer p && is_at place u then None else watching self.old p u) }
@@ -143,8 +142,8 @@ impl<A: Allocator + Copy> Watchers<A> {
         end_cover(covers, &place, peer);
     }
 
-    /// Gives a peer a global subscription, in place of the one that it has, if any, and subscribes it to these steps, which are
-    /// known. The caller lists the steps that the subscription takes in (PS3.4 CC.2.3).
+    /// Gives a peer a global subscription, replacing the one that it has, if any, and subscribes it to `steps`, which
+    /// are known: the caller lists the steps that the subscription takes in (PS3.4 CC.2.3).
     pub fn global(&mut self, peer: usize, cover: Cover<A>, steps: &[StepUid])
         requires peer { peer < length self.old.covers }
         requires known { (u : List ℕ) → is_among u steps.now ≡ true → knows self.old u ≡ true }
@@ -179,7 +178,7 @@ impl<A: Allocator + Copy> Watchers<A> {
         take_row(&mut self.rows, self.covers.len(), step);
     }
 
-    /// How each peer is subscribed to a step, at the place of the peer; empty where the step is not known.
+    /// Returns the subscription of each peer to a step, indexed by peer; empty if the step is not known.
     pub fn of_step(&self, step: StepUid) -> &[Option<Subscription>]
         ensures cells { result.now ≡ cells_of self.now step }
         ensures watching { (p : ℕ) → slice_index_or result.now p None ≡ watching self.now p step }
@@ -191,14 +190,14 @@ impl<A: Allocator + Copy> Watchers<A> {
         }
     }
 
-    /// How a peer is subscribed to a step; None where it isn't.
+    /// Returns the subscription of a peer to a step, or None if it has none.
     pub fn watching(&self, peer: usize, step: StepUid) -> Option<Subscription>
         ensures { result ≡ watching self.now peer step }
     {
         cell_at(self.of_step(step), peer)
     }
 
-    /// How many peers have a deletion lock on a step (PS3.4 CC.2.3).
+    /// Returns the number of peers that have a deletion lock on a step (PS3.4 CC.2.3).
     pub fn locks(&self, step: StepUid) -> usize
         ensures { result ≡ locks self.now step }
     {
@@ -208,21 +207,23 @@ impl<A: Allocator + Copy> Watchers<A> {
             .count()
     }
 
-    /// Whether a step is known.
+    /// Returns whether a step is known.
     pub fn knows(&self, step: StepUid) -> bool
         ensures { result ≡ knows self.now step }
     {
         self.rows.contains_key(&step)
     }
 
-    /// Whether one of the peers has a deletion lock on a step: such a step is not removed (PS3.4 CC.2.3).
+    /// Returns whether any of the peers has a deletion lock on a step, which keeps it from being removed (PS3.4
+    /// CC.2.3).
     pub fn is_kept(&self, step: StepUid) -> bool
         ensures { result ≡ is_locked_by_any (cells_of self.now step) }
     {
         is_kept(self.of_step(step))
     }
 
-    /// Whether one of the peers would have a deletion lock on a step that is known, were the peer subscribed to it so.
+    /// Returns whether any of the peers would have a deletion lock on a known step if `peer` had this subscription to
+    /// it.
     pub fn is_kept_with(
         &self,
         step: StepUid,
@@ -236,7 +237,7 @@ impl<A: Allocator + Copy> Watchers<A> {
         is_kept_with(self.of_step(step), peer, subscription)
     }
 
-    /// How many peers there are. `of_step` has a place for each of them.
+    /// Returns the number of peers. `of_step` has a cell for each of them if the step is known.
     pub fn peers(&self) -> usize
         ensures peers { result ≡ length self.now.covers }
         ensures width { (u : List ℕ) → knows self.now u ≡ true → length (cells_of self.now u) ≡ length self.now.covers }
@@ -244,7 +245,7 @@ impl<A: Allocator + Copy> Watchers<A> {
         self.covers.len()
     }
 
-    /// Whether a peer has a global subscription.
+    /// Returns whether a peer has a global subscription.
     pub fn has_cover(&self, peer: usize) -> bool
         requires { peer < length self.now.covers }
         ensures { result ≡ is_some (slice_index_or self.now.covers peer None) }
@@ -252,14 +253,14 @@ impl<A: Allocator + Copy> Watchers<A> {
         self.covers[peer].is_some()
     }
 
-    /// How each peer is to be subscribed to a step by a change of its attributes, at the place of the peer: as its global
-    /// subscription says where the peer is not subscribed to the step, and the step matches the keys of that subscription after
-    /// the change and did not match them before; None elsewhere. PS3.4 CC.2.3 leaves open when keys are tried; this is the
-    /// profile's.
+    /// Returns the subscription to a step that each peer gains by a change of the step's attributes, indexed by peer:
+    /// that of its global subscription if the peer is not subscribed to the step, and the step matches the keys of the
+    /// global subscription after the change but not before; None otherwise. PS3.4 CC.2.3 leaves open when keys are
+    /// tried; this rule is the profile's.
     ///
     /// # Errors
     ///
-    /// Where memory runs out.
+    /// If memory runs out.
     pub fn newly(
         &self,
         step: StepUid,
@@ -278,7 +279,7 @@ impl<A: Allocator + Copy> Watchers<A> {
         )
     }
 
-    /// Subscribes each peer for which a subscription is given, at the place of the peer, to a step that is known.
+    /// Subscribes each peer for which a subscription is given, indexed by peer, to a known step.
     pub fn subscribe_each(&mut self, step: StepUid, newly: &[Option<Subscription>])
         requires width { length newly.now ≤ length self.old.covers }
         requires known { knows self.old step ≡ true }
@@ -290,7 +291,7 @@ impl<A: Allocator + Copy> Watchers<A> {
         put_each(&mut self.rows, self.covers.len(), step, newly);
     }
 
-    /// How many more steps there is room for.
+    /// Returns the number of further steps for which there is room.
     pub fn spare(&self) -> usize
         ensures { result ≡ self.now.spare }
     {

@@ -1,4 +1,4 @@
-//! How the program ends, and with what exit status.
+//! How the program ends, and its exit status.
 
 ghost use Rattle.std.specs.Prelude.{◌≡◌};
 ghost use Rattle.clap.specs.Values.{kind_of};
@@ -16,18 +16,18 @@ use ups_session::{End, SessionFault};
 /// How the program ends.
 #[derive(Clone, Copy, Debug, PartialEq, Eq)]
 pub enum Status {
-    /// It did what it was asked for: it answered an association or a script to its end, or told its usage or version.
+    /// It did what it was asked to, such as answering an association or a script to its end, or printing its version.
     Done,
-    /// The command line is none that is taken.
+    /// The command line is invalid.
     Usage,
-    /// It stopped before the association or the script came to its end.
+    /// It stopped before it was done, such as before the end of an association or a script.
     Stopped,
     /// Memory ran out.
     Memory,
 }
 
 impl Status {
-    /// The number that stands for it as an exit status.
+    /// Returns the exit status.
     pub fn code(self) -> u8
         ensures { result ≡ exit_code self }
     {
@@ -50,7 +50,7 @@ impl From<Status> for ExitCode {
     }
 }
 
-/// How the program ends with an association that came to this.
+/// Returns how the program ends after an association with this outcome.
 pub fn session_status(ended: &Result<End, SessionFault>) -> Status
     ensures { result ≡ session_status ended.now }
 {
@@ -61,7 +61,7 @@ pub fn session_status(ended: &Result<End, SessionFault>) -> Status
     }
 }
 
-/// How the program ends with a script that came to this.
+/// Returns how the program ends after a script with this outcome.
 pub fn script_status(ended: &Result<(), ScriptFault>) -> Status
     ensures { result ≡ script_status ended.now }
 {
@@ -72,8 +72,7 @@ pub fn script_status(ended: &Result<(), ScriptFault>) -> Status
     }
 }
 
-/// How the program ends where the parser of command lines answers this in place of what was asked: usage and version
-/// are told in that way too.
+/// Returns how the program ends if the parser of command lines returns this error: usage and version are errors too.
 pub fn parse_status(kind: ErrorKind) -> Status
     ensures { result ≡ parse_status kind }
 {
@@ -84,9 +83,9 @@ pub fn parse_status(kind: ErrorKind) -> Status
     }
 }
 
-/// How the program ends with what a server leaves: as stopped where it could not listen.
+/// Returns how the program ends after a server with this result: as stopped if it could not listen.
 ///
-/// Errors: lack of memory, where its threads did not begin.
+/// Errors: lack of memory, if its threads did not begin.
 pub(crate) fn server_status<L: Ledger>(left: Option<RanServer<L>>) -> Result<Status, AllocError> {
     let Some(server) = left else {
         return Ok(Status::Stopped);
@@ -97,9 +96,9 @@ pub(crate) fn server_status<L: Ledger>(left: Option<RanServer<L>>) -> Result<Sta
     Ok(Status::Done)
 }
 
-/// Tells why the words of a command line are refused, and gives how the program ends.
+/// Prints why the words of a command line are refused, and returns how the program ends.
 ///
-/// Errors: lack of memory, where that is why.
+/// Errors: lack of memory, if that is why.
 pub(crate) fn refuse<R: Eprint>(rt: &R, fault: ArgumentFault<'_>) -> Result<Status, AllocError> {
     if fault == ArgumentFault::Memory {
         return Err(AllocError);

@@ -1,8 +1,8 @@
-//! The clock of an association whose answers are to be the same at every run.
+//! The clock of an association whose answers are the same in every run.
 
 use ups_session::Gate;
 
-/// Each moment that it gives is 1970-01-01, 00:00 UTC.
+/// A clock that always returns 1970-01-01, 00:00 UTC.
 #[derive(Drop)]
 pub(crate) struct Epoch;
 

@@ -1,4 +1,4 @@
-//! Bytes as hex digits: what a session reads and writes where it is to be read by people.
+//! Bytes as hex digits: the readable form of what a session reads and writes.
 
 ghost use Rattle.std.specs.Prelude.{◌≡◌, ◌<◌, ◌∷◌, [], nat_lt, true, false, None, Some, option_map, unwrap_or, IfOk, OnOk, MatchOption};
 ghost use Rattle.std.specs.Char.{digit_value};
@@ -10,13 +10,13 @@ use crate::limits::WHITE_SPACE_LIMIT;
 use std::io::{self, ErrorKind, Read, Write};
 use thiserror::Error;
 
-/// What is wrong with hex digits that bytes are read from.
+/// What is wrong with hex digits from which bytes are read.
 #[derive(Clone, Copy, Debug, PartialEq, Eq, Error)]
 pub enum DigitFault {
     /// A character is neither a hex digit nor white space.
     #[error("what was read is neither a hex digit nor white space")]
     NoDigit,
-    /// More than 1,000,000 white space characters stand in a row.
+    /// There are more than 1,000,000 white space characters in a row.
     #[error("more than 1,000,000 white space characters in a row were read")]
     WhiteSpace,
     /// The digits end within a byte.
@@ -24,25 +24,25 @@ pub enum DigitFault {
     HalfByte,
 }
 
-/// What stands next among hex digits.
+/// What comes next among hex digits.
 #[derive(Clone, Copy, Debug, PartialEq, Eq)]
 pub(crate) enum Next {
-    /// A digit of this value.
+    /// A digit with this value.
     Digit(u8),
     /// The end.
     End,
     /// A character that is neither a digit nor white space.
     Wrong,
-    /// More white space than may stand in a row.
+    /// More white space than is allowed in a row.
     Spaces,
 }
 
-/// Whether a signal interrupted what failed, so that it is tried again.
+/// Returns whether a signal interrupted the failed call, so that it is tried again.
 fn is_interrupted(error: &io::Error) -> bool {
     error.kind() == ErrorKind::Interrupted
 }
 
-/// The next character, or None at the end. A read that a signal interrupts is tried again.
+/// Reads the next character, or None at the end. Tries again if a signal interrupts the read.
 ///
 /// Errors: those of the reader.
 fn character<R: Read>(reader: &mut R) -> io::Result<Option<u8>>
@@ -60,7 +60,7 @@ fn character<R: Read>(reader: &mut R) -> io::Result<Option<u8>>
     Err(io::Error::from(ErrorKind::Interrupted))
 }
 
-/// The value of a hex digit, in either case; None where a character is none.
+/// Returns the value of a hex digit, in either case, or None if the character is no hex digit.
 fn value_of(character: u8) -> Option<u8>
     ensures { MatchOption result (nat_lt (digit_value character) 16 ≡ false) (λ d. (d ≡ digit_value character) × (nat_lt (digit_value character) 16 ≡ true)) }
 {
@@ -70,7 +70,7 @@ fn value_of(character: u8) -> Option<u8>
     }
 }
 
-/// What stands next among the digits that a reader gives.
+/// Reads what comes next among the digits of a reader.
 ///
 /// Errors: those of the reader.
 fn read_next<R: Read>(reader: &mut R) -> io::Result<Next>
@@ -90,10 +90,9 @@ fn read_next<R: Read>(reader: &mut R) -> io::Result<Next>
     Ok(Next::Spaces)
 }
 
-/// Reads bytes that another reader gives as hex digits, with white space among them. After a fault nothing is read any
-/// more.
+/// Reads bytes from the hex digits of another reader, with white space among them. After a fault it reads nothing more.
 ///
-/// Errors: those of the reader; InvalidData at a fault of the digits.
+/// Errors: those of the reader; InvalidData for a fault of the digits.
 #[derive(Drop)]
 pub(crate) struct HexReader<R: Read> {
     inner: R,
@@ -114,14 +113,14 @@ impl<R: Read> HexReader<R> {
         }
     }
 
-    /// What is wrong with the digits, where that was found.
+    /// Returns what is wrong with the digits, if that was found.
     pub(crate) fn fault(&self) -> Option<DigitFault>
         ensures { result ≡ self.now.fault }
     {
         self.fault
     }
 
-    /// Notes a fault of the digits.
+    /// Notes a fault of the digits, and returns its error.
     fn fail(&mut self, fault: DigitFault) -> io::Error
         ensures rest { (self.new.inner ≡ self.old.inner) × (self.new.high ≡ self.old.high) }
         ensures noted { self.new.fault ≡ Some fault }
@@ -130,7 +129,7 @@ impl<R: Read> HexReader<R> {
         io::Error::from(ErrorKind::InvalidData)
     }
 
-    /// The value of the next digit, or None at the end.
+    /// Reads the value of the next digit, or None at the end.
     fn digit(&mut self) -> io::Result<Option<u8>>
         ensures digit { GivesDigit (option_map (values_after self.old.fault) (R.remaining self.old.inner)) (option_map (values_after self.new.fault) (R.remaining self.new.inner)) result }
         ensures high { self.new.high ≡ self.old.high }
@@ -149,7 +148,7 @@ impl<R: Read> HexReader<R> {
 }
 
 impl<R: Read> HexReader<R> {
-    /// The high digit of the next byte, or None at the end. It is kept until the low one is read.
+    /// Reads the high digit of the next byte, or None at the end. Keeps it until the low one is read.
     fn high(&mut self) -> io::Result<Option<u8>>
         ensures kept { Keeps (bytes_left self.old.high self.old.fault (R.remaining self.old.inner)) (bytes_left self.new.high self.new.fault (R.remaining self.new.inner)) }
         ensures found { IfOk result (λ high. high ≡ self.new.high) }
@@ -161,7 +160,7 @@ impl<R: Read> HexReader<R> {
         Ok(self.high)
     }
 
-    /// The next byte, or None at the end.
+    /// Reads the next byte, or None at the end.
     fn byte(&mut self) -> io::Result<Option<u8>>
         ensures { GivesCharacter (bytes_left self.old.high self.old.fault (R.remaining self.old.inner)) (bytes_left self.new.high self.new.fault (R.remaining self.new.inner)) result }
     {
@@ -214,8 +213,8 @@ fn put_line<W: Write>(writer: &mut W, bytes: &[u8]) -> io::Result<()>
     writer.write_all(b"\n")
 }
 
-/// Writes bytes to another writer as lower-case hex digits: a line for each write. A write that a signal interrupts is
-/// tried again.
+/// Writes bytes to another writer as lower-case hex digits, with a line for each write. Tries again if a signal
+/// interrupts a write.
 #[derive(Drop)]
 pub(crate) struct HexWriter<'a, W: Write> {
     inner: &'a mut W,

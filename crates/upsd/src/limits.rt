@@ -1,12 +1,12 @@
-//! What the hex form takes at most.
+//! The limits of the hex form.
 
 ghost use Rattle.std.specs.Prelude.{◌≡◌};
 ghost use Rattle.upsd.specs.Limits.{white_space_limit};
 
-/// How many white space characters may stand in a row among hex digits.
+/// The maximum number of white space characters in a row among hex digits.
 pub(crate) const WHITE_SPACE_LIMIT: u32 = 1_000_000;
 
-/// The limit is that of the definition.
+/// Does nothing at run time: its contract tells a proof that the limit is that of the definition.
 pub fn limits_are_as_defined()
     ensures white_space { WHITE_SPACE_LIMIT ≡ white_space_limit }
 {}

@@ -37,7 +37,7 @@ pub use ups_server::{RanServer, answer_network, serve_words};
 pub use ups_session::{End, SessionFault, WatchedReader, WatchedWriter};
 use ups_settings::TURNS;
 
-/// Answers one association from standard input to standard output, tells its fault, and gives how the program ends.
+/// Answers one association from standard input to standard output, prints its fault, and returns how the program ends.
 ///
 /// Errors: lack of memory before it begins.
 fn answer<R: Input + Print + Eprint + AllocGlobal>(
@@ -66,7 +66,7 @@ fn answer<R: Input + Print + Eprint + AllocGlobal>(
     Ok(session_status(&piped.ended))
 }
 
-/// Tells why a session stopped, where it did: digits that are none are told as such, and not as a failed read.
+/// Prints why a session stopped, if it did: invalid digits are reported as such, and not as a failed read.
 fn tell<R: Eprint>(rt: &R, piped: &Piped) {
     let _ = match (piped.ended, piped.digits) {
         (Err(SessionFault::Read), Some(fault)) => eprintln!(rt; "upsd: {fault}"),
@@ -75,7 +75,7 @@ fn tell<R: Eprint>(rt: &R, piped: &Piped) {
     };
 }
 
-/// Does what a command line asks of `pipe` or `script`, and gives how the program ends.
+/// Runs `pipe` or `script`, and returns how the program ends.
 ///
 /// Errors: lack of memory before anything is done.
 fn perform<R: Input + Print + Eprint + AllocGlobal>(
@@ -95,7 +95,7 @@ fn perform<R: Input + Print + Eprint + AllocGlobal>(
     }
 }
 
-/// Does what a command line asks of `serve`, for as long as the program lives, and gives how the program ends.
+/// Runs `serve`, for as long as the program lives, and returns how the program ends.
 ///
 /// Errors: lack of memory.
 fn perform_network<'a, R>(
@@ -112,8 +112,8 @@ where
     }
 }
 
-/// What the words of a command line ask; or how the program ends, where they ask for no more than the usage or the
-/// version, or are none that is taken.
+/// Parses the words of the command line; or returns how the program ends, if they only ask for the usage or the
+/// version, or are invalid.
 ///
 /// Errors: lack of memory.
 fn matches_of<'a, R: Print + Eprint + AllocGlobal>(
@@ -129,7 +129,7 @@ fn matches_of<'a, R: Print + Eprint + AllocGlobal>(
     }
 }
 
-/// How the program ends, where it may have ended for lack of memory; that is told.
+/// Returns how the program ends, and prints if that is for lack of memory.
 fn end_of<R: Eprint>(rt: &R, performed: Result<Status, AllocError>) -> Status {
     match performed {
         Ok(status) => status,
@@ -140,8 +140,8 @@ fn end_of<R: Eprint>(rt: &R, performed: Result<Status, AllocError>) -> Status {
     }
 }
 
-/// Does what the words of a command line ask, and gives how the program ends. A server has a runtime of its own, whose log
-/// keeps none of its threads waiting.
+/// Does what the command line asks, and returns how the program ends. A server has its own runtime, whose log does not
+/// keep its threads waiting.
 fn run<'a, R, S>(rt: &R, serving: &S, stores: &Stores<'a, S>, words: &'a [String]) -> Status
 where
     R: AllocGlobal + Input + Print + Eprint,
@@ -159,13 +159,13 @@ where
     end_of(rt, performed)
 }
 
-/// The words of the command line.
+/// Returns the words of the command line.
 fn words(rt: &HostRuntime) -> io::Result<Vec<String>> {
     let words: Vec<String> = std::env::args(rt)?.collect(rt.alloc())?;
     Ok(words)
 }
 
-/// Tells why the words of the command line could not be read, and gives how the program ends: they are no text, or
+/// Prints why the words of the command line could not be read, and returns how the program ends: they are not UTF-8, or
 /// memory ran out.
 fn unread<R: Eprint>(rt: &R, error: ErrorKind) -> Status {
     if error == ErrorKind::OutOfMemory {
@@ -176,7 +176,8 @@ fn unread<R: Eprint>(rt: &R, error: ErrorKind) -> Status {
     Status::Usage
 }
 
-/// The words behind the name of the program as one text, for those who read in a store by which words it was opened.
+/// Returns the words after the name of the program as one text, which a store keeps for those who want to know how it
+/// was opened.
 ///
 /// Errors: lack of memory.
 fn text_of(alloc: Global, words: &[String]) -> Result<String, AllocError> {
@@ -190,7 +191,7 @@ fn text_of(alloc: Global, words: &[String]) -> Result<String, AllocError> {
     Ok(text)
 }
 
-/// Whether the words of the command line ask for what logs: a server, or a compaction.
+/// Returns whether the command line asks for something that logs: a server, or a compaction.
 fn asks_for_log(words: &[String]) -> bool {
     match words.get(1) {
         Some(word) => matches!(word.as_str(), "serve" | "compact"),
@@ -198,7 +199,7 @@ fn asks_for_log(words: &[String]) -> bool {
     }
 }
 
-/// The log of the program: one with a thread of its own where the words ask for what logs.
+/// Returns the log of the program: one with its own thread if the command line asks for something that logs.
 ///
 /// Errors: lack of memory, or of a thread.
 fn log_of<R>(

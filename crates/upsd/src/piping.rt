@@ -25,7 +25,7 @@ use ups_manager::Manager;
 use ups_pdu::Ae;
 use ups_session::{End, SessionFault, WatchedReader, WatchedWriter, serve};
 
-/// What an association came to, and what was wrong with the hex digits that it was read from, where that was found.
+/// The outcome of an association, and what was wrong with its hex digits, if that was found.
 #[derive(Clone, Copy, Debug, PartialEq, Eq)]
 pub struct Piped {
     /// How it ended.
@@ -58,16 +58,16 @@ fn serve_digits<A: Allocator + Copy, R: Read, W: Write>(
     )
 }
 
-/// Answers one association from a reader to a writer, by a manager that has no history before it (PS3.8 section 9.2,
-/// PS3.7 section 10, PS3.4 annex CC): until it has ended, or `turns` PDUs were read. `ae` is the title of this
-/// application entity, and `peers` are those that may watch steps; each request is made at 1970-01-01, 00:00 UTC. With
-/// `hex` both sides are hexadecimal digits, and each PDU is written as a line.
+/// Answers one association from a reader to a writer (PS3.8 section 9.2, PS3.7 section 10, PS3.4 annex CC), with a
+/// manager without history, until it has ended or `turns` PDUs were read. `ae` is the title of this application entity,
+/// and `peers` may watch steps; each request is made at 1970-01-01, 00:00 UTC. With `hex` both sides are hexadecimal
+/// digits, and each PDU is written as a line.
 ///
 /// # Errors
 ///
-/// Read where a read failed or the input ended inside a PDU; Write where a write failed; Turns where as many PDUs were
-/// read as `turns`; Memory where memory ran out. What was accepted was then answered as far as it was written. Digits
-/// that spell no bytes are a failed read, and `digits` of the answer tells what is wrong with them.
+/// Read if a read failed or the input ended inside a PDU; Write if a write failed; Turns if `turns` PDUs were read;
+/// Memory if memory ran out. What was accepted before is answered as far as it was written. Digits that encode no bytes
+/// are a failed read, and `digits` of the result says what is wrong with them.
 pub fn pipe_told<A: Allocator + Copy, R: Read, W: Write>(
     alloc: A,
     reader: &mut WatchedReader<R>,

@@ -10,8 +10,8 @@ use std::io::{self, BufReader, BufWriter};
 use ups_args::ScriptArguments;
 use ups_script::run;
 
-/// Answers a script from standard input, tells its fault, and gives how the program ends. A line that is none is told
-/// among the replies too.
+/// Answers a script from standard input, prints its fault, and returns how the program ends. An invalid line is also
+/// written among the replies.
 ///
 /// Errors: lack of memory before it begins.
 pub(crate) fn answer_script<R: Input + Print + Eprint + AllocGlobal>(

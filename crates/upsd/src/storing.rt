@@ -24,8 +24,8 @@ use ups_start::{
     StorePlace, begin, compact,
 };
 
-/// The ledger of a server of this program, in a store that lies in a file. It is a type of its own: over one that names its
-/// place as a type parameter, the proof of a server meets the prover's limit of steps.
+/// The ledger of a server of this program, in a store in a file. It is a type of its own: with the place as a type
+/// parameter, the proof of a server exceeds the prover's limit of steps.
 #[derive(Drop)]
 pub(crate) struct ServerLedger<'a> {
     ledger: FileLedger<'a>,
@@ -45,7 +45,7 @@ impl<'a> Ledger for ServerLedger<'a> {
     }
 }
 
-/// What opens the stores that this program's command line names. No other part of the program names how these are kept.
+/// Opens the stores that the command line names. No other part of the program knows how these are kept.
 #[derive(Drop)]
 pub(crate) struct Stores<'a, R: Clock + Log> {
     rt: &'a HostRuntime,
@@ -54,7 +54,8 @@ pub(crate) struct Stores<'a, R: Clock + Log> {
 }
 
 impl<'a, R: Clock + Log> Stores<'a, R> {
-    /// Those of a run of the program that begins now, with these words on its command line; a log is told how they are read.
+    /// Returns the stores of a run of the program that begins now, with these words on its command line, and a log for
+    /// the reading of stores.
     pub(crate) fn new(rt: &'a HostRuntime, telling: &'a R, words: &'a str) -> Stores<'a, R> {
         Stores {
             rt,
@@ -68,7 +69,7 @@ impl<'a, R: Clock + Log> Stores<'a, R> {
     }
 }
 
-/// Tells with how many requests a server begins.
+/// Logs the number of requests with which a server begins.
 fn tell_opened<R: Log>(telling: &R, requests: u64) {
     info!(telling; target: "upsd", "store: a server begins with {requests} requests");
 }
@@ -84,7 +85,7 @@ fn is_memory(fault: &StartFault) -> bool {
     }
 }
 
-/// Tells why a store is not used.
+/// Prints why a store is not used, unless memory ran out.
 fn tell_unopened<R: Eprint>(rt: &R, file: &str, fault: &StartFault) -> Unopened {
     if is_memory(fault) {
         return Unopened::Memory;
@@ -93,8 +94,8 @@ fn tell_unopened<R: Eprint>(rt: &R, file: &str, fault: &StartFault) -> Unopened 
     Unopened::Told
 }
 
-/// Opens the store at a place, enters its requests into a manager, and tells with how many a server begins; or tells why the
-/// store is not opened.
+/// Opens the store at a place, enters its requests into a manager, and logs with how many a server begins; or prints
+/// why the store was not opened.
 ///
 /// Errors: Memory; Told.
 fn open_at<'a, P: StorePlace, R: Clock + Log>(
@@ -142,7 +143,7 @@ impl<'a, R: Clock + Log> StoreOpener<'a, ServerLedger<'a>> for Stores<'a, R> {
     }
 }
 
-/// A manager without requests, as is asked of `compact`.
+/// Returns a manager without requests, with the settings of `compact`.
 ///
 /// Errors: lack of memory.
 fn new_manager(alloc: Global, asked: &CompactArguments<'_>) -> Result<Manager<Global>, AllocError>
@@ -157,7 +158,7 @@ fn new_manager(alloc: Global, asked: &CompactArguments<'_>) -> Result<Manager<Gl
     }
 }
 
-/// Whether there is a file, which is told where there is none: a compaction makes none.
+/// Returns whether the file exists, and prints if it does not: a compaction does not create it.
 fn is_there<R: Eprint + Files>(rt: &R, file: &str) -> bool {
     if let Ok(true) = fs::exists(rt, file) {
         return true;
@@ -166,9 +167,10 @@ fn is_there<R: Eprint + Files>(rt: &R, file: &str) -> bool {
     false
 }
 
-/// Compacts the store at a place by two managers without requests, prints what it came to, and gives how the program ends.
+/// Compacts the store at a place with two managers without requests, prints the result, and returns how the program
+/// ends.
 ///
-/// Errors: lack of memory while its requests are read.
+/// Errors: lack of memory, if `compact` returns Memory.
 fn compacted_at<P: StorePlace, R: Clock + Log>(
     stores: &Stores<'_, R>,
     asked: &CompactArguments<'_>,
@@ -202,9 +204,9 @@ fn compacted_at<P: StorePlace, R: Clock + Log>(
     }
 }
 
-/// Makes the two managers of a compaction, and has it done.
+/// Makes the two managers of a compaction, and compacts the store.
 ///
-/// Errors: lack of memory before the store is opened, or while its requests are read.
+/// Errors: lack of memory before the store is opened; those of `compacted_at`.
 fn compacted<R: Clock + Log>(
     stores: &Stores<'_, R>,
     asked: &CompactArguments<'_>,
@@ -219,9 +221,9 @@ fn compacted<R: Clock + Log>(
     compacted_at(stores, asked, &place, &mut manager, &mut fresh)
 }
 
-/// Compacts the store that a command line names, where there is one.
+/// Compacts the store that the command line names, if it exists.
 ///
-/// Errors: lack of memory before the store is opened, or while its requests are read.
+/// Errors: lack of memory before the store is opened; those of `compacted_at`.
 fn compacted_if_there<R: Clock + Log>(
     stores: &Stores<'_, R>,
     asked: &CompactArguments<'_>,
@@ -235,7 +237,7 @@ fn compacted_if_there<R: Clock + Log>(
     Ok(Status::Stopped)
 }
 
-/// Does what a command line asks of `compact`, and gives how the program ends.
+/// Runs `compact`, and returns how the program ends.
 ///
 /// Errors: lack of memory.
 pub(crate) fn perform_compact<R: Clock + Log>(

@@ -10,20 +10,20 @@ use ups_pdu::{Bytes, TransferSyntax};
 const MIXED: &str =
     r#"10002000 "LO" 0200 "P1" 74000000 "UL" 0400 00000000 74001612 "SQ" 0000 ffffffff feff00e0 16000000 40005040 "DT" 0e00 "20240229120100" feff00e0 00000000 feffdde0 00000000"#;
 
-/// What is described of it.
+/// The text of the set of `MIXED`.
 const DESCRIBED: &str = "00100020=P1 00741216=[00404050=20240229120100 ][] ";
 
-/// Keys: two that the set of `MIXED` has, and three that it has not, of which one is a sequence with an item.
+/// Keys: two that the set of `MIXED` has, and three that it does not have, one of which is a sequence with an item.
 const KEYS: &str =
     r#"08001800 "UI" 0000 10002000 "LO" 0200 "* " 40000540 "DT" 0a00 "20240229- " 40003340 "SQ" 0000 08000000 feff00e0 00000000 74001612 "SQ" 0000 00000000"#;
 
 /// No growth is refused.
 const NONE: u64 = 0;
 
-/// The greatest number of growths that a test refuses in turn.
+/// The maximum number of growths that a test refuses in turn.
 const GROWTHS: u64 = 100;
 
-/// Reads with each growth refused in turn, until none is: how many there are.
+/// Reads with each growth refused in turn, and returns their number.
 fn growths_of_reading(rt: &impl AllocGlobal, bytes: &[u8]) -> Result<u64, Fail> {
     let heap = Refusing::new(rt.alloc());
     for number in 1..GROWTHS {
@@ -45,7 +45,7 @@ fn reading_answers_memory_where_a_growth_is_refused(rt: HostRuntime) -> Result<(
     Ok(())
 }
 
-/// What a set is asked for.
+/// An operation on a set.
 #[derive(Clone, Copy)]
 enum Job {
     Copy,
@@ -55,7 +55,7 @@ enum Job {
     Answer,
 }
 
-/// Whether a job gives the wanted set; None where memory runs out.
+/// Returns whether a job gives the wanted set, or None if memory runs out.
 fn is_done<A: Allocator + Copy>(
     rt: &impl AllocGlobal,
     job: Job,
@@ -76,7 +76,7 @@ fn is_done<A: Allocator + Copy>(
     }
 }
 
-/// Does a job with each growth refused in turn, until none is: how many there are. The set stays as it is.
+/// Does a job with each growth refused in turn, and returns their number. The set must not change.
 fn growths_of<A: Allocator + Copy>(
     rt: &impl AllocGlobal,
     heap: &Refusing<Global>,
@@ -100,7 +100,7 @@ fn growths_of<A: Allocator + Copy>(
     Err("no end of growths".into())
 }
 
-/// The growths of a job on the sets of `MIXED` and `KEYS`.
+/// Returns the number of growths of a job on the sets of `MIXED` and `KEYS`.
 fn growths_between<A: Allocator + Copy>(
     rt: &impl AllocGlobal,
     heap: &Refusing<Global>,
@@ -113,7 +113,7 @@ fn growths_between<A: Allocator + Copy>(
     growths_of(rt, heap, job, &set, &keys, wanted)
 }
 
-/// A job on those sets takes more growths than a number.
+/// Fails if a job on those sets does not take more growths than a number.
 fn check_growths(
     rt: &impl AllocGlobal,
     job: Job,
@@ -128,7 +128,7 @@ fn check_growths(
     Ok(())
 }
 
-/// Writes with each growth refused in turn, until none is: how many there are.
+/// Writes with each growth refused in turn, and returns their number.
 fn growths_of_writing<A: Allocator + Copy>(
     heap: &Refusing<Global>,
     alloc: A,
@@ -150,10 +150,10 @@ fn growths_of_writing<A: Allocator + Copy>(
     Err("no end of growths".into())
 }
 
-/// What is described of the elements of `MIXED` but for the patient's id.
+/// The text of the elements of `MIXED` except for the patient's ID.
 const SEQUENCE: &str = "00741216=[00404050=20240229120100 ][] ";
 
-/// The growths of writing the set of `MIXED`.
+/// Returns the number of growths of writing the set of `MIXED`.
 fn growths_of_writing_mixed(rt: &impl AllocGlobal) -> Result<u64, Fail> {
     let heap = Refusing::new(rt.alloc());
     let set = set_read(rt, &heap, TransferSyntax::Explicit, MIXED)?;
@@ -168,7 +168,7 @@ fn writing_and_copying_fail_where_a_growth_is_refused(rt: HostRuntime) -> Result
     check_growths(&rt, Job::LayOver, 4, DESCRIBED)
 }
 
-/// Puts an element, which needs a growth at most, where the next growth is refused: whether it is put.
+/// Inserts an element, which needs at most one growth, while the next is refused; returns whether it is inserted.
 fn is_put<A: Allocator + Copy>(
     heap: &Refusing<Global>,
     alloc: A,
@@ -184,7 +184,7 @@ fn is_put<A: Allocator + Copy>(
     Ok(set.replace(Element::of_bytes(tag, Vr::Lo, value)).is_ok())
 }
 
-/// Whether a growth is refused where an element is put. Then the set is as it was, and else the element is put.
+/// Returns whether a growth is refused when an element is inserted: if so, the set must be unchanged.
 fn is_refused<A: Allocator + Copy>(
     rt: &impl AllocGlobal,
     heap: &Refusing<Global>,
@@ -202,7 +202,7 @@ fn is_refused<A: Allocator + Copy>(
     Ok(is_refused)
 }
 
-/// Whether a growth is refused where one of six elements is put into an empty set.
+/// Returns whether a growth is refused when one of six elements is inserted into an empty set.
 fn are_refused<A: Allocator + Copy>(
     rt: &impl AllocGlobal,
     heap: &Refusing<Global>,

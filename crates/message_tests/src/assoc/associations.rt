@@ -6,7 +6,7 @@ use std::test::*;
 use ups_assoc::*;
 use ups_pdu::{AssociateRq, Pdu, read_pdu};
 
-/// The application entity UPSD, in UTC.
+/// Returns the configuration of the application entity UPSD, in UTC.
 pub(crate) fn this_server() -> Result<Config, Fail> {
     Ok(Config {
         ae: title("UPSD")?,
@@ -14,7 +14,7 @@ pub(crate) fn this_server() -> Result<Config, Fail> {
     })
 }
 
-/// The association request that bytes are.
+/// Returns the association request encoded in the bytes.
 pub(crate) fn request_in<A: Allocator + Copy>(
     alloc: A,
     bytes: &[u8],

@@ -6,7 +6,7 @@ use std::test::*;
 use ups_assoc::*;
 use ups_pdu::{Bytes, Pdv, TransferSyntax};
 
-/// The accepted contexts: one, of this id.
+/// Returns the accepted contexts: one, with this id.
 pub(crate) fn context(id: u8) -> [AcceptedContext; 1] {
     [AcceptedContext {
         id,
@@ -15,7 +15,7 @@ pub(crate) fn context(id: u8) -> [AcceptedContext; 1] {
     }]
 }
 
-/// A fragment with this message control header (PS3.8 annex E.2).
+/// Returns a fragment with this message control header (PS3.8 annex E.2).
 pub(crate) fn pdv<A: Allocator + Copy>(
     alloc: A,
     context: u8,
@@ -30,7 +30,7 @@ pub(crate) fn pdv<A: Allocator + Copy>(
     })
 }
 
-/// The text for `bytes_of` of a word, which may be CREATE or CREATED.
+/// Returns the text for `bytes_of` of a word, which may be CREATE or CREATED.
 pub(crate) fn named(word: &str) -> &str {
     match word {
         "CREATE" => CREATE,
@@ -39,7 +39,7 @@ pub(crate) fn named(word: &str) -> &str {
     }
 }
 
-/// The fragment of a text: its context, its control header and what stands in it.
+/// Returns the fragment of a text: its context, its control header and its contents.
 fn fragment(rt: &impl AllocGlobal, text: &str) -> Result<Pdv<Global>, Fail> {
     let (id, control, content) = cut_twice(text, " ", " ")?;
     let bytes = bytes_of(rt, named(content))?;
@@ -51,7 +51,7 @@ fn fragment(rt: &impl AllocGlobal, text: &str) -> Result<Pdv<Global>, Fail> {
     )
 }
 
-/// Whether a message is that of a text: its context, its command, and its data set or `-`.
+/// Returns whether a message is that of a text: its context, its command, and its data set or `-`.
 fn is_message(
     rt: &impl AllocGlobal,
     message: &RawMessage<Global>,
@@ -68,7 +68,7 @@ fn is_message(
     }
 }
 
-/// Whether a fragment is answered as a text says: with `more`, a message or a fault.
+/// Returns whether a fragment is answered as a text says: with `more`, a message or a fault.
 fn is_answered(
     rt: &impl AllocGlobal,
     assembler: &mut Assembler<Global>,
@@ -86,7 +86,7 @@ fn is_answered(
     }
 }
 
-/// Whether a fragment is answered as a row says: the fragment, `=` and its answer.
+/// Returns whether a fragment is answered as a row says: the fragment, `=` and its answer.
 fn is_step(
     rt: &impl AllocGlobal,
     assembler: &mut Assembler<Global>,
@@ -96,13 +96,13 @@ fn is_step(
     is_answered(rt, assembler, fragment(rt, text)?, expected)
 }
 
-/// An assembler where contexts 1 and 5 are accepted.
+/// Returns an assembler with the contexts 1 and 5 accepted.
 fn an_assembler(alloc: Global) -> Result<Assembler<Global>, Fail> {
     let ([one], [five]) = (context(1), context(5));
     Ok(Assembler::new(alloc, &[one, five])?)
 }
 
-/// Whether each fragment of a row is answered as the row says, where contexts 1 and 5 are accepted.
+/// Returns whether each fragment of a row is answered as the row says, with the contexts 1 and 5 accepted.
 fn are_answered(rt: &impl AllocGlobal, row: &str) -> Result<bool, Fail> {
     let mut assembler = an_assembler(rt.alloc())?;
     for step in row.split(", ") {
@@ -113,8 +113,8 @@ fn are_answered(rt: &impl AllocGlobal, row: &str) -> Result<bool, Fail> {
     Ok(true)
 }
 
-/// In each row fragments and what they are answered: an unknown presentation context; another context inside a message,
-/// or a command where data is due; data that no whole command announces; messages; what comes after a fault.
+/// Rows of fragments and their answers: an unknown presentation context; another context inside a message, or a command
+/// when data is due; data that no whole command announces; messages; what comes after a fault.
 const FRAGMENTS: &str = "0 3 CREATED=UnknownContext
 2 3 CREATED=UnknownContext
 3 3 CREATED=UnknownContext
@@ -145,7 +145,7 @@ fn each_fragment_is_answered(rt: HostRuntime) -> Result<(), Fail> {
     Ok(())
 }
 
-/// Whether a fragment makes no message whole.
+/// Returns whether a fragment does not complete a message.
 fn is_more(
     rt: &impl AllocGlobal,
     assembler: &mut Assembler<Global>,
@@ -156,8 +156,8 @@ fn is_more(
     Ok(assembler.feed(fragment)?.is_none())
 }
 
-/// Feeds bytes in fragments of one byte each, with this control header but for the last, which has another; none makes a
-/// message whole.
+/// Feeds bytes in fragments of one byte each, with the control header `control`, or `last` for the last one; fails if
+/// one completes a message.
 fn feed_each(
     rt: &impl AllocGlobal,
     assembler: &mut Assembler<Global>,
@@ -174,7 +174,7 @@ fn feed_each(
     Ok(())
 }
 
-/// Whether the command set CREATE, and six bytes of data behind it, are a message once they are told to be at their end.
+/// Returns whether the command set CREATE, and six bytes of data after it, are a message once their end is announced.
 fn is_whole_of_bytes(
     rt: &impl AllocGlobal,
     assembler: &mut Assembler<Global>,
@@ -193,8 +193,8 @@ fn fragments_of_one_byte_give_the_message(rt: HostRuntime) -> Result<(), Fail> {
     Ok(())
 }
 
-/// The fault at the last fragment of a message that has so many bytes of data behind 63 fragments of 16,384 bytes; none
-/// comes before it.
+/// Returns the fault at the last fragment of a message with `more` bytes of data after 63 fragments of 16,384 bytes;
+/// there must be none before it.
 fn fault_at_the_end(rt: &impl AllocGlobal, more: usize) -> Result<Option<AssocFault>, Fail> {
     let zeros = [0; 16_384];
     let mut assembler = Assembler::new(rt.alloc(), &context(1))?;

@@ -10,10 +10,10 @@ use ups_pdu::{AssociateRq, Pdv};
 
 type Heap<'a> = &'a Refusing<Global>;
 
-/// The greatest number of growths that a test refuses in turn.
+/// The maximum number of growths that a test refuses in turn.
 const GROWTHS: u64 = 100;
 
-/// The growth at which a request is accepted; each before it is refused, which is lack of memory.
+/// Returns the number of the growth at which a request is accepted; each before it is refused, which is lack of memory.
 fn growth_of_negotiating<'a>(
     heap: Heap<'a>,
     config: &Config,
@@ -38,7 +38,7 @@ fn each_refused_growth_of_negotiating_is_memory(rt: HostRuntime) -> Result<(), F
     Ok(())
 }
 
-/// The same of a new assembler.
+/// The same for a new assembler.
 fn growth_of_an_assembler(heap: Heap<'_>) -> Result<u64, Fail> {
     for growth in 1..GROWTHS {
         heap.refuse(growth);
@@ -58,7 +58,7 @@ fn each_refused_growth_of_a_new_assembler_is_memory(rt: HostRuntime) -> Result<(
     Ok(())
 }
 
-/// The four fragments of a message. Only the last can need memory: it stands behind one of the same data set.
+/// Returns the four fragments of a message. Only the last can need memory, because it follows one of the same data set.
 fn fragments_on<'a>(heap: Heap<'a>, command: &[u8]) -> Result<Vec<Pdv<Heap<'a>>, Heap<'a>>, Fail> {
     let mut fragments = Vec::new(heap);
     fragments.push(pdv(heap, 1, 1, command)?)?;
@@ -68,7 +68,7 @@ fn fragments_on<'a>(heap: Heap<'a>, command: &[u8]) -> Result<Vec<Pdv<Heap<'a>>,
     Ok(fragments)
 }
 
-/// Whether a fragment makes a message whole.
+/// Returns whether a fragment completes a message.
 fn is_whole<'a>(
     assembler: &mut Assembler<Heap<'a>>,
     fragment: Pdv<Heap<'a>>,
@@ -76,8 +76,8 @@ fn is_whole<'a>(
     Ok(assembler.feed(fragment)?.is_some())
 }
 
-/// Whether a fragment was not taken where the growth of this number is refused, and whether a message came: the first
-/// fault is lack of memory, and after it there is no message and no other fault than that.
+/// Feeds fragments while the growth with this number is refused, and returns whether that failed, and whether a message
+/// came. The first fault must be lack of memory; after it each fragment must be answered with `Failed`.
 fn course<'a>(
     heap: Heap<'a>,
     fragments: Vec<Pdv<Heap<'a>>, Heap<'a>>,
@@ -113,7 +113,8 @@ fn each_refused_growth_of_feeding_is_memory_for_ever(rt: HostRuntime) -> Result<
     Err("no end of growths".into())
 }
 
-/// The growth at which a message is cut into four PDUs; each before it is refused, which is lack of memory.
+/// Returns the number of the growth at which a message is cut into four PDUs; each before it is refused, which is lack
+/// of memory.
 fn growth_of_cutting(heap: Heap<'_>, command: &[u8]) -> Result<u64, Fail> {
     for growth in 1..GROWTHS {
         heap.refuse(growth);

@@ -7,7 +7,7 @@ use std::test::*;
 use ups_assoc::*;
 use ups_pdu::{Pdu, Pdv};
 
-/// The one fragment of a PDU.
+/// Returns the only fragment of a PDU.
 fn pdv_in(pdu: &Pdu<Global>) -> Result<&Pdv<Global>, Fail> {
     let Pdu::Data(pdvs) = pdu else {
         return Err("no P-DATA-TF".into());
@@ -18,7 +18,7 @@ fn pdv_in(pdu: &Pdu<Global>) -> Result<&Pdv<Global>, Fail> {
     Ok(pdv)
 }
 
-/// The one fragment of a PDU, taken out of it.
+/// Takes the only fragment out of a PDU.
 fn pdv_of(pdu: Pdu<Global>) -> Result<Pdv<Global>, Fail> {
     let Pdu::Data(pdvs) = pdu else {
         return Err("no P-DATA-TF".into());
@@ -33,8 +33,8 @@ fn pdv_of(pdu: Pdu<Global>) -> Result<Pdv<Global>, Fail> {
     Ok(pdv)
 }
 
-/// Whether a PDU is as a text says: the length of its fragment, whether that is of the command, and whether it is the
-/// last.
+/// Returns whether a PDU is as a text says: the length of its fragment, whether it is of the command or the data set,
+/// and whether it is the last.
 fn is_piece(rt: &impl AllocGlobal, pdu: &Pdu<Global>, expected: &str) -> Result<bool, Fail> {
     let pdv = pdv_in(pdu)?;
     let kind = if pdv.command { "command" } else { "data" };
@@ -43,7 +43,7 @@ fn is_piece(rt: &impl AllocGlobal, pdu: &Pdu<Global>, expected: &str) -> Result<
     Ok(found.as_str() == expected)
 }
 
-/// Whether PDUs are as a text says.
+/// Returns whether PDUs are as a text says.
 fn are_pieces(rt: &impl AllocGlobal, pdus: &[Pdu<Global>], expected: &str) -> Result<bool, Fail> {
     let mut rest = pdus;
     for piece in expected.split(", ") {
@@ -58,7 +58,7 @@ fn are_pieces(rt: &impl AllocGlobal, pdus: &[Pdu<Global>], expected: &str) -> Re
     Ok(rest.is_empty())
 }
 
-/// What a command is cut into, with a data set unless that is `-`.
+/// Cuts a command into pieces, with a data set unless that is `-`.
 fn cut_of(
     rt: &impl AllocGlobal,
     command: &str,
@@ -76,8 +76,8 @@ fn cut_of(
     Ok(cut(rt.alloc(), 1, &command, Some(&body), max)?)
 }
 
-/// In each row a command, a data set and a maximum length, and the pieces: a command of 102 bytes; the largest even
-/// length that the peer takes; a data set of no byte, and none.
+/// Rows of a command, a data set and a maximum length, and the pieces: a command of 102 bytes; the largest even length
+/// that the peer accepts; a data set of no bytes, and none.
 const PIECES: &str = "CREATED|- 32|26 command, 26 command, 26 command, 24 command last
 00*5|- 8|2 command, 2 command, 1 command last
 00*5|- 9|2 command, 2 command, 1 command last
@@ -91,7 +91,7 @@ const PIECES: &str = "CREATED|- 32|26 command, 26 command, 26 command, 24 comman
 \"12\"|\"\" 8|2 command last, 0 data last
 \"12\"|- 8|2 command last";
 
-/// Whether a row says what its command and data set are cut into.
+/// Returns whether a row says what its command and data set are cut into.
 fn are_pieces_of(rt: &impl AllocGlobal, row: &str) -> Result<bool, Fail> {
     let (command, how, expected) = cut_twice(row, "|", "|")?;
     let (body, max) = rows::cut(how, " ")?;
@@ -107,7 +107,7 @@ fn each_piece_is_as_long_as_the_peer_takes(rt: HostRuntime) -> Result<(), Fail> 
     Ok(())
 }
 
-/// The bytes of a P-DATA-TF with one fragment on the presentation context 3, behind a byte that was there before.
+/// Encodes a P-DATA-TF with one fragment on the presentation context 3, after a byte that was there before.
 fn fragment_of(rt: &impl AllocGlobal, kind: &str, bytes: &str) -> Result<Vec<u8>, Fail> {
     let bytes = bytes_of(rt, bytes)?;
     if bytes.len() > 16_378 {
@@ -119,7 +119,7 @@ fn fragment_of(rt: &impl AllocGlobal, kind: &str, bytes: &str) -> Result<Vec<u8>
     Ok(out)
 }
 
-/// In each row which fragment it is, its bytes, and the P-DATA-TF: the type 04H, a reserved byte and the length of the
+/// Rows of the kind of a fragment, its bytes, and the P-DATA-TF: the type 04H, a reserved byte and the length of the
 /// rest, then the length of the fragment, its context and its control header (PS3.8 section 9.3.5 and annex E.2).
 const FRAGMENTS: &str = "command|AABB|FF 0400 00000008 00000004 03 01 AABB
 command last|AABB|FF 0400 00000008 00000004 03 03 AABB
@@ -128,7 +128,7 @@ data last|AABB|FF 0400 00000008 00000004 03 02 AABB
 data last||FF 0400 00000006 00000002 03 02
 data last|00*16378|FF 0400 00004000 00003FFC 03 02 00*16378";
 
-/// Whether a row says which bytes a fragment is written as.
+/// Returns whether a row says which bytes a fragment is written as.
 fn is_fragment_of(rt: &impl AllocGlobal, row: &str) -> Result<bool, Fail> {
     let (kind, bytes, expected) = cut_twice(row, "|", "|")?;
     let expected = bytes_of(rt, expected)?;
@@ -151,7 +151,7 @@ fn the_longest_fragment_is_even(rt: HostRuntime) -> Result<(), Fail> {
     Ok(())
 }
 
-/// Whether a fragment makes a message whole, and it is this; an error where it is another.
+/// Returns whether a fragment completes a message, and fails if that is another message than this.
 fn is_given(
     assembler: &mut Assembler<Global>,
     pdu: Pdu<Global>,
@@ -171,7 +171,7 @@ fn is_given(
     Ok(true)
 }
 
-/// Whether the last of some PDUs alone makes a message whole, and it is this.
+/// Returns whether only the last of some PDUs completes a message, which must be this.
 fn give(alloc: Global, pdus: Vec<Pdu<Global>>, command: &[u8], body: &[u8]) -> Result<bool, Fail> {
     let mut assembler = Assembler::new(alloc, &context(1))?;
     let mut found = false;
@@ -184,7 +184,7 @@ fn give(alloc: Global, pdus: Vec<Pdu<Global>>, command: &[u8], body: &[u8]) -> R
     Ok(found)
 }
 
-/// Whether a message that is cut for a peer is put together again.
+/// Returns whether a message that is cut for a peer is put together again.
 fn is_whole_again(rt: &impl AllocGlobal, command: &[u8], max: u32) -> Result<bool, Fail> {
     let pdus = cut_of(rt, CREATE, "\"0123456789\"", max)?;
     give(rt.alloc(), pdus, command, b"0123456789")

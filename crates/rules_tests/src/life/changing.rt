@@ -1,7 +1,7 @@
-//! What requests make of steps, and what is shown of them, with each growth refused in turn.
+//! How requests change steps, and what is shown of steps, with each growth refused in turn.
 //!
-//! A row begins with the number of growths that there are at least. A growth that is refused fails the call, and leaves
-//! what it was given as it was: the last call, of which no growth is refused, does what its row says.
+//! A row begins with the least number of growths. A refused growth makes the call fail, and leaves what it was given as
+//! it was; the last call, in which no growth is refused, does what its row says.
 
 use super::words::{request_of, row_of};
 use super::*;
@@ -10,9 +10,9 @@ use fixtures::rows::{check, cut, cut_twice, number};
 use fixtures::words::{set_of, tags_of};
 use ups_dataset::Tag;
 
-/// What is held of a step, or `none`; a request at the second minute of 1970; and what is held after it: the state, the
-/// Transaction UID of the claim, when the state became final, and the attributes. With `show` and tags what is held are
-/// attributes, and a status and those of them that are listed are shown.
+/// What is held of a step, or `none`; a request two minutes after 1970 began; and what is held after it: the state, the
+/// Transaction UID of the claim, when the state became final, and the attributes. With `show` and tags, the attributes
+/// that are held; and the status, and those of the attributes that are listed and shown.
 const CHANGED: &str = "\
 # A step is created with its UIDs, and without a Transaction UID
 1: none | create 1.2.3.1 B -> SCHEDULED none never 00080016=1.2.840.10008.5.1.4.34.6.1 00080018=1.2.3.1_ 00404005=20240229120000 00404041=READY_ 00741000=SCHEDULED_ 00741200=MEDIUM 00741204=CT_READ_
@@ -45,7 +45,7 @@ const CHANGED: &str = "\
 2: B 00080016=1.2.840.10008.5.1.4.34.6.1 00080018=1.2.3.1 | show 00741000 00081195 -> 0001 00741000=SCHEDULED_
 0: B 00080016=1.2.840.10008.5.1.4.34.6.1 00080018=1.2.3.1 | show 00081195 -> 0001";
 
-/// Returns what is made of a step, and how many growths that takes.
+/// Returns the number of growths that a change of a step takes, and its outcome.
 fn change_in_turn<'a>(
     heap: &'a Refusing<Global>,
     before: Option<&Row<&'a Refusing<Global>>>,
@@ -81,7 +81,7 @@ fn held_text<A: Allocator + Copy>(rt: &impl AllocGlobal, row: &Row<A>) -> Result
     Ok(text)
 }
 
-/// Returns what is made of a step, which takes so many growths, as text.
+/// Returns the outcome of a change, which takes `growths` growths, as text.
 fn made_text<A: Allocator + Copy>(
     rt: &impl AllocGlobal,
     growths: u64,
@@ -93,7 +93,7 @@ fn made_text<A: Allocator + Copy>(
     }
 }
 
-/// Returns what a request makes of a step, with how many growths that takes, as text.
+/// Returns the number of growths that a request on a step takes, and its outcome as text.
 fn changed_text<'a>(
     rt: &impl AllocGlobal,
     heap: &'a Refusing<Global>,
@@ -104,7 +104,7 @@ fn changed_text<'a>(
     Ok((growths, made_text(rt, growths, &made)?))
 }
 
-/// Returns what is made of a step, with how many growths that takes, as text.
+/// Returns the number of growths that a change of a step takes, and its outcome as text.
 fn changed(
     rt: &impl AllocGlobal,
     heap: &Refusing<Global>,
@@ -117,7 +117,7 @@ fn changed(
     changed_text(rt, heap, before.as_ref(), &request)
 }
 
-/// Returns what is shown of attributes, and how many growths that takes.
+/// Returns the number of growths that showing attributes takes, and the reply.
 fn show_in_turn<'a>(
     heap: &'a Refusing<Global>,
     held: &DataSet<&'a Refusing<Global>>,
@@ -150,7 +150,7 @@ fn reply_text<A: Allocator + Copy>(
     Ok(text)
 }
 
-/// Returns what is shown of attributes as text, and how many growths that takes.
+/// Returns the number of growths that showing attributes takes, and the reply as text.
 fn shown_text<'a>(
     rt: &impl AllocGlobal,
     heap: &'a Refusing<Global>,
@@ -161,7 +161,7 @@ fn shown_text<'a>(
     Ok((growths, reply_text(rt, &reply)?))
 }
 
-/// Returns what is shown of attributes, with how many growths that takes, as text.
+/// Returns the number of growths that showing the attributes of a row takes, and the reply as text.
 fn shown_in_row(
     rt: &impl AllocGlobal,
     heap: &Refusing<Global>,
@@ -174,7 +174,7 @@ fn shown_in_row(
     shown_text(rt, heap, &held, &listed)
 }
 
-/// Whether a row says what is found, and how many growths there are at least.
+/// Returns whether a row says what is found, and the least number of growths.
 fn is_so(rt: &impl AllocGlobal, heap: &Refusing<Global>, row: &str) -> Result<bool, Fail> {
     let (rest, expected) = cut(row, " -> ")?;
     let (least, held, asked) = cut_twice(rest, ": ", " | ")?;
@@ -186,7 +186,7 @@ fn is_so(rt: &impl AllocGlobal, heap: &Refusing<Global>, row: &str) -> Result<bo
     Ok(growths >= least && found.as_str().trim_end() == expected)
 }
 
-/// Fails with the first row that says something else than what is found.
+/// Fails with the first row that does not say what is found.
 fn check_rows(rt: &impl AllocGlobal, heap: &Refusing<Global>) -> Result<(), Fail> {
     for row in CHANGED.lines() {
         check(row, row.starts_with("# ") || is_so(rt, heap, row)?)?;

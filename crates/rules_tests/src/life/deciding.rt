@@ -1,11 +1,11 @@
-//! What is decided of requests.
+//! The decisions about requests.
 
 use super::words::{request_of, row_of};
 use super::*;
 use fixtures::rows::cut;
 
-/// Tables. A heading has the columns: what is held of a step, and the request, with `..` where the text of a row comes in;
-/// `none` is no step, `removed` one that was there before. A row ends with what is decided in each column.
+/// Tables. A heading has the columns: what is held of a step, and the request, with the text of a row in place of `..`;
+/// `none` is no step, `removed` one that was there before. A row ends with the decision in each column.
 const DECIDED: &str = "\
 # A step is created once: none | create 1.2.3.1 ..; removed | create 1.2.3.1 ..
 B -> 0000 0111
@@ -119,7 +119,7 @@ fn filled(rt: &impl AllocGlobal, columns: &str, text: &str) -> Result<String, Fa
     Ok(filled)
 }
 
-/// Returns the number of what is decided of a request, which takes no memory; none where it takes some.
+/// Returns the number of the decision about a request, or None if it takes memory.
 fn number_of<A: Allocator + Copy>(
     heap: &Refusing<Global>,
     row: Option<&Row<A>>,
@@ -135,7 +135,7 @@ fn number_of<A: Allocator + Copy>(
     }
 }
 
-/// Returns the number of what is decided in a column; none where that takes memory.
+/// Returns the number of the decision in a column, or None if it takes memory.
 fn number_in(heap: &Refusing<Global>, column: &str) -> Result<Option<u16>, Fail> {
     heap.refuse(0);
     let (held, message) = cut(column, " | ")?;
@@ -144,7 +144,7 @@ fn number_in(heap: &Refusing<Global>, column: &str) -> Result<Option<u16>, Fail>
     Ok(number_of(heap, row.as_ref(), held != "none", &request))
 }
 
-/// Adds the number of what is decided in a column.
+/// Adds the number of the decision in a column.
 fn add_number(text: &mut String, heap: &Refusing<Global>, column: &str) -> Result<(), Fail> {
     match number_in(heap, column)? {
         Some(number) => Ok(write!(text, " {number:04X}")?),
@@ -152,7 +152,7 @@ fn add_number(text: &mut String, heap: &Refusing<Global>, column: &str) -> Resul
     }
 }
 
-/// Returns what is decided in each of these columns.
+/// Returns the decision in each of these columns.
 fn decided(rt: &impl AllocGlobal, heap: &Refusing<Global>, columns: &str) -> Result<String, Fail> {
     let mut numbers = String::new(rt.alloc());
     for column in columns.split("; ") {
@@ -161,7 +161,7 @@ fn decided(rt: &impl AllocGlobal, heap: &Refusing<Global>, columns: &str) -> Res
     Ok(numbers)
 }
 
-/// Fails where something else is decided in the columns than a row says.
+/// Fails if a decision in the columns is not the one in a row.
 fn check_row(
     rt: &impl AllocGlobal,
     heap: &Refusing<Global>,
@@ -173,7 +173,7 @@ fn check_row(
     check_same(row, decided(rt, heap, columns.as_str())?.as_str(), wanted)
 }
 
-/// Fails where something else is decided than the rows of a section say.
+/// Fails if a decision is not the one in the rows of a section.
 fn check_section(
     rt: &impl AllocGlobal,
     heap: &Refusing<Global>,
@@ -187,7 +187,7 @@ fn check_section(
     Ok(())
 }
 
-/// Fails where something else is decided than the rows say.
+/// Fails if a decision is not the one in the rows.
 fn check_sections(rt: &impl AllocGlobal, heap: &Refusing<Global>) -> Result<(), Fail> {
     for section in DECIDED.split("# ") {
         if !section.is_empty() {

@@ -1,13 +1,13 @@
-//! What messages ask.
+//! What messages ask for.
 
 use super::words::read;
 use super::*;
 use fixtures::described;
 use ups_dataset::Tag;
 
-/// Messages, and what is read of each: a status; or a verb or a state, the step that is named, the watcher, the
-/// Transaction UID, and the attributes or keys. Where memory is asked for, there are two: what is read where the first
-/// growth is refused, and what is read where the second is.
+/// Messages, and what is read from each: a status; or a verb or a state, the step that is named, the watcher, the
+/// Transaction UID, and the attributes or keys. If memory is asked for, there are two: what is read if the first growth
+/// is refused, and what is read if the second is.
 const READ: &str = r"# A step is created under a UID of its own
 create 1.2.3.1 B -> create 1.2.3.1 with 00404005=20240229120000 00404041=READY_ 00741000=SCHEDULED_ 00741200=MEDIUM 00741204=CT_READ_
 create none B -> 0117
@@ -218,7 +218,7 @@ fn request_text<A: Allocator + Copy>(
     Ok(text)
 }
 
-/// Returns what is asked to be shown as text.
+/// Returns as text what an N-GET asks for.
 fn get_text(rt: &impl AllocGlobal, step: Option<StepUid>, listed: &[Tag]) -> Result<String, Fail> {
     let mut text = format!(in rt.alloc(); "get ")?;
     add_step(&mut text, step)?;
@@ -229,7 +229,7 @@ fn get_text(rt: &impl AllocGlobal, step: Option<StepUid>, listed: &[Tag]) -> Res
     Ok(text)
 }
 
-/// Returns what is asked as text.
+/// Returns as text what is asked for.
 fn ask_text<A: Allocator + Copy>(rt: &impl AllocGlobal, ask: &Ask<A>) -> Result<String, Fail> {
     match ask {
         Ask::Do(request) => request_text(rt, request),
@@ -242,7 +242,7 @@ fn ask_text<A: Allocator + Copy>(rt: &impl AllocGlobal, ask: &Ask<A>) -> Result<
     }
 }
 
-/// Returns what is read as text: what is asked, or a status.
+/// Returns as text what is read: what is asked for, or a status.
 fn read_text<A: Allocator + Copy>(
     rt: &impl AllocGlobal,
     read: &Result<Ask<A>, Status>,
@@ -253,7 +253,7 @@ fn read_text<A: Allocator + Copy>(
     }
 }
 
-/// Returns what is read of a message where the growth of this number is refused.
+/// Returns what is read from a message while the growth with this number is refused.
 fn outcome(
     rt: &impl AllocGlobal,
     heap: &Refusing<Global>,
@@ -263,7 +263,7 @@ fn outcome(
     read_text(rt, &read(heap, message, growth)?)
 }
 
-/// Returns a message with what is read of it.
+/// Returns a message with what is read from it.
 fn row_of(rt: &impl AllocGlobal, heap: &Refusing<Global>, message: &str) -> Result<String, Fail> {
     let mut row = format!(in rt.alloc(); "{message} -> ")?;
     row.push_str(outcome(rt, heap, message, 1)?.as_str())?;
@@ -274,7 +274,7 @@ fn row_of(rt: &impl AllocGlobal, heap: &Refusing<Global>, message: &str) -> Resu
     Ok(row)
 }
 
-/// Fails with the first row that says something else than what is read.
+/// Fails with the first row that does not say what is read.
 fn check_rows(rt: &impl AllocGlobal, heap: &Refusing<Global>) -> Result<(), Fail> {
     for row in READ.lines() {
         if let Some((message, _)) = row.split_once(" -> ") {

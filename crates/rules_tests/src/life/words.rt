@@ -1,4 +1,4 @@
-//! What the rows of the tests say: what is asked, and what is held.
+//! The words of the rows of the tests: what is asked for, and what is held.
 
 use fixtures::Refusing;
 use fixtures::words::{message_of, set_of};
@@ -8,10 +8,10 @@ use ups_cycle::{Status, StepState};
 use ups_life::{Ask, Request, Row, read_request};
 use ups_pdu::Uid;
 
-/// The offset of the local time, in which keys are read.
+/// The offset of the local time, in minutes, in which keys are read.
 const OFFSET: i16 = 60;
 
-/// Returns what is read of a message where the growth of this number is refused; 0 refuses none.
+/// Returns what is read from a message while the growth with this number is refused; 0 refuses none.
 pub(super) fn read<'a>(
     heap: &'a Refusing<Global>,
     message: &str,
@@ -34,7 +34,7 @@ pub(super) fn request_of<'a>(
     }
 }
 
-/// Returns the state of a word, in which a low line stands for a space.
+/// Returns the state that a word names, with `_` for a space.
 fn state_of(word: &str) -> Option<StepState> {
     match word {
         "SCHEDULED" => Some(StepState::Scheduled),
@@ -45,8 +45,9 @@ fn state_of(word: &str) -> Option<StepState> {
     }
 }
 
-/// Returns what is held of a step: its state, the Transaction UID of its claim, and its attributes. A claim that is no UID
-/// stands for none, and a word that is no state for no step. What is final is so since a minute after 1970 began.
+/// Returns what is held of a step: its state, the Transaction UID of its claim, and its attributes. A claim that is not
+/// a UID counts as none, and a word that is not a state as no step. A final state is so since a minute after 1970
+/// began.
 pub(super) fn row_of<A: Allocator + Copy>(alloc: A, text: &str) -> Result<Option<Row<A>>, Fail> {
     let (state, rest) = text.split_once(' ').unwrap_or((text, ""));
     let (claim, attributes) = rest.split_once(' ').unwrap_or((rest, ""));

@@ -1,4 +1,4 @@
-//! What is found, and which UIDs are used.
+//! Which steps are found, and which UIDs are used.
 
 use super::words::request_of;
 use super::*;
@@ -13,7 +13,7 @@ create 1.2.3.1 B 00741202=READS 00404005=20240229120000
 create 1.2.3.2 B 00741202=REPROC 00404005=20240301
 1 1.2.3.2 00741000=IN_PROGRESS 00081195=2.1";
 
-/// Keys, and what is found by them.
+/// Keys, and what they find.
 const FOUND: &str = r"00080018= 00741202=RE?D* -> [00080018=1.2.3.1_ 00741202=READS_ ]
 00080018=1.2.3.2\1.2.3.9~ -> [00080018=1.2.3.2_ ]
 00404005=20240229- -> [00404005=20240229120000 ][00404005=20240301 ]
@@ -30,7 +30,7 @@ create 1.2.3.1
 create 1.2.3.22
 set 1.2.3.2 00741204=MR_READ";
 
-/// Requests, whether their step is used then, and whether they create a step that is.
+/// Requests, whether their step is then used, and whether they create a step that is.
 const USED: &str = "\
 create 1.2.3.1 -> true true
 2 1.2.3.1 -> true false
@@ -45,7 +45,7 @@ create 1.2.3.1.1 -> false false
 create 1.2.3.23 -> false false
 2 1.2.3.23 -> false false";
 
-/// Returns the entry of a request, as 1970 began.
+/// Returns the entry of a request, at the beginning of 1970.
 fn entry_of<'a>(
     heap: &'a Refusing<Global>,
     message: &str,
@@ -71,7 +71,7 @@ fn entries_of<'a>(
     Ok(entries)
 }
 
-/// What is found by keys in UTC, where no entry is of a moment after the year 9999.
+/// Finds by keys in UTC, and fails if an entry has a moment after the year 9999.
 fn find<A: Allocator + Copy>(
     alloc: A,
     entries: &[Entry<A>],
@@ -86,7 +86,7 @@ fn find<A: Allocator + Copy>(
     plain_find(alloc, &configuration, entries, keys)
 }
 
-/// Data sets as text.
+/// Returns data sets as text.
 fn all_described<A: Allocator + Copy>(
     sets: &Sets<A>,
     rt: &impl AllocGlobal,
@@ -100,7 +100,7 @@ fn all_described<A: Allocator + Copy>(
     Ok(text)
 }
 
-/// Returns how many growths it takes to find by keys: each that is refused is lack of memory.
+/// Returns the number of growths that finding by keys takes; each that is refused must be reported as lack of memory.
 fn growths_of_finding<'a>(
     heap: &'a Refusing<Global>,
     entries: &[Entry<&'a Refusing<Global>>],
@@ -118,7 +118,7 @@ fn growths_of_finding<'a>(
     Err("there are more growths".into())
 }
 
-/// Returns what is found by keys as text.
+/// Returns as text what keys find.
 fn found_text<'a>(
     rt: &impl AllocGlobal,
     heap: &'a Refusing<Global>,
@@ -130,7 +130,7 @@ fn found_text<'a>(
     Ok(all_described(&sets, rt)?)
 }
 
-/// Whether keys find what a text says, which takes more than 20 growths, and nothing where there is no entry.
+/// Returns whether keys find what a text says, with more than 20 growths, and nothing without entries.
 fn finds<'a>(
     rt: &impl AllocGlobal,
     heap: &'a Refusing<Global>,
@@ -145,7 +145,7 @@ fn finds<'a>(
     )
 }
 
-/// Whether a row says what is found by its keys.
+/// Returns whether a row says what its keys find.
 fn is_found_so<'a>(
     rt: &impl AllocGlobal,
     heap: &'a Refusing<Global>,
@@ -158,7 +158,7 @@ fn is_found_so<'a>(
     finds(rt, heap, entries, &keys, wanted)
 }
 
-/// Fails with the first row that says something else than what is found.
+/// Fails with the first row that does not say what is found.
 fn check_found<'a>(
     rt: &impl AllocGlobal,
     heap: &'a Refusing<Global>,
@@ -177,7 +177,7 @@ fn the_steps_that_match_are_found_in_order_of_creation(rt: HostRuntime) -> Resul
     check_found(&rt, &heap, &entries)
 }
 
-/// Returns whether the step of a request is used, and whether the request creates one that is, which takes no memory.
+/// Returns whether the step of a request is used, and whether the request creates one that is; this takes no memory.
 fn uses<'a>(
     heap: &'a Refusing<Global>,
     entries: &[Entry<&'a Refusing<Global>>],
@@ -202,7 +202,7 @@ fn words_for(uses: (bool, bool)) -> &'static str {
     }
 }
 
-/// Whether a row says whether the step of its request is used.
+/// Returns whether a row says if the step of its request is used.
 fn is_used_so<'a>(
     heap: &'a Refusing<Global>,
     entries: &[Entry<&'a Refusing<Global>>],
@@ -213,7 +213,7 @@ fn is_used_so<'a>(
     Ok(words_for(uses(heap, entries, &request)?) == wanted)
 }
 
-/// Fails with the first row that says something else than what is used.
+/// Fails with the first row that does not say what is used.
 fn check_used<'a>(
     heap: &'a Refusing<Global>,
     entries: &[Entry<&'a Refusing<Global>>],

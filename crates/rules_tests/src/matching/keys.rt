@@ -6,7 +6,7 @@ use ups_dataset::dictionary::*;
 use ups_dataset::{DataSet, Tag};
 use ups_match::{Keys, Matcher, Probe};
 
-/// A set with one value, which is filled up to an even length.
+/// Returns a set with one value, padded to an even length.
 pub(super) fn set_of<A: Allocator + Copy>(
     alloc: A,
     tag: Tag,
@@ -17,14 +17,14 @@ pub(super) fn set_of<A: Allocator + Copy>(
     Ok(set)
 }
 
-/// Whether a set matches keys.
+/// Returns whether a set matches keys.
 fn asked<A: Allocator + Copy>(keys: DataSet<A>, row: &DataSet<A>) -> Result<bool, Fail> {
     let keys = Keys::of(keys, 0)?;
     let mut probe = Probe::new();
     Ok(probe.matches(&keys, row))
 }
 
-/// Whether a key that isn't prepared, for lack of memory, matches what is stored under the same tag.
+/// Returns whether a key that is not prepared, for lack of memory, matches what is stored under the same tag.
 fn matched_unprepared<A: Allocator + Copy>(
     alloc: A,
     tag: Tag,
@@ -38,7 +38,7 @@ fn matched_unprepared<A: Allocator + Copy>(
     asked(keys, &row)
 }
 
-/// Whether a key says the same of what is stored under the same tag, prepared and not.
+/// Returns whether a key says the same about what is stored under the same tag, prepared and not.
 pub(super) fn says_the_same<A: Allocator + Copy>(
     alloc: A,
     tag: Tag,
@@ -49,8 +49,8 @@ pub(super) fn says_the_same<A: Allocator + Copy>(
     Ok(matched_unprepared(alloc, tag, key, stored)? == found)
 }
 
-/// A tag for each rule of PS3.4 section C.2.2.2, values of keys, and stored values. Which of them match, where there is
-/// memory, `rows/matching.rows` says.
+/// A tag for each rule of PS3.4 section C.2.2.2, values of keys, and stored values. `rows/matching.rows` says which of
+/// them match, if there is memory.
 const VALUES: &str = r#"# UIDs are lists
 00080018: "1.2.3"|"1.2.3"00|"1.2.3\1.2.4"|"1.2.3 \1.2.4"|"1.2.4"|"1.2.5\1.2.4"|"1.2.3\"|"1.2.*"|"1.2.?"|"*" -> "1.2.3"|"1.2.3"00|"1.2.4"|"1.2.33"|"1.2.5"|"1.2.3\1.2.4"|
 # Long strings are patterns
@@ -82,7 +82,7 @@ const VALUES: &str = r#"# UIDs are lists
 # A long pattern is matched whole
 00741202: 412a*600|412a2a*512|412a2a*513 -> 41*600|41*599|41*512"#;
 
-/// Whether a key says the same of each of some stored values, prepared and not.
+/// Returns whether a key says the same about each of some stored values, prepared and not.
 fn key_says_the_same(
     rt: &impl AllocGlobal,
     tag: Tag,
@@ -98,7 +98,7 @@ fn key_says_the_same(
     Ok(true)
 }
 
-/// Whether a key that a text stands for says the same of each of some stored values, prepared and not.
+/// Returns whether the key written as a text says the same about each of some stored values, prepared and not.
 fn text_says_the_same(
     rt: &impl AllocGlobal,
     tag: Tag,
@@ -109,7 +109,7 @@ fn text_says_the_same(
     key_says_the_same(rt, tag, &key, stored)
 }
 
-/// Whether each key of a line says the same of each of its stored values, prepared and not.
+/// Returns whether each key of a line says the same about each of its stored values, prepared and not.
 fn keys_say_the_same(rt: &impl AllocGlobal, line: &str) -> Result<bool, Fail> {
     let (digits, keys, stored) = cut_twice(line, ": ", " -> ")?;
     let tag = tag_of(digits)?;
@@ -132,7 +132,7 @@ fn a_key_says_the_same_prepared_and_not(rt: HostRuntime) -> Result<(), Fail> {
     Ok(())
 }
 
-/// An item with a code in a sequence in a sequence.
+/// Returns a set with a code in a sequence in a sequence.
 fn nested<A: Allocator + Copy>(alloc: A, code: &[u8]) -> Result<DataSet<A>, Fail> {
     let mut inner = DataSet::new(alloc);
     let item = set_of(alloc, CODE_VALUE, code)?;
@@ -142,10 +142,11 @@ fn nested<A: Allocator + Copy>(alloc: A, code: &[u8]) -> Result<DataSet<A>, Fail
     Ok(set)
 }
 
-/// Values of a key in a sequence in a sequence.
+/// The values of a key in a sequence in a sequence.
 const NESTED: &str = "P1|P?|P2||*|P** |**2";
 
-/// Whether a key in a sequence in a sequence, which is prepared where the growth of this number is refused, matches a set.
+/// Returns whether a key in a sequence in a sequence, prepared while the growth with this number is refused, matches a
+/// set.
 fn nested_matches<'a>(
     heap: &'a Refusing<Global>,
     key: &[u8],
@@ -158,7 +159,7 @@ fn nested_matches<'a>(
     asked(keys, row)
 }
 
-/// Whether a key in a sequence in a sequence says the same of P1, prepared and not.
+/// Returns whether a key in a sequence in a sequence says the same about P1, prepared and not.
 fn nested_says_the_same(alloc: Global, key: &[u8]) -> Result<bool, Fail> {
     let heap = Refusing::new(alloc);
     let row = nested(&heap, b"P1")?;
@@ -174,7 +175,7 @@ fn a_nested_key_says_the_same_prepared_and_not(rt: HostRuntime) -> Result<(), Fa
     Ok(())
 }
 
-/// Keys that can't be read, and their fault, which a peer isn't told.
+/// Keys that cannot be read, and their fault, which a peer is not told.
 const FAULTS: &str = r"00404005=- -> BadRange
 00404005=-_ -> BadRange
 00404005=soon -> BadRange
@@ -209,14 +210,14 @@ fn the_first_fault_is_told(rt: HostRuntime) -> Result<(), Fail> {
     Ok(())
 }
 
-/// Tells the offset of keys, whether they match a set, and how many sets were tried then.
+/// Returns the offset of keys, whether they match a set, and the number of sets tried then.
 fn told_of(keys: &Keys<Global>, row: &DataSet<Global>) -> (i16, bool, u64) {
     let mut probe = Probe::new();
     let is_match = probe.matches(keys, row);
     (keys.offset(), is_match, probe.count())
 }
 
-/// Tells the same of a start that is asked for, an hour east of UTC, and of one that is stored.
+/// Returns the same for a start that is asked for, an hour east of UTC, and one that is stored.
 fn told_of_starts(alloc: Global, key: &[u8], stored: &[u8]) -> Result<(i16, bool, u64), Fail> {
     let tag = SCHEDULED_PROCEDURE_STEP_START_DATE_TIME;
     let row = set_of(alloc, tag, stored)?;
@@ -231,14 +232,14 @@ fn an_offset_is_that_of_the_keys(rt: HostRuntime) -> Result<(), Fail> {
     Ok(())
 }
 
-/// Whether a copy of keys matches what they say.
+/// Returns whether a copy of keys matches their own attributes.
 fn is_copied<A: Allocator + Copy>(keys: &Keys<A>) -> Result<bool, Fail> {
     let copy = keys.copy()?;
     let mut probe = Probe::new();
     Ok(probe.matches(&copy, keys.attributes()))
 }
 
-/// Whether a copy of these keys is made, and none where its first growth is refused.
+/// Returns whether a copy of these keys is made, and none if its first growth is refused.
 fn are_copied_or_refused<'a>(
     heap: &'a Refusing<Global>,
     keys: &Keys<&'a Refusing<Global>>,
@@ -248,7 +249,7 @@ fn are_copied_or_refused<'a>(
     Ok(is_copied && keys.copy().is_err())
 }
 
-/// Whether it is so of keys in a sequence in a sequence.
+/// Returns whether this is so for keys in a sequence in a sequence.
 fn is_copied_or_refused(heap: &Refusing<Global>) -> Result<bool, Fail> {
     let keys = Keys::of(nested(heap, b"P1")?, 0)?;
     are_copied_or_refused(heap, &keys)

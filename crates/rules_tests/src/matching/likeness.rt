@@ -4,7 +4,7 @@ use std::alloc::{AllocError, Global};
 use std::test::Fail;
 use ups_match::likes;
 
-/// A pattern that is universal as a key, a text, and whether they are alike. `rows/matching.rows` has the others.
+/// A pattern that is universal as a key, a text, and whether they match. `rows/matching.rows` has the others.
 const ROWS: &str = r#"""|""|yes
 ""|"A"|no
 "*"|""|yes
@@ -12,7 +12,7 @@ const ROWS: &str = r#"""|""|yes
 "*"|"ABC"|yes
 "*"|"*?"|yes"#;
 
-/// Whether the text of a row is like its pattern.
+/// Returns whether the text of a row matches its pattern.
 fn row_is_alike(rt: &impl AllocGlobal, row: &str) -> Result<&'static str, Fail> {
     let (pattern, text, _) = cut_twice(row, "|", "|")?;
     let pattern = bytes_of(rt, pattern)?;
@@ -28,7 +28,7 @@ fn wild_cards_stand_for_any_letters(rt: HostRuntime) -> Result<(), Fail> {
     Ok(())
 }
 
-/// A front, many letters A, and an end.
+/// Returns a front, `count` letters A, and an end.
 fn letters(alloc: Global, front: &[u8], count: usize, end: &[u8]) -> Result<Vec<u8>, AllocError> {
     let mut text = Vec::from_slice(alloc, front)?;
     text.resize(text.len().saturating_add(count), b'A')?;
@@ -36,7 +36,7 @@ fn letters(alloc: Global, front: &[u8], count: usize, end: &[u8]) -> Result<Vec<
     Ok(text)
 }
 
-/// Whether a run with a `?` is found at a place of a text of 300 bytes, and nowhere behind it.
+/// Returns whether a run with a `?` is found at a place of a text of 300 bytes, and nowhere after it.
 fn is_found_at(alloc: Global, place: usize) -> Result<bool, AllocError> {
     let text = letters(alloc, b"", place, b"XBYB")?;
     let text = letters(alloc, text.as_slice(), 300_usize.saturating_sub(place), b"")?;

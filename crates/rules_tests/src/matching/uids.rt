@@ -6,14 +6,14 @@ use ups_dataset::DataSet;
 use ups_dataset::dictionary::SOP_INSTANCE_UID;
 use ups_match::{Keys, Matcher, Probe};
 
-/// The last UIDs of long lists.
+/// The last UIDs of the long lists.
 const LAST: &str = "1.9|1.99|1.9 ||1.*|1.?";
 
-/// What is stored. Which of the lists match, where there is memory, `rows/matching.rows` says.
+/// The stored values. `rows/matching.rows` says which of the lists match, if there is memory.
 const STORED: &str =
     r"1.9|1.8|1.99|1.8\1.9|1.8\1.7|1.9  | 1.9||1.8\|1.2.840.10008.0|1.2.840.10008.39|1.8\1.2.840.10008.17\1.7|1.2.840.10008.40|1.2.840.10008";
 
-/// A list of forty UIDs, 1.2.840.10008.0 to 39, and one more.
+/// Returns a list of forty UIDs, 1.2.840.10008.0 to 39, and one more.
 fn long_list<A: Allocator + Copy>(alloc: A, last: &str) -> Result<Vec<u8, A>, Fail> {
     let mut list = Vec::new(alloc);
     for number in 0..40u8 {
@@ -24,7 +24,7 @@ fn long_list<A: Allocator + Copy>(alloc: A, last: &str) -> Result<Vec<u8, A>, Fa
     Ok(list)
 }
 
-/// Whether a long list says the same of what is stored, prepared and not.
+/// Returns whether a long list says the same about the stored values, prepared and not.
 fn list_says_the_same<A: Allocator + Copy>(alloc: A, last: &str) -> Result<bool, Fail> {
     let list = long_list(alloc, last)?;
     for stored in STORED.split('|') {
@@ -43,7 +43,7 @@ fn a_long_list_says_the_same_prepared_and_not(rt: HostRuntime) -> Result<(), Fai
     Ok(())
 }
 
-/// The keys of a long list, where the nth growth is refused while they are made.
+/// Returns the keys of a long list, made while the nth growth is refused.
 fn keys_without_memory<'a>(
     heap: &'a Refusing<Global>,
     n: u64,
@@ -54,7 +54,8 @@ fn keys_without_memory<'a>(
     Ok(Keys::of(list, 0)?)
 }
 
-/// Whether a long list whose keys lack a growth says that it has a UID of its own, and that it hasn't another.
+/// Returns whether a long list, whose keys are made while the nth growth is refused, matches a UID of its own, and not
+/// another.
 fn is_list_without_memory<'a>(
     heap: &'a Refusing<Global>,
     n: u64,
@@ -66,7 +67,7 @@ fn is_list_without_memory<'a>(
     Ok(probe.matches(&keys, one) && !probe.matches(&keys, other))
 }
 
-/// Whether that is so whichever of 79 growths is refused.
+/// Returns whether that is so whichever of 79 growths is refused.
 fn are_lists_without_memory(heap: &Refusing<Global>) -> Result<bool, Fail> {
     let one = set_of(heap, SOP_INSTANCE_UID, b"1.9")?;
     let other = set_of(heap, SOP_INSTANCE_UID, b"1.8")?;

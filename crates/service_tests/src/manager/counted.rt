@@ -9,8 +9,8 @@ use ups_life::Reply;
 use ups_manager::*;
 use ups_match::{Keys, Matcher, Probe};
 
-/// Requests with what they are answered, and finds with how many steps the matcher is asked of and how many match. Before
-/// the keys of a find stands their offset in minutes.
+/// Requests with their replies, and finds with the number of steps that the matcher is asked about and the number that
+/// match. The keys of a find come after their offset in minutes.
 const ROWS: &str = "\
 0 SCHED1 1709208000 create 1.2.3.1 - -|00741202=READS|00100020=P1 -> 0000
 0 SCHED1 1709208000 create 1.2.3.2 - -|00741202=READS|00100020=P2 -> 0000
@@ -43,7 +43,7 @@ find 0 00100020=P1 -> 2/2
 find 0 00100020=P1 -> 1/1
 find 0 00100020=P2 -> 1/1";
 
-/// A matcher to which all that it is asked of matches.
+/// A matcher that matches everything.
 #[derive(Drop)]
 struct Always {
     count: u64,
@@ -60,7 +60,7 @@ impl Matcher for Always {
     }
 }
 
-/// A matcher to which nothing matches.
+/// A matcher that matches nothing.
 #[derive(Drop)]
 struct Never {
     count: u64,
@@ -77,8 +77,8 @@ impl Matcher for Never {
     }
 }
 
-/// Steps, and finds by the two matchers: of how many steps they are asked, and what is found. Two of the three steps are of
-/// the patient of the query.
+/// Steps, and finds by the two matchers: the number of steps that they are asked about, and what is found. Two of the
+/// three steps are of the patient of the query.
 const OWN: &str = "\
 0 SCHED1 1709208000 create 1.2.3.1 - -|00741202=READS|00100020=P1 -> 0000
 0 SCHED1 1709208000 create 1.2.3.2 - -|00741202=READS|00100020=P2 -> 0000
@@ -86,7 +86,7 @@ const OWN: &str = "\
 always 0 00080018=|00100020=P1|00741202=READS -> 2: 0000 00080018=1.2.3.1_ 00100020=P1 00741202=READS_ 00080018=1.2.3.3_ 00100020=P1 00741202=REPROC
 never 0 00080018=|00100020=P1|00741202=READS -> 2: 0000";
 
-/// Finds by a manager: of how many steps its matcher is asked, and how many match.
+/// Finds in a manager, and returns the number of steps that its matcher is asked about and the number that match.
 pub(super) fn counts<A: Allocator + Copy>(
     manager: &Manager<A>,
     keys: &Keys<A>,
@@ -98,38 +98,39 @@ pub(super) fn counts<A: Allocator + Copy>(
     }
 }
 
-/// Returns the offset that a text says in minutes.
+/// Parses an offset in minutes.
 fn offset_of(text: &str) -> Result<i16, Fail> {
     Ok(text.parse::<i16>()?)
 }
 
-/// Returns keys, behind their offset.
+/// Returns keys, which come after their offset.
 fn keys_with_offset(alloc: Global, text: &str) -> Result<Keys<Global>, Fail> {
     let (offset, keys) = cut(text, " ")?;
     Ok(Keys::of(with(alloc, DataSet::new(alloc), keys)?, offset_of(offset)?)?)
 }
 
-/// Finds by keys, behind their offset: how many are asked of and how many match, as a text.
+/// Finds by keys, which come after their offset, and returns as a text how many steps are asked about and how many
+/// match.
 fn counted(rt: &impl AllocGlobal, manager: &Manager<Global>, find: &str) -> Result<String, Fail> {
     let keys = keys_with_offset(rt.alloc(), find)?;
     let (asked, found) = counts(manager, &keys)?;
     Ok(format!(in rt.alloc(); "{asked}/{found}")?)
 }
 
-/// Finds by a manager and the matcher to which all matches: the reply, and how often the matcher was asked.
+/// Finds with the matcher that matches everything, and returns the reply and the number of times it was asked.
 fn found_always(manager: &Manager<Global>, keys: &Keys<Global>) -> (Reply<Global>, u64) {
     let mut matcher = Always { count: 0 };
     (manager.find(keys, &mut matcher), matcher.count)
 }
 
-/// The same by the matcher to which nothing matches.
+/// Finds with the matcher that matches nothing, and returns the same.
 fn found_never(manager: &Manager<Global>, keys: &Keys<Global>) -> (Reply<Global>, u64) {
     let mut matcher = Never { count: 0 };
     (manager.find(keys, &mut matcher), matcher.count)
 }
 
-/// Finds by the matcher of this name, and by keys behind their offset: how often the matcher was asked, and the reply, as a
-/// text.
+/// Finds with the matcher of this name, by keys after their offset, and returns as a text the number of times it was
+/// asked and the reply.
 fn found_by(
     rt: &impl AllocGlobal,
     manager: &Manager<Global>,
@@ -146,7 +147,7 @@ fn found_by(
     Ok(format!(in rt.alloc(); "{count}: {told}")?)
 }
 
-/// Asks what a row says: what comes of it, as a text.
+/// Asks what a row says, and returns the outcome as a text.
 fn come_of(
     rt: &impl AllocGlobal,
     manager: &mut Manager<Global>,
@@ -161,7 +162,7 @@ fn come_of(
     }
 }
 
-/// Asks what a row says, and compares.
+/// Asks what a row says, and compares the outcome.
 fn row_is_so(rt: &impl AllocGlobal, manager: &mut Manager<Global>, row: &str) -> Result<(), Fail> {
     let (asked, due) = cut(row, " -> ")?;
     check(row, come_of(rt, manager, asked)?.as_str() == due)

@@ -3,9 +3,9 @@ use std::alloc::Global;
 use std::test::Fail;
 use ups_manager::*;
 
-/// Sections, each with a manager of its own: what happens, and how it is asked, by its callers or as a service. Then come
-/// lines with their replies, and all that the manager tells in the end: the entries, and of each step who holds it and
-/// what is shown.
+/// Sections, each with its own manager: what happens, and how it is asked, by callers or as a service. Then come lines
+/// with their replies, and all that the manager tells in the end: the entries, and for each step its holder and what is
+/// shown.
 const SECTIONS: &str = "An entry says who asked, when and what | by callers
 7 SCHED2 0 create 1.2.3.1 - -| -> 0000
 0 SCHED1 1709208000 create 1.2.3.22 - -|00100020=4711 -> 0000
@@ -60,7 +60,7 @@ const SECTIONS: &str = "An entry says who asked, when and what | by callers
 -: C307
 -: C307";
 
-/// Returns the row that a line makes. A line that enters no request leaves all that the manager tells as it was.
+/// Returns the row that a line makes. A line that enters no request must change nothing that the manager tells.
 fn row_of(
     rt: &impl AllocGlobal,
     manager: &mut Manager<Global>,
@@ -94,7 +94,7 @@ fn rows_with(
     Ok(text)
 }
 
-/// The same of a new manager.
+/// The same with a new manager.
 fn rows_of(rt: &impl AllocGlobal, rows: &str, is_service: bool) -> Result<String, Fail> {
     let mut manager = Manager::new(rt.alloc(), &[], 60, 0, 10)?;
     rows_with(rt, &mut manager, rows, is_service)

@@ -1,5 +1,5 @@
-//! Histories of requests of all kinds, made by chance: what a manager tells by its tables is what the plain programs tell
-//! by walking the entries.
+//! Random histories of requests of all kinds: the answers of a manager, from its tables, are those of the plain
+//! programs, which walk the entries.
 
 use super::plain::{Dice, KEYS, found_by_both, settings_of};
 use fixtures::rows::{cut, number};
@@ -17,15 +17,15 @@ use ups_manager::*;
 use ups_pdu::Ae;
 use ups_plain::{acked, plain_events, plain_held, plain_watches};
 
-/// The offset of the local time, in which keys are read.
+/// The offset of the local time, in minutes, in which keys are read.
 const OFFSET: i16 = 60;
 
-/// Words, and what each stands for by chance: one of the lines under it. A call is a message as `fixtures::words` has it, an
-/// acknowledgement or a sweep, with words between bars.
+/// Words, each followed by the lines that it may stand for, one of which is chosen at random. A call is a message as in
+/// `fixtures::words`, an acknowledgement or a sweep, with words between bars.
 ///
-/// Of the rows the last two are refused, and of the sets the last. The filters are of each kind of key that there is. Of
-/// the Transaction UIDs one is malformed, and one is none; NOBODY is no peer. Moments that are two lines apart are as far
-/// apart as a finished step is kept.
+/// Of the rows the last two are refused, and of the sets the last. The filters have keys of each kind that there is. Of
+/// the Transaction UIDs one is malformed, and one is absent; NOBODY is not a peer. Moments that are two lines apart are
+/// as far apart as the time for which a finished step is kept.
 const WORDS: &str = r"CALL
 create |STEP| B |ROW|
 create |STEP| B |ROW|
@@ -128,8 +128,8 @@ P1
 1709208180
 1709208210";
 
-/// The same, of histories that are about filters: the sets change what the filters ask of, so that steps come to match
-/// them and cease to, and subscriptions end at one step and everywhere.
+/// The same for histories about filters: the sets change what the filters look at, so that steps come to match them and
+/// cease to, and subscriptions end at one step and everywhere.
 const FILTERING: &str = r"CALL
 create |STEP| B |ROW|
 create |STEP| B |ROW|
@@ -193,13 +193,13 @@ W2
 1709208060
 1709208090";
 
-/// How many histories a test makes.
+/// The number of histories that a test makes.
 const HISTORIES: u32 = 200;
 
-/// What is counted: requests that are accepted, by their kinds, and then what is compared.
+/// The number of counts: accepted requests, by their kinds, and then what is compared.
 const COUNTED: usize = 19;
 
-/// How histories are made, and how many there are at least of what is counted, one a line.
+/// How histories are made, and the least value of each count, one a line.
 struct Kind {
     words: &'static str,
     calls: u32,
@@ -208,13 +208,13 @@ struct Kind {
 
 /// Histories of all requests. The least is half of what is expected, or less.
 ///
-/// By 200 histories of 100 calls each line of the calls is asked for 1,000 times. What is for a watcher alone is accepted
-/// for three receivers of four. A step is created by one call of 75, so in a history 4.4 of the six are (200 times, 887),
-/// and a call finds its step held 4 times in 9. One call of 90 claims a step that is scheduled and one of 120 cancels it,
-/// so 326 claims come before a cancel request; a claimed step is finished by the right UID, by half of the rows, 36 times
-/// in each way. One that is canceled or finished is due at a third of the moments, where none of two peers locks it. A
-/// peer is subscribed to all steps before the half of every second history, and acknowledges 1 or 2 events in a quarter of
-/// them behind it. Nine histories of ten have twenty entries, with three steps held.
+/// In 200 histories of 100 calls each line of the calls comes up 1,000 times. A request for a watcher is accepted for
+/// three of the four receivers. One call in 75 creates a given step, so 4.4 of the six are created in a history (887 in
+/// all 200), and a call finds its step held 4 times in 9. One call in 90 claims a scheduled step and one in 120 cancels
+/// it, so 326 claims come before a cancel request; a claimed step is finished with the right UID, for half of the rows,
+/// 36 times in each way. A canceled or finished step is due at a third of the moments, if neither of two peers locks
+/// it. In every second history a peer is subscribed to all steps before the middle, and in a quarter of those it
+/// acknowledges 1 or 2 events after it. Nine histories in ten have twenty entries, with three steps held.
 const ANY: Kind = Kind {
     words: WORDS,
     calls: 100,
@@ -242,11 +242,11 @@ const ANY: Kind = Kind {
 
 /// Histories about filters. The least is half of what is expected, or less.
 ///
-/// By 200 histories of 40 calls each line of the calls is asked for 364 times. Each step is created by one call of 16, so
-/// it is there for two calls of three, and claimed by one call of 66. Half of the sets have the right UID for their step.
-/// Of those that are accepted one in eight makes a step match a filter; that filter is in force half of the time, for one
-/// of two watchers, half of which are subscribed to the step already. That is looked at behind each tenth entry, 400
-/// times, of which 120 are sets. No cancel request is made, and nobody subscribes to all without a filter.
+/// In 200 histories of 40 calls each line of the calls comes up 364 times. One call in 16 creates a given step, so it
+/// is there for two calls in three, and one in 66 claims it. Half of the sets have the right UID for their step. Of
+/// those that are accepted one in eight makes a step match a filter; that filter is in force half of the time, for one
+/// of two watchers, half of which are subscribed to the step already. This is compared after each tenth entry, 400
+/// times, of which 120 are sets. There are no cancel requests, and nobody subscribes to all steps without a filter.
 const FILTERED: Kind = Kind {
     words: FILTERING,
     calls: 40,
@@ -272,14 +272,14 @@ const FILTERED: Kind = Kind {
 3 new subscriptions by a set",
 };
 
-/// A word, and what it may stand for.
+/// A word, and the lines that it may stand for.
 #[derive(Drop)]
 struct Word<'a> {
     name: &'a str,
     choices: Vec<&'a str>,
 }
 
-/// Words, and the dice that say what each stands for.
+/// Words, and the dice that choose what each stands for.
 #[derive(Drop)]
 struct Chance<'a> {
     dice: Dice,
@@ -312,7 +312,7 @@ fn words_of<'a>(rt: &impl AllocGlobal, text: &'a str) -> Result<Vec<Word<'a>>, F
 }
 
 impl<'a> Chance<'a> {
-    /// Returns one of the lines that a word may stand for.
+    /// Returns a random line of those that a word may stand for.
     fn any(&mut self, name: &str) -> Result<&'a str, Fail> {
         let word = self
             .words
@@ -323,7 +323,7 @@ impl<'a> Chance<'a> {
         Ok(*word.choices.get(place as usize).ok_or("a line")?)
     }
 
-    /// Returns a part of a call: every second one is a word, and stands for a line.
+    /// Returns a part of a call: every second one is a word, and is replaced by a line.
     fn part(&mut self, place: usize, part: &'a str) -> Result<&'a str, Fail> {
         if place % 2 == 0 {
             Ok(part)
@@ -332,7 +332,7 @@ impl<'a> Chance<'a> {
         }
     }
 
-    /// Returns what any call asks.
+    /// Returns a random call.
     fn any_call(&mut self, rt: &impl AllocGlobal) -> Result<String, Fail> {
         let call = self.any("CALL")?;
         let mut text = String::new(rt.alloc());
@@ -343,7 +343,7 @@ impl<'a> Chance<'a> {
     }
 }
 
-/// Returns the request that a text is.
+/// Returns the request of a call.
 pub(super) fn request_of<A: Allocator + Copy>(alloc: A, text: &str) -> Result<Request<A>, Fail> {
     if text == "sweep" {
         return Ok(Request::Sweep);
@@ -359,23 +359,23 @@ pub(super) fn request_of<A: Allocator + Copy>(alloc: A, text: &str) -> Result<Re
     }
 }
 
-/// Returns any moment.
+/// Returns a random moment.
 fn any_moment(chance: &mut Chance) -> Result<u64, Fail> {
     Ok(chance.any("MOMENT")?.parse::<u64>()?)
 }
 
-/// Returns any title.
+/// Returns a random title.
 fn any_title(chance: &mut Chance) -> Result<Ae, Fail> {
     title(chance.any("TITLE")?)
 }
 
-/// Returns any request.
+/// Returns a random request.
 fn any_request(rt: &impl AllocGlobal, chance: &mut Chance) -> Result<Request<Global>, Fail> {
     let text = chance.any_call(rt)?;
     request_of(rt.alloc(), text.as_str())
 }
 
-/// Makes any call: whether it was entered.
+/// Makes a random call, and returns whether it was entered.
 fn is_entered(
     rt: &impl AllocGlobal,
     chance: &mut Chance,
@@ -397,7 +397,7 @@ fn is_entered(
     Ok(manager.history().len() > entries)
 }
 
-/// Returns the place of a request's kind among what is counted.
+/// Returns the place of a request's kind among the counts.
 fn kind_of(request: &Request<Global>) -> usize {
     match request {
         Request::Create { .. } => 0,
@@ -446,7 +446,7 @@ fn count_entries(counts: &mut [u64; COUNTED], entries: &[Entry<Global>]) {
     }
 }
 
-/// Returns the title of the entry that claims a step. Each entry was accepted, so a step has one such entry at most.
+/// Returns the title of the entry that claims a step. Each entry was accepted, so a step has at most one such entry.
 fn claimed_by(entries: &[Entry<Global>], step: StepUid) -> Option<Ae> {
     for entry in entries {
         match entry.request {
@@ -461,7 +461,7 @@ fn claimed_by(entries: &[Entry<Global>], step: StepUid) -> Option<Ae> {
     None
 }
 
-/// Whether a manager tells of each of these steps that who has claimed it holds it.
+/// Returns whether the holder of each of these steps, according to a manager, is the one who claimed it.
 fn are_held_by_claim(manager: &Manager<Global>, steps: &[StepUid]) -> bool {
     steps.iter().all(|step| {
         let holder = manager.holder(*step);
@@ -469,7 +469,7 @@ fn are_held_by_claim(manager: &Manager<Global>, steps: &[StepUid]) -> bool {
     })
 }
 
-/// Returns how many steps are held, by a manager and by the plain program.
+/// Returns the number of steps held, according to both a manager and the plain program.
 fn held_by_both(rt: &impl AllocGlobal, manager: &Manager<Global>) -> Result<usize, Fail> {
     let settings = settings_of(rt.alloc(), manager)?;
     let held = plain_held(rt.alloc(), &settings, manager.history())?;
@@ -486,13 +486,13 @@ fn is_same_subscription(one: &Watched, other: &Watched) -> bool {
     one.step == other.step && one.subscription == other.subscription
 }
 
-/// Whether two lists have the same subscriptions.
+/// Returns whether two lists have the same subscriptions.
 fn are_same_subscriptions(some: &[Watched], others: &[Watched]) -> bool {
     let mut pairs = some.iter().zip(others.iter());
     some.len() == others.len() && pairs.all(|(one, other)| is_same_subscription(one, other))
 }
 
-/// Returns how many steps a peer watches, by a manager and by the plain program.
+/// Returns the number of steps that a peer watches, according to both a manager and the plain program.
 fn watched_by_both(
     rt: &impl AllocGlobal,
     manager: &Manager<Global>,
@@ -507,7 +507,7 @@ fn watched_by_both(
     Ok(watched.len())
 }
 
-/// Returns how many subscriptions to steps the peers W1 and W2 have.
+/// Returns the number of subscriptions to steps that the peers W1 and W2 have.
 fn subscriptions(manager: &Manager<Global>) -> Result<usize, Fail> {
     let mut count = 0_usize;
     for name in ["W1", "W2"] {
@@ -517,8 +517,8 @@ fn subscriptions(manager: &Manager<Global>) -> Result<usize, Fail> {
     Ok(count)
 }
 
-/// Returns how many subscriptions the last entry has begun, where it is an N-SET, which ends none; before it there were
-/// so many.
+/// Returns how many subscriptions the last entry began, if it is an N-SET, which ends none, or else 0; there were
+/// `before` of them before it.
 fn begun_by_a_set(manager: &Manager<Global>, before: usize) -> Result<usize, Fail> {
     let Some(entry) = manager.history().last() else {
         return Ok(0);
@@ -539,15 +539,15 @@ fn is_same_event(one: &Event, other: &Event) -> bool {
         && one.readiness == other.readiness
 }
 
-/// Whether both are State Reports of one step.
+/// Returns whether both are State Reports of one step.
 fn are_of_one_step(one: &Event, other: &Event) -> bool {
     one.kind == EventKind::StateReport
         && other.kind == EventKind::StateReport
         && one.step == other.step
 }
 
-/// Whether the events reported are those of others that come behind so many, without each State Report that a later one
-/// of the same step supersedes.
+/// Returns whether the reported events are those of `all` with a number above `count`, without each State Report that a
+/// later one of the same step supersedes.
 fn are_behind(reports: &[EventReport<Global>], all: &[Event], count: u64) -> bool {
     let mut rest = reports.iter();
     for (place, event) in all.iter().enumerate() {
@@ -566,7 +566,7 @@ fn are_behind(reports: &[EventReport<Global>], all: &[Event], count: u64) -> boo
     rest.next().is_none()
 }
 
-/// Returns how many events a peer has not acknowledged, by a manager and by the plain programs.
+/// Returns the number of pending events of a peer, according to both a manager and the plain programs.
 fn pending_by_both(
     rt: &impl AllocGlobal,
     manager: &Manager<Global>,
@@ -583,7 +583,7 @@ fn pending_by_both(
     Ok(reports.as_slice().len())
 }
 
-/// Compares what is told of the peers.
+/// Compares the answers about the peers.
 fn compare_watchers(
     rt: &impl AllocGlobal,
     counts: &mut [u64; COUNTED],
@@ -595,7 +595,7 @@ fn compare_watchers(
     Ok(())
 }
 
-/// Compares all that is told after an entry, before which W1 and W2 had so many subscriptions.
+/// Compares all answers after an entry; W1 and W2 had `before` subscriptions before it.
 fn compare_all(
     rt: &impl AllocGlobal,
     chance: &mut Chance,
@@ -616,7 +616,7 @@ fn compare_all(
     Ok(())
 }
 
-/// Makes a history, and compares what is told after each tenth entry.
+/// Makes a history, and compares the answers after each tenth entry.
 fn compare_history(
     rt: &impl AllocGlobal,
     kind: &Kind,
@@ -634,7 +634,7 @@ fn compare_history(
     Ok(())
 }
 
-/// Returns a manager with three peers, of which two may lock steps.
+/// Returns a manager with three peers, two of which may lock steps.
 pub(super) fn a_manager<A: Allocator + Copy>(alloc: A) -> Result<Manager<A>, Fail> {
     let peers = [
         Peer {
@@ -653,7 +653,7 @@ pub(super) fn a_manager<A: Allocator + Copy>(alloc: A) -> Result<Manager<A>, Fai
     Ok(Manager::new(alloc, &peers, 60, 60, 1_000)?)
 }
 
-/// The same of a new manager.
+/// The same with a new manager.
 fn compare_new_history(
     rt: &impl AllocGlobal,
     kind: &Kind,
@@ -664,7 +664,7 @@ fn compare_new_history(
     compare_history(rt, kind, chance, counts, &mut manager)
 }
 
-/// Makes histories of a kind by chance, and compares what is told of each: what was counted.
+/// Makes random histories of a kind, compares the answers about each, and returns the counts.
 fn counts_by(
     rt: &impl AllocGlobal,
     kind: &Kind,
@@ -677,7 +677,7 @@ fn counts_by(
     Ok(counts)
 }
 
-/// The same by a chance that begins with a state.
+/// The same with dice that start in a given state.
 fn counts_from(rt: &impl AllocGlobal, kind: &Kind, state: u64) -> Result<[u64; COUNTED], Fail> {
     let mut chance = Chance {
         dice: Dice { state },
@@ -686,13 +686,13 @@ fn counts_from(rt: &impl AllocGlobal, kind: &Kind, state: u64) -> Result<[u64; C
     counts_by(rt, kind, &mut chance)
 }
 
-/// Whether a count is as great as a row says.
+/// Returns whether a count is as great as a row requires.
 fn is_enough(row: &str, count: u64) -> Result<bool, Fail> {
     let (least, _) = cut(row, " ")?;
     Ok(count >= number(least)?)
 }
 
-/// Makes histories of a kind by a chance that begins with a state, and compares what is told of each.
+/// Makes random histories of a kind, with dice that start in a given state, and compares the answers about each.
 fn histories_are_told<R: Abort + AllocGlobal>(rt: &R, kind: &Kind, state: u64) -> Result<(), Fail> {
     let counts = counts_from(rt, kind, state)?;
     assert_eq!(rt; kind.least.lines().count(), COUNTED);

@@ -10,13 +10,14 @@ use ups_life::{Event, Reply, Subscription};
 use ups_manager::*;
 use ups_pdu::Ae;
 
-/// The greatest number of growths that a test refuses in turn.
+/// The maximum number of growths that a test refuses in turn.
 const GROWTHS: u64 = 100;
 
-/// The size of the blocks that a creation leaves, where it can't leave all in one, in bytes: that of the largest message.
+/// The size in bytes of the blocks that a creation leaves free if it cannot leave all in one: that of the largest
+/// message.
 const LARGE: usize = 1_048_576;
 
-/// Lines, how many growths each makes at least, what it is answered where one is refused, and where none is.
+/// Lines, each with the least number of growths that it makes, its reply if one is refused, and its reply if none is.
 const ROWS: &str = "\
 0 SCHED1 1709208000 create 1.2.3.1 - -| -> 8 0213 0000
 0 SCHED1 1709208000 get 1.2.3.1 - -| -> 7 0213 0000 00080016=1.2.840.10008.5.1.4.34.6.1 00080018=1.2.3.1_ 00404005=20240229120000 00404041=READY_ 00741000=SCHEDULED_ 00741200=MEDIUM 00741204=CT_READ_
@@ -29,8 +30,8 @@ const ROWS: &str = "\
 0 SCHED1 1709208000 cancel 1.2.3.2 - -|00741238=stop -> 6 0213 0000
 9 PERFORM2 1709208120 change 1.2.3.1 COMPLETED 2.1| -> 6 0213 0000";
 
-/// The same of watchers and of what they are told. What takes no memory is answered with the first growth refused: an
-/// acknowledgement that runs ahead (after the first) or has been made (the second), and a sweep that finds nothing.
+/// The same for watchers and the reports to them. What takes no memory is answered even if the first growth is refused:
+/// an acknowledgement that was already made or is ahead, and a sweep that finds nothing.
 const WATCHING: &str = "\
 0 SCHED1 1709208000 words 1.2.3.1 - -|create 1.2.3.1 B 00741202=READS -> 6 0213 0000
 0 SCHED1 1709208000 words 1.2.3.1 - -|create 1.2.3.2 B 00741202=REPROC -> 6 0213 0000
@@ -54,7 +55,7 @@ const WATCHING: &str = "\
 0 W2 1709208120 words 1.2.3.1 - -|4 global 00741234=W2 -> 0 0213 0000
 0 SCHED1 1709208120 words 1.2.3.1 - -|sweep -> 0 0213 0000+1";
 
-/// Puts how a peer is subscribed to steps, one a line.
+/// Adds how a peer is subscribed to steps, one a line.
 fn put_watches<A: Allocator + Copy>(
     text: &mut String,
     manager: &Manager<A>,
@@ -70,14 +71,14 @@ fn put_watches<A: Allocator + Copy>(
     Ok(())
 }
 
-/// Puts an event: its number, its entry, its type and its step.
+/// Adds an event: its number, its entry, its type and its step.
 fn put_event(text: &mut String, event: &Event) -> Result<(), Fail> {
     write!(text, "{} {} {:?} ", event.number, event.entry, event.kind)?;
     text.push_str(text_of(event.step.as_bytes())?)?;
     Ok(text.push('\n')?)
 }
 
-/// Puts the events that are pending for a peer, one a line.
+/// Adds the events that are pending for a peer, one a line.
 fn put_pending<A: Allocator + Copy>(
     text: &mut String,
     manager: &Manager<A>,
@@ -92,7 +93,7 @@ fn put_pending<A: Allocator + Copy>(
     Ok(())
 }
 
-/// Keys by which each manager is asked what it holds.
+/// The keys to find by in each manager.
 const FINDS: &str = "\
 00741202=READS
 00741202=REPROC
@@ -100,7 +101,7 @@ const FINDS: &str = "\
 00741000=CANCELED
 00404005=20240229-";
 
-/// Puts of how many steps a matcher is asked by keys, and how many match, a line for each.
+/// Adds for each of the keys a line with the number of steps that a matcher is asked about and the number that match.
 fn put_finds<A: Allocator + Copy>(
     text: &mut String,
     alloc: A,
@@ -113,7 +114,7 @@ fn put_finds<A: Allocator + Copy>(
     Ok(())
 }
 
-/// Returns all that a manager tells: of its history, its steps, what is found among them, and its watchers.
+/// Returns all that a manager tells: its history, its steps, what is found among them, and its watchers.
 fn whole<A: Allocator + Copy>(
     rt: &impl AllocGlobal,
     alloc: A,
@@ -129,7 +130,7 @@ fn whole<A: Allocator + Copy>(
     Ok(text)
 }
 
-/// Whether this is all that a manager tells.
+/// Returns whether this is all that a manager tells.
 fn is_whole<A: Allocator + Copy>(
     rt: &impl AllocGlobal,
     alloc: A,
@@ -139,16 +140,16 @@ fn is_whole<A: Allocator + Copy>(
     Ok(whole(rt, alloc, manager)?.as_str() == text)
 }
 
-/// What is refused of memory.
+/// The memory that is refused.
 #[derive(Clone, Copy)]
 enum Lack {
-    /// The growth of a number.
+    /// The growth with this number.
     Growth(u64),
-    /// Each block of more bytes.
+    /// Each block of more bytes than this.
     Above(usize),
 }
 
-/// Has memory refuse what it is to.
+/// Makes memory refuse what it is to.
 fn arm(heap: &Refusing<Global>, lack: Lack) {
     match lack {
         Lack::Growth(number) => heap.refuse(number),
@@ -156,13 +157,13 @@ fn arm(heap: &Refusing<Global>, lack: Lack) {
     }
 }
 
-/// Has memory refuse nothing.
+/// Makes memory refuse nothing.
 fn disarm(heap: &Refusing<Global>) {
     heap.refuse(0);
     heap.refuse_above(usize::MAX);
 }
 
-/// Asks what a line says where memory is lacking: the reply as a text.
+/// Asks what a line says while memory is lacking, and returns the reply as a text.
 fn lacking<'a>(
     rt: &impl AllocGlobal,
     heap: &'a Refusing<Global>,
@@ -180,8 +181,8 @@ fn lacking<'a>(
     told(rt, &reply?)
 }
 
-/// What a row says of its line: how many growths it makes at least, what it is answered where one is refused, and where
-/// none is.
+/// What a row says about its line: the least number of growths that it makes, its reply if one is refused, and its
+/// reply if none is.
 #[derive(Clone, Copy)]
 struct Due<'a> {
     line: &'a str,
@@ -202,10 +203,10 @@ fn due_of(row: &str) -> Result<Due<'_>, Fail> {
     })
 }
 
-/// What comes of a line where memory is lacking.
+/// The outcome of a line when memory is lacking.
 #[derive(Clone, Copy, PartialEq, Eq)]
 enum Outcome {
-    /// It was answered as where none is refused.
+    /// It was answered as if nothing were refused.
     Answered,
     /// It was refused, and the manager tells what it told before.
     Refused,
@@ -213,7 +214,7 @@ enum Outcome {
     Odd,
 }
 
-/// Asks the line of a row where memory is lacking.
+/// Asks the line of a row while memory is lacking.
 fn tried<'a>(
     rt: &impl AllocGlobal,
     heap: &'a Refusing<Global>,
@@ -233,8 +234,8 @@ fn tried<'a>(
     Ok(Outcome::Refused)
 }
 
-/// Asks what a row says with each growth refused in turn, until the line is answered: whether so many growths at least
-/// were refused, with this status each time, and the manager told then what it told before.
+/// Asks what a row says with each growth refused in turn, until the line is answered; returns whether at least the
+/// least number were refused, each with the status of the row, and without a change to what the manager tells.
 fn is_so<'a>(
     rt: &impl AllocGlobal,
     heap: &'a Refusing<Global>,
@@ -269,7 +270,7 @@ fn rows_are_so<'a, R: Abort + AllocGlobal>(
     Ok(())
 }
 
-/// The same of a new manager.
+/// The same with a new manager.
 fn rows_are_so_anew<R: Abort + AllocGlobal>(rt: &R, is_service: bool) -> Result<(), Fail> {
     let heap = Refusing::new(rt.alloc());
     let mut manager = Manager::new(&heap, &[], 60, 0, 10)?;
@@ -284,7 +285,7 @@ fn nothing_is_entered_shown_or_found_where_a_growth_is_refused(
     rows_are_so_anew(&rt, true)
 }
 
-/// Whether a row is so, and a manager with ample memory, which is asked the same, tells the same afterwards.
+/// Returns whether a row is so, and a manager with ample memory, which is asked the same, tells the same afterwards.
 fn is_so_beside<'a>(
     rt: &impl AllocGlobal,
     heap: &'a Refusing<Global>,
@@ -317,7 +318,7 @@ fn rows_are_so_beside<'a, R: Abort + AllocGlobal>(
     Ok(())
 }
 
-/// The same of a manager and a new one with ample memory.
+/// The same with a new manager with ample memory.
 fn rows_are_so_beside_a_new_one<'a, R: Abort + AllocGlobal>(
     rt: &R,
     heap: &'a Refusing<Global>,
@@ -328,7 +329,7 @@ fn rows_are_so_beside_a_new_one<'a, R: Abort + AllocGlobal>(
     rows_are_so_beside(rt, heap, manager, &mut ample, is_service)
 }
 
-/// The same of two new managers.
+/// The same with two new managers.
 fn rows_are_so_beside_anew<R: Abort + AllocGlobal>(rt: &R, is_service: bool) -> Result<(), Fail> {
     let heap = Refusing::new(rt.alloc());
     let mut manager = a_manager(&heap)?;
@@ -341,7 +342,7 @@ fn watchers_are_told_nothing_where_a_growth_is_refused(rt: HostRuntime) -> Resul
     rows_are_so_beside_anew(&rt, true)
 }
 
-/// What comes of the line of a row where no block is larger than so many bytes.
+/// Returns the outcome of the line of a row if no block can be larger than `size` bytes.
 fn confined<'a>(
     rt: &impl AllocGlobal,
     heap: &'a Refusing<Global>,
@@ -362,13 +363,13 @@ fn confined<'a>(
     )
 }
 
-/// Whether the line of a row creates a step.
+/// Returns whether the line of a row creates a step.
 fn is_creation(row: &str) -> bool {
     row.contains(" create ") || row.contains("|create ")
 }
 
-/// Whether a row leaves the reserve, or need not: where no block has the size of the largest message a creation is refused,
-/// and where one has, it is answered; any other request is answered in either case.
+/// Returns whether a row leaves the reserve, or need not: a creation is refused if no block can have the size of the
+/// largest message, and answered if one can; any other request is answered in either case.
 fn is_so_confined<'a>(
     rt: &impl AllocGlobal,
     heap: &'a Refusing<Global>,
@@ -395,7 +396,7 @@ fn rows_are_so_confined<'a, R: Abort + AllocGlobal>(
     Ok(())
 }
 
-/// The same of a new manager.
+/// The same with a new manager.
 fn rows_are_so_confined_anew<R: Abort + AllocGlobal>(rt: &R, rows: &str) -> Result<(), Fail> {
     let heap = Refusing::new(rt.alloc());
     let mut manager = a_manager(&heap)?;

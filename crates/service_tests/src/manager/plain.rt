@@ -12,14 +12,14 @@ use ups_match::{Keys, Probe};
 use ups_pdu::TransferSyntax;
 use ups_plain::plain_find;
 
-/// Numbers that look random, the same at each run.
+/// Numbers that look random, the same in each run.
 #[derive(Drop)]
 pub(super) struct Dice {
     pub(super) state: u64,
 }
 
 impl Dice {
-    /// Returns a number below that of the sides.
+    /// Returns a number below `sides`, or 0 if that is 0.
     pub(super) fn roll(&mut self, sides: u64) -> u64 {
         let grown = self.state.wrapping_mul(6_364_136_223_846_793_005);
         self.state = grown.wrapping_add(1_442_695_040_888_963_407);
@@ -30,7 +30,7 @@ impl Dice {
         }
     }
 
-    /// Returns one of the lines of a text.
+    /// Returns a random line of a text.
     pub(super) fn one_of<'a>(&mut self, lines: &'a str) -> Result<&'a str, Fail> {
         let place = self.roll(lines.split('\n').count() as u64);
         Ok(lines.split('\n').nth(place as usize).ok_or("a line")?)
@@ -53,8 +53,7 @@ const UIDS: &str = "-\n2.1\n2.1\n2.2";
 /// The states.
 const STATES: &str = "IN_PROGRESS\nIN_PROGRESS\nCOMPLETED\nCANCELED";
 
-/// The keys that are asked of what they make, and behind an arrow the first indexed key of each alone; a key that is
-/// universal where there is none.
+/// Keys to find by, and after an arrow the first indexed key of each alone, or a universal key if there is none.
 pub(super) const KEYS: &str = r"00080018=|00741000= -> 00080018=
 00080018=|00741000=SCHEDULED -> 00741000=SCHEDULED
 00080018=|00741000=IN PROGRESS -> 00741000=IN PROGRESS
@@ -73,7 +72,7 @@ pub(super) const KEYS: &str = r"00080018=|00741000= -> 00080018=
 00080018=1.2.3.7|00100020=P1 -> 00080018=1.2.3.7
 00080018=1.2.3.41|00741000= -> 00080018=1.2.3.41";
 
-/// Returns a line that asks for something of one of 40 steps.
+/// Returns a random line, which makes a request about one of 40 steps.
 fn any_line(rt: &impl AllocGlobal, dice: &mut Dice, moment: u64) -> Result<String, Fail> {
     let step = dice.roll(40);
     let sent = dice.one_of(SENT)?;
@@ -87,7 +86,7 @@ fn any_line(rt: &impl AllocGlobal, dice: &mut Dice, moment: u64) -> Result<Strin
     Ok(format!(in rt.alloc(); "0 SCHED1 {moment} {verb} 1.2.3.{step} {state} {uid}|{sent}")?)
 }
 
-/// Returns the bytes of data sets, one after another.
+/// Encodes data sets, one after another.
 fn spelled(rt: &impl AllocGlobal, sets: &[DataSet<Global>]) -> Result<Vec<u8>, Fail> {
     let mut bytes = Vec::new(rt.alloc());
     for set in sets {
@@ -111,7 +110,7 @@ pub(super) fn settings_of(
     Ok(Configuration::new(peers, manager.keep(), manager.offset(), manager.limit()))
 }
 
-/// Finds by the plain program: the bytes of the sets.
+/// Finds by the plain program, and returns the encoded sets.
 fn plainly_found(
     rt: &impl AllocGlobal,
     manager: &Manager<Global>,
@@ -123,7 +122,7 @@ fn plainly_found(
     spelled(rt, sets.as_slice())
 }
 
-/// Finds by a manager: the sets, and how many steps its matcher was asked of.
+/// Finds in a manager, and returns the sets and the number of steps that its matcher was asked about.
 fn sets_found(manager: &Manager<Global>, keys: &Keys<Global>) -> Result<(Sets<Global>, u64), Fail> {
     let mut probe = Probe::new();
     match manager.find(keys, &mut probe) {
@@ -132,8 +131,8 @@ fn sets_found(manager: &Manager<Global>, keys: &Keys<Global>) -> Result<(Sets<Gl
     }
 }
 
-/// Returns the key by which a manager looks up, by the first indexed key of a query: a universal one in the place of a start
-/// where its offset is another one than that of the keys.
+/// Returns the key by which a manager looks up, given the first indexed key of a query: a universal key instead of a
+/// start if the offset of the manager is not that of the keys.
 fn looked_up<'a>(manager: &Manager<Global>, first: &'a str) -> &'a str {
     if first.starts_with("00404005") && manager.offset() != 0 {
         return "00080018=";
@@ -141,7 +140,7 @@ fn looked_up<'a>(manager: &Manager<Global>, first: &'a str) -> &'a str {
     first
 }
 
-/// Returns how many steps have the first indexed key of a query, by the plain program: they match that key alone.
+/// Returns how many steps have the first indexed key of a query: those that match that key alone, by the plain program.
 fn class_size(rt: &impl AllocGlobal, manager: &Manager<Global>, first: &str) -> Result<u64, Fail> {
     let keys = keys_of(rt.alloc(), looked_up(manager, first))?;
     let settings = settings_of(rt.alloc(), manager)?;
@@ -152,7 +151,8 @@ fn class_size(rt: &impl AllocGlobal, manager: &Manager<Global>, first: &str) -> 
     )
 }
 
-/// Finds by a manager: the bytes of the sets, how many they are, and how many steps its matcher was asked of.
+/// Finds in a manager, and returns the encoded sets, their number, and the number of steps that its matcher was asked
+/// about.
 fn found(
     rt: &impl AllocGlobal,
     manager: &Manager<Global>,
@@ -163,8 +163,8 @@ fn found(
     Ok((spelled(rt, sets.as_slice())?, sets.as_slice().len(), asked))
 }
 
-/// Finds by a manager and by the plain program, by keys and the first indexed key of them behind an arrow: how many sets
-/// both found. The matcher is asked of the steps that have the first indexed key, and of no others.
+/// Finds in a manager and by the plain program, by keys and, after an arrow, the first indexed key of them; returns how
+/// many sets both found. The matcher is asked about the steps that have the first indexed key, and about no others.
 pub(super) fn found_by_both(
     rt: &impl AllocGlobal,
     manager: &Manager<Global>,
@@ -181,7 +181,8 @@ pub(super) fn found_by_both(
     Ok(count)
 }
 
-/// Makes a call by chance, and finds behind each twentieth by a manager and by the plain program: how many sets both found.
+/// Makes a random call, and after every twentieth finds in a manager and by the plain program; returns how many sets
+/// both found.
 fn found_behind(
     rt: &impl AllocGlobal,
     dice: &mut Dice,
@@ -196,7 +197,7 @@ fn found_behind(
     found_by_both(rt, manager, dice.one_of(KEYS)?)
 }
 
-/// Makes a thousand calls: how many sets both found, and how many entries there are then.
+/// Makes a thousand calls, and returns how many sets both found, and the number of entries then.
 fn found_and_entered(
     rt: &impl AllocGlobal,
     manager: &mut Manager<Global>,
@@ -209,7 +210,7 @@ fn found_and_entered(
     Ok((count, manager.history().len()))
 }
 
-/// The same of a new manager.
+/// The same with a new manager.
 fn found_and_entered_anew(rt: &impl AllocGlobal) -> Result<(usize, usize), Fail> {
     let mut manager = Manager::new(rt.alloc(), &[], 60, 0, 1_000)?;
     found_and_entered(rt, &mut manager)
@@ -223,7 +224,7 @@ fn the_plain_program_finds_the_same(rt: HostRuntime) -> Result<(), Fail> {
     Ok(())
 }
 
-/// Returns how many keys a filter of these attributes has; None where it is none.
+/// Returns how many keys a filter with these attributes has, or None if they are not a filter.
 fn keys_in_filter(alloc: Global, keys: &str) -> Result<Option<usize>, Fail> {
     match Filter::of(alloc, keys_of(alloc, keys)?) {
         Some(filter) => Ok(Some(filter.keys().attributes().elements().len())),

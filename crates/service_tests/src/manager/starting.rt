@@ -4,8 +4,8 @@ use std::test::Fail;
 use ups_life::Peer;
 use ups_manager::*;
 
-/// What is asked, and what comes of it: the titles of the peers, the offset of the local time, the limit, and the number
-/// of the growth that is refused; the fault, or the settings of the manager, and whether that growth is still to come.
+/// What is asked, and the outcome: the titles of the peers, the offset of the local time, the limit, and the number of
+/// the growth that is refused; the fault, or the settings of the manager, and whether that growth is still to come.
 const ROWS: &str = "\
 # A manager has the settings that it was given, and no history
 WATCH1,WATCH2 -300 10 0 -> keep 60 offset -300 limit 10 entries 0 peers WATCH1 WATCH2 false
@@ -50,7 +50,7 @@ WATCH1,WATCH2 0 10 2 -> Memory false
 WATCH1,WATCH2 0 10 3 -> Memory false
 WATCH1,WATCH2 0 10 4 -> keep 60 offset 0 limit 10 entries 0 peers WATCH1 WATCH2 true";
 
-/// Returns the peers of these titles, none of which may lock.
+/// Returns the peers with these titles, none of which may lock.
 fn peers_of(alloc: Global, titles: &str) -> Result<Vec<Peer>, Fail> {
     let mut peers = Vec::new(alloc);
     for text in titles.split_terminator(',') {
@@ -79,7 +79,7 @@ fn settings_of<A: Allocator + Copy>(
     Ok(text)
 }
 
-/// Starts a manager: the fault, or its settings.
+/// Starts a manager, and returns the fault or its settings.
 fn started<A: Allocator + Copy>(
     rt: &impl AllocGlobal,
     alloc: A,
@@ -96,7 +96,7 @@ fn started<A: Allocator + Copy>(
     }
 }
 
-/// Returns what comes of what a row asks.
+/// Returns the outcome of what a row asks.
 fn outcome_of(rt: &impl AllocGlobal, asked: &str) -> Result<String, Fail> {
     let mut words = asked.split(' ');
     let titles = words.next().ok_or("titles")?;
@@ -110,7 +110,7 @@ fn outcome_of(rt: &impl AllocGlobal, asked: &str) -> Result<String, Fail> {
     Ok(format!(in rt.alloc(); "{told} {}", heap.is_armed())?)
 }
 
-/// Whether a row says what comes of what it asks.
+/// Returns whether a row has the outcome of what it asks.
 fn is_so(rt: &impl AllocGlobal, row: &str) -> Result<bool, Fail> {
     let (asked, outcome) = row.split_once(" -> ").ok_or("an outcome")?;
     Ok(outcome_of(rt, asked)?.as_str() == outcome)
