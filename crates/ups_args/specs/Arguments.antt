@@ -13,64 +13,63 @@ use Rattle.ups_args.specs.declared.fault.ArgumentFault.TheVariants as faults
 use Rattle.ups_settings.specs.Limits.{default_workers, delivery_seconds, idle_seconds, timeout_seconds, workers_limit}
 use Rattle.ups_args.specs.Limits.{keep_seconds, local_offset}
 
--- a number of seconds below 2^32, in decimal digits, before which a + may stand
+-- a number of seconds below 2^32, in decimal digits, with or without a + in front
 pub record SaysSeconds (word : List ℕ) (seconds : ℕ) : Type 0 where
   pub numeral : IsNumeral 10 (without_leading_plus word)
   pub value : seconds ≡ digits_value 10 (without_leading_plus word)
   pub fits : seconds < 2 ^ 32
 
--- an offset from UTC in minutes, as DT has it (PS3.5 section 6.2), in decimal digits, before which a sign may stand
+-- an offset from UTC in minutes, in the range of DT (PS3.5 section 6.2), in decimal digits, with or without a sign
 pub record SaysMinutes (word : List ℕ) (offset : ℤ) : Type 0 where
   pub numeral : IsNumeral 10 (without_leading_sign word)
   pub value : offset ≡ signed_digits_value 10 word
   pub within : is_bad_offset offset ≡ false
 
--- for how many seconds a finished step is kept, by the word that says so or by none
+-- the seconds for which a finished step is kept, by this word or by default
 abbrev pub SaysKeep : Option (List ℕ) → ℕ → Type 0
 SaysKeep None keep = keep ≡ keep_seconds
 SaysKeep (Some word) keep = SaysSeconds word keep
 
--- the offset of the local time, by the word that says so or by none
+-- the offset of the local time, by this word or by default
 abbrev pub SaysOffset : Option (List ℕ) → ℤ → Type 0
 SaysOffset None offset = offset ≡ local_offset
 SaysOffset (Some word) offset = SaysMinutes word offset
 
--- the number of a port to listen on, from 0 to 65535, in decimal digits, before which a + may stand
+-- the number of a port to listen on, from 0 to 65535, in decimal digits, with or without a + in front
 pub record SaysPort (word : List ℕ) (port : ℕ) : Type 0 where
   pub numeral : IsNumeral 10 (without_leading_plus word)
   pub value : port ≡ digits_value 10 (without_leading_plus word)
   pub fits : port < 2 ^ 16
 
--- how many associations are served at the same time, in decimal digits, before which a + may stand
+-- the number of associations served at the same time, in decimal digits, with or without a + in front
 pub record SaysWorkers (word : List ℕ) (count : ℕ) : Type 0 where
   pub numeral : IsNumeral 10 (without_leading_plus word)
   pub value : count ≡ digits_value 10 (without_leading_plus word)
   pub least : 1 ≤ count
   pub most : count ≤ workers_limit
 
--- the same, by the word that says so or by none
+-- the same, by this word or by default
 abbrev pub SaysWorkersOrNot : Option (List ℕ) → ℕ → Type 0
 SaysWorkersOrNot None count = count ≡ default_workers
 SaysWorkersOrNot (Some word) count = SaysWorkers word count
 
--- for how many seconds an association may be silent between two messages, by the word that says so or by none
+-- the seconds for which an association may be silent between two messages, by this word or by default
 abbrev pub SaysIdle : Option (List ℕ) → ℕ → Type 0
 SaysIdle None idle = idle ≡ idle_seconds
 SaysIdle (Some word) idle = SaysSeconds word idle
 
--- for how many seconds a peer may take for each message that it has begun to send, and to take each answer, by the word that
--- says so or by none
+-- the seconds that a peer may take to send each message that it has begun, and to receive each answer, by this word or by
+-- default
 abbrev pub SaysTimeout : Option (List ℕ) → ℕ → Type 0
 SaysTimeout None timeout = timeout ≡ timeout_seconds
 SaysTimeout (Some word) timeout = SaysSeconds word timeout
 
--- for how many seconds a watcher is waited for at most, to connect to it and for each answer, by the word that says so or by
--- none
+-- the most seconds to wait for a watcher, to connect to it and for each answer, by this word or by default
 abbrev pub SaysDeliveryTimeout : Option (List ℕ) → ℕ → Type 0
 SaysDeliveryTimeout None timeout = timeout ≡ delivery_seconds
 SaysDeliveryTimeout (Some word) timeout = SaysSeconds word timeout
 
--- the address to listen on, by the word that says so or by none
+-- the address to listen on: this word, or 127.0.0.1 if there is none
 abbrev pub SaysBind : Option (List ℕ) → List ℕ → Type 0
 SaysBind None address = address ≡ codes "127.0.0.1"
 SaysBind (Some word) address = address ≡ word
@@ -89,7 +88,7 @@ pub record IsAddress (text : List ℕ) : Type 0 where
   pub some_host : 0 < length host
   pub is_port : IsPort port
 
--- what stands behind the address of a peer that may lock steps, and of another
+-- the ending after the address of a peer: `,lock` if the peer may lock steps, otherwise nothing
 abbrev pub ending_of : Bool → List ℕ
 ending_of true = codes ",lock"
 ending_of false = []
@@ -112,7 +111,7 @@ pub record SaysPlace (text host : List ℕ) (port : ℕ) (lock : Bool) : Type 0 
   pub is_host : host ≡ says.is_address.host
   pub is_port : port ≡ digits_value 10 says.is_address.port
 
--- a title, =, and the address; the first = ends the title
+-- the word names a peer: a title, =, and an address with its ending; the first = ends the title
 pub record NamesPeer (word : List ℕ) (peer : Peer) : Type 0 where
   pub title : List ℕ
   pub rest : List ℕ
@@ -121,17 +120,17 @@ pub record NamesPeer (word : List ℕ) (peer : Peer) : Type 0 where
   pub spells : SpellsAe title peer.ae
   pub says : SaysLock rest peer.lock
 
--- a word names a peer, and the host and the port where it listens
+-- the word names a peer, and the host and the port where it listens
 pub record NamesPlace (word : List ℕ) (peer : Peer) (host : List ℕ) (port : ℕ) : Type 0 where
   pub names : NamesPeer word peer
   pub is_host : host ≡ names.says.is_address.host
   pub is_port : port ≡ digits_value 10 names.says.is_address.port
 
--- a word names a watcher: the title of a peer, and where it listens
+-- the word names a watcher: the title of a peer, and where it listens
 abbrev pub NamesWatcher : List ℕ → Watcher → Type 0
 NamesWatcher word watcher = (lock : Bool) × NamesPlace word (record { ae = watcher.ae; lock = lock }) (string_bytes watcher.host) watcher.port
 
--- each word names what is in its place
+-- each word names the item at its place, and there are as many items as words
 abbrev pub EachNames : {P : Type 0} → (List ℕ → P → Type 0) → List (List ℕ) → List P → Type 0
 EachNames Names [] [] = Unit {0}
 EachNames Names [] (p ∷ ps) = ⊥
@@ -144,7 +143,7 @@ NamePeers = EachNames NamesPeer
 abbrev pub NameWatchers : List (List ℕ) → List Watcher → Type 0
 NameWatchers = EachNames NamesWatcher
 
--- the words before this one name peers, each another one
+-- the words before this one name peers with different titles
 pub record StopsAt (words : List (List ℕ)) (word : List ℕ) (before : List Peer) : Type 0 where
   pub first : List (List ℕ)
   pub more : List (List ℕ)
@@ -152,8 +151,8 @@ pub record StopsAt (words : List (List ℕ)) (word : List ℕ) (before : List Pe
   pub named : NamePeers first before
   pub once : is_twice before ≡ false
 
--- why words name no peers: there are more than may be named; or else by the first word that names no peer, or names one
--- with the title of a peer before it; or memory ran out
+-- why words fail to name peers: there are more words than peers are allowed; otherwise the first faulty word names no peer, or
+-- names one with the title of a peer before it; or memory ran out
 abbrev pub FailToName : List (List ℕ) → ArgumentFault → Type 0
 FailToName words faults.TooMany = peer_limit < length words
 FailToName words (faults.Peer word) = (length words ≤ peer_limit) × (before : List Peer) × StopsAt words word.now before × ((peer : Peer) → NamesPeer word.now peer → ⊥)
@@ -166,29 +165,29 @@ FailToName words fault = ⊥
 abbrev pub argument_words : Found → List ℕ → List (List ℕ)
 argument_words found id = unwrap_or (option_map raw_values (matched_of found id)) []
 
--- a flag is set or not
+-- the value of a flag, as the parser found it; false if it found none
 pub record IsFlag (found : Found) (id : List ℕ) (flag : Bool) : Type 0 where
   pub unset : one_text found id ≡ None → flag ≡ false
   pub set : one_text found id ≡ Some (codes "true") → flag ≡ true
   pub reset : one_text found id ≡ Some (codes "false") → flag ≡ false
 
--- the word behind `--ae`, or where there is none an empty one, spells no title
+-- the word after `--ae`, or the empty word if there is none, spells no AE title
 abbrev pub SpellsNoTitle : Found → Type 0
 SpellsNoTitle found = (title : List ℕ) → SpellsAe (unwrap_or (first_value found (codes "ae")) []) title → ⊥
 
--- why nothing is asked of `pipe`: the word behind `--ae` spells no title; or the words name no peers
+-- why the words ask nothing of `pipe`: the word after `--ae` spells no AE title; or the words fail to name peers
 abbrev pub FailToAskPipe : Found → ArgumentFault → Type 0
 FailToAskPipe found faults.Ae = SpellsNoTitle found
 FailToAskPipe found fault = FailToName (argument_words found (codes "peer")) fault
 
--- why nothing is asked of `script`: the word behind `--keep` says no seconds, or that behind `--offset` no offset; or the
--- words name no peers
+-- why the words ask nothing of `script`: the word after `--keep` says no seconds, or that after `--offset` no offset; or the
+-- words fail to name peers
 abbrev pub FailToAskScript : Found → ArgumentFault → Type 0
 FailToAskScript found faults.Keep = (keep : ℕ) → SaysKeep (first_value found (codes "keep")) keep → ⊥
 FailToAskScript found faults.Offset = (offset : ℤ) → SaysOffset (first_value found (codes "offset")) offset → ⊥
 FailToAskScript found fault = FailToName (argument_words found (codes "peer")) fault
 
--- why the words say no limits of a server: the word behind the option that is told says none
+-- why the words say no limits of a server: the word after the option in the fault says none
 abbrev pub FailToLimit : Found → ArgumentFault → Type 0
 FailToLimit found faults.Associations = (count : ℕ) → SaysWorkersOrNot (first_value found (codes "associations")) count → ⊥
 FailToLimit found faults.Idle = (idle : ℕ) → SaysIdle (first_value found (codes "idle")) idle → ⊥
@@ -196,8 +195,8 @@ FailToLimit found faults.Timeout = (timeout : ℕ) → SaysTimeout (first_value 
 FailToLimit found faults.DeliveryTimeout = (timeout : ℕ) → SaysDeliveryTimeout (first_value found (codes "delivery-timeout")) timeout → ⊥
 FailToLimit found fault = ⊥
 
--- why nothing is asked of `serve`: the word behind `--ae` spells no title, or that behind `--port` says no port; the words
--- say no limits; or they fail as those of `script`
+-- why the words ask nothing of `serve`: the word after `--ae` spells no AE title, or that after `--port` says no port; the
+-- words say no limits; or they fail like those of `script`
 abbrev pub FailToAskServe : Found → ArgumentFault → Type 0
 FailToAskServe found faults.Ae = SpellsNoTitle found
 FailToAskServe found faults.Port = (port : ℕ) → SaysPort (unwrap_or (first_value found (codes "port")) []) port → ⊥

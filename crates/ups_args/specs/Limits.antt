@@ -1,7 +1,7 @@
--- How the service is set up where nothing else is said.
+-- The defaults of the service.
 use Rattle.std.specs.Prelude.{ℕ, ℤ, pos}
 
--- the seconds for which a finished step is kept at least
+-- the least number of seconds for which a finished step is kept
 abbrev pub keep_seconds : ℕ
 keep_seconds = 60
 

@@ -18,7 +18,7 @@ registered_of UpsEvent = registered.UpsEvent
 abbrev pub uid_of : SopClass → List ℕ
 uid_of class = text_of (registered_of class)
 
--- the one of these SOP classes whose UID it is
+-- the SOP class with this UID, if it is among these
 abbrev pub class_among : List SopClass → List ℕ → Option SopClass
 class_among [] uid = None
 class_among (c ∷ cs) uid = if is_same uid (uid_of c) then Some c else class_among cs uid

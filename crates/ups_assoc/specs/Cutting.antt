@@ -1,20 +1,20 @@
--- A message as PDUs (PS3.8 section 9.3.5, annexes D.1 and E; PS3.7 section 6.3.1).
+-- A message cut into PDUs (PS3.8 section 9.3.5, annexes D.1 and E; PS3.7 section 6.3.1).
 use Rattle.std.specs.Prelude.{ℕ, zero, suc, ◌-◌, ◌*◌, ◌/◌, Bool, true, false, nat_le, List, [], ◌∷◌, ◌++◌, length, take, drop, Option, None, Some, if◌then◌else◌}
 use Rattle.ups_pdu.specs.declared.pdu.Pdu.{Pdu}
 use Rattle.ups_pdu.specs.declared.pdu.Pdu.TheVariants.{Data}
 use Rattle.ups_pdu.specs.declared.pdv.Pdv.{Pdv}
 use Rattle.ups_assoc.specs.Negotiation.{counted}
 
--- How many bytes of a message stand in a PDU at most: the largest even number that the maximum length leaves beside
--- the length of the fragment (4 bytes), its context id and its control header.
+-- The most bytes of a message in one PDU: the largest even number that the maximum length leaves besides the length
+-- of the fragment (4 bytes), its context id and its message control header.
 abbrev pub room : ℕ → ℕ
 room max = (counted max - 6) / 2 * 2
 
--- one fragment, in a PDU of its own
+-- one fragment in a PDU of its own
 abbrev pub fragment : {A : Type 0} → ℕ → Bool → Bool → List ℕ → Pdu A
 fragment context command last bytes = Data (record { context = context; command = command; last = last; bytes = bytes } ∷ [])
 
--- the fragments of a command, or of a data set: all but the last have that size; `most` is more than there are
+-- the fragments of a command or of a data set: all but the last have this size; at most `most` come before the last
 abbrev pub fragments : {A : Type 0} → ℕ → ℕ → ℕ → Bool → List ℕ → List (Pdu A)
 fragments zero size context command bytes = fragment context command true bytes ∷ []
 fragments (suc most) size context command bytes =
@@ -28,7 +28,7 @@ abbrev pub body_run : {A : Type 0} → ℕ → ℕ → Option (List ℕ) → Lis
 body_run size context None = []
 body_run size context (Some body) = run size context false body
 
--- A message in PDUs, for a peer that announces this maximum length: its command, then its data set.
+-- the PDUs of a message, for a peer that announces this maximum length: its command, then its data set
 abbrev pub pieces : {A : Type 0} → ℕ → List ℕ → Option (List ℕ) → ℕ → List (Pdu A)
 pieces context command body max = run (room max) context true command ++ body_run (room max) context body
 

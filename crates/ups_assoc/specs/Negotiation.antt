@@ -1,4 +1,4 @@
--- What is answered to an association request (PS3.8 sections 7.1 and 9.3.2 to 9.3.4).
+-- The answer to an association request (PS3.8 sections 7.1 and 9.3.2 to 9.3.4).
 use Rattle.std.specs.Prelude.{ℕ, ◌%◌, Bool, not, ◌&&◌, ◌||◌, ◌==◌, nat_lt, List, [], map, Option, None, Some, codes, if◌then◌else◌}
 use Rattle.std.specs.List.{flat_map}
 use Rattle.std.specs.Option.{option_to_list}
@@ -20,7 +20,7 @@ use Rattle.ups_assoc.specs.Same.{is_same}
 use Rattle.ups_assoc.specs.Titles.{title, is_this_title}
 use Rattle.ups_assoc.specs.Contexts.{answered, accepted}
 
--- the result, the source and the reason of a rejection (PS3.8 table 9-21)
+-- the result, source and reason of a rejection (PS3.8 table 9-21)
 abbrev pub numbers : Rejection → ℕ × ℕ × ℕ
 numbers ProtocolVersionNotSupported = (1, 2, 2)
 numbers ApplicationContextNotSupported = (1, 1, 2)
@@ -37,7 +37,8 @@ number_source r = (numbers r).1
 abbrev pub number_reason : Rejection → ℕ
 number_reason r = (numbers r).2
 
--- a maximum length as it counts: 0 is none, and no more is used than the longest P-DATA-TF has (PS3.8 annex D.1)
+-- the maximum length that is used: 0 means no limit, and never more than the longest P-DATA-TF is used (PS3.8 annex
+-- D.1)
 abbrev pub counted : ℕ → ℕ
 counted max = if max == 0 || nat_lt max_data_length max then max_data_length else max
 
@@ -45,11 +46,11 @@ counted max = if max == 0 || nat_lt max_data_length max then max_data_length els
 abbrev pub version_name : List ℕ
 version_name = codes "UPSD_0.2.0"
 
--- what is said of this server (PS3.7 annex D.3.3.2)
+-- the user information about this server (PS3.7 annex D.3.3.2)
 abbrev pub this_server : {A : Type 0} → UserInformation A
 this_server = record { maximum_length = max_data_length; implementation_class = Some (text_of Implementation); asynchronous_window = None; roles = []; implementation_version = Some version_name }
 
--- the answer that accepts: the titles as they stood, and an answer to each context in order
+-- the A-ASSOCIATE-AC: the titles as in the request, and an answer to each presentation context in order
 abbrev pub accepting_answer : {A : Type 0} → AssociateRq A → AssociateAc A
 accepting_answer request = record {
   protocol_version = 1;
@@ -66,24 +67,24 @@ accepted_contexts request = flat_map (λ c. option_to_list (accepted c)) request
 unfoldable pub acceptance : {A : Type 0} → AssociateRq A → List ℕ → Acceptance A
 acceptance request calling = record { ac = accepting_answer request; ae = calling; contexts = accepted_contexts request; max = counted request.user_information.maximum_length }
 
--- whether version 1 is among the versions of the protocol: bit 0 (PS3.8 table 9-11)
+-- whether version 1 is among the protocol versions: bit 0 (PS3.8 table 9-11)
 abbrev pub has_version_1 : ℕ → Bool
 has_version_1 versions = versions % 2 == 1
 
--- whether an application context is that of DICOM (PS3.8 annex A.2.1)
+-- whether an application context is the DICOM application context (PS3.8 annex A.2.1)
 abbrev pub is_dicom : List ℕ → Bool
 is_dicom uid = is_same uid (text_of ApplicationContext)
 
--- a maximum length with no room for a fragment of two bytes
+-- a maximum length without room for a fragment of two bytes
 abbrev pub is_too_small : ℕ → Bool
 is_too_small max = nat_lt 0 max && nat_lt max 8
 
--- by the title of the calling application entity
+-- the outcome by the calling AE title, which is None if it is not valid
 abbrev pub outcome_for : {A : Type 0} → AssociateRq A → Option (List ℕ) → Outcome A
 outcome_for request None = Reject CallingAeNotRecognized
 outcome_for request (Some calling) = if is_too_small request.user_information.maximum_length then Reject NoReason else Accept (acceptance request calling)
 
--- What is answered to a request, where ae is the title of this application entity.
+-- the answer to a request, where `ae` is the title of this application entity
 abbrev pub outcome : {A : Type 0} → List ℕ → AssociateRq A → Outcome A
 outcome ae request =
     if not (has_version_1 request.protocol_version) then Reject ProtocolVersionNotSupported
@@ -91,7 +92,7 @@ outcome ae request =
     else if not (is_this_title ae request.called) then Reject CalledAeNotRecognized
     else outcome_for request (title request.calling)
 
--- an answer that can be written, where the request is accepted
+-- the answer can be written, if the request is accepted
 abbrev pub IsWritable : {A : Type 0} → Outcome A → Type 0
 IsWritable (Accept a) = Fits (AnswerPdu a.ac)
 IsWritable (Reject r) = Unit {0}

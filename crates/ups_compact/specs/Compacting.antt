@@ -1,4 +1,4 @@
--- A history without what is about steps that are no longer held. It is looked at with its newest entry first.
+-- A history without the requests about steps that are no longer held. Histories here have their newest entry first.
 use Rattle.std.specs.Prelude.{ℕ, ◌-◌, Bool, true, false, not, ◌||◌, List, [], ◌∷◌, length, map, filter, take, Option, None, Some}
 use Rattle.ups_life.specs.declared.request.Request.{Request}
 use Rattle.ups_life.specs.declared.request.Request.TheVariants.{Create, Ack, Sweep}
@@ -12,13 +12,13 @@ use Rattle.ups_life.specs.Steps.{used, named_step}
 use Rattle.ups_life.specs.Watching.{held, is_among, is_held, is_peer}
 use Rattle.ups_life.specs.Events.{events, pending}
 
--- it names one of these steps, or none
+-- the step that a request names is one of these, or it names none
 abbrev pub is_about : List (List ℕ) → Option (List ℕ) → Bool
 is_about steps None = true
 is_about steps (Some u) = is_among u steps
 
--- what is kept of requests: creations, changes, cancel requests, sets and single subscriptions of these steps, and all that
--- is asked of global subscriptions; no acknowledgement, and no sweep
+-- the requests that are kept: creations, changes, cancel requests, sets and single subscriptions of these steps, and all
+-- requests about global subscriptions; no acknowledgement and no sweep
 abbrev pub is_left : {A : Type 0} → List (List ℕ) → Request A → Bool
 is_left steps (Ack upto) = false
 is_left steps Sweep = false
@@ -27,74 +27,74 @@ is_left steps request = is_about steps (named_step request)
 abbrev pub left : {A : Type 0} → List (List ℕ) → List (Entry A) → List (Entry A)
 left steps es = filter (λ e. is_left steps e.request) es
 
--- THE COMPACT HISTORY: what is left of it for the steps held
+-- THE COMPACT HISTORY: the entries that are kept for the steps held
 abbrev pub compact : {A : Type 0} → Settings → List (Entry A) → List (Entry A)
 compact s es = left (held s es) es
 
--- what an event reports
+-- the report of an event, without its number
 abbrev pub reported : Event → Report
 reported x = record { kind = x.kind; step = x.step; state = x.state; readiness = x.readiness }
 
--- all that w was told, oldest first, without the numbers of the events
+-- all events reported to w, oldest first, without the numbers of the events
 abbrev pub told_to : {A : Type 0} → Settings → List (Entry A) → List ℕ → List Report
 told_to s es w = map reported (events s es w)
 
--- what was told of these steps
+-- the reports about these steps
 abbrev pub told_of_steps : List (List ℕ) → List Report → List Report
 told_of_steps steps xs = filter (λ (x : Report). is_among x.step steps) xs
 
--- WHAT IS STILL TO BE TOLD. A compact history has no acknowledgement, so in it all is pending that is current, and also what
+-- WHAT IS STILL TO BE REPORTED. A compact history has no acknowledgement, so every current event is pending in it, even one that
 -- the watcher has acknowledged.
 
--- what is pending for w, oldest first, without the numbers of the events
+-- the events pending for w, oldest first, without their numbers
 abbrev pub to_tell : {A : Type 0} → Settings → List (Entry A) → List ℕ → List Report
 to_tell s es w = map reported (pending s es w)
 
--- of these events those of these steps
+-- the events among these that are about these steps
 abbrev pub of_steps : List (List ℕ) → List Event → List Event
 of_steps steps xs = filter (λ (x : Event). is_among x.step steps) xs
 
--- the events of reports
+-- the events of event reports
 abbrev pub events_of : {A : Type 0} → List (EventReport A) → List Event
 events_of reports = map (λ r. r.event) reports
 
--- the number of the last of these events
+-- the number of the last of these events, if there is one
 abbrev pub number_of_last : List Event → Option ℕ
 number_of_last [] = None
 number_of_last (x ∷ []) = Some x.number
 number_of_last (x ∷ y ∷ xs) = number_of_last (y ∷ xs)
 
--- The number up to which these events are known, where the last `untold` of them are still to be told: that of the last one
--- before these, if there is one
+-- The number up to which these events are known, if the last `untold` of them are still to be reported: that of the last event
+-- before those, if there is one.
 abbrev pub known_up_to : ℕ → List Event → Option ℕ
 known_up_to untold xs = number_of_last (take (length xs - untold) xs)
 
--- THE NUMBER TO ACKNOWLEDGE for w behind the compact history: of what is pending in that, as many of the last are still to
--- be told as events of steps held were pending
+-- THE NUMBER TO ACKNOWLEDGE for w after the compact history: of the events pending there, the last ones are still to be
+-- reported, as many as events of steps held were pending in the whole history
 abbrev pub upto : {A : Type 0} → Settings → List (Entry A) → List ℕ → Option ℕ
 upto s es w = known_up_to (length (of_steps (held s es) (pending s es w))) (pending s (compact s es) w)
 
--- w's acknowledgement up to a number, if there is one, after these entries: made by this caller, at this moment
+-- these entries, followed by w's acknowledgement up to a number, if there is one: made by this caller, at this moment
 abbrev pub with_ack : {A : Type 0} → ℕ → ℕ → List ℕ → Option ℕ → List (Entry A) → List (Entry A)
 with_ack caller moment w None es = es
 with_ack caller moment w (Some n) es = record { caller = caller; ae = w; moment = moment; request = Ack n } ∷ es
 
--- after these entries the acknowledgement of each of these peers, in their order
+-- these entries, followed by the acknowledgement of each of these peers, in their order
 abbrev pub with_acks : {A : Type 0} → ℕ → ℕ → (List ℕ → Option ℕ) → List Peer → List (Entry A) → List (Entry A)
 with_acks caller moment number [] es = es
 with_acks caller moment number (p ∷ ps) es = with_acks caller moment number ps (with_ack caller moment p.ae (number p.ae) es)
 
--- THE COMPACTED HISTORY: the compact history, and behind it what each peer acknowledges
+-- THE COMPACTED HISTORY: the compact history, followed by the acknowledgement of each peer
 abbrev pub compacted : {A : Type 0} → ℕ → ℕ → Settings → List (Entry A) → List (Entry A)
 compacted caller moment s es = with_acks caller moment (upto s es) s.peers (compact s es)
 
--- two of these peers have one title
+-- two of these peers have the same title
 abbrev pub has_title_twice : List Peer → Bool
 has_title_twice [] = false
 has_title_twice (p ∷ ps) = is_peer ps p.ae || has_title_twice ps
 
--- what is answered after a compaction as before: no acknowledgement, since events have other numbers, and no creation under
--- the UID of a removed step
+-- the request is answered after a compaction as before it: it is no acknowledgement, since events have other numbers, and no
+-- creation under the UID of a removed step
 abbrev pub is_answered_alike : {A : Type 0} → Settings → List (Entry A) → Request A → Bool
 is_answered_alike s es (Ack upto) = false
 is_answered_alike s es (Create step attributes) = not (used es step) || is_held s es step

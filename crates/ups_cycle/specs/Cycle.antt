@@ -7,29 +7,29 @@ use Rattle.ups_cycle.specs.declared.state.StepState.TheVariants.{Scheduled, InPr
 
 -- THE LIFE CYCLE (PS3.4 CC.1.1, CC.2.1, CC.2.2): each function is a row of its table, each line a cell.
 
--- to IN PROGRESS, with a proper Transaction UID
+-- a change to IN PROGRESS, with a proper Transaction UID
 abbrev pub claim_status : StepState → Status
 claim_status Scheduled = Success
 claim_status InProgress = AlreadyInProgress
 claim_status Completed = NoLongerUpdatable
 claim_status Canceled = NoLongerUpdatable
 
--- to COMPLETED, with the right Transaction UID; `performed`: what COMPLETED needs is there. No UID is right for a step that
--- is SCHEDULED.
+-- a change to COMPLETED, with the right Transaction UID; `performed`: the step has what COMPLETED requires. No UID is
+-- right for a step that is SCHEDULED.
 abbrev pub complete_status : Bool → StepState → Status
 complete_status performed Scheduled = NotInProgress
 complete_status performed InProgress = if performed then Success else FinalStateNotMet
 complete_status performed Completed = AlreadyCompleted
 complete_status performed Canceled = NoLongerUpdatable
 
--- to CANCELED, with the right Transaction UID; `discontinued`: what CANCELED needs is there
+-- a change to CANCELED, with the right Transaction UID; `discontinued`: the step has what CANCELED requires
 abbrev pub discontinue_status : Bool → StepState → Status
 discontinue_status discontinued Scheduled = NotInProgress
 discontinue_status discontinued InProgress = if discontinued then Success else FinalStateNotMet
 discontinue_status discontinued Completed = NoLongerUpdatable
 discontinue_status discontinued Canceled = AlreadyCanceled
 
--- to a final state, with another Transaction UID or none; `proper`: it is a UID
+-- a change to a final state, with another Transaction UID or none; `proper`: a well-formed one is given
 abbrev pub wrong_status : Bool → StepState → Status
 wrong_status proper Scheduled = if proper then NotInProgress else WrongTransactionUid
 wrong_status proper InProgress = WrongTransactionUid
@@ -43,7 +43,7 @@ cancel_status InProgress = Success
 cancel_status Completed = TooLateToCancel
 cancel_status Canceled = AlreadyCanceled
 
--- an N-SET, by its Transaction UID; `right`: it is that of the claim, `given`: there is one
+-- an N-SET; `right`: its Transaction UID is that of the claim, `given`: it has one, even if malformed
 abbrev pub set_status : Bool → Bool → StepState → Status
 set_status right given Scheduled = if given then NotInProgress else Success
 set_status right given InProgress = if right then Success else WrongTransactionUid

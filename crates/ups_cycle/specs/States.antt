@@ -5,7 +5,7 @@ use Rattle.ups_pdu.specs.Padding.{without_padding}
 use Rattle.ups_cycle.specs.declared.state.StepState.{StepState}
 use Rattle.ups_cycle.specs.declared.state.StepState.TheVariants.{Scheduled, InProgress, Completed, Canceled}
 
--- no request changes it any more
+-- the state is final: no request changes it any more
 abbrev pub is_final : StepState → Bool
 is_final Scheduled = false
 is_final InProgress = false
@@ -18,7 +18,7 @@ state_text InProgress = codes "IN PROGRESS"
 state_text Completed = codes "COMPLETED"
 state_text Canceled = codes "CANCELED"
 
--- the state that a value names; padding is no part of it
+-- the state that a value names, apart from its padding
 abbrev pub state_of : List ℕ → Option StepState
 state_of value =
     if bytes_eq (without_padding value) (state_text Scheduled) then Some Scheduled else (

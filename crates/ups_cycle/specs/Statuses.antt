@@ -1,15 +1,15 @@
--- The statuses: which say that a request is done, and their numbers (PS3.7 annex C, PS3.4 CC.2 and section C.4.1.1.4).
+-- The statuses: which of them mean done, and their numbers (PS3.7 annex C, PS3.4 CC.2 and section C.4.1.1.4).
 use Rattle.std.specs.Prelude.{Bool, true, false, ℕ}
 use Rattle.ups_cycle.specs.declared.status.Status.{Status}
 use Rattle.ups_cycle.specs.declared.status.Status.TheVariants.{Success, AttributesNotSupported, InvalidAttributeValue, ProcessingFailure, DuplicateSopInstance, NoSuchArgument, InvalidArgumentValue, InvalidObjectInstance, NoSuchSopClass, MissingAttribute, MissingAttributeValue, NoSuchActionType, UnrecognizedOperation, ResourceLimitation, OutOfResources, IdentifierMismatch, DeletionLockNotGranted, AlreadyCanceled, AlreadyCompleted, UnableToProcess, NoLongerUpdatable, WrongTransactionUid, AlreadyInProgress, ScheduledByCreateAlone, FinalStateNotMet, UnknownInstance, UnknownReceivingAe, NotScheduled, NotInProgress, TooLateToCancel, ActionNotAppropriate, Pending}
 
--- the request is done, if perhaps without the deletion lock that it asks for
+-- the request is done, possibly without the Deletion Lock that it asks for
 abbrev pub is_done : Status → Bool
 is_done Success = true
 is_done DeletionLockNotGranted = true
 is_done status = false
 
--- the number in a response
+-- the number of a status in a response
 abbrev pub code : Status → ℕ
 code Success = 0x0000
 code AttributesNotSupported = 0x0001

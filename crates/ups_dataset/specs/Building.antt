@@ -1,4 +1,4 @@
--- What is built from bytes.
+-- What reading builds from bytes.
 use Rattle.std.specs.Prelude.{◌≡◌, ◌++◌, ◌∷◌, [], ℕ, List, Result, Ok, Err, if◌then◌else◌}
 use Rattle.ups_dataset.specs.declared.tag.Tag.{Tag}
 use Rattle.ups_dataset.specs.declared.vr.Vr.{Vr}
@@ -10,11 +10,11 @@ use Rattle.ups_dataset.specs.Data.{Data, Items, Elements, El, elements_of, items
 use Rattle.ups_dataset.specs.Tag.{is_group_length}
 use Rattle.ups_dataset.specs.Spelling.{SpellsElements, SpellsValue, SpellsItems, kept, kept_data, kept_items}
 
--- the elements, with one more unless it is a group length
+-- the elements, followed by one more unless it is a group length
 abbrev pub keeps : Tag → Vr → Data → List El → List El
 keeps tag vr value xs = if is_group_length tag then xs else xs ++ record { tag = tag; vr = vr; value = value } ∷ []
 
--- the value, without group lengths, of what is spelled
+-- the bytes encode a value, and this is that value without group lengths
 pub record BuildsValue (syntax : TransferSyntax) (level : ℕ) (head_vr : Vr) (len : ℕ) (after : List ℕ) (value : Data) (vr : Vr) (next : List ℕ) : Type 0 where
   pub all : Data
   pub spelled : SpellsValue syntax level head_vr len after vr all next
@@ -30,7 +30,7 @@ pub record BuildsItems (syntax : TransferSyntax) (level : ℕ) (reach : Reach) (
   pub spelled : SpellsItems syntax level reach text all rest
   pub is : kept_items all ≡ items_of sets
 
--- what was built, or why not: lack of memory may be at any time
+-- what was built, or a fault that the bytes have; lack of memory is always possible
 abbrev pub OrMemory : (SetFault → Type 0) → SetFault → Type 0
 OrMemory Fault Memory = Unit {0}
 OrMemory Fault fault = Fault fault

@@ -1,4 +1,4 @@
--- A data set as a list of marks, which gives it back: by it a proof tells sets apart.
+-- A data set as a list of marks that determines it: with it a proof tells sets apart.
 use Rattle.std.specs.Prelude.{ℕ, zero, suc, List, [], ◌∷◌, ◌≡◌, refl}
 use Rattle.std.proofs.Common.{ap, ◌∙◌}
 use Rattle.std.specs.Coded.{Coded, code_by, coded_ℕ, coded_list, coded×}
@@ -9,7 +9,7 @@ use Rattle.ups_dataset.specs.declared.vr.Vr.TheVariants.{Un}
 use Rattle.ups_dataset.specs.contracts.vr.Vr as vrs
 use Rattle.ups_dataset.specs.Data.{Data, bytes, items, Items, no_items, item, Elements, no_elements, element, El, elements_of}
 
--- a kind, a tag, a value representation and bytes
+-- a mark: a kind, a tag, a value representation and bytes
 abbrev pub Mark : Type 0
 Mark = ℕ × (Tag × (Vr × List ℕ))
 
@@ -32,7 +32,7 @@ abbrev mutual
   marks_items no_items k = mark 3 ∷ k
   marks_items (item es more) k = mark 4 ∷ marks es (marks_items more k)
 
--- what is built so far, from the last mark on: the sets and the lists of items that wait
+-- what has been built so far, from the last mark backwards: the sets and the lists of items not yet used
 pub record Waiting : Type 0 where
   pub sets : List Elements
   pub lists : List Items

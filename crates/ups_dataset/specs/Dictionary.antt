@@ -1,4 +1,4 @@
--- The attributes that the service speaks of, and the value representation of each tag (PS3.6 section 6).
+-- The attributes that the service uses, and the value representation of each tag (PS3.6 section 6).
 use Rattle.std.specs.Prelude.{ℕ, List, [], ◌∷◌, if◌then◌else◌}
 use Rattle.ups_dataset.specs.declared.dictionary.Attribute.{Attribute}
 use Rattle.ups_dataset.specs.declared.tag.Tag.{Tag}
@@ -6,11 +6,11 @@ use Rattle.ups_dataset.specs.declared.vr.Vr.{Vr}
 use Rattle.ups_dataset.specs.declared.vr.Vr.TheVariants.{Ae, Cs, Da, Ds, Dt, Lo, Lt, Pn, Sh, Sq, St, Ui, Un, Ur}
 use Rattle.ups_dataset.specs.Tag.{is_tag}
 
--- the attribute of a group and an element
+-- the attribute with a group and an element
 abbrev pub attribute : ℕ → ℕ → Vr → Attribute
 attribute group element vr = record { tag = record { group = group; element = element }; vr = vr }
 
--- the dictionary, by rising tag
+-- the dictionary, in order of tags
 abbrev pub dictionary : List Attribute
 dictionary =
     attribute 0x0008 0x0005 Cs ∷  -- Specific Character Set
@@ -82,11 +82,11 @@ dictionary =
     attribute 0x0074 0x1238 Lt ∷  -- Reason for Cancellation
     []
 
--- what a table gives a tag; Unknown where it has none
+-- the value representation of a tag in a table; Unknown if it is not there
 abbrev pub vr_in : List Attribute → Tag → Vr
 vr_in [] tag = Un
 vr_in (a ∷ more) tag = if is_tag a.tag tag then a.vr else vr_in more tag
 
--- by the dictionary
+-- the value representation of a tag in the dictionary
 unfoldable pub vr_of : Tag → Vr
 vr_of tag = vr_in dictionary tag

@@ -1,4 +1,4 @@
--- The first fault of bytes that spell no set.
+-- The first fault of bytes that encode no set.
 use Rattle.std.specs.Prelude.{◌≡◌, ◌+◌, ℕ, true, List}
 use Rattle.ups_dataset.specs.declared.tag.Tag.{Tag}
 use Rattle.ups_dataset.specs.declared.vr.Vr.{Vr}
@@ -10,7 +10,8 @@ use Rattle.ups_dataset.specs.Data.{Data, Elements}
 use Rattle.ups_dataset.specs.Head.{IsKnown, HeadFails, IsSequenceItem, ItemHeadFails, Ends, Opens, Spans, is_sequence}
 use Rattle.ups_dataset.specs.Spelling.{inside, SpellsValue, SpellsElements}
 
--- At the front there is no end. Then either what begins there fails, or the inside of it does, or it is good and what comes behind it fails.
+-- Elements or items do not end at the front. Either the element or item that begins there fails, or the inside of it
+-- fails, or it is good and what follows it fails.
 mutual
   pub data ElementsFail : TransferSyntax → ℕ → Reach → ℕ → List ℕ → SetFault → Type 0 where
     at_head : (syntax : TransferSyntax) (level : ℕ) (reach : Reach) (from : ℕ) (text : List ℕ) (fault : SetFault)

@@ -1,4 +1,4 @@
--- Each set within a set is less deep.
+-- Each set within a set weighs less than it, and the weight bounds the depth.
 use Rattle.std.specs.Prelude.{◌+◌, ◌≤◌, List, [], ◌∷◌, map, max}
 use Rattle.std.proofs.Common.{arith}
 use Rattle.std.specs.declared.alloc.Allocator.{Ghosts}

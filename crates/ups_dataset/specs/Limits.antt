@@ -1,14 +1,14 @@
--- The numbers that the encoding of data sets is made of.
+-- The limits of the encoding of data sets.
 use Rattle.std.specs.Prelude.{ℕ}
 
--- the length of a value, a sequence or an item that is not given (PS3.5 section 7.5)
+-- the length field of a value, a sequence or an item of undefined length (PS3.5 section 7.5)
 abbrev pub undefined_length : ℕ
 undefined_length = 0xffffffff
 
--- the greatest even length in a field of two bytes (PS3.5 section 7.1.2)
+-- the greatest even length that fits into a field of two bytes (PS3.5 section 7.1.2)
 abbrev pub max_short_length : ℕ
 max_short_length = 0xfffe
 
--- how deep items nest at most
+-- the deepest nesting of items
 abbrev pub max_depth : ℕ
 max_depth = 8

@@ -1,4 +1,4 @@
--- A list of tags, as the sorted numbers that stand for them.
+-- A list of tags, as the sorted numbers of these tags.
 use Rattle.std.specs.Prelude.{ℕ, List, [], ◌∷◌, map}
 use Rattle.std.specs.List.Sorted.{IsNonDecreasing, IsPermutation}
 use Rattle.ups_dataset.specs.declared.tag.Tag.{Tag}

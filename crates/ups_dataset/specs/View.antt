@@ -1,4 +1,4 @@
--- What a data set is seen as.
+-- The view of a data set as a value.
 use Rattle.ups_dataset.specs.declared.set.Value.{Value}
 use Rattle.ups_dataset.specs.declared.set.Value.TheVariants as variants
 use Rattle.ups_dataset.specs.declared.set.Element.{Element}

@@ -1,4 +1,4 @@
--- The bytes that are written: lengths are given, and there are no group lengths (PS3.5 sections 7.1 and 7.5).
+-- The bytes that are written: all lengths are defined, and there are no group lengths (PS3.5 sections 7.1 and 7.5).
 use Rattle.std.specs.Prelude.{◌≡◌, ℕ, Bool, true, false, List, [], ◌++◌, length}
 use Rattle.std.specs.Int.{w16, w32, to_le_bytes}
 use Rattle.ups_dataset.specs.declared.tag.Tag.{Tag}
@@ -10,12 +10,12 @@ use Rattle.ups_dataset.specs.Vr.{letters, is_long}
 use Rattle.ups_dataset.specs.Data.{Data, bytes, items, Items, no_items, item, Elements, no_elements, element, El, elements_of}
 use Rattle.ups_dataset.specs.Head.{implicit_vr}
 
--- the length behind the letters: two reserved bytes and four, or two (PS3.5 section 7.1.2)
+-- the length after the VR: two reserved bytes and four, or two (PS3.5 section 7.1.2)
 abbrev pub written_length : Bool → ℕ → List ℕ
 written_length true len = to_le_bytes w16 0 ++ to_le_bytes w32 len
 written_length false len = to_le_bytes w16 len
 
--- a header, without letters or with them (PS3.5 annexes A.1 and A.2)
+-- a header: without a VR in Implicit, with it in Explicit (PS3.5 annexes A.1 and A.2)
 abbrev pub written_head : TransferSyntax → Tag → Vr → ℕ → List ℕ
 written_head Implicit tag vr len = tag_bytes tag ++ to_le_bytes w32 len
 written_head Explicit tag vr len = tag_bytes tag ++ (letters vr ++ written_length (is_long vr) len)
@@ -44,7 +44,7 @@ written_element syntax e = written_head syntax e.tag e.vr (length (written_data 
 abbrev pub sequence_item : TransferSyntax → List El → List ℕ
 sequence_item syntax s = (tag_bytes item_tag ++ to_le_bytes w32 (length (written syntax s))) ++ written syntax s
 
--- Without letters a reading gives each element, at any depth, the representation that it has.
+-- each element, at any depth, has the value representation that reading it without a VR gives
 abbrev mutual
   pub AreImplicit : Elements → Type 0
   AreImplicit no_elements = Unit {0}
@@ -61,7 +61,7 @@ abbrev mutual
 abbrev pub IsImplicit : List El → Type 0
 IsImplicit set = AreImplicit (elements_of set)
 
--- the representations stand in the bytes, or a reading gives them
+-- the value representations are in the bytes, or reading gives them
 abbrev pub KeepsVrs : TransferSyntax → List El → Type 0
 KeepsVrs Explicit set = Unit {0}
 KeepsVrs Implicit set = IsImplicit set

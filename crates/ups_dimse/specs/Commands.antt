@@ -1,4 +1,4 @@
--- Which bytes spell which command (PS3.7 sections 9.3 and 10.3).
+-- Which bytes encode which command (PS3.7 sections 9.3 and 10.3).
 use Rattle.std.specs.Prelude.{ℕ, List, [], Some}
 use Rattle.ups_dimse.specs.declared.command.Command.{Command}
 use Rattle.ups_dimse.specs.declared.command.Command.TheVariants.{Request, Response, Cancel}
@@ -45,7 +45,7 @@ class_element (operations.Action instance action) = 0x0003
 class_element operations.Echo = 0x0002
 class_element (operations.Find priority) = 0x0002
 
--- the elements of a request that are its operation's own: Affected (1000) or Requested (1001) SOP Instance UID, Event
+-- the elements of a request that belong to its operation: Affected (1000) or Requested (1001) SOP Instance UID, Event
 -- Type ID (1002), Attribute Identifier List (1005), Action Type ID (1008), Priority (0700). A C-ECHO has none (PS3.7
 -- section 9.3.5.1).
 abbrev pub HasOperation : {A : Type 0} → List CommandElement → Operation A → Type 0
@@ -57,8 +57,8 @@ HasOperation elements (operations.Action instance action) = HasUid elements 0x10
 HasOperation elements operations.Echo = Unit {0}
 HasOperation elements (operations.Find priority) = MayHaveUs elements 0x0700 priority
 
--- the elements of a response that are its operation's own: Affected SOP Instance UID (1000), Event Type ID (1002), which
--- may be absent, Action Type ID (1008). A C-ECHO and a C-FIND have none (PS3.7 sections 9.3.5.2 and 9.3.2.2).
+-- the elements of a response that belong to its operation: Affected SOP Instance UID (1000), Event Type ID (1002),
+-- which may be absent, Action Type ID (1008). A C-ECHO and a C-FIND have none (PS3.7 sections 9.3.5.2 and 9.3.2.2).
 abbrev pub HasResult : List CommandElement → OperationResult → Type 0
 HasResult elements (results.EventReport instance event) = HasUid elements 0x1000 instance × MayHaveUs elements 0x1002 event
 HasResult elements (results.Create instance) = HasUid elements 0x1000 instance
@@ -68,7 +68,8 @@ HasResult elements (results.Action instance action) = HasUid elements 0x1000 ins
 HasResult elements results.Echo = Unit {0}
 HasResult elements results.Find = Unit {0}
 
--- a request: its SOP class, Command Field (0100), Message ID (0110), Command Data Set Type (0800), and its operation's
+-- a request: its SOP class, Command Field (0100), Message ID (0110), Command Data Set Type (0800), and the elements of
+-- its operation
 pub record IsRequest {A : Type 0} (elements : List CommandElement) (request : RequestCommand A) : Type 0 where
   pub sop_class : HasUid elements (class_element request.operation) request.sop_class
   pub field : HasUs elements 0x0100 (field_of (request_of request.operation))
@@ -77,7 +78,7 @@ pub record IsRequest {A : Type 0} (elements : List CommandElement) (request : Re
   pub operation : HasOperation elements request.operation
 
 -- a response: Affected SOP Class UID (0002), Command Field (0100), Message ID Being Responded To (0120), Command Data
--- Set Type (0800), Status (0900), and its operation's
+-- Set Type (0800), Status (0900), and the elements of its operation
 pub record IsResponse (elements : List CommandElement) (response : ResponseCommand) : Type 0 where
   pub sop_class : HasUid elements 0x0002 response.sop_class
   pub field : HasUs elements 0x0100 (field_of (response_of response.result))
@@ -86,27 +87,27 @@ pub record IsResponse (elements : List CommandElement) (response : ResponseComma
   pub status : HasUs elements 0x0900 response.status
   pub operation : HasResult elements response.result
 
--- a request that an operation be cancelled: Command Field (0100), Message ID Being Responded To (0120), which is the
--- Message ID of the operation, and Command Data Set Type (0800) (PS3.7 section 9.3.2.3)
+-- a request to cancel an operation: Command Field (0100), Message ID Being Responded To (0120), which is the Message ID
+-- of the operation, and Command Data Set Type (0800) (PS3.7 section 9.3.2.3)
 pub record IsCancel (elements : List CommandElement) (cancel : CancelCommand) : Type 0 where
   pub field : HasUs elements 0x0100 (field_of CancelRequest)
   pub responded_to : HasUs elements 0x0120 cancel.responded_to
   pub data_set : HasDataSet elements cancel.has_data_set
 
--- the elements are those of this command; others may stand among them
+-- the elements are those of this command; others may be among them
 abbrev pub IsCommand : {A : Type 0} → List CommandElement → Command A → Type 0
 IsCommand elements (Request request) = IsRequest elements request
 IsCommand elements (Response response) = IsResponse elements response
 IsCommand elements (Cancel cancel) = IsCancel elements cancel
 
--- The bytes are elements with rising numbers, and those of this command are among them. Command Group Length (0000)
--- is none of the command's, so it may be absent, and is not looked at.
+-- The bytes are elements with ascending numbers, and those of this command are among them. Command Group Length (0000)
+-- is not one of the command's: it may be absent, and its value is not checked.
 pub record SpellsCommand {A : Type 0} (bytes : List ℕ) (command : Command A) : Type 0 where
   pub elements : List CommandElement
   pub spelled : SpellsCommandElements 0 bytes elements []
   pub is : IsCommand elements command
 
--- what a response to an operation is the result of
+-- the result that a response to an operation has
 abbrev pub result_of : {A : Type 0} → Operation A → OperationResult
 result_of (operations.EventReport instance event) = results.EventReport instance (Some event)
 result_of (operations.Create instance) = results.Create instance

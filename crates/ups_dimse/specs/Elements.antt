@@ -5,7 +5,7 @@ use Rattle.ups_dataset.specs.declared.tag.Tag.{Tag}
 use Rattle.ups_dataset.specs.Limits.{undefined_length}
 use Rattle.ups_dataset.specs.Tag.{tag_bytes}
 
--- an element, by its number in group 0000 and the bytes of its value
+-- an element, given by its number in group 0000 and the bytes of its value
 pub record CommandElement : Type 0 where
   pub number : ℕ
   pub value : List ℕ
@@ -22,16 +22,17 @@ pub record IsCommandElement (bytes : List ℕ) (element : CommandElement) (rest 
   pub even : length element.value % 2 ≡ 0
   pub parts : bytes ≡ tag_bytes (command_tag element.number) ++ (to_le_bytes w32 (length element.value) ++ (element.value ++ rest))
 
--- The bytes begin with these elements, whose numbers rise and are at least from (PS3.5 section 7.1). The rest follows.
+-- The bytes begin with these elements, whose numbers ascend and are at least `from` (PS3.5 section 7.1). The rest
+-- follows.
 abbrev pub SpellsCommandElements : ℕ → List ℕ → List CommandElement → List ℕ → Type 0
 SpellsCommandElements from bytes [] rest = bytes ≡ rest
 SpellsCommandElements from bytes (e ∷ es) rest = (next : List ℕ) × IsCommandElement bytes e next × (from ≤ e.number) × SpellsCommandElements (e.number + 1) next es rest
 
--- the bytes are elements, and nothing else
+-- the bytes consist of elements alone
 abbrev pub AreCommandElements : ℕ → List ℕ → Type 0
 AreCommandElements from bytes = (elements : List CommandElement) × SpellsCommandElements from bytes elements []
 
--- the value of the element of a number
+-- the value of the element with this number
 abbrev pub value_in : ℕ → List CommandElement → Option (List ℕ)
 value_in number [] = None
 value_in number (e ∷ es) = if e.number == number then Some e.value else value_in number es

@@ -1,4 +1,4 @@
--- What holds of each command that a program holds, whatever its bytes: numbers fit two bytes, and UIDs are UIDs.
+-- What is true of each command that a program holds, whatever its bytes: numbers fit in two bytes, and UIDs are valid.
 use Rattle.std.specs.Prelude.{◌<◌, ◌^◌, List, IfSome}
 use Rattle.std.specs.List.{All}
 use Rattle.ups_pdu.specs.Identifier.{IsUid}
@@ -23,7 +23,7 @@ pub record IsHeldTag (tag : Tag) : Type 0 where
 abbrev pub AreHeldTags : List Tag → Type 0
 AreHeldTags tags = All IsHeldTag tags
 
--- what is an operation's own, but its priority
+-- the values of an operation, except its priority
 abbrev pub IsHeldOperation : {A : Type 0} → Operation A → Type 0
 IsHeldOperation (operations.EventReport instance event) = IfSome instance IsUid × (event < 2 ^ 16)
 IsHeldOperation (operations.Create instance) = IfSome instance IsUid
@@ -33,7 +33,7 @@ IsHeldOperation (operations.Action instance action) = IfSome instance IsUid × (
 IsHeldOperation operations.Echo = Unit {0}
 IsHeldOperation (operations.Find priority) = Unit {0}
 
--- what is a result's own
+-- the values of a result
 abbrev pub IsHeldResult : OperationResult → Type 0
 IsHeldResult (results.EventReport instance event) = IfSome instance IsUid × IfSome event (λ e. e < 2 ^ 16)
 IsHeldResult (results.Create instance) = IfSome instance IsUid
@@ -57,7 +57,7 @@ pub record IsHeldResponse (response : ResponseCommand) : Type 0 where
   pub status : response.status < 2 ^ 16
   pub operation : IsHeldResult response.result
 
--- a request that an operation be cancelled
+-- a request to cancel an operation
 pub record IsHeldCancel (cancel : CancelCommand) : Type 0 where
   pub responded_to : cancel.responded_to < 2 ^ 16
 

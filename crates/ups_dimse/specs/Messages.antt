@@ -1,5 +1,4 @@
--- The messages, by their command fields (PS3.7 annex E.1) and by the elements that they have (PS3.7 sections 9.3
--- and 10.3).
+-- The messages: their command fields (PS3.7 annex E.1), and the elements that they have (PS3.7 sections 9.3 and 10.3).
 use Rattle.std.specs.Prelude.{ℕ, List, [], ◌∷◌}
 use Rattle.ups_dimse.specs.declared.message.Message.{Message}
 use Rattle.ups_dimse.specs.declared.message.Message.TheVariants.{EventReportRequest, EventReportResponse, GetRequest, GetResponse, SetRequest, SetResponse, ActionRequest, ActionResponse, CreateRequest, CreateResponse, EchoRequest, EchoResponse, FindRequest, FindResponse, CancelRequest}
@@ -22,14 +21,14 @@ field_of FindRequest = 0x0020
 field_of FindResponse = 0x8020
 field_of CancelRequest = 0x0fff
 
--- an element whose value has to have a certain length: a US, which has to be there or may be absent, or an AT, which
--- may be absent
+-- an element whose value must have a certain length: a US, which must be present or may be absent, or an AT, which may
+-- be absent
 pub data Need : Type 0 where
   has_us : ℕ → Need
   may_have_us : ℕ → Need
   may_have_at : ℕ → Need
 
--- the elements of a message that can be at fault, by rising numbers: Message ID (0110), Message ID Being Responded To
+-- the elements of a message that can be at fault, by ascending number: Message ID (0110), Message ID Being Responded To
 -- (0120), Priority (0700), Command Data Set Type (0800), Status (0900), Event Type ID (1002), Attribute Identifier List
 -- (1005), Action Type ID (1008)
 abbrev pub needs : Message → List Need

@@ -1,4 +1,4 @@
--- The values of elements, by their value representations (PS3.5 section 6.2), and why there are none.
+-- The values of elements, by their value representations (PS3.5 section 6.2), and how they fail.
 use Rattle.std.specs.Prelude.{◌≡◌, ◌≢◌, ℕ, ◌<◌, ◌%◌, ◌^◌, ◌==◌, Bool, not, List, [], ◌++◌, length, Option, None, Some}
 use Rattle.std.specs.Int.{w16, to_le_bytes}
 use Rattle.std.specs.Option.{unwrap_or}
@@ -10,12 +10,12 @@ use Rattle.ups_dimse.specs.declared.fault.DimseFault.{DimseFault}
 use Rattle.ups_dimse.specs.declared.fault.DimseFault.TheVariants.{Missing, BadValue, UnknownField, Memory}
 use Rattle.ups_dimse.specs.Elements.{CommandElement, command_tag, value_in}
 
--- US: a number in two bytes, the lower one first
+-- US: a number in two bytes, low byte first
 pub record HasUs (elements : List CommandElement) (number value : ℕ) : Type 0 where
   pub fits : value < 2 ^ 16
   pub is : value_in number elements ≡ Some (to_le_bytes w16 value)
 
--- a US that is missing, or has other than two bytes
+-- a US is missing, or its length is not two bytes
 abbrev pub UsFails : List CommandElement → ℕ → DimseFault → Type 0
 UsFails elements number (Missing tag) = (tag ≡ command_tag number) × (value_in number elements ≡ None)
 UsFails elements number (BadValue tag) = (tag ≡ command_tag number) × (value : List ℕ) × (value_in number elements ≡ Some value) × (length value ≢ 2)
@@ -27,11 +27,11 @@ abbrev pub MayHaveUs : List CommandElement → ℕ → Option ℕ → Type 0
 MayHaveUs elements number (Some value) = HasUs elements number value
 MayHaveUs elements number None = value_in number elements ≡ None
 
--- a US that is there, and has other than two bytes
+-- a US is present, and its length is not two bytes
 abbrev pub PresentUsFails : List CommandElement → ℕ → DimseFault → Type 0
 PresentUsFails elements number fault = (fault ≡ BadValue (command_tag number)) × (value : List ℕ) × (value_in number elements ≡ Some value) × (length value ≢ 2)
 
--- UI: a UID, or none where the element is absent or spells none
+-- UI: a UID; None if the element is absent or encodes no UID
 abbrev pub HasUid : List CommandElement → ℕ → Option (List ℕ) → Type 0
 HasUid elements number (Some uid) = (value : List ℕ) × (value_in number elements ≡ Some value) × SpellsUid value uid
 HasUid elements number None = (value : List ℕ) → value_in number elements ≡ Some value → (uid : List ℕ) → SpellsUid value uid → ⊥
@@ -47,10 +47,10 @@ pub record IsTagAt (bytes : List ℕ) (tag : Tag) (rest : List ℕ) : Type 0 whe
   pub element_fits : tag.element < 2 ^ 16
   pub parts : bytes ≡ tag_bytes tag ++ rest
 
--- AT: tags, one after the other; no tags where the element is absent
+-- AT: tags, one after the other; no tags if the element is absent
 abbrev pub HasTags : List CommandElement → ℕ → List Tag → Type 0
 HasTags elements number tags = Each IsTagAt (unwrap_or (value_in number elements) []) tags
 
--- an AT that is there, with a length that is no multiple of four
+-- an AT is present, and its length is not a multiple of four
 abbrev pub TagsFail : List CommandElement → ℕ → DimseFault → Type 0
 TagsFail elements number fault = (fault ≡ BadValue (command_tag number)) × (value : List ℕ) × (value_in number elements ≡ Some value) × (length value % 4 ≢ 0)

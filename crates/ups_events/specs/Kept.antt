@@ -8,7 +8,7 @@ use Rattle.ups_life.specs.declared.event.EventKind.{EventKind}
 use Rattle.ups_life.specs.Events.{is_state_report, is_report_of}
 use Rattle.ups_events.specs.declared.slots.Slot.{Slot}
 
--- the events that are live, oldest first
+-- the live events, oldest first
 abbrev pub lives : List Slot → List Event
 lives [] = []
 lives (s ∷ ss) = if s.live then s.event ∷ lives ss else lives ss
@@ -16,19 +16,19 @@ lives (s ∷ ss) = if s.live then s.event ∷ lives ss else lives ss
 abbrev pub is_live : Slot → Bool
 is_live s = s.live
 
--- a slot after each State Report of the step u was spent
+-- a slot after each State Report of the step u is spent
 abbrev pub spent : List ℕ → Slot → Slot
 spent u s = if is_report_of u s.event then record { event = s.event; live = false } else s
 
--- the slots as an event of this kind and step finds them: what it supersedes is spent
+-- the slots before an event of this kind and step is added: the events that it supersedes are spent
 abbrev pub made_way : EventKind → List ℕ → List Slot → List Slot
 made_way kind u ss = if is_state_report kind then map (spent u) ss else ss
 
--- a slot at the front goes: it is spent, or its event is acknowledged
+-- a slot at the front is removed: it is spent, or its event is acknowledged
 abbrev pub goes : ℕ → Slot → Bool
 goes upto s = not s.live || nat_le s.event.number upto
 
--- the slots without those at the front that go
+-- the slots without those removed from the front
 abbrev pub dropped : ℕ → List Slot → List Slot
 dropped upto [] = []
 dropped upto (s ∷ ss) = if goes upto s then dropped upto ss else s ∷ ss
@@ -37,7 +37,7 @@ dropped upto (s ∷ ss) = if goes upto s then dropped upto ss else s ∷ ss
 abbrev pub Rises : List Slot → Type 0
 Rises ss = (i j : ℕ) (d : Slot) → i < j → j < length ss → (slice_index_or ss i d).event.number < (slice_index_or ss j d).event.number
 
--- the first number is above `low`, and each other one above that before it
+-- the first number is above `low`, and each other one is above the one before it
 abbrev pub Rising : ℕ → List Slot → Type 0
 Rising low [] = Unit {0}
 Rising low (s ∷ ss) = (low < s.event.number) × Rising s.event.number ss
@@ -46,11 +46,12 @@ Rising low (s ∷ ss) = (low < s.event.number) × Rising s.event.number ss
 abbrev pub UpTo : ℕ → List Slot → Type 0
 UpTo high ss = AllByRecursion (λ (s : Slot). s.event.number ≤ high) ss
 
--- the index has the number of each State Report that is live, by its step
+-- the index has the number of each live State Report, under its step
 abbrev pub Indexed : List (List ℕ × ℕ) → List Slot → Type 0
 Indexed index ss = AllByRecursion (λ (s : Slot). s.live ≡ true → is_state_report s.event.kind ≡ true → lookup (bytes_eq s.event.step) index ≡ Some s.event.number) ss
 
--- what a queue keeps to: numbers rise from what was acknowledged to what was made, and the index has each live State Report
+-- the invariant of a queue: numbers rise from above the one acknowledged to the one made last, and the index has each
+-- live State Report
 pub record KeepsQueue (made acked : ℕ) (index : List (List ℕ × ℕ)) (ss : List Slot) : Type 0 where
   pub rising : Rising acked ss
   pub up_to : UpTo made ss

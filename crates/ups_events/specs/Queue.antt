@@ -1,29 +1,30 @@
--- What a contract sees of the queue of a watcher: the events that it has not acknowledged, without each State Report that
--- a later one of the same step supersedes (the profile's: PS3.4 CC.2.4 knows no acknowledgement but the response to a
--- report).
+-- The queue of a watcher as a contract sees it: the events that the watcher has not acknowledged, without each State
+-- Report that a later one of the same step supersedes (defined by the profile: PS3.4 CC.2.4 knows no acknowledgement
+-- but the response to a report).
 use Rattle.std.specs.Prelude.{◌≡◌, ◌≤◌, ◌+◌, ℕ, Bool, not, ◌&&◌, nat_lt, nat_le, List, [], ◌∷◌, ◌++◌, filter, slice_index_or, Option, None, Some, if◌then◌else◌}
 use Rattle.ups_life.specs.declared.event.Event.{Event}
 use Rattle.ups_life.specs.Events.{is_state_report, is_report_of}
 use Rattle.ups_events.specs.declared.fault.AckFault.{AckFault}
 use Rattle.ups_events.specs.declared.fault.AckFault.TheVariants.{AckAhead, AckStale}
 
--- the greatest number made, the greatest acknowledged (each 0 where there is none), the events that are pending, oldest
--- first, and for how many more there is room
+-- the greatest number made and the greatest acknowledged (each 0 if there is none), the pending events, oldest first,
+-- and the number of further events for which there is room
 pub record QueueView : Type 0 where
   pub made : ℕ
   pub acked : ℕ
   pub events : List Event
   pub spare : ℕ
 
--- a later event supersedes an earlier one: both are State Reports of one step (PS3.4 CC.2.4, the profile's)
+-- a later event supersedes an earlier one: both are State Reports of the same step (PS3.4 CC.2.4; defined by the
+-- profile)
 abbrev pub supersedes : Event → Event → Bool
 supersedes later earlier = is_state_report earlier.kind && is_report_of earlier.step later
 
--- the events that are pending after x was added to these: x goes last, and what it supersedes leaves
+-- the pending events after x is added to these: x comes last, and the events that it supersedes are removed
 abbrev pub added : List Event → Event → List Event
 added xs x = filter (λ y. not (supersedes x y)) xs ++ x ∷ []
 
--- the events with a greater number than n
+-- the events with a number greater than n
 abbrev pub above : ℕ → List Event → List Event
 above n xs = filter (λ (x : Event). nat_lt n x.number) xs
 
@@ -49,17 +50,17 @@ pub record IsReserved (old new : QueueView) : Type 0 where
   pub events : new.events ≡ old.events
   pub spare : old.spare ≤ new.spare
 
--- no event was made yet
+-- no event has been made yet
 pub record IsNew (q : QueueView) : Type 0 where
   pub made : q.made ≡ 0
   pub acked : q.acked ≡ 0
   pub events : q.events ≡ []
 
--- why an acknowledgement up to a number is refused, if it is (the profile's)
+-- why an acknowledgement up to a number is refused, if it is (defined by the profile)
 abbrev pub ack_fault : QueueView → ℕ → Option AckFault
 ack_fault q upto = if nat_lt q.made upto then Some AckAhead else (if nat_le upto q.acked then Some AckStale else None)
 
--- an empty queue that has no room: what stands for a place without a peer
+-- an empty queue without room, which stands for a place without a peer
 abbrev pub empty : QueueView
 empty = record { made = 0; acked = 0; events = []; spare = 0 }
 

@@ -1,10 +1,10 @@
--- What reports of an entry of the history, and acknowledgements, make of a queue (PS3.4 CC.2.4).
+-- How the reports of an entry of the history, and acknowledgements, change a queue (PS3.4 CC.2.4).
 use Rattle.std.specs.Prelude.{ℕ, ◌+◌, List, [], ◌∷◌}
 use Rattle.ups_life.specs.declared.event.Event.{Event}
 use Rattle.ups_life.specs.declared.event.Report.{Report}
 use Rattle.ups_events.specs.Queue.{QueueView, added, above, queue_at}
 
--- a queue, but for its room: the greatest number made, the greatest acknowledged, and the events that are pending
+-- a queue without its room: the greatest number made, the greatest acknowledged, and the pending events
 pub record Line : Type 0 where
   pub made : ℕ
   pub acked : ℕ
@@ -13,11 +13,11 @@ pub record Line : Type 0 where
 abbrev pub line : QueueView → Line
 line q = record { made = q.made; acked = q.acked; events = q.events }
 
--- that of the peer at a place
+-- the queue of the peer at a place, without its room
 abbrev pub line_at : List QueueView → ℕ → Line
 line_at qs p = line (queue_at qs p)
 
--- that of a watcher that was told nothing
+-- the queue of a watcher that has been told nothing
 abbrev pub empty_line : Line
 empty_line = record { made = 0; acked = 0; events = [] }
 
@@ -25,15 +25,15 @@ empty_line = record { made = 0; acked = 0; events = [] }
 abbrev pub event_of : ℕ → ℕ → Report → Event
 event_of number place x = record { number = number; entry = place; kind = x.kind; step = x.step; state = x.state; readiness = x.readiness }
 
--- a report of the entry at a place comes, and has the next number
+-- the queue after a report of the entry at a place, which has the next number
 abbrev pub one_more : ℕ → Line → Report → Line
 one_more place q x = record { made = q.made + 1; acked = q.acked; events = added q.events (event_of (q.made + 1) place x) }
 
--- reports of the entry at a place come, one after another
+-- the queue after reports of the entry at a place, one after another
 abbrev pub told : ℕ → List Report → Line → Line
 told place [] q = q
 told place (x ∷ xs) q = told place xs (one_more place q x)
 
--- the events up to a number are acknowledged
+-- the queue after the events up to a number are acknowledged
 abbrev pub acked_to : ℕ → Line → Line
 acked_to upto q = record { made = q.made; acked = upto; events = above upto q.events }

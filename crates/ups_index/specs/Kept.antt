@@ -1,4 +1,4 @@
--- What the index keeps.
+-- The invariant of the index.
 use Rattle.std.specs.Prelude.{◌≡◌, ◌<◌, ◌≤◌, ◌-◌, ◌^◌, ℕ, ℤ, Bool, false, ◌&&◌, min, length, slice_index_or, Contains, List, Option, None, Some}
 use Rattle.std.specs.List.{filter_map}
 use Rattle.std.specs.Option.{option_map}
@@ -30,7 +30,7 @@ seen_slot slot = option_map (λ values. (slot.step, values)) slot.values
 abbrev pub seen_slots : {A : Type 0} → List (Slot A) → List (List ℕ × RowValues)
 seen_slots slots = filter_map seen_slot slots
 
--- the step of a slot of the class
+-- the step of a slot, if it is in the class
 abbrev pub step_of_class : FirstKey → List ℕ → Option RowValues → Option (List ℕ)
 step_of_class first step None = None
 step_of_class first step (Some values) = if has_first first values then Some step else None
@@ -38,11 +38,11 @@ step_of_class first step (Some values) = if has_first first values then Some ste
 abbrev pub in_class : {A : Type 0} → FirstKey → Slot A → Option (List ℕ)
 in_class first slot = step_of_class first slot.step slot.values
 
--- no slot from a place to another is of the class
+-- no slot at a place from `from` to before `to` is in the class
 abbrev pub HasNoneIn : {A : Type 0} → FirstKey → List (Slot A) → ℕ → ℕ → Type 0
 HasNoneIn {A} first slots from to = (place : ℕ) → (d : Slot A) → from ≤ place → place < to → place < length slots → in_class first (slice_index_or slots place d) ≡ None
 
--- the slot of a step is at a place, with what is stored of it
+-- the slot at a place is that of a step with these values
 abbrev pub IsSlot : {A : Type 0} → List (Slot A) → ℕ → List ℕ → RowValues → Type 0
 IsSlot {A} slots place step values = (place < length slots) × ((d : Slot A) → slice_index_or slots place d ≡ record { step = step; values = Some values })
 
@@ -50,15 +50,15 @@ IsSlot {A} slots place step values = (place < length slots) × ((d : Slot A) →
 abbrev pub StepsPosted : {A : Type 0} → List (Slot A) → List Post → Type 0
 StepsPosted slots posts = (place : ℕ) (step : List ℕ) (values : RowValues) → IsSlot slots place step values → Contains posts (post (step_number step) place)
 
--- by each text that it stores
+-- each slot is found by each text that it stores
 abbrev pub TextsPosted : {A : Type 0} → List (Slot A) → List Post → Type 0
 TextsPosted slots posts = (place : ℕ) (step : List ℕ) (values : RowValues) → IsSlot slots place step values → (stored : Tag × List ℕ) → Contains values.texts stored → Contains posts (post (text_number stored.0 stored.1) place)
 
--- and by its start
+-- each slot is found by its start, if any
 abbrev pub StartsPosted : {A : Type 0} → List (Slot A) → List Post → Type 0
 StartsPosted slots posts = (place : ℕ) (step : List ℕ) (values : RowValues) → IsSlot slots place step values → (moment : ℤ) → values.start ≡ Some moment → Contains posts (post (moment_number moment) place)
 
--- a step has one slot
+-- a step has only one slot
 abbrev pub HasOneSlot : {A : Type 0} → List (Slot A) → Type 0
 HasOneSlot slots = (one other : ℕ) (step : List ℕ) (values others : RowValues) → IsSlot slots one step values → IsSlot slots other step others → one ≡ other
 
@@ -69,6 +69,6 @@ pub record KeepsIndex {A : Type 0} (slots : List (Slot A)) (steps texts starts :
   pub one_slot : HasOneSlot slots
   pub few : length slots ≤ 2 ^ 32
 
--- how many more fit everywhere
+-- the least room: that of the slots, or of a table of posts
 abbrev pub least_room : {A Z : Type 0} → Vec (Slot A) Z → ℕ → ℕ → ℕ → ℕ
 least_room slots steps texts starts = min (min (vec_capacity slots - vec_len slots) (2 ^ 32 - vec_len slots)) (min steps (min texts starts))

@@ -1,4 +1,4 @@
--- What is recorded of an accepted request, column by column. A column that an operation has no use for is empty.
+-- The record of an accepted request, column by column. A column that an operation does not use is empty.
 use Rattle.std.specs.Prelude.{ℕ, ℤ, Bool, List, [], Option, None, Some}
 use Rattle.ups_pdu.specs.declared.registered.RegisteredUid.TheVariants.{GlobalSubscription, FilteredGlobalSubscription}
 use Rattle.ups_pdu.specs.Registered.{text_of}
@@ -31,8 +31,8 @@ operation_of (Suspend receiver) = operations.Suspend
 operation_of (Ack upto) = operations.Acknowledge
 operation_of Sweep = operations.Sweep
 
--- the instance: that of a step, or the one that stands for the global subscription without keys or with some
--- (PS3.4 CC.2.3); where all subscriptions of a watcher end, or the global one alone, that without keys
+-- the instance: that of a step, or the one that stands for the global subscription without keys or with keys
+-- (PS3.4 CC.2.3); the one without keys if all subscriptions of a watcher end, or only its global one
 abbrev pub target_instance : {A : Type 0} → Target A → Option (List ℕ)
 target_instance (Single step) = step
 target_instance Global = Some (text_of GlobalSubscription)
@@ -52,7 +52,7 @@ instance_of (Unsubscribe place receiver) = place_instance place
 instance_of (Suspend receiver) = Some (text_of GlobalSubscription)
 instance_of request = None
 
--- the Transaction UID: an empty text where it was sent and is no UID
+-- the Transaction UID; an empty text if it was sent and is malformed
 abbrev pub transaction_text : Transaction → Option (List ℕ)
 transaction_text Absent = None
 transaction_text Malformed = Some []
@@ -68,7 +68,7 @@ abbrev pub wanted_state : {A : Type 0} → Request A → Option StepState
 wanted_state (Change step state transaction) = Some state
 wanted_state request = None
 
--- the deletion lock
+-- the Deletion Lock that is asked for
 abbrev pub lock_of : {A : Type 0} → Request A → Option Bool
 lock_of (Subscribe target receiver lock) = Some lock
 lock_of request = None
@@ -78,7 +78,7 @@ abbrev pub acknowledged_in : {A : Type 0} → Request A → Option ℕ
 acknowledged_in (Ack upto) = Some upto
 acknowledged_in request = None
 
--- by which offset the keys of a filter are read, in minutes east of UTC
+-- the offset by which the keys of a filter are read, in minutes east of UTC
 abbrev pub target_offset : {A : Type 0} → Target A → Option ℤ
 target_offset (Filtered keys) = Some keys.offset
 target_offset target = None
@@ -112,6 +112,6 @@ columns_of request = record {
   attributes = set_of request;
 }
 
--- WHAT IS RECORDED OF AN ENTRY
+-- THE RECORD OF AN ENTRY
 abbrev pub recorded : {A : Type 0} → Entry A → Record A
 recorded e = record { caller = e.caller; title = e.ae; moment = e.moment; request = columns_of e.request }

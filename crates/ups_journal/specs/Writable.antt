@@ -1,4 +1,4 @@
--- Which entries can be recorded: their texts and their data sets are read again from what is written.
+-- Which entries can be recorded: their texts and data sets can be read back from what is written.
 use Rattle.std.specs.Prelude.{◌≡◌, ◌<◌, ◌^◌, ℕ, List, length, Option, None, Some}
 use Rattle.ups_pdu.specs.Title.{SpellsAe}
 use Rattle.ups_pdu.specs.Identifier.{IsUid}
@@ -18,11 +18,11 @@ use Rattle.ups_life.specs.declared.watching.Place.TheVariants.{At, Everywhere}
 use Rattle.ups_life.specs.declared.entry.Entry.{Entry}
 use Rattle.ups_life.specs.Instances.{IsStepUid, IsFilter}
 
--- a title has no space at its ends
+-- a title of an application entity, without spaces at its ends
 abbrev pub IsTitle : List ℕ → Type 0
 IsTitle title = SpellsAe title title
 
--- the bytes of the set have a length of 32 bits, and are read as the set
+-- the bytes of the set have a length that fits in 32 bits, and encode the set
 pub record IsStored (set : List El) : Type 0 where
   pub short : length (written Explicit set) < 2 ^ 32
   pub again : SpellsSet Explicit (written Explicit set) set
@@ -35,7 +35,7 @@ abbrev pub IsTransaction : Transaction → Type 0
 IsTransaction (Proper uid) = IsUid uid
 IsTransaction transaction = Unit {0}
 
--- keys that can be read, and are not all universal
+-- keys that can be read, are not all universal, and can be stored
 pub record AreKeys (keys : KeySet) : Type 0 where
   pub readable : fault_of keys.offset keys.attributes ≡ None
   pub filter : IsFilter keys

@@ -1,4 +1,4 @@
--- What a ledger has of the history behind a desk.
+-- The part of the history of a desk that a ledger has.
 use Rattle.std.specs.Prelude.{◌≡◌, ◌≢◌, ◌≤◌, ◌++◌, ⊤, ℕ, List, length, map, take, drop, All, IfOk, Option, None, Some}
 use Rattle.std.specs.Global.{Global}
 use Rattle.ups_life.specs.declared.entry.Entry.{Entry}
@@ -9,18 +9,19 @@ use Rattle.ups_ledger.specs.declared.ledger.Ledger.{Ghosts}
 use Rattle.ups_ledger.specs.declared.recorder.Recorder.{Recorder}
 use Rattle.ups_turn.specs.Pass.{PassView, SamePass}
 
--- the records that are taken down of a history: those of its entries from the place on, at most so many
+-- the recorder takes down the records of a history, unless it fails: those of its entries from the place `from` on, at most
+-- `most`
 pub record TakesDown {A : Type 0} (old : Recorder A) (history : List (Entry A)) (new : Recorder A) : Type 0 where
   pub from : new.from ≡ old.from
   pub most : new.most ≡ old.most
   pub records : IfOk new.records (λ records. records.items ≡ map recorded (take old.most (drop old.from history)))
 
--- the records are those of the first so many entries of the history
+-- the records are those of the first `count` entries of the history
 pub record AreFirst {A : Type 0} (records : List (Record A)) (history : List (Entry A)) (count : ℕ) : Type 0 where
   pub there : count ≤ length history
   pub are : records ≡ map recorded (take count history)
 
--- the pass has seen what others entered meanwhile, and has entered nothing
+-- the pass has seen what others entered in the meantime, and has entered nothing
 pub record HasWatched {A : Type 0} (old new : PassView A) : Type 0 where
   pub same : SamePass old new
   pub between : List (Entry A)
@@ -28,11 +29,11 @@ pub record HasWatched {A : Type 0} (old new : PassView A) : Type 0 where
   pub seen : new.seen ≡ old.seen ++ between
 
 module _ {L : Type 0} (g : Ghosts L) where
-  -- the ledger has the records of the first entries of the history, as many as are committed, if it is sound
+  -- if the ledger is sound, it has the records of the first entries of the history, as many as are committed
   abbrev pub IsKept : Keeper L → List (Entry Global) → Type 0
   IsKept keeper history = g.is_sound keeper.ledger → AreFirst (g.kept keeper.ledger) history keeper.committed
 
-  -- the same where one is kept
+  -- the same, if a ledger is kept
   abbrev pub AreKept : Option (Keeper L) → List (Entry Global) → Type 0
   AreKept None history = ⊤
   AreKept (Some keeper) history = IsKept keeper history

@@ -21,11 +21,11 @@ use Rattle.ups_cycle.specs.States.{state_of}
 use Rattle.ups_life.specs.Instances.{is_subscription, step_in}
 use Rattle.ups_life.specs.Subscribing.{subscribed, unsubscribed, suspended}
 
--- digits and dots, 1 to 64 (PS3.5 section 9.1)
+-- a UID: 1 to 64 bytes, components of digits with dots between (PS3.5 section 9.1)
 abbrev pub is_uid : List ℕ → Bool
 is_uid text = nat_lt 0 (length text) && nat_le (length text) 64 && list_all is_component (slice_split is_dot text)
 
--- the Transaction UID of a text, and of a value, of which padding is no part
+-- the Transaction UID in a text; and in a value, without its padding
 abbrev pub transaction_in : List ℕ → Transaction
 transaction_in text = if length text == 0 then Absent else (if is_uid text then Proper text else Malformed)
 
@@ -46,7 +46,7 @@ abbrev pub named_state : Option El → Option StepState
 named_state None = None
 named_state (Some e) = state_value e.value
 
--- a step is created under a UID of its own (PS3.4 CC.2.5)
+-- an N-CREATE has to give the UID of the new step (PS3.4 CC.2.5)
 abbrev pub created : {A : Type 0} → Option (List ℕ) → List El → Result (Ask A) Status
 created None attributes = Err InvalidObjectInstance
 created (Some step) attributes = Ok (Do (Create step attributes))
@@ -55,7 +55,7 @@ abbrev pub changed_to : {A : Type 0} → Option (List ℕ) → Option StepState 
 changed_to step None transaction = Err InvalidArgumentValue
 changed_to step (Some state) transaction = Ok (Do (Change step state transaction))
 
--- an action is on a step, and no subscription; a change names one of the four states (PS3.4 table CC.2.1-1)
+-- a change of state names a step, not a global subscription, and one of the four states (PS3.4 table CC.2.1-1)
 abbrev pub changed : {A : Type 0} → Option (List ℕ) → List El → Result (Ask A) Status
 changed instance attributes = if is_subscription instance then Err ActionNotAppropriate else changed_to (step_in instance) (named_state (element_at PROCEDURE_STEP_STATE attributes)) (transaction_of (element_at TRANSACTION_UID attributes))
 
@@ -72,13 +72,13 @@ acted offset instance action attributes =
     if action == 4 then unsubscribed instance attributes else (
     if action == 5 then suspended instance attributes else Err NoSuchActionType))))
 
--- the worklist is asked for by keys that can be read (PS3.4 section C.4.1.1.4)
+-- a C-FIND asks for the worklist, if its keys can be read (PS3.4 section C.4.1.1.4)
 abbrev pub finds : {A : Type 0} → ℤ → List El → Option KeyFault → Result (Ask A) Status
 finds offset attributes None = Ok (Find (record { attributes = attributes; offset = offset }))
 finds offset attributes (Some fault) = Err IdentifierMismatch
 
--- What a message asks; `offset` is that of a key's DT which says none, in minutes east of UTC. A C-ECHO is none of the
--- services of the UPS SOP classes, and an N-EVENT-REPORT is the server's own: they ask nothing of a step.
+-- What a message asks; `offset`, in minutes east of UTC, is that of each DT in a key that gives none. A C-ECHO does not
+-- belong to the UPS SOP classes, and only the server sends an N-EVENT-REPORT: they ask nothing about a step.
 abbrev pub asked : {A : Type 0} → ℤ → Operation A → List El → Result (Ask A) Status
 asked offset (operations.Create instance) attributes = created (step_in instance) attributes
 asked offset (operations.Get instance listed) attributes = Ok (Get (step_in instance) listed)

@@ -1,4 +1,5 @@
--- The keys of a watcher's global subscription: only by them can a change of a step's attributes subscribe it to the step.
+-- The keys of a watcher's global subscription: only by them can changed attributes of a step subscribe the watcher to
+-- it.
 use Rattle.std.specs.Prelude.{ℕ, List, [], ◌∷◌, Option, None, Some, if◌then◌else◌}
 use Rattle.std.specs.Str.{bytes_eq}
 use Rattle.ups_match.specs.Matching.{KeySet}
@@ -16,7 +17,7 @@ filter_at (Single step) before = before
 filter_at Global before = None
 filter_at (Filtered keys) before = Some keys
 
--- what is left of them where subscriptions end
+-- the keys that remain after subscriptions end at this place
 abbrev pub filter_left : Place → Option KeySet → Option KeySet
 filter_left (At step) before = before
 filter_left Everywhere before = None
@@ -27,7 +28,7 @@ filter_after w before (Unsubscribe place receiver) = if bytes_eq receiver w then
 filter_after w before (Suspend receiver) = if bytes_eq receiver w then None else before
 filter_after w before request = before
 
--- the keys of w's global subscription; None where there is none, or it has no keys
+-- the keys of w's global subscription; None if w has none, or it has no keys
 abbrev pub filter_now : {A : Type 0} → List (Entry A) → List ℕ → Option KeySet
 filter_now [] w = None
 filter_now (e ∷ es) w = filter_after w (filter_now es w) e.request

@@ -1,21 +1,21 @@
--- How much the service takes.
+-- The limits of the service.
 use Rattle.std.specs.Prelude.{ℕ, ℤ, pos, negsuc}
 -- the greatest moment, in seconds since 1970-01-01 UTC
 pub use Rattle.ups_match.specs.Moments.{last_moment}
 
--- how many bytes a row has at most, in Explicit VR Little Endian
+-- the limit on the bytes of a row after an N-CREATE, an N-SET or a cancel request, in Explicit VR Little Endian
 abbrev pub row_limit : ℕ
 row_limit = 1048576
 
--- how many requests are entered in a history at most
+-- the greatest number of requests in a history
 abbrev pub history_limit : ℕ
 history_limit = 1000000
 
--- how many peers there are at most
+-- the greatest number of peers
 abbrev pub peer_limit : ℕ
 peer_limit = 1000
 
--- the offsets of a local time from UTC, in minutes: from 12 hours west of it to 14 hours east (PS3.5 section 6.2, DT)
+-- the range of offsets of a local time from UTC, in minutes: 12 hours west to 14 hours east (PS3.5 section 6.2, DT)
 abbrev pub least_offset : ℤ
 least_offset = negsuc 719
 

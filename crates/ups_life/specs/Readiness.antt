@@ -12,7 +12,7 @@ readiness_text Incomplete = codes "INCOMPLETE"
 readiness_text Unavailable = codes "UNAVAILABLE"
 readiness_text Ready = codes "READY"
 
--- the readiness that a value names; padding is no part of it
+-- the readiness that a value names, apart from its padding
 abbrev pub readiness_of : List ℕ → Option InputReadiness
 readiness_of value =
     if bytes_eq (without_padding value) (readiness_text Incomplete) then Some Incomplete else (
@@ -28,15 +28,15 @@ abbrev pub named_readiness : Option El → Option InputReadiness
 named_readiness None = None
 named_readiness (Some e) = readiness_value e.value
 
--- the readiness that attributes tell of
+-- the readiness in a set of attributes
 abbrev pub readiness_in : List El → Option InputReadiness
 readiness_in attributes = named_readiness (element_at INPUT_READINESS_STATE attributes)
 
--- the text of what is told of readiness, which may be nothing
+-- the text of a readiness; empty if there is none
 abbrev pub readiness_word : Option InputReadiness → List ℕ
 readiness_word None = []
 readiness_word (Some readiness) = readiness_text readiness
 
--- the same is told
+-- both are the same readiness, or both are None
 abbrev pub is_same_readiness : Option InputReadiness → Option InputReadiness → Bool
 is_same_readiness one other = bytes_eq (readiness_word one) (readiness_word other)

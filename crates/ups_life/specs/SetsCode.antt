@@ -1,4 +1,4 @@
--- Lists of data sets as their parts: by them a proof tells lists apart.
+-- Lists of data sets as codes of their parts, by which a proof tells lists apart.
 use Rattle.std.specs.Prelude.{List}
 use Rattle.std.specs.Coded.{Coded, coded_list}
 use Rattle.ups_dataset.specs.Data.{El}

@@ -1,5 +1,5 @@
--- What a history of accepted requests says of a step. A history is looked at with its newest entry first;
--- each question is one recursion over it, and one function that says what an entry on the step does to the answer.
+-- What a history of accepted requests says about a step. Histories here have the newest entry first; each question is
+-- one recursion over the history, with one function that says how an entry on the step changes the answer.
 use Rattle.std.specs.Prelude.{ℕ, ℤ, Bool, false, not, ◌&&◌, ◌||◌, List, [], ◌∷◌, reverse, filter, Option, None, Some, if◌then◌else◌}
 use Rattle.std.specs.Option.{option_or, option_map}
 use Rattle.std.specs.Str.{bytes_eq}
@@ -27,11 +27,11 @@ use Rattle.ups_life.specs.Settings.{Settings}
 use Rattle.ups_cycle.specs.States.{is_final, state_text}
 use Rattle.ups_life.specs.Values.{uid_value, text_value}
 
--- a history as it is kept, oldest first, with its newest entry first
+-- a history that is kept oldest first, reversed so that its newest entry comes first
 abbrev pub past : {A : Type 0} → List (Entry A) → List (Entry A)
 past history = reverse history
 
--- the step that a request creates or changes: a malformed instance is none
+-- the step that a request creates or changes; a malformed instance is no step
 abbrev pub step_of : {A : Type 0} → Request A → Option (List ℕ)
 step_of (Create step attributes) = Some step
 step_of (Change step state transaction) = step
@@ -47,7 +47,7 @@ abbrev pub place_step : Place → Option (List ℕ)
 place_step (At step) = step
 place_step place = None
 
--- the step that a request names: also that of a subscription, which changes nothing of it
+-- the step that a request names, including that of a subscription, which does not change the step
 abbrev pub named_step : {A : Type 0} → Request A → Option (List ℕ)
 named_step (Subscribe target receiver lock) = target_step target
 named_step (Unsubscribe place receiver) = place_step place
@@ -66,12 +66,12 @@ abbrev pub creates : {A : Type 0} → List ℕ → Request A → Bool
 creates u (Create step attributes) = bytes_eq step u
 creates u request = false
 
--- a step with this UID was created: it is used for ever (PS3.4 CC.2.5)
+-- a step with this UID was created: the UID stays used from then on (PS3.4 CC.2.5)
 abbrev pub used : {A : Type 0} → List (Entry A) → List ℕ → Bool
 used [] u = false
 used (e ∷ es) u = creates u e.request || used es u
 
--- a step that is canceled by request before anybody has claimed it is CANCELED at once; its performer is asked else
+-- a request to cancel makes a step that nobody has claimed CANCELED at once; otherwise the performer is asked
 -- (PS3.4 CC.2.2)
 abbrev pub canceled : StepState → StepState
 canceled Scheduled = Canceled
@@ -94,12 +94,12 @@ pub record Claim : Type 0 where
   pub holder : Holder
   pub transaction : List ℕ
 
--- what a request claims its step with: a Change to IN PROGRESS has a Transaction UID (PS3.4 CC.2.1)
+-- the Transaction UID with which a request claims its step: that of a change to IN PROGRESS (PS3.4 CC.2.1)
 abbrev pub taken : {A : Type 0} → Request A → Option (List ℕ)
 taken (Change step InProgress (Proper uid)) = Some uid
 taken request = None
 
--- the claim that an entry is
+-- the claim that an entry makes
 abbrev pub claimed : {A : Type 0} → Entry A → Option Claim
 claimed e = option_map (λ uid. record { holder = record { caller = e.caller; ae = e.ae }; transaction = uid }) (taken e.request)
 
@@ -108,11 +108,11 @@ abbrev pub claim : {A : Type 0} → List (Entry A) → List ℕ → Option Claim
 claim [] u = None
 claim (e ∷ es) u = if is_on u e.request then option_or (claimed e) (claim es u) else claim es u
 
--- the Transaction UID that is right for u
+-- the right Transaction UID for u: that of its claim
 abbrev pub right : {A : Type 0} → List (Entry A) → List ℕ → Option (List ℕ)
 right es u = option_map (λ (c : Claim). c.transaction) (claim es u)
 
--- the moment, where the request makes the state a final one
+-- the moment, if the request makes the state final
 abbrev pub finished : {A : Type 0} → StepState → ℕ → Request A → Option ℕ
 finished before moment request = if not (is_final before) && is_final (state_then before request) then Some moment else None
 
@@ -121,25 +121,25 @@ abbrev pub final_at : {A : Type 0} → List (Entry A) → List ℕ → Option �
 final_at [] u = None
 final_at (e ∷ es) u = if is_on u e.request then option_or (finished (state es u) e.moment e.request) (final_at es u) else final_at es u
 
--- what tells which step it is, each of the Push class (PS3.4 CC.2.5)
+-- the elements that identify a step: its SOP class, UPS Push, and its instance UID (PS3.4 CC.2.5)
 abbrev pub sop_class_element : El
 sop_class_element = record { tag = SOP_CLASS_UID; vr = Ui; value = bytes (uid_value (text_of UpsPush)) }
 
 abbrev pub instance_element : List ℕ → El
 instance_element step = record { tag = SOP_INSTANCE_UID; vr = Ui; value = bytes (uid_value step) }
 
--- the Transaction UID is nobody's to see (PS3.4 CC.2.5.1.3)
+-- the set without the Transaction UID, which is shown to nobody (PS3.4 CC.2.5.1.3)
 abbrev pub without_transaction : List El → List El
 without_transaction set = filter (λ e. not (is_tag e.tag TRANSACTION_UID)) set
 
--- the attributes of a new step: those that were sent, and which step it is
+-- the attributes of a new step: those sent, without the Transaction UID, and those that identify the step
 abbrev pub new_row : List ℕ → List El → List El
 new_row step attributes = put sop_class_element (put (instance_element step) (without_transaction attributes))
 
 abbrev pub state_element : StepState → El
 state_element state = record { tag = PROCEDURE_STEP_STATE; vr = Cs; value = bytes (text_value (state_text state)) }
 
--- what is kept of a cancel request: its reason, as a code and as a text, as far as they are given (PS3.4 CC.2.2)
+-- the attributes of a cancel request that are kept, if given: its reason, as a code and as a text (PS3.4 CC.2.2)
 abbrev pub REASONS : List Tag
 REASONS = PROCEDURE_STEP_DISCONTINUATION_REASON_CODE_SEQUENCE ∷ REASON_FOR_CANCELLATION ∷ []
 
@@ -152,7 +152,7 @@ abbrev pub progress_element : ℤ → ℕ → List El → El
 progress_element offset moment reasons =
     record { tag = PROCEDURE_STEP_PROGRESS_INFORMATION_SEQUENCE; vr = Sq; value = items (items_of (cancellation offset moment reasons ∷ [])) }
 
--- what a cancel request gives to a step in this state
+-- the elements that a cancel request gives to a step in this state
 abbrev pub cancel_gives : StepState → ℤ → ℕ → List El → List El
 cancel_gives Scheduled offset moment reasons = put (state_element Canceled) (put (progress_element offset moment reasons) [])
 cancel_gives state offset moment reasons = []
@@ -175,15 +175,15 @@ abbrev pub row : {A : Type 0} → Settings → List (Entry A) → List ℕ → L
 row s [] u = []
 row s (e ∷ es) u = laid_over (gives s.offset (state es u) u e) (row s es u)
 
--- all that is held of u
+-- the row of u in full
 abbrev pub row_of : {A : Type 0} → Settings → List (Entry A) → List ℕ → Row A
 row_of s es u = record { attributes = row s es u; state = state es u; transaction = right es u; final_at = final_at es u }
 
--- what there is of a step before it is created
+-- the row of a step before it is created
 abbrev pub nothing : {A : Type 0} → Row A
 nothing = record { attributes = []; state = Scheduled; transaction = None; final_at = None }
 
--- what is held of a step after a request on it
+-- the row of a step after a request on it
 abbrev pub row_after : {A : Type 0} → ℤ → ℕ → Row A → Request A → Row A
 row_after offset moment before request = record {
   attributes = laid_over (given offset moment before.state request) before.attributes;
@@ -192,6 +192,6 @@ row_after offset moment before request = record {
   final_at = option_or (finished before.state moment request) before.final_at;
 }
 
--- who holds a step: whoever has claimed it
+-- the holder of a step: who has claimed it
 abbrev pub holder : {A : Type 0} → List (Entry A) → List ℕ → Option Holder
 holder es u = option_map (λ (c : Claim). c.holder) (claim es u)

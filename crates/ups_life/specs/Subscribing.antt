@@ -25,14 +25,14 @@ use Rattle.ups_life.specs.Instances.{is_subscription, step_in}
 
 -- THE WATCHER: the Receiving AE (0074,1234)
 
--- 1 to 16 bytes that may stand in a title (PS3.5 section 6.2, VR AE)
+-- the text is a title: 1 to 16 bytes that a title may contain (PS3.5 section 6.2, VR AE)
 abbrev pub is_title : List ℕ → Bool
 is_title text = nat_lt 0 (length text) && nat_le (length text) 16 && list_all is_title_byte text
 
 abbrev pub title_in : List ℕ → Option (List ℕ)
 title_in text = if is_title text then Some text else None
 
--- the title that a value is, of which neither padding nor spaces round it are part
+-- the title in a value, without padding and without the spaces around it
 abbrev pub title_value : Data → Option (List ℕ)
 title_value (bytes b) = title_in (without_trailing is_space (without_leading is_space (without_padding b)))
 title_value (items is) = None
@@ -54,18 +54,18 @@ abbrev pub named_lock : Option El → Option Bool
 named_lock None = None
 named_lock (Some e) = lock_value e.value
 
--- WHAT A SUBSCRIPTION IS TO
+-- THE TARGET OF A SUBSCRIPTION
 
 abbrev pub is_instance : Option (List ℕ) → RegisteredUid → Bool
 is_instance None registered = false
 is_instance (Some uid) registered = bytes_eq uid (text_of registered)
 
--- the keys of a filter are all attributes but those two
+-- the keys of a filter: all attributes except Receiving AE and Deletion Lock
 abbrev pub filter_keys : List El → List El
 filter_keys attributes = filter (λ e. not (is_tag e.tag RECEIVING_AE)) (filter (λ e. not (is_tag e.tag DELETION_LOCK)) attributes)
 
--- They can be read, and one of them is not universal: else a step without any attribute matches (PS3.4 section
--- C.2.2.2.3). A universal key can be read, so no keys have both faults.
+-- The keys of a filter can be read, and at least one is not universal: otherwise even a step without any attribute
+-- matches (PS3.4 section C.2.2.2.3). A universal key can be read, so no keys have both faults.
 abbrev pub filtered : {A : Type 0} → KeySet → Option KeyFault → Result (Target A) Status
 filtered keys (Some fault) = Err InvalidArgumentValue
 filtered keys None = if is_match keys [] then Err NoSuchArgument else Ok (Filtered keys)
@@ -73,7 +73,7 @@ filtered keys None = if is_match keys [] then Err NoSuchArgument else Ok (Filter
 abbrev pub filter_of : {A : Type 0} → ℤ → List El → Result (Target A) Status
 filter_of offset keys = filtered (record { attributes = keys; offset = offset }) (fault_of offset keys)
 
--- the global subscription with keys or without, or a subscription to one step
+-- the target: the global subscription, with keys or without, or one step
 abbrev pub target_of : {A : Type 0} → ℤ → Option (List ℕ) → List El → Result (Target A) Status
 target_of offset instance attributes =
     if is_instance instance GlobalSubscription then Ok Global else (
@@ -81,7 +81,7 @@ target_of offset instance attributes =
 
 -- THE ACTIONS
 
--- a subscription names a watcher, then whether it locks, and last what it is to
+-- the checks of a subscription, in order: its watcher, its Deletion Lock, its target
 abbrev pub subscribed_to : {A : Type 0} → Result (Target A) Status → Option (List ℕ) → Option Bool → Result (Ask A) Status
 subscribed_to target None lock = Err InvalidArgumentValue
 subscribed_to target (Some receiver) None = Err InvalidArgumentValue
@@ -91,7 +91,7 @@ subscribed_to (Ok target) (Some receiver) (Some lock) = Ok (Do (Subscribe target
 unfoldable pub subscribed : {A : Type 0} → ℤ → Option (List ℕ) → List El → Result (Ask A) Status
 subscribed offset instance attributes = subscribed_to (target_of offset instance attributes) (named_receiver (element_at RECEIVING_AE attributes)) (named_lock (element_at DELETION_LOCK attributes))
 
--- at a well-known instance all subscriptions of a watcher end
+-- an unsubscription on a well-known instance ends all subscriptions of its watcher
 abbrev pub place_of : Option (List ℕ) → Place
 place_of instance = if is_subscription instance then Everywhere else At (step_in instance)
 
@@ -106,6 +106,6 @@ abbrev pub suspended_for : {A : Type 0} → Option (List ℕ) → Result (Ask A)
 suspended_for None = Err InvalidArgumentValue
 suspended_for (Some receiver) = Ok (Do (Suspend receiver))
 
--- only a global subscription is suspended
+-- only a global subscription can be suspended
 unfoldable pub suspended : {A : Type 0} → Option (List ℕ) → List El → Result (Ask A) Status
 suspended instance attributes = if is_subscription instance then suspended_for (named_receiver (element_at RECEIVING_AE attributes)) else Err ActionNotAppropriate

@@ -1,4 +1,4 @@
--- Who watches which step, and which steps are held (PS3.4 CC.2.3). A history is looked at with its newest entry first.
+-- Who watches which step, and which steps are held (PS3.4 CC.2.3). Histories here have the newest entry first.
 use Rattle.std.specs.Prelude.{ℕ, ◌+◌, Bool, true, false, not, ◌&&◌, nat_le, List, [], ◌∷◌, ◌++◌, filter, Option, None, Some, is_some, if◌then◌else◌}
 use Rattle.std.specs.List.{list_any, filter_map}
 use Rattle.std.specs.Option.{option_or}
@@ -26,35 +26,35 @@ use Rattle.ups_life.specs.Steps.{is_step, row, row_of, final_at}
 abbrev pub is_peer : List Peer → List ℕ → Bool
 is_peer peers w = list_any (λ (p : Peer). bytes_eq p.ae w) peers
 
--- it has the right to lock steps
+-- w is a peer with the right to lock steps
 abbrev pub may_lock : List Peer → List ℕ → Bool
 may_lock peers w = list_any (λ (p : Peer). bytes_eq p.ae w && p.lock) peers
 
--- how a watcher is subscribed that asks for a deletion lock, or for none
+-- the subscription granted to a watcher that asks for a Deletion Lock, or for none
 abbrev pub granted : List Peer → List ℕ → Bool → Subscription
 granted peers w lock = if lock && may_lock peers w then Locked else Free
 
 -- SUBSCRIPTIONS
 
--- a subscription to this target takes in the step u, which has these attributes
+-- a subscription to this target covers the step u, which has these attributes
 abbrev pub takes_in : {A : Type 0} → Target A → List ℕ → List El → Bool
 takes_in (Single step) u attributes = is_step u step
 takes_in Global u attributes = true
 takes_in (Filtered keys) u attributes = is_match keys attributes
 
--- subscriptions end at u
+-- the place includes the step u
 abbrev pub is_at : Place → List ℕ → Bool
 is_at (At step) u = is_step u step
 is_at Everywhere u = true
 
--- what a subscription to this target makes of the global one, for steps with these attributes; a newer global
+-- the global subscription to steps with these attributes, after a subscription to this target; a newer global
 -- subscription, with keys or without, replaces the one before
 abbrev pub global_after : {A : Type 0} → Target A → List El → Subscription → Option Subscription → Option Subscription
 global_after (Single step) attributes how before = before
 global_after Global attributes how before = Some how
 global_after (Filtered keys) attributes how before = if is_match keys attributes then Some how else None
 
--- what is left of the global subscription where subscriptions end
+-- the global subscription after subscriptions end at this place
 abbrev pub global_left : Place → Option Subscription → Option Subscription
 global_left (At step) before = before
 global_left Everywhere before = None
@@ -65,20 +65,20 @@ cover_after peers w attributes before (Unsubscribe place receiver) = if bytes_eq
 cover_after peers w attributes before (Suspend receiver) = if bytes_eq receiver w then None else before
 cover_after peers w attributes before request = before
 
--- how w's global subscription subscribes it to a step with these attributes; None where it doesn't
+-- how w's global subscription subscribes it to a step with these attributes; None if it doesn't
 abbrev pub cover : {A : Type 0} → List Peer → List (Entry A) → List ℕ → List El → Option Subscription
 cover peers [] w attributes = None
 cover peers (e ∷ es) w attributes = cover_after peers w attributes (cover peers es w attributes) e.request
 
--- how w's global subscription subscribes it to the step u that the entry e changes: it takes in the new attributes, and
--- didn't take in the old ones, as only a filter may (PS3.4 CC.2.3 leaves open when keys are tried; this is the profile's)
+-- how w's global subscription newly subscribes it to the step u that the entry e changes: it covers the new attributes
+-- and not the old ones, as only a filter can (PS3.4 CC.2.3 leaves open when keys are tried; this is the profile's rule)
 abbrev pub newly_covered : {A : Type 0} → Settings → List (Entry A) → Entry A → List ℕ → List ℕ → Option Subscription
 newly_covered s es e w u = if is_some (cover s.peers es w (row s es u)) then None else cover s.peers es w (row s (e ∷ es) u)
 
--- How w is subscribed to u after an entry, where it was so before: what the global subscription says of u where it is
--- created, and from then on what is asked for. An N-SET subscribes also who isn't subscribed, where the global
--- subscription takes the step in only by it. Keys are tried at these three moments alone (PS3.4 CC.2.3, and for the N-SET
--- the profile).
+-- How w is subscribed to u after the entry e; `before`: how it was until then. When u is created, w's global
+-- subscription decides; from then on, what is asked for. An N-SET also subscribes w if it was not subscribed and its
+-- global subscription covers u only from then on. Keys are tried only at creation, subscription and N-SET (PS3.4 CC.2.3,
+-- and for the N-SET the profile).
 abbrev pub watch_after : {A : Type 0} → Settings → List (Entry A) → Entry A → List ℕ → List ℕ → Option Subscription → Request A → Option Subscription
 watch_after s es e w u before (Create step attributes) = if bytes_eq step u then cover s.peers es w (row s (e ∷ es) u) else before
 watch_after s es e w u before (Set step transaction attributes) = if is_step u step then option_or before (newly_covered s es e w u) else before
@@ -86,7 +86,7 @@ watch_after s es e w u before (Subscribe target receiver lock) = if bytes_eq rec
 watch_after s es e w u before (Unsubscribe place receiver) = if bytes_eq receiver w && is_at place u then None else before
 watch_after s es e w u before request = before
 
--- how w is subscribed to the step u (PS3.4 CC.2.3), which is held; None where it isn't
+-- how w is subscribed to the held step u (PS3.4 CC.2.3); None if it is not subscribed
 abbrev pub watch : {A : Type 0} → Settings → List (Entry A) → List ℕ → List ℕ → Option Subscription
 watch s [] w u = None
 watch s (e ∷ es) w u = watch_after s es e w u (watch s es w u) e.request
@@ -95,8 +95,8 @@ abbrev pub new_watcher : List ℕ → Option Subscription → Option Subscriptio
 new_watcher w None (Some how) = Some (record { ae = w; subscription = how })
 new_watcher w before covered = None
 
--- WHOM AN N-SET SUBSCRIBES NEWLY: the peers that weren't subscribed to its step u, which their filters take in only by it,
--- the entry e, in the order of the peers (the profile's)
+-- WHOM AN N-SET SUBSCRIBES NEWLY: the peers that were not subscribed to its step u and whose filters cover u only since
+-- the N-SET, the entry e, in the order of the peers (a rule of the profile)
 abbrev pub newly : {A : Type 0} → Settings → List (Entry A) → Entry A → List ℕ → List Watcher
 newly s es e u = filter_map (λ (p : Peer). new_watcher p.ae (watch s es p.ae u) (newly_covered s es e p.ae u)) s.peers
 
@@ -106,20 +106,20 @@ abbrev pub is_locked : Option Subscription → Bool
 is_locked (Some Locked) = true
 is_locked subscription = false
 
--- a peer keeps u by a deletion lock
+-- a peer has a Deletion Lock on u
 abbrev pub is_kept : {A : Type 0} → Settings → List (Entry A) → List ℕ → Bool
 is_kept s es u = list_any (λ (p : Peer). is_locked (watch s es p.ae u)) s.peers
 
--- so many seconds have passed since then
+-- that many seconds have passed from `since` to this moment
 abbrev pub has_passed : ℕ → ℕ → Option ℕ → Bool
 has_passed seconds moment None = false
 has_passed seconds moment (Some since) = nat_le (since + seconds) moment
 
--- a sweep at this moment removes u: its state became final long enough ago, and no peer keeps it
+-- a sweep at this moment removes u: its state became final long enough ago, and no peer has a Deletion Lock on it
 abbrev pub is_due : {A : Type 0} → Settings → List (Entry A) → ℕ → List ℕ → Bool
 is_due s es moment u = has_passed s.keep moment (final_at es u) && not (is_kept s es u)
 
--- the steps held after an entry at this moment, where these were held before
+-- the steps held after an entry at this moment, if these were held before
 abbrev pub held_after : {A : Type 0} → Settings → List (Entry A) → ℕ → List (List ℕ) → Request A → List (List ℕ)
 held_after s es moment steps (Create step attributes) = steps ++ step ∷ []
 held_after s es moment steps Sweep = filter (λ u. not (is_due s es moment u)) steps
@@ -138,7 +138,7 @@ is_among u steps = list_any (λ v. bytes_eq v u) steps
 abbrev pub is_held : {A : Type 0} → Settings → List (Entry A) → List ℕ → Bool
 is_held s es u = is_among u (held s es)
 
--- what is known of the step that a request names: nothing, unless it is held
+-- the row of the step that a request names; None if it is not held
 abbrev pub known : {A : Type 0} → Settings → List (Entry A) → Option (List ℕ) → Option (Row A)
 known s es None = None
 known s es (Some u) = if is_held s es u then Some (row_of s es u) else None

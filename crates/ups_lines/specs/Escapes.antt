@@ -1,4 +1,4 @@
--- Texts of a line: which bytes they stand for.
+-- The bytes that a text in a line stands for.
 use Rattle.std.specs.Prelude.{◌≡◌, ◌≢◌, ◌⊎◌, ◌<◌, ◌+◌, ◌*◌, ◌==◌, ℕ, Bool, List, ◌∷◌}
 use Rattle.std.specs.Char.{digit_value}
 use Rattle.ups_pdu.specs.Each.{Each}
@@ -12,21 +12,21 @@ pub record SpellsByte (high low byte : ℕ) : Type 0 where
 abbrev pub is_percent : ℕ → Bool
 is_percent byte = byte == 37
 
--- `%` and two hex digits stand in front, and then the rest
+-- the text begins with `%` and two hex digits that spell the byte; the rest follows
 pub record IsEscape (text : List ℕ) (byte : ℕ) (rest : List ℕ) : Type 0 where
   pub high : ℕ
   pub low : ℕ
   pub parts : text ≡ 37 ∷ high ∷ low ∷ rest
   pub spells : SpellsByte high low byte
 
--- in front stands a byte for itself, or an escape for the one that it spells, and then the rest
+-- the text begins with the byte itself, unless that is `%`, or with an escape that spells it; the rest follows
 abbrev pub StandsFirst : List ℕ → ℕ → List ℕ → Type 0
 StandsFirst text byte rest = ((byte ≢ 37) × (text ≡ byte ∷ rest)) ⊎ IsEscape text byte rest
 
--- a text stands for bytes, one after the other
+-- the text stands for these bytes, one after another
 abbrev pub StandsFor : List ℕ → List ℕ → Type 0
 StandsFor text bytes = Each StandsFirst text bytes
 
--- it stands for some: two hex digits are behind each `%`
+-- the text stands for some bytes: two hex digits follow each `%`
 abbrev pub IsText : List ℕ → Type 0
 IsText text = (bytes : List ℕ) × StandsFor text bytes

@@ -1,6 +1,6 @@
--- What a line takes at most.
+-- The limits of a line.
 use Rattle.std.specs.Prelude.{ℕ}
 
--- the items that a line makes
+-- the greatest number of items that a line makes
 abbrev pub max_items : ℕ
 max_items = 131072

@@ -7,7 +7,7 @@ use Rattle.ups_pdu.specs.Padding.{without_padding}
 use Rattle.ups_dataset.specs.declared.tag.Tag.{Tag}
 use Rattle.ups_dataset.specs.Data.{Data, bytes, items, Items, no_items, item, Elements, no_elements, element, El, elements_of}
 
--- a hex digit, in upper case, and those of a byte and of two
+-- a hex digit in upper case, and the digits of a byte, of two bytes and of a tag
 abbrev pub hex_digit : ℕ → ℕ
 hex_digit value = if nat_lt value 10 then 48 + value else 55 + value
 
@@ -32,7 +32,7 @@ printed_byte byte = if is_plain byte then byte ∷ [] else 37 ∷ hex_byte byte
 abbrev pub printed : List ℕ → List ℕ
 printed value = flat_map printed_byte (without_padding value)
 
--- into an item of a sequence: a slash for the first, and else a full stop, its number and a slash
+-- the way into an item of a sequence: a slash for the first, otherwise a full stop, its number and a slash
 abbrev pub into_item : ℕ → List ℕ
 into_item number = if number == 1 then 47 ∷ [] else (46 ∷ decimal number) ++ (47 ∷ [])
 
@@ -43,8 +43,8 @@ way_into way tag number = (way ++ hex_tag tag) ++ into_item number
 abbrev pub word : List ℕ → Tag → List ℕ → List ℕ
 word way tag value = (way ++ hex_tag tag) ++ (61 ∷ printed value)
 
--- the attributes in a value, in an item's place, and in a set: each value with the way to it; a sequence without items
--- is one without a value
+-- the attributes in a value, in items from a number on, and in a set: each value with the way to it; a sequence without items
+-- is printed as an attribute without a value
 abbrev mutual
   pub words_data : List ℕ → Tag → Data → List (List ℕ)
   words_data way tag (bytes b) = word way tag b ∷ []
@@ -62,12 +62,12 @@ abbrev mutual
 abbrev pub words : List ℕ → List El → List (List ℕ)
 words way set = words_elements way (elements_of set)
 
--- words with a space between two, and one before the first where it follows something
+-- words with a space between each two, and a space before the first if it follows something
 abbrev pub spaced : Bool → List (List ℕ) → List ℕ
 spaced follows [] = []
 spaced follows (w ∷ ws) = (if follows then 32 ∷ w else w) ++ spaced true ws
 
--- whether what comes behind these words follows something
+-- whether text after these words follows something
 abbrev pub follows_after : Bool → List (List ℕ) → Bool
 follows_after follows [] = follows
 follows_after follows (w ∷ ws) = true

@@ -1,4 +1,4 @@
--- The way from a set to what stands in it.
+-- The way from a data set to an item nested in it.
 use Rattle.std.specs.Prelude.{ℕ, List, []}
 use Rattle.ups_lines.specs.declared.printing.Way.{Way, Here, Into'}
 use Rattle.ups_lines.specs.Printing.{way_into}

@@ -1,4 +1,4 @@
--- The words of a line, and the tags that they are.
+-- The words of a line, and the tags that words spell.
 use Rattle.std.specs.Prelude.{◌≡◌, ◌⊎◌, ℕ, ◌+◌, ◌*◌, List, [], ◌∷◌, length, Option, None, Some}
 use Rattle.std.specs.List.{slice_split}
 use Rattle.ups_pdu.specs.Padding.{is_space}
@@ -7,11 +7,11 @@ use Rattle.ups_lines.specs.declared.fault.LineReason.{LineReason}
 use Rattle.ups_lines.specs.declared.fault.LineReason.TheVariants.{EmptyWord, MissingWord}
 use Rattle.ups_lines.specs.Escapes.{SpellsByte}
 
--- the words of a line: a space parts two
+-- the words of a line, separated by spaces
 abbrev pub words_of : List ℕ → List (List ℕ)
 words_of line = slice_split is_space line
 
--- more than the words that are left: each but the last takes its space with it
+-- a bound on the number of words left: each but the last takes its space with it
 abbrev pub word_bytes_left : Option (List ℕ) → ℕ
 word_bytes_left None = 0
 word_bytes_left (Some text) = 1 + length text
@@ -21,11 +21,11 @@ abbrev pub words_left : Option (List ℕ) → List (List ℕ)
 words_left None = []
 words_left (Some text) = words_of text
 
--- no word comes next, and why: none is left, or the next one is empty
+-- no word comes next, for this reason: no word is left, or the next word is empty
 abbrev pub NoWord : List (List ℕ) → LineReason → Type 0
 NoWord words reason = ((words ≡ []) × (reason ≡ MissingWord)) ⊎ ((rest : List (List ℕ)) × (words ≡ [] ∷ rest) × (reason ≡ EmptyWord))
 
--- four hex digits spell a number, the higher ones first
+-- four hex digits spell a number, the high digits first
 pub record SpellsNumber (a b c d number : ℕ) : Type 0 where
   pub high : ℕ
   pub low : ℕ
@@ -33,7 +33,7 @@ pub record SpellsNumber (a b c d number : ℕ) : Type 0 where
   pub second : SpellsByte c d low
   pub value : number ≡ 256 * high + low
 
--- eight spell a tag: its group and its element (PS3.5 section 7.1)
+-- eight hex digits spell a tag: its group and its element (PS3.5 section 7.1)
 pub record SpellsTag (word : List ℕ) (tag : Tag) : Type 0 where
   pub a : ℕ
   pub b : ℕ

@@ -1,4 +1,4 @@
--- What is decided of a call, and what it makes of the tables where it is accepted.
+-- What is decided of a call, and how it changes the tables if it is accepted.
 use Rattle.std.specs.Prelude.{◌≡◌, ℕ, Bool, true, false, List, ◌∷◌}
 use Rattle.std.specs.List.{AllByRecursion}
 use Rattle.ups_life.specs.declared.entry.Entry.{Entry}
@@ -20,7 +20,7 @@ use Rattle.ups_manager.specs.declared.deciding.Kind.TheVariants.{OfStep, OfWatch
 use Rattle.ups_manager.specs.Held.{IsSmallStep}
 use Rattle.ups_manager.specs.Indexing.{after_change, indexed_steps}
 
--- what a request is of
+-- what a request is about
 abbrev pub kind_of : {A : Type 0} → Request A → Kind
 kind_of (Subscribe target receiver lock) = OfWatcher
 kind_of (Unsubscribe place receiver) = OfWatcher
@@ -29,13 +29,13 @@ kind_of (Ack upto) = OfEvents upto
 kind_of Sweep = OfTime
 kind_of request = OfStep
 
--- a request creates a step under a UID that passes a test: that it was used
+-- the request creates a step whose UID passes a test: that it was used
 abbrev pub repeats_in : {A : Type 0} → (List ℕ → Bool) → Request A → Bool
 repeats_in was_used (Create step attributes) = was_used step
 repeats_in was_used request = false
 
--- a call is accepted with this reply, where there is room for it; its plan is right, the steps held after it are small, and its
--- change of the index makes of the steps held before it those held after it
+-- a call is accepted with this reply, if there is room for it; its plan is right, the steps held after it are small,
+-- and its change of the index turns the steps held before it into those held after it
 pub record IsDecided {A : Type 0} (s : Settings) (history : List (Entry A)) (t : Tables A) (call : Entry A) (d : Decision A) : Type 0 where
   pub reply : decided s (past history) call call.request ≡ d.reply
   pub accepted : accepts d.reply ≡ true

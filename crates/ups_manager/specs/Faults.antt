@@ -1,4 +1,4 @@
--- Why a request is not entered: it is refused, with which status, or memory ran out.
+-- Why a request is not entered: it is refused with a status, or memory ran out.
 use Rattle.std.specs.Prelude.{◌≡◌, ◌<◌, ◌⊎◌, ℕ, ℤ, Bool, true, false, Option}
 use Rattle.std.specs.Option.{unwrap_or}
 use Rattle.ups_dataset.specs.Limits.{max_depth}
@@ -15,12 +15,12 @@ use Rattle.ups_life.specs.History.{fits, is_sized}
 use Rattle.ups_manager.specs.declared.submitting.SubmitFault.{SubmitFault}
 use Rattle.ups_manager.specs.declared.submitting.SubmitFault.TheVariants.{Refused, Memory}
 
--- the status that tells it: 0213 where memory ran out
+-- the status that reports the fault: 0213 if memory ran out
 abbrev pub status_of : SubmitFault → Status
 status_of (Refused status) = status
 status_of Memory = ResourceLimitation
 
--- the row that a request makes of another is too large, or what the request gives nests too deep
+-- the row that a request makes of another is too large, or the elements that the request gives nest too deep
 abbrev pub IsTooLarge : {A : Type 0} → ℤ → ℕ → Row A → Request A → Type 0
 IsTooLarge offset moment before request =
     ((is_sized request ≡ true) × (fits (row_after offset moment before request).attributes ≡ false))
@@ -30,8 +30,8 @@ abbrev pub RowFails : {A : Type 0} → ℤ → ℕ → Row A → Request A → S
 RowFails offset moment before request (Refused status) = (status ≡ ResourceLimitation) × IsTooLarge offset moment before request
 RowFails offset moment before request Memory = Unit {0}
 
--- by what is held of the step of a request, and by whether it repeats a UID: the request has a status of its own, or no
--- row is made
+-- a request fails, by what is held of its step and by whether it repeats a UID: its verdict refuses it, or no row is
+-- made
 abbrev pub StepFails : {A : Type 0} → ℤ → ℕ → Option (Row A) → Bool → Request A → SubmitFault → Type 0
 StepFails offset moment row used request fault =
     ((fault ≡ Refused (verdict row used request)) × (is_done (verdict row used request) ≡ false))

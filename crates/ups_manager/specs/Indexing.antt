@@ -1,4 +1,4 @@
--- What the index has of the steps held, and what a request that is accepted makes of it.
+-- What the index has of the held steps, and how an accepted request changes it.
 use Rattle.std.specs.Prelude.{◌≡◌, ◌≤◌, ℕ, ℤ, not, List, map, filter}
 use Rattle.ups_index.specs.Indexed.{Contents, values_len, put_values}
 use Rattle.ups_index.specs.Stored.{RowValues, values_of_row}
@@ -10,7 +10,7 @@ use Rattle.ups_tables.specs.HeldSteps.{held_steps}
 use Rattle.ups_manager.specs.declared.indexing.IndexChange.{IndexChange}
 use Rattle.ups_manager.specs.declared.indexing.IndexChange.TheVariants.{Put, Remove, Nothing}
 
--- a step that is held, with the values by which it is found
+-- a held step, with the values by which it is found
 abbrev pub indexed : {A : Type 0} → ℤ → HeldStep A → List ℕ × RowValues
 indexed offset h = (h.step, values_of_row offset h.row.attributes)
 
@@ -22,22 +22,22 @@ indexed_steps s es = map (indexed s.offset) (held_steps s es)
 abbrev pub uids_in : {A : Type 0} → List (HeldStep A) → List (List ℕ)
 uids_in {A} hs = map (λ (h : HeldStep A). h.step) hs
 
--- the index has each step that is held, its start read by the offset of the service
+-- the index has exactly the held steps, with their starts read by the offset of the service
 pub record IsIndexed {A : Type 0} (s : Settings) (es : List (Entry A)) (index : Contents) : Type 0 where
   pub offset : index.offset ≡ s.offset
   pub steps : index.steps ≡ indexed_steps s es
 
--- without these steps
+-- the steps other than these
 abbrev pub without_steps : List (List ℕ) → List (List ℕ × RowValues) → List (List ℕ × RowValues)
 without_steps us steps = filter (λ s. not (is_among s.0 us)) steps
 
--- the steps of the index after a change of it, by the steps that the request removes
+-- the entries of the index after a change of it, given the steps that the request removes
 abbrev pub after_change : {A : Type 0} → IndexChange A → List (List ℕ) → List (List ℕ × RowValues) → List (List ℕ × RowValues)
 after_change (Put step values) removed steps = put_values step values steps
 after_change Remove removed steps = without_steps removed steps
 after_change Nothing removed steps = steps
 
--- there is room for a change
+-- there is room for the change
 abbrev pub has_room : {A : Type 0} → ℕ → IndexChange A → Type 0
 has_room spare (Put step values) = values_len values ≤ spare
 has_room spare Remove = Unit {0}

@@ -1,4 +1,4 @@
--- What a manager keeps: a legal history, tables that say what the definitions say of it, and an index of the steps held.
+-- What a manager keeps: a legal history, tables that agree with the definitions on it, and an index of the held steps.
 use Rattle.std.specs.Prelude.{All, List}
 use Rattle.std.specs.List.{AllByRecursion}
 use Rattle.ups_life.specs.declared.entry.Entry.{Entry}
@@ -11,7 +11,7 @@ use Rattle.ups_manager.specs.declared.manager.Manager.TheInside.{Inside}
 use Rattle.ups_manager.specs.Held.{IsSmallStep}
 use Rattle.ups_manager.specs.Indexing.{IsIndexed}
 
--- the tables stand by the history, which is legal; its moments have a date, and the steps that are held are small
+-- the offset is valid, the moments have dates, the tables agree with the legal history, and the held steps are small
 pub record ManagerStands {A : Type 0} (s : Settings) (history : List (Entry A)) (t : Tables A) : Type 0 where
   pub offset : IsOffset s.offset
   pub moments : All (λ (e : Entry A). IsMoment e.moment) history

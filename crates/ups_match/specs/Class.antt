@@ -1,4 +1,5 @@
--- The first indexed key of a query: held steps are looked up by it, and only what it finds is put to the other keys.
+-- The first indexed key of a query: the held steps are looked up by it, and only those found are compared with the
+-- other keys.
 use Rattle.std.specs.Prelude.{ℕ, ℤ, Bool, true, false, ◌||◌, not, List, Option, None, Some, filter, if◌then◌else◌}
 use Rattle.std.specs.List.{list_any}
 use Rattle.std.specs.Ordering.{int_eq}
@@ -17,11 +18,11 @@ use Rattle.ups_match.specs.Moments.{moment}
 use Rattle.ups_match.specs.Ranges.{span_of, spans}
 use Rattle.ups_match.specs.Values.{is_backslash, is_universal_text}
 
--- a byte that isn't just itself in a key: a wild card, or what stands between values
+-- a byte with a special meaning in a key: a wild card, or the separator of values
 abbrev pub is_special : ℕ → Bool
 is_special byte = is_star byte || (is_question_mark byte || is_backslash byte)
 
--- a text, where it is one value that isn't empty and has no wild cards
+-- the text, if it is one value that is not empty and has no wild cards
 abbrev pub plain : List ℕ → Option (List ℕ)
 plain text = if is_nil text || list_any is_special text then None else Some text
 
@@ -31,20 +32,20 @@ plain_value None = None
 plain_value (Some (bytes b)) = plain (without_padding b)
 plain_value (Some (items is)) = None
 
--- the one code value that the item of a key asks for
+-- the one code value that the first item of a key asks for
 abbrev pub plain_code : Option Data → Option (List ℕ)
 plain_code None = None
 plain_code (Some (bytes b)) = None
 plain_code (Some (items no_items)) = None
 plain_code (Some (items (item es more))) = plain_value (value_at CODE_VALUE es)
 
--- what a query is looked up by: the value of an attribute, the range of the start, or nothing
+-- the criterion of a lookup: the value of an attribute, a range of the start, or none
 pub data FirstKey : Type 0 where
   value : Tag → List ℕ → FirstKey
   start : Span → FirstKey
   all : FirstKey
 
--- a key that has one value comes before the later ones
+-- the key with this tag, if it asks for one value; otherwise the later one
 abbrev pub or_else : Tag → Option (List ℕ) → FirstKey → FirstKey
 or_else tag None later = later
 or_else tag (Some text) later = value tag text
@@ -53,7 +54,7 @@ abbrev pub range_key : Option Span → FirstKey
 range_key None = all
 range_key (Some span) = start span
 
--- the range of the start, where there is one and its offset is that of the service
+-- the range of the start, if there is one and its offset is that of the service
 abbrev pub start_key : ℤ → ℤ → Option Data → FirstKey
 start_key configured offset None = all
 start_key configured offset (Some (bytes b)) = if is_universal_text b || not (int_eq offset configured) then all else range_key (span_of offset (without_padding b))
@@ -69,11 +70,11 @@ first_among configured offset keys =
     (or_else SCHEDULED_PROCEDURE_STEP_PRIORITY (plain_value (value_at SCHEDULED_PROCEDURE_STEP_PRIORITY keys))
     (start_key configured offset (value_at SCHEDULED_PROCEDURE_STEP_START_DATE_TIME keys)))))))
 
--- the first indexed key of a query, for a service that has this offset
+-- the first indexed key of a query, for a service with this offset
 unfoldable pub first_key : ℤ → KeySet → FirstKey
 first_key configured keys = first_among configured keys.offset (elements_of keys.attributes)
 
--- the first moment of the start that is stored
+-- the first moment of a stored start
 abbrev pub moment_stored : ℤ → Option Data → Option ℤ
 moment_stored offset None = None
 moment_stored offset (Some (bytes b)) = moment (without_padding b) offset false
@@ -82,7 +83,7 @@ moment_stored offset (Some (items is)) = None
 abbrev pub start_of : ℤ → Elements → Option ℤ
 start_of offset row = moment_stored offset (value_at SCHEDULED_PROCEDURE_STEP_START_DATE_TIME row)
 
--- a data set matches the first indexed key alone: of the station names, their code value alone
+-- a data set matches the first indexed key alone; of the station names, only the code value is compared
 abbrev pub meets_first : ℤ → FirstKey → Elements → Bool
 meets_first offset (value tag text) row =
     if is_tag tag SCHEDULED_STATION_NAME_CODE_SEQUENCE
@@ -91,11 +92,11 @@ meets_first offset (value tag text) row =
 meets_first offset (start span) row = spans (Some span) (start_of offset row)
 meets_first offset all row = true
 
--- the class of a query: the rows that match its first indexed key alone
+-- the class of a query: the rows that match its first indexed key, regardless of its other keys
 unfoldable pub class : ℤ → KeySet → List (List El) → List (List El)
 class configured keys rows = filter (λ row. meets_first keys.offset (first_key configured keys) (elements_of row)) rows
 
--- what the code gives
+-- the first indexed key that the code returns
 abbrev pub first_view : First → FirstKey
 first_view (variants.Value tag text) = value tag text.now
 first_view (variants.Start least greatest) = start (record { least = least; greatest = greatest })

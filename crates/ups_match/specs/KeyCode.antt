@@ -1,4 +1,4 @@
--- Keys as their parts: by them a proof tells keys apart.
+-- Key sets encoded by their parts, by which a proof distinguishes them.
 use Rattle.std.specs.Prelude.{List, ℤ, refl}
 use Rattle.std.specs.Coded.{Coded, code_by, coded×, coded_ℤ}
 use Rattle.ups_dataset.specs.Data.{El}

@@ -11,23 +11,23 @@ is_star byte = byte == 42
 abbrev pub is_question_mark : ℕ → Bool
 is_question_mark byte = byte == 63
 
--- A * of a pattern stands for any bytes, also for none, a ? for any one byte, and any other byte for itself.
+-- In a pattern, * stands for any bytes, or none; ? stands for any one byte; any other byte stands for itself.
 abbrev pub MatchesPart : ℕ → List ℕ → Type 0
 MatchesPart p part = MatchBool (is_star p) (Unit {0}) (MatchBool (is_question_mark p) (length part ≡ 1) (part ≡ p ∷ []))
 
--- A text is like a pattern where it is made of one part for each byte of the pattern, in order.
+-- A text is like a pattern if it consists of one part for each byte of the pattern, in order.
 abbrev pub IsLike : List ℕ → List ℕ → Type 0
 IsLike [] text = text ≡ []
 IsLike (p ∷ ps) text = (part : List ℕ) × (rest : List ℕ) × (text ≡ part ++ rest) × MatchesPart p part × IsLike ps rest
 
 -- The same, computed.
 
--- a text begins with a byte that one of a pattern other than * stands for
+-- a text begins with a byte for which the pattern's byte p, other than *, stands
 abbrev pub begins_like : ℕ → List ℕ → Bool
 begins_like p [] = false
 begins_like p (b ∷ bs) = is_question_mark p || p == b
 
--- the texts that a text ends with, from the whole to none
+-- the ends of a text, from the whole text to the empty one
 abbrev pub ends_of : List ℕ → List (List ℕ)
 ends_of [] = [] ∷ []
 ends_of (b ∷ bs) = (b ∷ bs) ∷ ends_of bs

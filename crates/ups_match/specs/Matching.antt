@@ -15,7 +15,7 @@ use Rattle.ups_match.specs.Moments.{moment}
 use Rattle.ups_match.specs.Ranges.{span_of, spans}
 use Rattle.ups_match.specs.Values.{any_value, rule_of, text_vr, is_universal_text, is_no_key, shares_uid}
 
--- the rule for a key that is no sequence, by its tag
+-- the rule for a key that is not a sequence, by its tag
 abbrev pub key_rule : Tag → Rule
 key_rule tag = rule_of (text_vr (vr_of tag))
 
@@ -28,7 +28,7 @@ matches_text Range offset key stored = spans (span_of offset (without_padding ke
 matches_text OneOfValues offset key stored = any_value (bytes_eq (without_padding key)) stored
 matches_text WholeValue offset key stored = bytes_eq (without_padding key) (without_padding stored)
 
--- the value of a tag
+-- the value with this tag
 abbrev pub value_at : Tag → Elements → Option Data
 value_at tag no_elements = None
 value_at tag (element t vr value more) = if is_tag t tag then Some value else value_at tag more
@@ -37,8 +37,8 @@ abbrev pub has_no_items : Items → Bool
 has_no_items no_items = true
 has_no_items (item es more) = false
 
--- What is universal matches whatever is stored, also nothing: zero length, * alone, a sequence with no item, or with
--- one item whose keys are all universal.
+-- A universal key matches any stored value, and also none: a key of zero length, * alone, a sequence with no items, or
+-- one with one item whose keys are all universal.
 abbrev mutual
   pub all_universal : Elements → Bool
   all_universal no_elements = true
@@ -55,7 +55,7 @@ abbrev mutual
 abbrev pub is_universal_key : Tag → Data → Bool
 is_universal_key tag value = is_no_key tag || is_universal value
 
--- some item passes a test; bytes have no items
+-- some item passes a test
 abbrev pub any_item : (Elements → Bool) → Items → Bool
 any_item test no_items = false
 any_item test (item es more) = test es || any_item test more
@@ -70,8 +70,8 @@ matches_stored_text rule offset key None = false
 matches_stored_text rule offset key (Some (bytes b)) = matches_text rule offset key b
 matches_stored_text rule offset key (Some (items is)) = false
 
--- Each key of a set matches: it is universal, or there is a value that it matches. Of a sequence that is one item of the
--- stored ones which all keys of the key's one item match (PS3.4 section C.2.2.2.6).
+-- Each key of a set matches: it is universal, or it matches the stored value. A sequence with one item matches if all
+-- keys of that item match one and the same stored item (PS3.4 section C.2.2.2.6).
 abbrev mutual
   pub all_match : ℤ → Elements → Elements → Bool
   all_match offset no_elements row = true
@@ -85,11 +85,11 @@ abbrev mutual
   items_match offset no_items stored = true
   items_match offset (item es more) stored = any_stored_item (all_match offset es) stored
 
--- a data set matches keys
+-- a data set matches the keys
 unfoldable pub matches : ℤ → List El → List El → Bool
 matches offset keys row = all_match offset (elements_of keys) (elements_of row)
 
--- Keys are readable, or have a fault: the first by rising tag.
+-- Keys are readable, or have a fault: the first one by ascending tag.
 
 abbrev pub first_key_fault : Option KeyFault → Option KeyFault → Option KeyFault
 first_key_fault None later = later
@@ -112,15 +112,15 @@ abbrev mutual
   items_fault offset no_items = None
   items_fault offset (item es more) = if has_no_items more then keys_fault offset es else Some TwoItems
 
--- the fault of keys, or none where they are readable
+-- the fault of the keys; None if they are readable
 unfoldable pub fault_of : ℤ → List El → Option KeyFault
 fault_of offset keys = keys_fault offset (elements_of keys)
 
--- keys, and the offset by which their DTs and the stored ones are read, in minutes east of UTC
+-- keys, and the offset, in minutes east of UTC, of DT values that state none, in the keys and in stored data sets
 pub record KeySet : Type 0 where
   pub attributes : List El
   pub offset : ℤ
 
--- which data sets match which keys
+-- a data set matches a key set
 abbrev pub is_match : KeySet → List El → Bool
 is_match keys row = matches keys.offset keys.attributes row

@@ -1,4 +1,4 @@
--- Keys that are prepared: the universal ones are left out, and no other has padding behind its text.
+-- Prepared keys: the universal ones are left out, and no other has padding at the end of its text.
 use Rattle.std.specs.Prelude.{◌≡◌, ℕ, ℤ, Bool, true, false, ◌&&◌, List, Option, None, Some}
 use Rattle.std.specs.Str.{bytes_eq}
 use Rattle.ups_pdu.specs.Padding.{without_padding}
@@ -12,7 +12,7 @@ use Rattle.ups_match.specs.Moments.{moment}
 use Rattle.ups_match.specs.Ranges.{span_of, spans}
 use Rattle.ups_match.specs.Values.{any_value, shares_uid}
 
--- a stored text meets a key that has no padding behind it
+-- a stored text meets a key that has no padding at its end
 abbrev pub text_met : Rule → ℤ → List ℕ → List ℕ → Bool
 text_met UidList offset key stored = shares_uid key stored
 text_met WildCards offset key stored = any_value (is_like key) stored
@@ -26,7 +26,7 @@ stored_text_met rule offset key None = false
 stored_text_met rule offset key (Some (bytes b)) = text_met rule offset key b
 stored_text_met rule offset key (Some (items is)) = false
 
--- a data set meets each prepared key: none is universal, so that there has to be a value
+-- a data set meets each prepared key; none is universal, so there must be a stored value
 abbrev mutual
   pub all_met : ℤ → Elements → Elements → Bool
   all_met offset no_elements row = true
@@ -40,16 +40,16 @@ abbrev mutual
   items_met offset no_items stored = true
   items_met offset (item es more) stored = any_stored_item (all_met offset es) stored
 
--- a prepared key, or none where it is universal
+-- a prepared key is met; None stands for a universal key, which always is
 abbrev pub key_met : ℤ → Tag → Option Data → Option Data → Bool
 key_met offset tag None stored = true
 key_met offset tag (Some value) stored = value_met offset tag value stored
 
--- prepared keys are met by what matches these keys
+-- the prepared keys are met by exactly the data sets that match these keys
 pub record Prepares (prepared keys : List El) : Type 0 where
   pub same : (offset : ℤ) (row : Elements) → all_met offset (elements_of prepared) row ≡ all_match offset (elements_of keys) row
 
--- a prepared text is met by what a key of a rule matches
+-- the value is a prepared text, met by exactly the texts that the key matches by this rule
 pub record SaysText (rule : Rule) (key : List ℕ) (value : Data) : Type 0 where
   pub text : List ℕ
   pub is : value ≡ bytes text

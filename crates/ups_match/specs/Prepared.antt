@@ -1,4 +1,4 @@
--- What prepared keys are seen as.
+-- Prepared keys as the elements and values that contracts see.
 use Rattle.ups_dataset.specs.declared.vr.Vr.TheVariants.{Un}
 use Rattle.ups_dataset.specs.Data.{Data, bytes, items, no_items, item, El, elements_of}
 use Rattle.ups_match.specs.declared.prepared.PreparedKey.{PreparedKey}

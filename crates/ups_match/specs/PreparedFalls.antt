@@ -1,4 +1,4 @@
--- The prepared keys of an item are fewer than those that it stands among.
+-- The depth of prepared keys is at most the weight of their view, so that recursion into items ends.
 use Rattle.std.specs.Prelude.{◌≤◌, List, [], ◌∷◌, map, max}
 use Rattle.std.proofs.Common.{arith}
 use Rattle.std.specs.declared.alloc.Allocator.{Ghosts}

@@ -11,7 +11,7 @@ use Rattle.ups_dataset.specs.declared.vr.Vr.TheVariants.{Ae, As, Cs, Da, Ds, Dt,
 use Rattle.ups_match.specs.declared.rule.Rule.{Rule}
 use Rattle.ups_match.specs.declared.rule.Rule.TheVariants.{UidList, WildCards, WildCardsInText, Range, OneOfValues, WholeValue}
 
--- a backslash stands between the values of an attribute (PS3.5 section 6.4)
+-- the backslash separates the values of an attribute (PS3.5 section 6.4)
 abbrev pub is_backslash : ℕ → Bool
 is_backslash byte = byte == 92
 
@@ -19,9 +19,9 @@ is_backslash byte = byte == 92
 abbrev pub any_value : (List ℕ → Bool) → List ℕ → Bool
 any_value test text = list_any (λ value. test (without_padding value)) (slice_split is_backslash text)
 
--- The rule by which a key of a representation is matched (PS3.4 sections C.2.2.2.1 to C.2.2.2.6): a list of UIDs; wild
--- cards, where the representation is a text, and LT, ST and UT have one value (PS3.5 section 6.2); a range; or an equal
--- value, where the representation may have many, or else the whole.
+-- The rule by which a key with a value representation is matched (PS3.4 sections C.2.2.2.1 to C.2.2.2.6): a list of
+-- UIDs; wild cards for a text, where LT, ST and UT have only one value (PS3.5 section 6.2); a range; or equality, with
+-- one of the values if the representation may have many, otherwise with the whole.
 abbrev pub rule_of : Vr → Rule
 rule_of Ui = UidList
 rule_of Ae = WildCards
@@ -41,20 +41,20 @@ rule_of Is = OneOfValues
 rule_of Tm = OneOfValues
 rule_of vr = WholeValue
 
--- the representation of a key that is no sequence: that of its tag, which is unknown where a sequence is due
+-- the value representation of a key that is not a sequence: that of its tag, or UN if that is SQ
 abbrev pub text_vr : Vr → Vr
 text_vr Sq = Un
 text_vr vr = vr
 
--- zero length, or * alone, apart from padding (PS3.4 section C.2.2.2.3)
+-- a text of zero length, or * alone, apart from padding (PS3.4 section C.2.2.2.3)
 abbrev pub is_universal_text : List ℕ → Bool
 is_universal_text text = is_nil (without_padding text) || bytes_eq (without_padding text) (42 ∷ [])
 
--- What these two hold is no key: how the other texts are coded (PS3.4 section C.2.2.2), and a UID that isn't told
--- (PS3.4 section CC.2.7).
+-- These two attributes are no keys: one says how the other texts are encoded (PS3.4 section C.2.2.2), the other is a
+-- UID that is not disclosed (PS3.4 section CC.2.7).
 abbrev pub is_no_key : Tag → Bool
 is_no_key tag = is_tag tag SPECIFIC_CHARACTER_SET || is_tag tag TRANSACTION_UID
 
--- one UID of a list is one of those that are stored (PS3.4 section C.2.2.2.2)
+-- one UID of a list equals one of the stored UIDs (PS3.4 section C.2.2.2.2)
 abbrev pub shares_uid : List ℕ → List ℕ → Bool
 shares_uid key stored = any_value (λ uid. any_value (bytes_eq uid) stored) key

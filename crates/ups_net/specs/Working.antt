@@ -1,4 +1,4 @@
--- What becomes of the passes of a server's threads.
+-- The effect of a server's threads on their passes.
 use Rattle.std.specs.Prelude.{◌≡◌, Bool, true, false, map, nat_le, List, [], ◌∷◌, ◌++◌, MatchBool}
 use Rattle.ups_life.specs.declared.entry.Entry.{Entry}
 use Rattle.ups_net.specs.Delivering.{DeliversRounds}
@@ -8,27 +8,27 @@ use Rattle.ups_net.specs.declared.options.ServerOptions.{ServerOptions}
 use Rattle.ups_settings.specs.declared.watcher.Watcher.{Watcher}
 use Rattle.ups_turn.specs.Pass.{PassView}
 
--- a worker has served so many associations, and the deliverer has made so many rounds
+-- a worker (`true`) has served as many associations as the options say, or a deliverer has made as many rounds
 abbrev pub Works : {A : Type 0} → ServerOptions → Bool → PassView A → PassView A → Type 0
 Works options true old new = ServesAssociations options.config options.limits.turns options.associations old new
 Works options false old new = DeliversRounds options.config options.limits.turns (map (λ (w : Watcher). w.ae) options.watchers.items) options.rounds old new
 
--- a thread has done its job, which is a worker's where its number is one of a worker
+-- a thread has done its job: that of a worker if its number is at most the number of workers, otherwise that of a deliverer
 abbrev pub DoesJob : {A : Type 0} → ServerOptions → PassView A → PassView A → Type 0
 DoesJob options old new = Works options (nat_le old.number options.limits.workers) old new
 
--- what becomes of a thread's pass: it has done its job, or none was to begin, and it is as it was
+-- the thread has done its job; or no thread was to begin, and its pass is unchanged
 abbrev pub EndsThread : {A : Type 0} → ServerOptions → Bool → PassView A → PassView A → Type 0
 EndsThread options begun old new = MatchBool begun (DoesJob options old new) (new ≡ old)
 
--- the same of each of several threads
+-- the same for each of several threads
 abbrev pub EndThreads : {A : Type 0} → ServerOptions → Bool → List (PassView A) → List (PassView A) → Type 0
 EndThreads options begun [] [] = Unit {0}
 EndThreads options begun [] (new ∷ news) = ⊥
 EndThreads options begun (old ∷ olds) [] = ⊥
 EndThreads options begun (old ∷ olds) (new ∷ news) = EndsThread options begun old new × EndThreads options begun olds news
 
--- each pass but the last has done its job, and the last has swept
+-- the thread of each pass but the last has done its job, and that of the last has swept
 pub record AllWork {A : Type 0} (options : ServerOptions) (keeps : Bool) (olds news : List (PassView A)) : Type 0 where
   pub front : List (PassView A)
   pub sweeper : PassView A
@@ -39,8 +39,8 @@ pub record AllWork {A : Type 0} (options : ServerOptions) (keeps : Bool) (olds n
   pub each : EndThreads options true front worked
   pub sweeps : Sweeps options.config.ae keeps options.rounds sweeper swept
 
--- the threads of a server have all done their jobs, with a ledger that is kept or without; or none has begun, and each pass is
--- as it was
+-- the threads of a server have all done their jobs, with a ledger (`keeps`) or without; or none has begun, and each pass is
+-- unchanged
 abbrev pub Ran : {A : Type 0} → ServerOptions → Bool → Bool → List (PassView A) → List (PassView A) → Type 0
 Ran options keeps begun olds news = MatchBool begun (AllWork options keeps olds news) (news ≡ olds)
 

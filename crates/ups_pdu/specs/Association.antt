@@ -10,8 +10,8 @@ use Rattle.ups_pdu.specs.Item.{Item, IsItem, is_one_of, contents, EachSpells}
 use Rattle.ups_pdu.specs.Context.{SpellsProposedContext, SpellsAnsweredContext, first_byte, are_context_ids}
 use Rattle.ups_pdu.specs.UserItems.{SpellsUserInformation}
 
--- the protocol version, two reserved bytes, the called and the calling title of 16 bytes, 32 reserved bytes;
--- and then the items
+-- the protocol version, two reserved bytes, the called and the calling AE title of 16 bytes each, and 32 reserved
+-- bytes, followed by the items
 pub record IsAssociateHead (body : List ℕ) (version : ℕ) (called calling text : List ℕ) : Type 0 where
   pub first : List ℕ
   pub reserved : List ℕ
@@ -22,8 +22,8 @@ pub record IsAssociateHead (body : List ℕ) (version : ℕ) (called calling tex
   pub reserved_fits : length reserved ≡ 32
   pub parts : body ≡ to_be_bytes w16 version ++ (first ++ (called ++ (calling ++ (reserved ++ text))))
 
--- Items in any order: one application context (10), presentation contexts of one type, of which there is one
--- at least, with different odd ids; one user information (50), with this content; and no others.
+-- Items in any order: one application context (10H); at least one presentation context, all of type `kind`, with
+-- different odd ids; one user information (50H) with this content; and no others.
 pub record AreAssociateItems {X : Type 0} (kind : ℕ) (Spells : List ℕ → X → Type 0) (text uid : List ℕ) (contexts : List X) (user : List ℕ) : Type 0 where
   pub items : List Item
   pub each : Each IsItem text items
@@ -34,7 +34,7 @@ pub record AreAssociateItems {X : Type 0} (kind : ℕ) (Spells : List ℕ → X 
   pub ids : are_context_ids (map first_byte (contents kind items)) ≡ true
   pub user_information : contents 0x50 items ≡ user ∷ []
 
--- A-ASSOCIATE-RQ (PS3.8 table 9-11): its presentation contexts are of type 20.
+-- the bytes encode an A-ASSOCIATE-RQ (PS3.8 table 9-11), whose presentation contexts are of type 20H
 pub record SpellsAssociateRq {A : Type 0} (body : List ℕ) (rq : AssociateRq A) : Type 0 where
   pub text : List ℕ
   pub user : List ℕ
@@ -42,7 +42,7 @@ pub record SpellsAssociateRq {A : Type 0} (body : List ℕ) (rq : AssociateRq A)
   pub items : AreAssociateItems 0x20 SpellsProposedContext text rq.application_context rq.contexts user
   pub user_information : SpellsUserInformation user rq.user_information
 
--- A-ASSOCIATE-AC (PS3.8 table 9-17): its presentation contexts are of type 21.
+-- the bytes encode an A-ASSOCIATE-AC (PS3.8 table 9-17), whose presentation contexts are of type 21H
 pub record SpellsAssociateAc {A : Type 0} (body : List ℕ) (ac : AssociateAc A) : Type 0 where
   pub text : List ℕ
   pub user : List ℕ

@@ -4,7 +4,7 @@ use Rattle.ups_pdu.specs.declared.kind.PduKind.TheVariants.{AssociateRq}
 use Rattle.ups_pdu.specs.Header.{type_code}
 use Rattle.ups_pdu.specs.Title.{SpellsAe}
 
--- the title of the calling application entity: bytes 27 to 42 of an A-ASSOCIATE-RQ (PS3.8 table 9-11)
+-- the calling AE title: bytes 27 to 42 of an A-ASSOCIATE-RQ (PS3.8 table 9-11)
 pub record IsCallingTitle (beginning title : List ℕ) : Type 0 where
   pub after : List ℕ
   pub is_request : beginning ≡ type_code AssociateRq ∷ after

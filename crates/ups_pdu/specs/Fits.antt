@@ -1,4 +1,4 @@
--- Which PDUs can be written.
+-- The PDUs that can be written.
 use Rattle.std.specs.Prelude.{◌≡◌, ◌≢◌, ℕ, ◌<◌, ◌≤◌, ◌^◌, true, List, [], length, map}
 use Rattle.std.specs.List.{AllByRecursion}
 use Rattle.std.specs.Option.{option_to_list}
@@ -35,8 +35,8 @@ pub record FitsUser {A : Type 0} (info : UserInformation A) : Type 0 where
   pub implementation_version : AllByRecursion (λ v. length v < 2 ^ 16) (option_to_list info.implementation_version)
   pub short : length (user_content info) < 2 ^ 16
 
--- what both association PDUs ask: fields in their ranges, presentation contexts of which there is one at least,
--- with different odd ids
+-- an association PDU that can be written: fields in their ranges, and at least one presentation context, with
+-- different odd ids
 pub record FitsAssociate {A X : Type 0} (FitsContext : X → Type 0) (version : ℕ) (called calling uid : List ℕ) (contexts : List X) (ids : List ℕ) (info : UserInformation A) : Type 0 where
   pub protocol_version : version < 2 ^ 16
   pub called_title : length called ≡ 16
@@ -47,7 +47,7 @@ pub record FitsAssociate {A X : Type 0} (FitsContext : X → Type 0) (version : 
   pub odd_and_different : are_context_ids ids ≡ true
   pub user_information : FitsUser info
 
--- A PDU that can be written: its parts are what its type asks, and the whole is within the limit.
+-- a PDU that can be written: its parts meet the demands of its type, and its body is within the limit
 abbrev pub Fits : {A : Type 0} → Pdu A → Type 0
 Fits (AssociateRq rq) =
     FitsAssociate FitsProposed rq.protocol_version rq.called rq.calling rq.application_context rq.contexts (map (λ c. c.id) rq.contexts) rq.user_information
@@ -58,7 +58,8 @@ Fits (AssociateAc ac) =
 Fits (Data pdvs) = (pdvs ≢ []) × (length (written_body (Data pdvs)) ≤ max_data_length)
 Fits pdu = Unit {0}
 
--- The written spelling keeps the lengths within their fields and the limit.
+-- as written, the contents of an association PDU fit their length fields, and its body the limit; no demand on other
+-- PDUs
 abbrev pub IsWithin : {A : Type 0} → Pdu A → Type 0
 IsWithin (AssociateRq rq) =
     AllByRecursion (λ c. length (proposed_content c) < 2 ^ 16) rq.contexts

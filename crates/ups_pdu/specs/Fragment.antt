@@ -4,7 +4,7 @@ use Rattle.std.specs.Int.{w32, to_be_bytes}
 use Rattle.ups_pdu.specs.declared.pdv.Pdv.{Pdv}
 use Rattle.ups_pdu.specs.Each.{Each}
 
--- some bytes behind their length in four bytes; and then the rest
+-- some bytes preceded by their length in four bytes; then the rest
 pub record IsChunk (bytes chunk rest : List ℕ) : Type 0 where
   pub fits : length chunk < 2 ^ 32
   pub parts : bytes ≡ to_be_bytes w32 (length chunk) ++ (chunk ++ rest)
@@ -15,23 +15,23 @@ pub record Fragment : Type 0 where
   pub control : ℕ
   pub message : List ℕ
 
--- a fragment behind its length; and then the rest (PS3.8 table 9-23)
+-- a fragment preceded by its length; then the rest (PS3.8 table 9-23)
 pub record IsFragment (bytes : List ℕ) (fragment : Fragment) (rest : List ℕ) : Type 0 where
   pub is : IsChunk bytes (fragment.context ∷ fragment.control ∷ fragment.message) rest
 
--- the lengths of fragments fill the bytes
+-- fragments, each with its length, fill the bytes
 abbrev pub FragmentsFill : List ℕ → Type 0
 FragmentsFill bytes = (fragments : List Fragment) × Each IsFragment bytes fragments
 
--- Bit 0 of the control header says that the fragment is of a command, bit 1 that it is the last (PS3.8 annex
--- E.2); the others are free.
+-- Bit 0 of the message control header marks a fragment of a command, bit 1 the last fragment (PS3.8 annex E.2); the
+-- other bits may be anything.
 pub record IsPdv {A : Type 0} (fragment : Fragment) (pdv : Pdv A) : Type 0 where
   pub context : pdv.context ≡ fragment.context
   pub command : pdv.command ≡ (bit_and fragment.control 1 == 1)
   pub last : pdv.last ≡ (bit_and fragment.control 2 == 2)
   pub message : pdv.bytes ≡ fragment.message
 
--- a presentation data value; and then the rest
+-- the bytes begin with a PDV; then the rest
 pub record SpellsPdv {A : Type 0} (bytes : List ℕ) (pdv : Pdv A) (rest : List ℕ) : Type 0 where
   pub fragment : Fragment
   pub is : IsFragment bytes fragment rest

@@ -1,4 +1,4 @@
--- What each PDU begins with (PS3.8 section 9.3.1).
+-- The header of each PDU (PS3.8 section 9.3.1).
 use Rattle.std.specs.Prelude.{◌≡◌, ℕ, ◌<◌, ◌≤◌, ◌^◌, ◌⊎◌, List, ◌∷◌, ◌++◌, length}
 use Rattle.std.specs.Int.{w32, to_be_bytes}
 use Rattle.ups_pdu.specs.declared.fault.PduFault.{PduFault}
@@ -7,7 +7,7 @@ use Rattle.ups_pdu.specs.declared.kind.PduKind.{PduKind}
 use Rattle.ups_pdu.specs.declared.kind.PduKind.TheVariants.{AssociateRq, AssociateAc, AssociateRj, Data, ReleaseRq, ReleaseRp, Abort}
 use Rattle.ups_pdu.specs.Limits.{max_data_length, max_body_length}
 
--- the type byte (PS3.8 tables 9-11 to 9-26)
+-- the PDU type (PS3.8 tables 9-11 to 9-26)
 abbrev pub type_code : PduKind → ℕ
 type_code AssociateRq = 1
 type_code AssociateAc = 2
@@ -17,7 +17,7 @@ type_code ReleaseRq = 5
 type_code ReleaseRp = 6
 type_code Abort = 7
 
--- how long a body may be
+-- the longest body of each type, in bytes
 abbrev pub limit : PduKind → ℕ
 limit AssociateRq = max_body_length
 limit AssociateAc = max_body_length
@@ -27,18 +27,18 @@ limit ReleaseRq = max_body_length
 limit ReleaseRp = max_body_length
 limit Abort = max_body_length
 
--- a type byte, a reserved byte, and a length in four bytes; and what follows
+-- a type byte, a reserved byte, and a length in four bytes; then the rest
 pub record IsHeader (bytes : List ℕ) (byte len : ℕ) (rest : List ℕ) : Type 0 where
   pub reserved : ℕ
   pub fits : len < 2 ^ 32
   pub parts : bytes ≡ byte ∷ reserved ∷ to_be_bytes w32 len ++ rest
 
--- a header of a known type, a body within its limit, and what follows
+-- a header of a known type, a body within its limit, and the rest
 pub record IsWhole (bytes : List ℕ) (kind : PduKind) (body rest : List ℕ) : Type 0 where
   pub header : IsHeader bytes (type_code kind) (length body) (body ++ rest)
   pub within : length body ≤ limit kind
 
--- Why the bytes begin with no whole PDU: each test is made where the tests before it pass.
+-- why the bytes do not begin with a whole PDU: each test applies only if the tests before it pass
 abbrev pub HeaderFails : List ℕ → PduFault → Type 0
 HeaderFails bytes Short = (length bytes < 6) ⊎ ((kind : PduKind) × (len : ℕ) × (rest : List ℕ) × IsHeader bytes (type_code kind) len rest × (len ≤ limit kind) × (length rest < len))
 HeaderFails bytes UnknownType = (byte : ℕ) × (len : ℕ) × (rest : List ℕ) × IsHeader bytes byte len rest × ((kind : PduKind) → type_code kind ≡ byte → ⊥)

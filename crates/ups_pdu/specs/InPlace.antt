@@ -1,9 +1,9 @@
--- A text in an array: the text, and zeros behind it.
+-- A text in an array of fixed size: the text, followed by zeros.
 use Rattle.std.specs.Prelude.{◌≡◌, ℕ, ◌-◌, ◌≤◌, List, ◌++◌, length, take, drop, replicate}
 use Rattle.std.proofs.Common.{sym, ap, ◌∙◌, arith}
 use Rattle.std.proofs.lemmas.List.{length-take, take-append-drop}
 
--- the text gives the array and the length back
+-- the text determines the array and its own length
 pub array_again : (room : ℕ) (bytes : List ℕ) (len : ℕ) → len ≤ room → length bytes ≡ room → drop len bytes ≡ replicate (room - len) 0
     → (take len bytes ++ replicate (room - length (take len bytes)) 0 ≡ bytes) × (length (take len bytes) ≡ len)
 array_again room bytes len short whole zeros =

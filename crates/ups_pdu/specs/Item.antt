@@ -4,7 +4,7 @@ use Rattle.std.specs.List.{list_any}
 use Rattle.std.specs.Int.{w16, to_be_bytes}
 use Rattle.ups_pdu.specs.Each.{Each}
 
--- the type of an item, and its content
+-- an item: its type and its content
 pub record Item : Type 0 where
   pub kind : ℕ
   pub content : List ℕ
@@ -24,20 +24,20 @@ abbrev pub contents : ℕ → List Item → List (List ℕ)
 contents kind [] = []
 contents kind (x ∷ xs) = if x.kind == kind then x.content ∷ contents kind xs else contents kind xs
 
--- The contents spell these, one each, in order.
+-- each content encodes one of these things, in order
 abbrev pub EachSpells : {X : Type 0} → (List ℕ → X → Type 0) → List (List ℕ) → List X → Type 0
 EachSpells Spells [] [] = Unit {0}
 EachSpells Spells (c ∷ cs) (x ∷ xs) = Spells c x × EachSpells Spells cs xs
 EachSpells Spells [] (x ∷ xs) = ⊥
 EachSpells Spells (c ∷ cs) [] = ⊥
 
--- Items fill the bytes, and these are the contents of those of one type.
+-- items fill the bytes, and the contents of those of type `kind` are these
 pub record HasContents (kind : ℕ) (bytes : List ℕ) (found : List (List ℕ)) : Type 0 where
   pub items : List Item
   pub each : Each IsItem bytes items
   pub are : contents kind items ≡ found
 
--- The first content of a type, and bytes whose items have the others.
+-- the first content of type `kind`, and remaining bytes whose items have the others
 pub record IsNext (kind : ℕ) (content rest : List ℕ) (found : List (List ℕ)) : Type 0 where
   pub others : List (List ℕ)
   pub parts : found ≡ content ∷ others

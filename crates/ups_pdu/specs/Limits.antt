@@ -1,7 +1,7 @@
 -- The limits on the bodies of PDUs, in bytes.
 use Rattle.std.specs.Prelude.{ℕ}
 
--- the longest body of a P-DATA-TF, which is the maximum length that is offered (PS3.8 annex D.1)
+-- the longest body of a P-DATA-TF, which is the maximum length that this side announces (PS3.8 annex D.1)
 abbrev pub max_data_length : ℕ
 max_data_length = 16384
 

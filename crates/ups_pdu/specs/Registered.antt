@@ -1,4 +1,4 @@
--- The UIDs that the service speaks of (PS3.6 annex A, PS3.4 annex CC).
+-- The UIDs that the service uses (PS3.6 annex A, PS3.4 annex CC).
 use Rattle.std.specs.Prelude.{ℕ, List, codes}
 use Rattle.ups_pdu.specs.declared.registered.RegisteredUid.{RegisteredUid}
 use Rattle.ups_pdu.specs.declared.registered.RegisteredUid.TheVariants.{Verification, UpsPush, UpsWatch, UpsPull, UpsEvent, GlobalSubscription, FilteredGlobalSubscription, ApplicationContext, ImplicitVrLittleEndian, ExplicitVrLittleEndian, Implementation}

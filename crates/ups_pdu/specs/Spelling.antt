@@ -1,4 +1,4 @@
--- Which bytes spell which PDU (PS3.8 section 9.3).
+-- The bytes that encode each PDU (PS3.8 section 9.3).
 use Rattle.std.specs.Prelude.{◌≡◌, ◌≢◌, ℕ, ◌+◌, List, [], ◌∷◌, length, Result, Ok, Err}
 use Rattle.ups_pdu.specs.declared.fault.PduFault.{PduFault}
 use Rattle.ups_pdu.specs.declared.fault.PduFault.TheVariants.{Short, UnknownType, BadLength, BadItem, TooLong, Memory}
@@ -13,12 +13,12 @@ use Rattle.ups_pdu.specs.Lengths.{LengthsFill}
 use Rattle.ups_pdu.specs.Fragment.{SpellsPdv}
 use Rattle.ups_pdu.specs.Association.{SpellsAssociateRq, SpellsAssociateAc}
 
--- presentation data values that fill the body of a P-DATA-TF: one at least
+-- PDVs fill the body of a P-DATA-TF: at least one
 pub record SpellsData {A : Type 0} (body : List ℕ) (pdvs : List (Pdv A)) : Type 0 where
   pub some : pdvs ≢ []
   pub each : Each SpellsPdv body pdvs
 
--- What the body of a PDU spells.
+-- the body of a PDU of this type encodes the PDU
 abbrev pub IsBody : {A : Type 0} → PduKind → List ℕ → Pdu A → Type 0
 IsBody kind body (AssociateRq rq) = (kind ≡ kinds.AssociateRq) × SpellsAssociateRq body rq
 IsBody kind body (AssociateAc ac) = (kind ≡ kinds.AssociateAc) × SpellsAssociateAc body ac
@@ -28,14 +28,14 @@ IsBody kind body ReleaseRq = (kind ≡ kinds.ReleaseRq) × (length body ≡ 4)
 IsBody kind body ReleaseRp = (kind ≡ kinds.ReleaseRp) × (length body ≡ 4)
 IsBody kind body (Abort source reason) = (kind ≡ kinds.Abort) × (first : ℕ) × (second : ℕ) × (body ≡ first ∷ second ∷ source ∷ reason ∷ [])
 
--- The bytes are a PDU, within the limit of its type.
+-- the bytes are exactly one PDU, within the limit of its type
 pub record SpellsPdu {A : Type 0} (bytes : List ℕ) (pdu : Pdu A) : Type 0 where
   pub kind : PduKind
   pub body : List ℕ
   pub whole : IsWhole bytes kind body []
   pub spelled : IsBody kind body pdu
 
--- A PDU stands at the front of the bytes, and takes len of them.
+-- the bytes begin with a PDU, which takes `len` of them
 pub record IsFront {A : Type 0} (bytes : List ℕ) (pdu : Pdu A) (len : ℕ) : Type 0 where
   pub kind : PduKind
   pub body : List ℕ
@@ -44,7 +44,8 @@ pub record IsFront {A : Type 0} (bytes : List ℕ) (pdu : Pdu A) (len : ℕ) : T
   pub spelled : IsBody kind body pdu
   pub taken : len ≡ 6 + length body
 
--- The first fault: each test is made where the tests before it pass. Memory runs out only where a PDU stands.
+-- The first fault: each test applies only if the tests before it pass. Memory runs out only if the bytes begin with a
+-- PDU.
 abbrev pub IsFault : Type 0 → List ℕ → PduFault → Type 0
 IsFault A bytes Short = HeaderFails bytes Short
 IsFault A bytes UnknownType = HeaderFails bytes UnknownType
@@ -53,7 +54,8 @@ IsFault A bytes BadLength = (kind : PduKind) × (body : List ℕ) × (rest : Lis
 IsFault A bytes BadItem = (kind : PduKind) × (body : List ℕ) × (rest : List ℕ) × IsWhole bytes kind body rest × LengthsFill kind body × ((pdu : Pdu A) → IsBody kind body pdu → ⊥)
 IsFault A bytes Memory = (pdu : Pdu A) × (len : ℕ) × IsFront bytes pdu len
 
--- What a reader of a part answers: what is spelled; BadItem where nothing is; lack of memory where something is.
+-- the result of a reader of a part: what the bytes encode; BadItem if they encode nothing; lack of memory only if
+-- they encode something
 abbrev pub Gives : {X : Type 0} → (X → Type 0) → Result X PduFault → Type 0
 Gives Spelled (Ok x) = Spelled x
 Gives {X} Spelled (Err BadItem) = (x : X) → Spelled x → ⊥

@@ -9,12 +9,12 @@ use Rattle.ups_pdu.specs.Each.{Each}
 use Rattle.ups_pdu.specs.Identifier.{SpellsUid}
 use Rattle.ups_pdu.specs.Item.{Item, IsItem, contents, EachSpells}
 
--- the maximum length in four bytes (PS3.8 annex D.1)
+-- the four bytes encode the maximum length (PS3.8 annex D.1)
 pub record SpellsMaximumLength (content : List ℕ) (maximum : ℕ) : Type 0 where
   pub fits : maximum < 2 ^ 32
   pub parts : content ≡ to_be_bytes w32 maximum
 
--- the operations invoked and those performed, in two bytes each (PS3.7 annex D.3.3.3)
+-- the operations invoked and performed, in two bytes each (PS3.7 annex D.3.3.3)
 pub record SpellsWindow (content : List ℕ) (window : AsynchronousWindow) : Type 0 where
   pub invoked : window.invoked < 2 ^ 16
   pub performed : window.performed < 2 ^ 16
@@ -25,15 +25,15 @@ pub record IsRole (content text : List ℕ) (scu scp : ℕ) : Type 0 where
   pub fits : length text < 2 ^ 16
   pub parts : content ≡ to_be_bytes w16 (length text) ++ (text ++ scu ∷ scp ∷ [])
 
--- the roles for a SOP class (PS3.7 annex D.3.3.4)
+-- the bytes encode a role selection for a SOP class (PS3.7 annex D.3.3.4)
 pub record SpellsRole (content : List ℕ) (role : Role) : Type 0 where
   pub text : List ℕ
   pub is : IsRole content text role.scu role.scp
   pub sop_class : SpellsUid text role.sop_class
 
--- Sub-items in any order: a maximum length (51), an implementation class (52), a window (53) and an
--- implementation version (55) at most once each, and roles (54); others are passed over. Without a maximum
--- length it is 0.
+-- Sub-items in any order: a maximum length (51H), an implementation class (52H), a window (53H) and an implementation
+-- version (55H), at most one each, and role selections (54H); others are ignored. Without a maximum length the
+-- maximum is 0.
 pub record IsUserInformation (content : List ℕ) (maximum : ℕ) (class : Option (List ℕ)) (window : Option AsynchronousWindow) (roles : List Role) (version : Option (List ℕ)) : Type 0 where
   pub items : List Item
   pub each : Each IsItem content items

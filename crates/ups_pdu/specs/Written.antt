@@ -1,4 +1,4 @@
--- The one spelling of a PDU that is written: reserved bytes are 0, UIDs have no padding.
+-- The encoding in which a PDU is written: reserved bytes are 0, and UIDs have no padding.
 use Rattle.std.specs.Prelude.{ℕ, ◌+◌, List, [], ◌∷◌, ◌++◌, length, replicate, if◌then◌else◌}
 use Rattle.std.specs.List.{flat_map}
 use Rattle.std.specs.Option.{option_to_list}
@@ -28,7 +28,7 @@ pdu_kind ReleaseRq = kinds.ReleaseRq
 pdu_kind ReleaseRp = kinds.ReleaseRp
 pdu_kind (Abort source reason) = kinds.Abort
 
--- bit 0 for a command, bit 1 for the last fragment (PS3.8 annex E.2)
+-- the message control header: bit 0 for a command, bit 1 for the last fragment (PS3.8 annex E.2)
 abbrev pub control_of : {A : Type 0} → Pdv A → ℕ
 control_of pdv = (if pdv.command then 1 else 0) + (if pdv.last then 2 else 0)
 
@@ -38,11 +38,11 @@ pdv_content pdv = pdv.context ∷ control_of pdv ∷ pdv.bytes
 abbrev pub written_pdv : {A : Type 0} → Pdv A → List ℕ
 written_pdv pdv = to_be_bytes w32 (length (pdv_content pdv)) ++ pdv_content pdv
 
--- an item of a type with a content (PS3.8 section 9.3.2)
+-- an item of type `kind` with this content (PS3.8 section 9.3.2)
 unfoldable pub written_item : ℕ → List ℕ → List ℕ
 written_item kind content = kind ∷ 0 ∷ to_be_bytes w16 (length content) ++ content
 
--- a proposed presentation context: its abstract syntax, then its transfer syntaxes
+-- the content of a proposed presentation context: its abstract syntax, then its transfer syntaxes
 unfoldable pub proposed_content : {A : Type 0} → ProposedContext A → List ℕ
 proposed_content c = c.id ∷ 0 ∷ 0 ∷ 0 ∷ written_item 0x30 c.abstract_syntax ++ flat_map (written_item 0x40) c.transfer_syntaxes
 
@@ -50,7 +50,7 @@ abbrev pub context_result : ContextAnswer → ℕ
 context_result (Accepted uid) = 0
 context_result (Refused result) = result
 
--- a refused context has a transfer syntax too, which nobody looks at (PS3.8 section 9.3.3.2)
+-- a refused presentation context has a transfer syntax too, which is not significant (PS3.8 section 9.3.3.2)
 abbrev pub syntax_of : ContextAnswer → List ℕ
 syntax_of (Accepted uid) = uid
 syntax_of (Refused result) = text_of ImplicitVrLittleEndian
@@ -64,7 +64,7 @@ window_content w = to_be_bytes w16 w.invoked ++ to_be_bytes w16 w.performed
 unfoldable pub role_content : Role → List ℕ
 role_content r = to_be_bytes w16 (length r.sop_class) ++ (r.sop_class ++ r.scu ∷ r.scp ∷ [])
 
--- the maximum length always; then the others as far as there are any
+-- always the maximum length; then each of the other sub-items that is present
 unfoldable pub user_content : {A : Type 0} → UserInformation A → List ℕ
 user_content info =
     written_item 0x51 (to_be_bytes w32 info.maximum_length)
@@ -77,7 +77,7 @@ user_content info =
 unfoldable pub associate_head : ℕ → List ℕ → List ℕ → List ℕ
 associate_head version called calling = to_be_bytes w16 version ++ ((0 ∷ 0 ∷ []) ++ (called ++ (calling ++ replicate 32 0)))
 
--- the application context, the presentation contexts, the user information
+-- the application context, the presentation contexts and the user information
 unfoldable pub associate_items : {A X : Type 0} → List ℕ → (X → List ℕ) → List X → UserInformation A → List ℕ
 associate_items uid written_context contexts info = written_item 0x10 uid ++ (flat_map written_context contexts ++ written_item 0x50 (user_content info))
 

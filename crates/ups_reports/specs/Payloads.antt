@@ -1,4 +1,4 @@
--- What an event report says (PS3.4 CC.2.4): the type of an event, and its Event Information.
+-- The content of an event report (PS3.4 CC.2.4): the Event Type ID and the Event Information of an event.
 use Rattle.std.specs.Prelude.{ℕ, List, [], ◌∷◌, filter, Option, None, Some}
 use Rattle.ups_dataset.specs.declared.dictionary.TheConstants.{HUMAN_PERFORMER_CODE_SEQUENCE, SCHEDULED_STATION_NAME_CODE_SEQUENCE, SCHEDULED_HUMAN_PERFORMERS_SEQUENCE, HUMAN_PERFORMER_ORGANIZATION, INPUT_READINESS_STATE, PROCEDURE_STEP_STATE, PROCEDURE_STEP_PROGRESS_INFORMATION_SEQUENCE, CONTACT_URI, CONTACT_DISPLAY_NAME, REQUESTING_AE}
 use Rattle.ups_dataset.specs.declared.tag.Tag.{Tag}
@@ -30,25 +30,25 @@ type_id Assigned = 5
 
 -- THE PARTS
 
--- a text, which has an even length as a value
+-- an element with a text, padded to an even length
 abbrev pub text_element : Tag → Vr → List ℕ → El
 text_element tag vr text = record { tag = tag; vr = vr; value = bytes (text_value text) }
 
--- these attributes, as far as they are given
+-- those of these attributes that are given
 abbrev pub given_of : List Tag → List El → List El
 given_of tags attributes = filter (λ e. is_listed e.tag tags) attributes
 
--- what a cancel request was sent with
+-- the attributes sent with a cancel request
 abbrev pub sent_to_cancel : {A : Type 0} → Request A → List El
 sent_to_cancel (AskCancel step reasons) = reasons
 sent_to_cancel request = []
 
--- what an N-SET sets
+-- the attributes that an N-SET sets
 abbrev pub sent_to_set : {A : Type 0} → Request A → List El
 sent_to_set (Set step transaction attributes) = attributes
 sent_to_set request = []
 
--- what was sent with either
+-- the attributes of either request
 abbrev pub sent : {A : Type 0} → Request A → List El
 sent (AskCancel step reasons) = reasons
 sent (Set step transaction attributes) = attributes
@@ -56,44 +56,43 @@ sent request = []
 
 -- STATE REPORTS
 
--- why a step was canceled: told where a cancel request made it CANCELED (PS3.4 CC.2.2)
+-- why a step was canceled, if a cancel request made it CANCELED (PS3.4 CC.2.2)
 abbrev pub reason_told : {A : Type 0} → StepState → Request A → List El
 reason_told Canceled request = given_of REASONS (sent_to_cancel request)
 reason_told state request = []
 
--- the state of the step, and whether its input is ready
+-- the Event Information: the state of the step, its readiness, and why it was canceled, if it was
 abbrev pub state_report : {A : Type 0} → Event → Request A → List El
 state_report x request =
     put (text_element INPUT_READINESS_STATE Cs (readiness_word x.readiness)) (put (text_element PROCEDURE_STEP_STATE Cs (state_text x.state)) (reason_told x.state request))
 
 -- CANCEL REQUESTS
 
--- why a step is to be canceled, and who can be asked about it
+-- why a step is to be canceled, and whom to contact about it
 abbrev pub CANCEL_ATTRIBUTES : List Tag
 CANCEL_ATTRIBUTES = CONTACT_URI ∷ CONTACT_DISPLAY_NAME ∷ REASONS
 
--- who asks for it
+-- the Event Information: who asks for it, and, if given, why and whom to contact
 abbrev pub cancel_requested : {A : Type 0} → Entry A → List El
 cancel_requested e = put (text_element REQUESTING_AE Ae e.ae) (given_of CANCEL_ATTRIBUTES (sent_to_cancel e.request))
 
 -- ASSIGNMENTS
 
--- a human performer of whom nothing is said
+-- the code and the organization of a human performer, both without a value
 abbrev pub NO_PERFORMER : List El
 NO_PERFORMER = record { tag = HUMAN_PERFORMER_CODE_SEQUENCE; vr = Sq; value = items no_items } ∷ record { tag = HUMAN_PERFORMER_ORGANIZATION; vr = Lo; value = bytes [] } ∷ []
 
--- the first item of a sequence; nothing where it has none
+-- the first item of a sequence; nothing if it has none
 abbrev pub first_item : Data → List El
 first_item (items (item es more)) = list_of es
 first_item d = []
 
--- the code and the organization of the first human performer, where performers are given: each without a value where
--- there is none
+-- the code and the organization of the first human performer, if performers are given: each without a value if absent
 abbrev pub performer : Option El → List El
 performer None = []
 performer (Some e) = answer (first_item e.value) NO_PERFORMER
 
--- the station and the human performer that are to do the step
+-- the Event Information: the station and the human performer that are to perform the step
 abbrev pub assignment : List El → List El
 assignment attributes = laid_over (performer (element_at SCHEDULED_HUMAN_PERFORMERS_SEQUENCE attributes)) (given_of (SCHEDULED_STATION_NAME_CODE_SEQUENCE ∷ []) attributes)
 

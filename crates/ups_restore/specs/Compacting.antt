@@ -1,4 +1,4 @@
--- How a manager is given the compacted history of another. Histories stand here as they are shown, oldest first.
+-- How a manager takes over the compacted history of another. Histories here are as they are shown, oldest entry first.
 use Rattle.std.specs.Prelude.{◌≡◌, ℕ, List, [], ◌∷◌, ◌++◌, length, map, take, Option, None, Some}
 use Rattle.ups_life.specs.declared.entry.Entry.{Entry}
 use Rattle.ups_life.specs.declared.peer.Peer.{Peer}
@@ -14,29 +14,29 @@ use Rattle.ups_restore.specs.declared.fault.CompactFault.{CompactFault}
 use Rattle.ups_restore.specs.declared.fault.CompactFault.TheVariants as faults
 use Rattle.ups_restore.specs.Replaying.{IsWant}
 
--- a manager is made with these settings
+-- a manager can be made with these settings
 abbrev pub AreAllowed : Settings → Type 0
 AreAllowed s = refusal s.peers s.offset s.limit ≡ None
 
--- the number that w is to acknowledge behind a history, where another history was before it, and these steps were held there
+-- the number that w is to acknowledge after the history `after`, which replaces the history `before`; `steps` were held there
 abbrev pub known_behind : {A : Type 0} → Settings → List (List ℕ) → List (Entry A) → List (Entry A) → List ℕ → Option ℕ
 known_behind s steps before after w = known_up_to (length (of_steps steps (pending s (past before) w))) (pending s (past after) w)
 
--- the acknowledgement of w up to a number, if there is one
+-- the acknowledgement by w up to a number, if there is one
 abbrev pub ack_of : {A : Type 0} → ℕ → ℕ → List ℕ → Option ℕ → List (Entry A)
 ack_of caller moment w None = []
 ack_of caller moment w (Some n) = record { caller = caller; ae = w; moment = moment; request = Ack n } ∷ []
 
--- the acknowledgements of peers, in their order
+-- the acknowledgements by peers, in their order
 abbrev pub acks : {A : Type 0} → ℕ → ℕ → (List ℕ → Option ℕ) → List Peer → List (Entry A)
 acks caller moment number [] = []
 acks caller moment number (p ∷ ps) = ack_of caller moment p.ae (number p.ae) ++ acks caller moment number ps
 
--- the records of the first so many entries of a history were put behind those that were there
+-- the records of the first entries of a history, `count` of them, were put after the records that were there
 abbrev pub HasPut : {A : Type 0} → List (Record A) → List (Entry A) → List (Record A) → Type 0
 HasPut before history after = (count : ℕ) × (after ≡ before ++ map recorded (take count history))
 
--- no entry was refused, but for want of memory or room
+-- no entry was refused, except for lack of memory or room
 abbrev pub IsNoRefusal : CompactFault → Type 0
 IsNoRefusal (faults.Entering refusal) = IsWant refusal
 IsNoRefusal fault = Unit {0}

@@ -1,4 +1,4 @@
--- What a replay says of entries, which stand here as they are shown, oldest first.
+-- The outcome of replaying entries. Histories here are as they are shown, oldest entry first.
 use Rattle.std.specs.Prelude.{◌≡◌, ◌≢◌, ◌<◌, ◌+◌, false, List, [], ◌∷◌, ◌++◌, length, map, All}
 use Rattle.ups_cycle.specs.declared.status.Status.TheVariants.{ResourceLimitation}
 use Rattle.ups_life.specs.declared.entry.Entry.{Entry}
@@ -19,14 +19,14 @@ use Rattle.ups_journal.specs.Columns.{recorded}
 use Rattle.ups_journal.specs.Writable.{IsWritableEntry}
 use Rattle.ups_service.specs.Law.{is_legal, OrLacking}
 
--- why an entry is not entered after a history: its moment is too late; it is not accepted there, and that not for want of
--- room; or 0213 is the reply that is due there, or stands in the place of one that accepts it, since memory ran out
+-- why an entry is not entered after a history: its moment is too late; it is not accepted there, for another reason than lack
+-- of room; or the reply is 0213, either because it is due there, or because memory ran out although the due reply accepts it
 abbrev pub IsRefusal : {A : Type 0} → Settings → List (Entry A) → Entry A → Refusal → Type 0
 IsRefusal s history e BadMoment = last_moment < e.moment
 IsRefusal s history e Refused = (accepts (reply s (past history) e) ≡ false) × (reply s (past history) e ≢ Answered ResourceLimitation)
 IsRefusal s history e NoRoom = OrLacking ResourceLimitation (reply s (past history) e) (Answered ResourceLimitation)
 
--- the entries before this place were entered, and the one at it was not
+-- the entries before this place were entered, and the one at this place was not
 pub record StopsReplayAt {A : Type 0} (s : Settings) (history entries : List (Entry A)) (fault : ReplayFault) (after : List (Entry A)) : Type 0 where
   pub front : List (Entry A)
   pub entry : Entry A
@@ -36,35 +36,35 @@ pub record StopsReplayAt {A : Type 0} (s : Settings) (history entries : List (En
   pub entered : after ≡ history ++ front
   pub why : IsRefusal s after entry fault.refusal
 
--- only memory or room was wanting
+-- the only reason is lack of memory or room
 abbrev pub IsWant : RestoreRefusal → Type 0
 IsWant (restoring.Record fault) = fault ≡ records.Memory
 IsWant (restoring.Entry refusal) = refusal ≡ NoRoom
 
--- the record of an entry that is refused after a history
+-- the record is that of an entry that is refused after a history
 abbrev pub IsRefusedFor : {A : Type 0} → Settings → List (Entry A) → Record A → Refusal → Type 0
 IsRefusedFor {A} s history stored refusal = (e : Entry A) × IsWritableEntry e × (recorded e ≡ stored) × IsRefusal s history e refusal
 
--- why a record is not entered after a history: it is that of no entry, or memory ran out; or its entry is refused there
+-- why a record is not entered after a history: it is the record of no entry, or memory ran out; or its entry is refused there
 abbrev pub IsFailure : {A : Type 0} → Settings → List (Entry A) → Record A → RestoreRefusal → Type 0
 IsFailure {A} s history stored (restoring.Record fault) = fault ≢ records.Memory → (e : Entry A) → IsWritableEntry e → recorded e ≡ stored → ⊥
 IsFailure s history stored (restoring.Entry refusal) = IsRefusedFor s history stored refusal
 
--- a record of an entry that is accepted after a history
+-- the record is that of an entry that is accepted after a history
 pub record IsRecordOf {A : Type 0} (s : Settings) (history : List (Entry A)) (stored : Record A) (e : Entry A) : Type 0 where
   pub writable : IsWritableEntry e
   pub is : recorded e ≡ stored
   pub moment : IsMoment e.moment
   pub legal : is_legal s (history ++ e ∷ [])
 
--- records of entries that go on legally from a history
+-- the records are those of entries that continue a history legally
 pub record AreOf {A : Type 0} (s : Settings) (history : List (Entry A)) (stored : List (Record A)) (es : List (Entry A)) : Type 0 where
   pub writable : All (λ (e : Entry A). IsWritableEntry e) es
   pub are : map recorded es ≡ stored
   pub moments : All (λ (e : Entry A). IsMoment e.moment) es
   pub legal : is_legal s (history ++ es)
 
--- the history goes on by entries of which these are the records
+-- the history is continued by entries whose records these are
 abbrev pub GoesOnBy : {A : Type 0} → List (Entry A) → List (Record A) → List (Entry A) → Type 0
 GoesOnBy {A} history stored after = (es : List (Entry A)) × (map recorded es ≡ stored) × (after ≡ history ++ es)
 

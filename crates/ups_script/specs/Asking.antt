@@ -1,4 +1,4 @@
--- What a message asks, by the bytes of its data set (PS3.7 annex C, PS3.4 section C.4.1.1.4).
+-- What a message asks, given the bytes of its data set (PS3.7 annex C, PS3.4 section C.4.1.1.4).
 use Rattle.std.specs.Prelude.{◌≡◌, ◌⊎◌, ℕ, ℤ, List, Result, Err}
 use Rattle.ups_dataset.specs.declared.fault.SetFault.{SetFault}
 use Rattle.ups_dataset.specs.declared.fault.SetFault.TheVariants as faults
@@ -14,24 +14,24 @@ use Rattle.ups_life.specs.Asking.{asked}
 use Rattle.ups_script.specs.declared.telling.Unasked.{Unasked}
 use Rattle.ups_script.specs.declared.telling.Unasked.TheVariants.{Refused, Memory}
 
--- the status of a message whose data set can't be read: of a C-FIND its own
+-- the status of a message whose data set can't be read; a C-FIND has a status of its own
 abbrev pub unread : {A : Type 0} → Operation A → Status
 unread (operations.Find priority) = UnableToProcess
 unread operation = ProcessingFailure
 
--- A message asks something, or is refused with a status: by the data set that its bytes spell in Explicit VR Little
--- Endian (PS3.5 annex A.2), or because they spell none. The offset is that of the local time from UTC, in minutes.
+-- A message asks something, or is refused with a status: because of the data set that its bytes encode in Explicit VR Little
+-- Endian (PS3.5 annex A.2), or because they encode none. The offset is that of the local time from UTC, in minutes.
 abbrev pub Asks : {A : Type 0} → ℤ → Operation A → List ℕ → Result (Ask A) Status → Type 0
 Asks offset operation bytes meaning =
     ((set : List El) × SpellsSet Explicit bytes set × (meaning ≡ asked offset operation set))
     ⊎ (((set : List El) → SpellsSet Explicit bytes set → ⊥) × (meaning ≡ Err (unread operation)))
 
--- why nothing is asked: the message is refused; or memory ran out, and then its bytes spell a data set
+-- why nothing is asked: the message is refused; or memory ran out, in which case its bytes encode a data set
 abbrev pub IsUnasked : {A : Type 0} → ℤ → Operation A → List ℕ → Unasked → Type 0
 IsUnasked offset operation bytes (Refused status) = Asks offset operation bytes (Err status)
 IsUnasked offset operation bytes Memory = (set : List El) × SpellsSet Explicit bytes set
 
--- what a fault in reading a data set makes of its message
+-- why nothing is asked by a message, given the fault in reading its data set
 abbrev pub without_set : {A : Type 0} → Operation A → SetFault → Unasked
 without_set operation faults.Memory = Memory
 without_set operation fault = Refused (unread operation)

@@ -18,16 +18,16 @@ use Rattle.ups_lines.specs.Printing.{hex_word, printed, words, spaced}
 use Rattle.ups_script.specs.declared.telling.Told.{Told}
 use Rattle.ups_script.specs.declared.telling.Told.TheVariants.{Replied, Steps, Watched, Holder}
 
--- one of several sets, in brackets
+-- one of several data sets, in brackets
 abbrev pub bracketed : List El → List ℕ
 bracketed set = (91 ∷ spaced false (words [] set)) ++ (93 ∷ [])
 
--- who holds a step
+-- the title of a step's holder, or a hyphen if there is none
 abbrev pub title_word : Option (List ℕ) → List ℕ
 title_word None = 45 ∷ []
 title_word (Some title) = printed title
 
--- a step that a watcher is subscribed to: its UID, and whether it is free or locked
+-- a step that a watcher is subscribed to: its UID, and `locked` if the subscription has a Deletion Lock, otherwise `free`
 abbrev pub subscription_text : Subscription → List ℕ
 subscription_text Free = codes "free"
 subscription_text Locked = codes "locked"
@@ -43,7 +43,7 @@ event_word x =
 abbrev pub report_word : {A : Type 0} → EventReport A → List ℕ
 report_word r = event_word r.event
 
--- what stands behind the status
+-- the words of a reply after its status
 abbrev pub reply_words : {A : Type 0} → Reply A → List (List ℕ)
 reply_words (Answered status) = []
 reply_words (Shown status set) = words [] set
@@ -53,7 +53,7 @@ reply_words AckAhead = []
 reply_words AckStale = []
 reply_words (Reports reports) = map report_word reports
 
--- what a reply begins with: its status as four hex digits (PS3.7 annex C), or why an acknowledgement is none
+-- the beginning of a reply: its status as four hex digits (PS3.7 annex C), or why an acknowledgement is not valid
 abbrev pub reply_head : {A : Type 0} → Reply A → List ℕ
 reply_head (Answered status) = hex_word (code status)
 reply_head (Shown status set) = hex_word (code status)
@@ -63,7 +63,7 @@ reply_head AckAhead = codes "AckAhead"
 reply_head AckStale = codes "AckStale"
 reply_head (Reports reports) = hex_word (code Success)
 
--- a reply: what it begins with, its words, and the end of the line
+-- the line of a reply: its beginning, its words, and a line feed
 abbrev pub reply_line : List ℕ → List (List ℕ) → List ℕ
 reply_line head ws = (head ++ spaced true ws) ++ (10 ∷ [])
 
@@ -73,6 +73,6 @@ line_of (Steps steps) = reply_line (hex_word (code Success)) (map printed steps.
 line_of (Watched steps) = reply_line (hex_word (code Success)) (map watched_word steps.items)
 line_of (Holder title) = reply_line (hex_word (code Success)) (title_word title ∷ [])
 
--- what is written in the place of a reply to a line that is none: "bad line " and its number
+-- the text in place of a reply to an invalid line: "bad line " and the number of the line
 abbrev pub bad_text : ℕ → List ℕ
 bad_text number = (codes "bad line " ++ decimal number) ++ (10 ∷ [])

@@ -1,4 +1,4 @@
--- What a line asks, by its words: when, by whom and what.
+-- What a line asks, by its words: when, who and what.
 use Rattle.std.specs.Prelude.{◌≡◌, ◌≢◌, ◌⊎◌, ◌<◌, ◌≤◌, ◌^◌, ℕ, List, [], ◌∷◌, length, codes, Option, None, Some, MatchOption}
 use Rattle.std.specs.Str.Parse.{IsNumeral, digits_value}
 use Rattle.ups_pdu.specs.Identifier.{SpellsUid}
@@ -20,12 +20,12 @@ use Rattle.ups_script.specs.declared.asking.Question.TheVariants as questions
 use Rattle.ups_script.specs.declared.line.Verb.{Verb}
 use Rattle.ups_script.specs.declared.line.Verb.TheVariants.{Create, Get, Set, Change, Cancel, Subscribe, Unsubscribe, Suspend, Find, Pending, Ack, Watches, Sweep, Held, Holder}
 
--- a number of seconds in decimal digits
+-- the word is a moment: a number of seconds in decimal digits
 pub record IsMomentWord (word : List ℕ) (moment : ℕ) : Type 0 where
   pub numeral : IsNumeral 10 word
   pub value : moment ≡ digits_value 10 word
 
--- a word stands for the title of an application entity (PS3.5 section 6.2, AE)
+-- the word stands for the title of an application entity (PS3.5 section 6.2, AE)
 abbrev pub IsTitleWord : List ℕ → List ℕ → Type 0
 IsTitleWord word ae = (bytes : List ℕ) × StandsFor word bytes × SpellsAe bytes ae
 
@@ -46,7 +46,7 @@ verb_word Sweep = codes "sweep"
 verb_word Held = codes "held"
 verb_word Holder = codes "holder"
 
--- MOMENT AE VERB, and then the arguments
+-- the words are MOMENT AE VERB, followed by the arguments
 pub record IsHeading (words : List (List ℕ)) (moment : ℕ) (ae : List ℕ) (verb : Verb) (arguments : List (List ℕ)) : Type 0 where
   pub moment_word : List ℕ
   pub title_word : List ℕ
@@ -54,32 +54,32 @@ pub record IsHeading (words : List (List ℕ)) (moment : ℕ) (ae : List ℕ) (v
   pub is_moment : IsMomentWord moment_word moment
   pub is_title : IsTitleWord title_word ae
 
--- a text stands for the UID of an instance; None is for what is no UID
+-- the word stands for the UID of an instance; None if it stands for no UID
 abbrev pub StandsForInstance : List ℕ → Option (List ℕ) → Type 0
 StandsForInstance word instance = (bytes : List ℕ) × StandsFor word bytes × MatchOption instance ((uid : List ℕ) → SpellsUid bytes uid → ⊥) (SpellsUid bytes)
 
--- a word names an instance: `global` and `filtered` those that stand for global subscriptions (PS3.4 CC.2.3), each other word
--- the one whose UID it stands for
+-- the word names an instance: `global` and `filtered` those of global subscriptions (PS3.4 CC.2.3), any other word the one
+-- whose UID it stands for
 abbrev pub NamesInstance : List ℕ → Option (List ℕ) → Type 0
 NamesInstance word instance =
     ((word ≡ codes "global") × (instance ≡ Some (text_of GlobalSubscription)))
     ⊎ (((word ≡ codes "filtered") × (instance ≡ Some (text_of FilteredGlobalSubscription)))
     ⊎ ((word ≢ codes "global") × (word ≢ codes "filtered") × StandsForInstance word instance))
 
--- the first of some words does, and the rest stands behind it
+-- the first of these words names an instance, and the rest follows it
 abbrev pub Names : List (List ℕ) → Option (List ℕ) → List (List ℕ) → Type 0
 Names words instance rest = (word : List ℕ) × (words ≡ word ∷ rest) × NamesInstance word instance
 
--- the only word is a number in decimal digits
+-- there is one word, which is a number in decimal digits
 abbrev pub IsCount : List (List ℕ) → ℕ → Type 0
 IsCount words count = (word : List ℕ) × (words ≡ word ∷ []) × IsNumeral 10 word × (count ≡ digits_value 10 word)
 
--- a question is a message that asks for such an operation
+-- the question is a message with such an operation
 abbrev pub IsMessageOf : {A : Type 0} → (Operation A → Type 0) → Question A → Type 0
 IsMessageOf Is (questions.Message operation data_set) = Is operation
 IsMessageOf Is question = ⊥
 
--- N-CREATE, N-GET and N-SET of the instance that the first word names (PS3.7 sections 10.3.5, 10.3.2 and 10.3.3)
+-- N-CREATE, N-GET and N-SET for the instance that the first word names (PS3.7 sections 10.3.5, 10.3.2 and 10.3.3)
 abbrev pub IsCreate : {A : Type 0} → List (List ℕ) → Operation A → Type 0
 IsCreate words (operations.Create instance) = (rest : List (List ℕ)) × Names words instance rest
 IsCreate words operation = ⊥
@@ -102,8 +102,8 @@ abbrev pub IsFind : {A : Type 0} → Operation A → Type 0
 IsFind (operations.Find priority) = priority ≡ None
 IsFind operation = ⊥
 
--- What a verb asks with the words behind it: what only the service can be asked, as it is; and else the operation of a
--- message, with its instance, and the type of an N-ACTION (PS3.4 table CC.2.1-1 and CC.2.2 to CC.2.8).
+-- What a verb asks with the words after it: a question that only the service can be asked, in full; or a message with this
+-- operation, its instance, and the type of an N-ACTION (PS3.4 table CC.2.1-1 and CC.2.2 to CC.2.8).
 abbrev pub IsOf : {A : Type 0} → Verb → List (List ℕ) → Question A → Type 0
 IsOf Create words question = IsMessageOf (IsCreate words) question
 IsOf Get words question = IsMessageOf (IsGet words) question
@@ -122,22 +122,22 @@ IsOf Held words questions.Held = words ≡ []
 IsOf Holder words (questions.Holder instance) = Names words instance []
 IsOf verb words question = ⊥
 
--- the words of a line ask this at a moment, by an application entity
+-- with the words of a line, an application entity asks this question at a moment
 abbrev pub AsksAt : {A : Type 0} → List (List ℕ) → ℕ → List ℕ → Question A → Type 0
 AsksAt words moment ae question = (verb : Verb) × (arguments : List (List ℕ)) × IsHeading words moment ae verb arguments × IsOf verb arguments question
 
--- a word is no moment: no number in decimal digits, or one behind the last moment
+-- the word is no moment: it is no number in decimal digits, or one beyond the last moment
 abbrev pub NoMoment : List ℕ → Type 0
 NoMoment word = (moment : ℕ) → IsMoment moment → IsMomentWord word moment → ⊥
 
--- a word is no title, and why: two hex digits are missing behind a `%`, or what it stands for is none
+-- the word is no title, for this reason: two hex digits are missing after a `%`, or it stands for no AE title
 abbrev pub NoTitle : List ℕ → LineReason → Type 0
 NoTitle word reason = ((reason ≡ reasons.Escape) × (IsText word → ⊥)) ⊎ ((reason ≡ reasons.Title) × ((ae : List ℕ) → IsTitleWord word ae → ⊥))
 
 abbrev pub NoVerb : List ℕ → Type 0
 NoVerb word = (verb : Verb) → verb_word verb ≡ word → ⊥
 
--- words fail to begin a line, and why: by the first of them that is wrong
+-- the words fail to begin a line, for this reason, by the first faulty word
 abbrev pub FailsVerb : List (List ℕ) → LineReason → Type 0
 FailsVerb words reason = NoWord words reason ⊎ ((word : List ℕ) × (rest : List (List ℕ)) × (words ≡ word ∷ rest) × (reason ≡ reasons.Verb) × NoVerb word)
 
@@ -148,8 +148,7 @@ abbrev pub FailsHeading : List (List ℕ) → LineReason → Type 0
 FailsHeading words reason =
     NoWord words reason ⊎ ((word : List ℕ) × (rest : List (List ℕ)) × (words ≡ word ∷ rest) × (((reason ≡ reasons.Moment) × NoMoment word) ⊎ FailsTitle rest reason))
 
--- the words behind a verb are not such as it takes: said of the verbs that take none, a number, or the UID of an instance
--- alone
+-- the arguments are not what the verb takes; this covers only the verbs that take no argument, one number or one instance
 abbrev pub FailsArguments : Verb → List (List ℕ) → Type 0
 FailsArguments Watches arguments = arguments ≢ []
 FailsArguments Sweep arguments = arguments ≢ []
@@ -159,7 +158,7 @@ FailsArguments Ack arguments = (word : List ℕ) → arguments ≡ word ∷ [] �
 FailsArguments Holder arguments = (word : List ℕ) → arguments ≡ word ∷ [] → word ≢ [] → IsText word → ⊥
 FailsArguments verb arguments = Unit {0}
 
--- words begin a line, and what stands behind its verb fails
+-- the words begin a line, and the arguments after its verb fail
 pub record FailsBehind (words : List (List ℕ)) : Type 0 where
   pub moment : ℕ
   pub ae : List ℕ
@@ -168,11 +167,11 @@ pub record FailsBehind (words : List (List ℕ)) : Type 0 where
   pub heading : IsHeading words moment ae verb arguments
   pub fails : FailsArguments verb arguments
 
--- bytes are no line of a script
+-- the bytes are no line of a script, for this reason; for any reason if the arguments fail
 abbrev pub IsBad : List ℕ → LineReason → Type 0
 IsBad line reason = ((reason ≡ reasons.TooLong) × (max_line < length line)) ⊎ (FailsHeading (words_of line) reason ⊎ FailsBehind (words_of line))
 
--- a fault that is told as a bad line has this reason
+-- if the fault is that of a malformed line, its reason satisfies P
 abbrev pub OnBad : LineFault → (LineReason → Type 0) → Type 0
 OnBad (Malformed reason) P = P reason
 OnBad Memory P = Unit {0}

@@ -15,11 +15,11 @@ use Rattle.ups_script.specs.Printing.{bad_text, line_of}
 use Rattle.ups_script.specs.Questions.{AsksAt, IsBad}
 use Rattle.ups_script.specs.Telling.{TellsAsked}
 
--- the number of one of the lines that are read
+-- the number of a line that may be read
 abbrev pub IsNumber : ℕ → Type 0
 IsNumber number = (1 ≤ number) × (number ≤ max_lines)
 
--- a line that is told is one of those that are read
+-- if the fault names a line, it is one that may be read
 abbrev pub TellsLine : ScriptFault → Type 0
 TellsLine (BadLine bad) = IsNumber bad.number
 TellsLine TooManyLines = Unit {0}
@@ -27,39 +27,40 @@ TellsLine Read = Unit {0}
 TellsLine Write = Unit {0}
 TellsLine Memory = Unit {0}
 
--- the fault is one of reading: the reader failed, or memory ran out for what it gave
+-- the fault is one of reading: the reader failed, or memory ran out for the bytes that it gave
 abbrev pub IsReading : ScriptFault → Type 0
 IsReading Read = Unit {0}
 IsReading Memory = Unit {0}
 IsReading fault = ⊥
 
--- a line asks what its words say, at their moment and by their application entity, and is told something by a history
+-- a line asks the question of its words, at their moment and by their application entity, and is answered from the history
 abbrev pub AnswersLine : {A : Type 0} → Settings → List (Entry A) → List ℕ → Told A → List (Entry A) → Type 0
 AnswersLine {A} settings history line told after = (asked : Asked A) × AsksAt (words_of line) asked.moment asked.ae asked.question × TellsAsked settings history asked told after
 
--- the same of lines, one after the other
+-- the same for lines, one after another
 abbrev pub AnswersAll : {A : Type 0} → Settings → List (Entry A) → List (List ℕ) → List (Told A) → List (Entry A) → Type 0
 AnswersAll settings history [] [] after = after ≡ history
 AnswersAll {A} settings history (line ∷ lines) (told ∷ more) after = (then : List (Entry A)) × AnswersLine settings history line told then × AnswersAll settings then lines more after
 AnswersAll settings history lines told after = ⊥
 
--- what a question left that was not answered: where memory ran out nothing was done, and where a write failed it was told
--- something
+-- the state after a question whose answer was not written: if memory ran out, nothing was done; if a write failed, the question
+-- was answered
 abbrev pub Leaves : {A : Type 0} → Settings → List (Entry A) → Asked A → Option (List ℕ) → Option (List ℕ) → ScriptFault → List (Entry A) → Type 0
 Leaves settings history asked written after Memory new = Keeps written after × (new ≡ history)
 Leaves {A} settings history asked written after Write new = (told : Told A) × TellsAsked settings history asked told new
 Leaves settings history asked written after fault new = ⊥
 
--- how the line of a number ends a script, by what was written before it and by the history: it is none, for the reason
--- told, and that is written; memory ran out, and nothing was done; or a write failed, and its question may have been told something
+-- how the line with this number ends a script, given the bytes written before it and the history: it is invalid, for the reason
+-- in the fault, and its number is written; memory ran out, and nothing was done; or a write failed, and its question may have
+-- been answered
 abbrev pub Breaks : {A : Type 0} → Settings → List (Entry A) → List ℕ → ℕ → Option (List ℕ) → Option (List ℕ) → ScriptFault → List (Entry A) → Type 0
 Breaks settings history line number written after (BadLine bad) new = (bad.number ≡ number) × IsBad line bad.reason × Appends written after (bad_text number) × (new ≡ history)
 Breaks settings history line number written after Memory new = Keeps written after × (new ≡ history)
 Breaks {A} settings history line number written after Write new = (new ≡ history) ⊎ ((told : Told A) × AnswersLine settings history line told new)
 Breaks settings history line number written after fault new = ⊥
 
--- how a script ends behind lines that were answered: too many are told only where as many as are allowed were answered and
--- something is left
+-- how a script ends after lines that were answered: the fault is too many lines only if as many as the limit were answered and
+-- input is left
 abbrev pub EndsScript : {A : Type 0} → Settings → ℕ → ℕ → Option (List ℕ) → Option (List ℕ) → Option (List ℕ) → Option (List ℕ) → List (Entry A) → List (Entry A) → Result Unit ScriptFault → Type 0
 EndsScript settings limit count rest left written after history new (Ok done) = Keeps rest left × OnSome rest (IsAtEnd left) × Keeps written after × (new ≡ history)
 EndsScript settings limit count rest left written after history new (Err TooManyLines) = (count ≡ limit) × HasMore rest × Keeps rest left × Keeps written after × (new ≡ history)
@@ -68,7 +69,7 @@ EndsScript settings limit count rest left written after history new (Err fault) 
     (((part : List ℕ) × Consumes rest left part) × (fault ≡ Memory) × Keeps written after × (new ≡ history))
     ⊎ ((line : List ℕ) × TakesLine rest line left × Breaks settings history line (count + 1) written after fault new)
 
--- A script: some lines were taken and answered, one after the other, and the replies were written; then it ended.
+-- The run of a script: some lines were taken and answered, one after another, and the replies were written; then it ended.
 pub record Runs {A : Type 0} (settings : Settings) (limit : ℕ) (input left written after : Option (List ℕ)) (old new : List (Entry A)) (result : Result Unit ScriptFault) : Type 0 where
   pub lines : List (List ℕ)
   pub told : List (Told A)

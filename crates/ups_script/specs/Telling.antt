@@ -1,4 +1,4 @@
--- What the questions of a script are told by a manager that nobody else uses.
+-- The answers to the questions of a script by a manager that nobody else uses.
 use Rattle.std.specs.Prelude.{◌≡◌, ℕ, List, Option, None, Some, Result, Ok, Err}
 use Rattle.std.specs.Option.{option_map}
 use Rattle.ups_dimse.specs.declared.command.Operation.{Operation}
@@ -23,17 +23,17 @@ use Rattle.ups_script.specs.declared.telling.Told.{Told}
 use Rattle.ups_script.specs.declared.telling.Told.TheVariants as told
 use Rattle.ups_script.specs.Asking.{Asks}
 
--- What is asked at a moment is answered by the law of the manager; what is refused has its status, and changes nothing.
+-- A request at a moment is answered by the law of the manager; a refused message gets its status and changes nothing.
 abbrev pub Meets : {A : Type 0} → Settings → List (Entry A) → List ℕ → ℕ → Result (Ask A) Status → Reply A → List (Entry A) → Type 0
 Meets settings history ae moment (Ok ask) reply after = Serves settings nobody 0 (alone history) ae moment ask reply (alone after)
 Meets settings history ae moment (Err status) reply after = (reply ≡ Answered status) × (after ≡ history)
 
--- the reply to a message, by the bytes of its data set
+-- the reply to a message, given the bytes of its data set
 abbrev pub RepliesToMessage : {A : Type 0} → Settings → List (Entry A) → List ℕ → ℕ → Operation A → List ℕ → Reply A → List (Entry A) → Type 0
 RepliesToMessage {A} settings history ae moment operation bytes reply after =
     (meaning : Result (Ask A) Status) × Asks settings.offset operation bytes meaning × Meets settings history ae moment meaning reply after
 
--- the title of who holds the step that an instance is
+-- the title of the holder of a step, by its UID
 abbrev pub title_at : {A : Type 0} → Settings → List (Entry A) → Option (List ℕ) → Option (List ℕ)
 title_at settings history None = None
 title_at settings history (Some uid) = option_map (λ (h : Holder). h.ae) (holder_of settings (past history) uid)
@@ -41,7 +41,7 @@ title_at settings history (Some uid) = option_map (λ (h : Holder). h.ae) (holde
 abbrev pub title_of : {A : Type 0} → Settings → List (Entry A) → Option (List ℕ) → Option (List ℕ)
 title_of settings history instance = title_at settings history (step_in instance)
 
--- what each question is told by a history, and the history after it
+-- the answer to each question from a history, and the history after it
 abbrev pub TellsOf : {A : Type 0} → Settings → List (Entry A) → List ℕ → ℕ → Question A → Told A → List (Entry A) → Type 0
 TellsOf settings history ae moment (questions.Message operation data_set) (told.Replied reply) after = RepliesToMessage settings history ae moment operation data_set.items reply after
 TellsOf settings history ae moment questions.Sweep (told.Replied reply) after = Serves settings nobody 0 (alone history) ae moment (Do Sweep) reply (alone after)
@@ -52,6 +52,6 @@ TellsOf settings history ae moment questions.Held (told.Steps steps) after = (st
 TellsOf settings history ae moment (questions.Holder instance) (told.Holder title) after = (title ≡ title_of settings history instance) × (after ≡ history)
 TellsOf settings history ae moment question answer after = ⊥
 
--- the same of a question with when it is asked and by whom
+-- the same for a question together with its moment and its application entity
 abbrev pub TellsAsked : {A : Type 0} → Settings → List (Entry A) → Asked A → Told A → List (Entry A) → Type 0
 TellsAsked settings history asked answer after = TellsOf settings history asked.ae asked.moment asked.question answer after

@@ -1,4 +1,4 @@
--- What a server does, as its command line asks.
+-- A server that does what its command line asks.
 use Rattle.std.specs.Prelude.{◌≡◌, ℕ, ◌+◌, ◌-◌, min, max, Bool, false, List, [], codes, length, is_some, option_map, unwrap_or, Option, None, Some}
 use Rattle.std.specs.Global.{Global}
 use Rattle.atomic_table.specs.Seated.{TableId}
@@ -19,21 +19,21 @@ use Rattle.ups_service.specs.State.{State}
 use Rattle.ups_settings.specs.Limits.{turns_limit, workers_limit}
 use Rattle.ups_turn.specs.Pass.{PassView, passes_from}
 
--- how many deliver event reports beside so many workers: one for each watcher, eight at most; no more than the desk has
--- seats for, and at least one
+-- the number of deliverers of event reports beside that many workers: one for each watcher, at most eight; no more than the
+-- desk has seats for, and at least one
 abbrev pub deliverers_of : ℕ → ℕ → ℕ
 deliverers_of workers watchers = max 1 (min (min watchers 8) (workers_limit + 1 - workers))
 
--- the seats of the desk: for the workers, for those that deliver, and for the one that sweeps
+-- the seats of the desk: for the workers, for the deliverers, and for the sweeper
 abbrev pub seats_of : ℕ → ℕ → ℕ
 seats_of workers watchers = workers + deliverers_of workers watchers + 1
 
--- the settings of the manager
+-- the settings of the manager that the command line asks for
 abbrev pub settings_asked : ServeArguments → Settings
 settings_asked asked = record { peers = asked.peers.items; keep = asked.keep; offset = asked.offset; limit = history_limit }
 
--- how the threads of the server work: with its title, its local time, its limits and its watchers; each worker
--- has so many associations to serve, and the sweeper and each deliverer so many rounds to make
+-- how the threads of the server work: with its title, its local time, its limits and its watchers; each worker has
+-- `to_serve` associations to serve, and the sweeper and each deliverer have `to_make` rounds to make
 pub record AreAsked (options : ServerOptions) (asked : ServeArguments) (to_serve to_make : ℕ) : Type 0 where
   pub ae : options.config.ae ≡ asked.ae
   pub offset : options.config.offset ≡ asked.offset
@@ -43,16 +43,17 @@ pub record AreAsked (options : ServerOptions) (asked : ServeArguments) (to_serve
   pub associations : options.associations ≡ to_serve
   pub rounds : options.rounds ≡ to_make
 
--- A manager has no history where nothing is kept, and else the history whose records its ledger has.
+-- A manager begins without history if no ledger is kept; otherwise its whole history is committed, and the ledger has the
+-- records if it is sound.
 abbrev pub HasBegun : {L : Type 0} → Ghosts L → Option (Keeper L) → List (Entry Global) → Type 0
 HasBegun g None history = history ≡ []
 HasBegun g (Some keeper) history = IsKept g keeper history × (keeper.committed ≡ length history)
 
--- what becomes of the passes of the server: its threads have all done what is asked, or none has begun
+-- the outcome for the passes of the server: its threads have all done what is asked, or none has begun
 abbrev pub RanAsAsked : {A : Type 0} → ServeArguments → ℕ → ℕ → Bool → List (PassView A) → List (PassView A) → Type 0
 RanAsAsked asked associations rounds begun olds news = (options : ServerOptions) × AreAsked options asked associations rounds × Ran options (is_some asked.store) begun olds news
 
--- what the words of a command line ask of `serve`, by what the parser found in them
+-- the words of a command line, as the parser found them, ask this of `serve`
 pub record AreWords (found : Found) (asked : ServeArguments) : Type 0 where
   pub title : SpellsAe (unwrap_or (first_value found (codes "ae")) []) asked.ae
   pub peers : NamePeers (argument_words found (codes "peer")) asked.peers.items
@@ -68,8 +69,8 @@ pub record AreWords (found : Found) (asked : ServeArguments) : Type 0 where
   pub store : option_map (λ w. w.now) asked.store ≡ first_value found (codes "store")
   pub leave_out : IsFlag found (codes "store-leave-out") asked.leave_out
 
--- What becomes of a server by the words of a command line: its manager opened with the settings that they ask for, and without
--- history where they name no store; and its passes have done what they ask for, or none has begun.
+-- A server has run as the words of a command line ask: its manager opened with the settings that they ask for, and without
+-- history if they name no store; and its threads have done what they ask for, or none has begun.
 pub record RanAsWords {A : Type 0} (found : Found) (associations rounds : ℕ) (begun : Bool) (table : TableId) (opening : State A) (news : List (PassView A)) : Type 0 where
   pub asked : ServeArguments
   pub words : AreWords found asked

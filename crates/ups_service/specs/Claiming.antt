@@ -1,4 +1,4 @@
--- Who was told that it has claimed a step. Histories stand here as they are shown, oldest first.
+-- Which callers were told that they have claimed a step. Histories here have the oldest entry first.
 use Rattle.std.specs.Prelude.{ℕ, List, Some}
 use Rattle.ups_cycle.specs.declared.state.StepState.TheVariants.{InProgress}
 use Rattle.ups_cycle.specs.declared.status.Status.TheVariants.{Success}
@@ -14,7 +14,7 @@ use Rattle.ups_service.specs.Law.{Others, Seen, Serves}
 abbrev pub claiming : {A : Type 0} → List ℕ → List ℕ → Request A
 claiming u uid = Change (Some u) InProgress (Proper uid)
 
--- a call of a caller that claims a step was answered with success, and this was seen then
+-- a call of the caller that claims the step u was answered with Success; `after`: what it had seen then
 pub record HasClaimed {A : Type 0} (s : Settings) (others : Others) (caller : ℕ) (ae : List ℕ) (moment : ℕ) (u : List ℕ) (after : Seen A) : Type 0 where
   pub uid : List ℕ
   pub seen : Seen A

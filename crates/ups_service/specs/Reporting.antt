@@ -1,5 +1,4 @@
--- What a watcher is told of the events that it has not acknowledged (PS3.4 CC.2.4). Histories stand here as they are
--- shown, oldest first.
+-- What a watcher is told about its pending events (PS3.4 CC.2.4). Histories here have the oldest entry first.
 use Rattle.std.specs.Prelude.{ℕ, List, [], map, take, slice_get}
 use Rattle.std.specs.Option.{option_map, unwrap_or}
 use Rattle.ups_dataset.specs.Data.{El}
@@ -18,6 +17,6 @@ information_of history x = unwrap_or (option_map (payload x) (slice_get history 
 abbrev pub report_of_event : {A : Type 0} → List (Entry A) → Event → EventReport A
 report_of_event history x = record { event = x; information = information_of history x }
 
--- at most so many of those that w has not acknowledged, oldest first
+-- the reports of the first `max` pending events of w, oldest first
 abbrev pub reports_to : {A : Type 0} → Settings → List (Entry A) → ℕ → List ℕ → List (EventReport A)
 reports_to settings history max w = map (report_of_event history) (take max (pending settings (past history) w))

@@ -34,7 +34,8 @@ use Rattle.ups_session.specs.Rules.{Dispatches}
 use Rattle.ups_session.specs.Sides.{ReactionOf, sending, transition, on_local_event, on_action, on_event, unexpected, reason_of, ids, aborting, with_begun, context_at}
 use Rattle.ups_session.specs.Responses.{response}
 
--- whether the table takes a request as acceptable: a rejection by the service provider comes before (PS3.8 table 9-6)
+-- whether the state table takes a request as acceptable: only a rejection by the service provider, which comes first,
+-- makes it unacceptable (PS3.8 table 9-6)
 abbrev pub is_acceptable : {A : Type 0} → Outcome A → Bool
 is_acceptable (Accept acceptance) = true
 is_acceptable (Reject rejection) = not (number_source rejection == 2)
@@ -61,7 +62,7 @@ requested_at requestor association o (Some (action, state)) = on_action requesto
 abbrev pub requested : {A : Type 0} → Bool → AssociationView A → Outcome A → ReactionOf A
 requested requestor association o = requested_at requestor association o (next_of requestor (is_acceptable o) events.AssociateRq association.state)
 
--- the effect of a message: PDUs are sent, or a reply is awaited; None where the association is aborted
+-- the effect of a message: PDUs are sent, or a reply is awaited; None if the association is aborted
 abbrev pub MessageEffect : Type 0 → Type 0
 MessageEffect A = Option (List (Pdu A) × Option (AwaitedRequestView A))
 
@@ -74,8 +75,8 @@ abbrev pub message_effect_of : {A : Type 0} → ParametersView → AcceptedConte
 message_effect_of parameters context command (answered_at_once status) = Some (response parameters.max context command (Replied status), None)
 message_effect_of parameters context command (asking ask) = Some ([], Some (record { ae = parameters.ae; ask = ask; max = parameters.max; context = context; command = command }))
 
--- A response that nobody asked for is taken, and not answered; and so is a C-CANCEL, since each C-FIND is answered whole
--- before anything else is read (PS3.7 section 9.3.2.3).
+-- A response that was not asked for is ignored; and so is a C-CANCEL, since each C-FIND is answered completely before
+-- anything else is read (PS3.7 section 9.3.2.3).
 abbrev pub OnCommand : {A : Type 0} → ℤ → ParametersView → Option AcceptedContext → Option (List ℕ) → Command A → MessageEffect A → Type 0
 OnCommand offset parameters context body (Response response) h = h ≡ Some ([], None)
 OnCommand offset parameters context body (Cancel cancel) h = h ≡ Some ([], None)
@@ -83,13 +84,13 @@ OnCommand offset parameters None body (Request command) h = h ≡ None
 OnCommand {A} offset parameters (Some context) body (Request command) h =
     (dispatch_view : DispatchView A) × Dispatches offset context command body dispatch_view × (h ≡ message_effect_of parameters context command dispatch_view)
 
--- a whole message; where its command can't be read, the association is aborted
+-- a whole message; if its command set can't be read, the association is aborted
 abbrev pub OnMessage : {A : Type 0} → ℤ → ParametersView → RawMessage A → MessageEffect A → Type 0
 OnMessage {A} offset parameters message h =
     ((command : Command A) × SpellsCommand message.command command × OnCommand offset parameters (context_at message.context parameters.contexts) message.body command h)
     ⊎ (((command : Command A) → SpellsCommand message.command command → ⊥) × (h ≡ None))
 
--- a fragment: a message goes on, or is whole; or there is none, and the association is aborted
+-- a fragment: a message goes on, or is whole; or it is a fault, and the association is aborted
 abbrev pub Continues : {A : Type 0} → Bool → ℤ → AssociationView A → EstablishedView A → Fed A → ReactionOf A → Type 0
 Continues requestor offset association established (more begun) reaction = reaction ≡ sending (with_begun association established begun) []
 Continues {A} requestor offset association established (whole message) reaction = (h : MessageEffect A) × OnMessage offset established.parameters message h × (reaction ≡ on_message_effect requestor (with_begun association established Nothing) h)
@@ -104,8 +105,8 @@ Indicated requestor offset association pdv None reaction = reaction ≡ sending 
 Indicated requestor offset association pdv (Some (Dt2, state)) reaction = Received requestor offset (transition association events.Data Dt2 state) association.established pdv reaction
 Indicated requestor offset association pdv (Some (action, state)) reaction = reaction ≡ on_action requestor unexpected (transition association events.Data action state) action
 
--- The reaction to each indication, of the requestor or of the acceptor of the association; with the title of this
--- application entity, and the offset of its local time from UTC in minutes.
+-- The reaction to each indication, of the requestor or the acceptor of the association, given the title of this
+-- application entity and the offset of its local time from UTC in minutes.
 abbrev pub Reacts : {A : Type 0} → Bool → Config → AssociationView A → Indication A → ReactionOf A → Type 0
 Reacts requestor config association (event e) reaction = reaction ≡ on_event requestor unexpected association e (next_of requestor true e association.state)
 Reacts requestor config association (request rq) reaction = reaction ≡ requested requestor association (outcome config.ae rq)
@@ -117,10 +118,10 @@ Reacts requestor config association (invalid f) reaction = reaction ≡ on_event
 abbrev pub IsAnsweredBy : {A : Type 0} → AssociationView A → AwaitedRequestView A → Reply A → ReactionOf A → Type 0
 IsAnsweredBy association w reply reaction = reaction ≡ sending association (response w.max w.context w.command reply)
 
--- the side that accepts an association: it does nothing before anything comes
+-- the side that accepts an association: it does nothing until something arrives
 abbrev pub acceptor : {A : Type 0} → Config → Side A (AssociationView A) (AwaitedRequestView A)
 acceptor config = record { state = λ association. association.state; first = []; Reacts = Reacts false config; asked = λ w. record { ae = w.ae; ask = w.ask }; OnReply = IsAnsweredBy }
 
--- a transport connection was opened, and an A-ASSOCIATE-RQ is awaited
+-- a transport connection is open, and an A-ASSOCIATE-RQ is awaited
 abbrev pub opened : {A : Type 0} → AssociationView A
 opened = record { state = Sta2; established = None; ending = Closed }

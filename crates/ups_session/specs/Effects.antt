@@ -1,4 +1,4 @@
--- How the program's types are seen: an association, an effect, the outcome of a request.
+-- The views of the program's types: an association, an effect, the outcome of a request.
 use Rattle.std.specs.Prelude.{◌≤◌, Option, None, Some}
 use Rattle.std.specs.Option.{option_map}
 use Rattle.ups_pdu.specs.declared.pdu.Pdu.TheVariants.{AssociateAc}
@@ -18,7 +18,7 @@ use Rattle.ups_session.specs.Acceptor.{MessageEffect}
 use Rattle.ups_session.specs.Party.{said_by, awaited_by, reaction_with, CanSend}
 use Rattle.ups_session.specs.Sides.{ReactionOf}
 
--- the negotiated parameters, the established association, and the association
+-- the views of the negotiated parameters, the established association, and the association
 abbrev pub parameters_view : {A : Type 0} → Parameters A → ParametersView
 parameters_view parameters = record { ae = parameters.ae; contexts = parameters.contexts; max = parameters.max }
 
@@ -28,12 +28,12 @@ established_view established = record { parameters = parameters_view established
 abbrev pub association_view : {A : Type 0} → Association A → AssociationView A
 association_view association = record { state = association.state; established = option_map established_view association.established; ending = association.ending }
 
--- the outcome of a request
+-- the view of the outcome of a request
 abbrev pub dispatch_view : {A : Type 0} → Dispatch A → DispatchView A
 dispatch_view (Answer status) = answered_at_once status
 dispatch_view (Question ask) = asking ask
 
--- the request whose reply is awaited
+-- the view of a request whose reply is awaited
 abbrev pub awaited_view : {A : Type 0} → AwaitedRequest A → AwaitedRequestView A
 awaited_view w = record { ae = w.ae; ask = w.ask; max = w.max; context = w.context; command = w.command }
 
@@ -41,16 +41,16 @@ awaited_view w = record { ae = w.ae; ask = w.ask; max = w.max; context = w.conte
 abbrev pub reaction_of : {A : Type 0} → AssociationView A → Effect A (AwaitedRequest A) → ReactionOf A
 reaction_of association effect = reaction_with awaited_view association effect
 
--- the effect of a message
+-- the effect of a message; None if the association is aborted
 abbrev pub message_effect : {A : Type 0} → Option (Effect A (AwaitedRequest A)) → MessageEffect A
 message_effect None = None
 message_effect (Some effect) = Some (said_by effect, awaited_by awaited_view effect)
 
--- the response to a request can be written
+-- the response to a request can be written: the maximum length is at least 8 bytes
 abbrev pub HasRoom : {A : Type 0} → AwaitedRequest A → Type 0
 HasRoom waiting = 8 ≤ waiting.max
 
--- each PDU that it sends, or will send, can be written
+-- each PDU that the effect sends, or will send, can be written
 abbrev pub IsSendable : {A : Type 0} → Effect A (AwaitedRequest A) → Type 0
 IsSendable effect = CanSend HasRoom effect
 
@@ -58,12 +58,12 @@ abbrev pub AreSendable : {A : Type 0} → Option (Effect A (AwaitedRequest A)) �
 AreSendable None = Unit {0}
 AreSendable (Some effect) = IsSendable effect
 
--- the peer takes PDUs of eight bytes at least
+-- the peer's maximum length is at least 8 bytes, if the association is established
 abbrev pub IsRoomy : {A : Type 0} → Option (Established A) → Type 0
 IsRoomy None = Unit {0}
 IsRoomy (Some established) = 8 ≤ established.parameters.max
 
--- an acceptance can be written, and the peer takes PDUs of eight bytes at least
+-- an acceptance can be written, and the peer's maximum length is at least 8 bytes
 abbrev pub IsAccepting : {A : Type 0} → Outcome A → Type 0
 IsAccepting (Accept a) = Fits (AssociateAc a.ac) × (8 ≤ a.max)
 IsAccepting (Reject r) = Unit {0}

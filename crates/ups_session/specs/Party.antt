@@ -1,4 +1,4 @@
--- What the driver of a session knows of a side of an association.
+-- What the driver of a session needs of a side of an association.
 use Rattle.std.specs.Prelude.{◌≢◌, ◌≤◌, ℕ, List, [], Option, None, Some}
 use Rattle.std.specs.List.{AllByRecursion}
 use Rattle.ups_ulstate.specs.declared.state.UlEvent.TheVariants.{TransportConfirmed, TransportClosed}
@@ -13,7 +13,7 @@ use Rattle.ups_session.specs.declared.effect.Effect.{Effect}
 use Rattle.ups_session.specs.declared.effect.Effect.TheVariants.{Send, Respond, Call}
 use Rattle.ups_session.specs.Fold.{Indication, event, request, confirmation, presentation_data, invalid, Exchange, Reaction, Side, Happens, IsOpen}
 
--- the indication
+-- the view of an indication
 abbrev pub indication_of : {A : Type 0} → UlIndication A → Indication A
 indication_of (ul_indications.Event e) = event e
 indication_of (ul_indications.InvalidPdu fault) = invalid fault
@@ -21,8 +21,8 @@ indication_of (ul_indications.AssociateRq rq) = request rq
 indication_of (ul_indications.AssociateAc ac) = confirmation ac
 indication_of (ul_indications.Pdv pdv) = presentation_data pdv
 
--- What may come from a peer or from the transport connection: it is not confirmed again once it is open, and a request
--- was spelled.
+-- What may come from a peer or from the transport connection: the connection is not confirmed again once it is open,
+-- and a request has an encoding.
 abbrev pub Comes : {A : Type 0} → Indication A → Type 0
 Comes (event e) = e ≢ TransportConfirmed
 Comes (request rq) = (bytes : List ℕ) × SpellsPdu bytes (pdus.AssociateRq rq)
@@ -32,7 +32,7 @@ Comes other = Unit {0}
 abbrev pub awaiting_reply : {A L W : Type 0} → L → W → Reaction A L W
 awaiting_reply association waiting = record { association = association; send = []; waiting = Some waiting }
 
--- the PDUs that it sends, and what it calls the service for
+-- the PDUs that an effect sends, and the call of the service whose reply it awaits
 abbrev pub said_by : {A C : Type 0} → Effect A C → List (Pdu A)
 said_by (Send said) = said.items
 said_by (Respond response) = pieces response.context response.command.items None response.max
@@ -43,16 +43,16 @@ awaited_by call_view (Send said) = None
 awaited_by call_view (Respond response) = None
 awaited_by call_view (Call call) = Some (call_view call)
 
--- the reaction with an effect
+-- the reaction with this effect
 abbrev pub reaction_with : {A L W C : Type 0} → (C → W) → L → Effect A C → Reaction A L W
 reaction_with call_view association effect = record { association = association; send = said_by effect; waiting = awaited_by call_view effect }
 
--- each PDU that it sends can be written, and so can what comes of its call
+-- each PDU that the effect sends can be written, and so can the result of its call
 abbrev pub CanSend : {A C : Type 0} → (C → Type 0) → Effect A C → Type 0
 CanSend can (Send said) = AllByRecursion (λ p. Fits p) said.items
 CanSend can (Respond response) = 8 ≤ response.max
 CanSend can (Call call) = can call
 
--- once the transport connection is closed, a side is no longer open
+-- once the transport connection is closed, the side is no longer open
 abbrev pub IsOver : {A L W : Type 0} → Side A L W → Type 0
 IsOver {A} {L} side = (association after : L) (exchange : Exchange A) → Happens side association (event TransportClosed) exchange after → IsOpen (side.state after) → ⊥

@@ -18,12 +18,12 @@ use Rattle.ups_session.specs.Association.{EstablishedView}
 use Rattle.ups_session.specs.Proposing.{proposed_id}
 use Rattle.ups_session.specs.Sides.{context_at}
 
--- the proposed context, where it was accepted, and the longest P-DATA-TF that the peer receives
+-- the proposed presentation context, if it was accepted, and the longest P-DATA-TF that the peer receives
 abbrev pub route_of : {A : Type 0} → Option (EstablishedView A) → Option Route
 route_of None = None
 route_of (Some established) = option_map (λ context. record { context = context; max = established.parameters.max }) (context_at proposed_id established.parameters.contexts)
 
--- the command of a report: of the Push class, of which each step is an instance (PS3.4 CC.3.1)
+-- the command set of an event report: of the UPS Push SOP class, of which each step is an instance (PS3.4 CC.3.1)
 abbrev pub report_command : {A : Type 0} → ℕ → Event → RequestCommand A
 report_command message event = record {
   sop_class = Some (text_of registered.UpsPush);
@@ -32,11 +32,11 @@ report_command message event = record {
   operation = operations.EventReport (Some event.step) (type_id event.kind);
 }
 
--- the bytes of that command
+-- the bytes of that command set
 unfoldable pub report_bytes : Type 0 → ℕ → Event → List ℕ
 report_bytes A message event = commands.written_command {A = A} (Request (report_command message event))
 
--- a report in PDUs, with its message ID
+-- the PDUs of an event report with this message ID
 unfoldable pub report_pdus : {A : Type 0} → Route → ℕ → EventReport A → List (Pdu A)
 report_pdus {A} route message report =
     pieces route.context.id (report_bytes A message report.event) (Some (sets.written route.context.transfer_syntax report.information)) route.max

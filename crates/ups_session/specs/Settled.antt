@@ -1,4 +1,4 @@
--- What becomes of a reaction of a side: what is sent and asked, and what of the replies.
+-- The settling of a reaction of a side: what is sent, asked and replied.
 use Rattle.std.specs.Prelude.{◌≡◌, ℕ, List, Result, OnOk}
 use Rattle.std.specs.Io.KnownBytes.{Appends}
 use Rattle.ups_life.specs.declared.request.Reply.{Reply}

@@ -1,4 +1,4 @@
--- What both sides of an association do alike: the one that requests it and the one that accepts it (PS3.8 section 9.2).
+-- What both sides of an association, the requestor and the acceptor, have in common (PS3.8 section 9.2).
 use Rattle.std.specs.Prelude.{ℕ, Bool, true, ◌==◌, List, [], ◌∷◌, map, find, Option, None, Some}
 use Rattle.std.specs.Option.{unwrap_or}
 use Rattle.ups_ulstate.specs.declared.state.UlState.{UlState}
@@ -25,7 +25,7 @@ ReactionOf A = Reaction A (AssociationView A) (AwaitedRequestView A)
 abbrev pub sending : {A : Type 0} → AssociationView A → List (Pdu A) → ReactionOf A
 sending association send = record { association = association; send = send; waiting = None }
 
--- how an action ends the association, where it does (PS3.8 tables 9-6 to 9-9)
+-- how an action ends the association, if it does (PS3.8 tables 9-6 to 9-9)
 abbrev pub end_after : UlEvent → UlAction → Option End
 end_after e Ae4 = Some Rejected
 end_after e Ae8 = Some Rejected
@@ -42,11 +42,11 @@ end_after e Aa4 = Some Closed
 end_after e Aa5 = Some Closed
 end_after e action = None
 
--- after an action
+-- the association after an action
 abbrev pub transition : {A : Type 0} → AssociationView A → UlEvent → UlAction → UlState → AssociationView A
 transition association e action state = record { state = state; established = association.established; ending = unwrap_or (end_after e action) association.ending }
 
--- after an event that this side causes itself, where the table has a cell for it
+-- the association after an event that this side causes itself, if the table has a cell for it
 abbrev pub local_event_at : {A : Type 0} → AssociationView A → UlEvent → Option (UlAction × UlState) → AssociationView A
 local_event_at association e None = association
 local_event_at association e (Some cell) = transition association e cell.0 cell.1
@@ -54,7 +54,7 @@ local_event_at association e (Some cell) = transition association e cell.0 cell.
 abbrev pub on_local_event : {A : Type 0} → Bool → UlEvent → AssociationView A → AssociationView A
 on_local_event requestor e association = local_event_at association e (next_of requestor true e association.state)
 
--- what an action sends to the peer; the reason is of an abort by the service provider (PS3.8 table 9-26)
+-- the PDUs that an action sends; the reason is that of an abort by the service provider (PS3.8 table 9-26)
 abbrev pub sends : {A : Type 0} → ℕ → UlAction → List (Pdu A)
 sends reason Ar1 = ReleaseRq ∷ []
 sends reason Aa1 = Abort 0 0 ∷ []
@@ -62,25 +62,25 @@ sends reason Aa7 = Abort 2 reason ∷ []
 sends reason Aa8 = Abort 2 reason ∷ []
 sends reason action = []
 
--- a release is answered where the table has a cell for that
+-- a release is answered if the table has a cell for that
 abbrev pub releases : {A : Type 0} → AssociationView A → Option (UlAction × UlState) → ReactionOf A
 releases association None = sending association []
 releases association (Some cell) = sending (transition association events.ReleaseResponse cell.0 cell.1) (ReleaseRp ∷ [])
 
--- A release is answered at once (PS3.8 section 7.2). Where both sides asked for it, the side that asked for the
--- association answers first, and the other one once it has that answer (PS3.8 section 7.2.2.7).
+-- A release is answered at once (PS3.8 section 7.2). If both sides asked for it, the requestor of the association
+-- answers first, and the acceptor once it has that answer (PS3.8 section 7.2.2.7).
 abbrev pub on_action : {A : Type 0} → Bool → ℕ → AssociationView A → UlAction → ReactionOf A
 on_action requestor reason association Ar2 = releases association (next_of requestor true events.ReleaseResponse association.state)
 on_action requestor reason association Ar8 = releases association (next_of requestor true events.ReleaseResponse association.state)
 on_action requestor reason association Ar10 = releases association (next_of requestor true events.ReleaseResponse association.state)
 on_action requestor reason association action = sending association (sends reason action)
 
--- an event that carries no data
+-- the reaction to an event that carries no data
 abbrev pub on_event : {A : Type 0} → Bool → ℕ → AssociationView A → UlEvent → Option (UlAction × UlState) → ReactionOf A
 on_event requestor reason association e None = sending association []
 on_event requestor reason association e (Some cell) = on_action requestor reason (transition association e cell.0 cell.1) cell.0
 
--- 1: unrecognized PDU; 2: unexpected PDU; 6: invalid PDU parameter value
+-- reasons of an abort: 1 unrecognized PDU, 2 unexpected PDU, 6 invalid PDU parameter value
 abbrev pub unexpected : ℕ
 unexpected = 2
 
@@ -88,7 +88,7 @@ abbrev pub reason_of : PduFault → ℕ
 reason_of UnknownType = 1
 reason_of other = 6
 
--- the ids of contexts
+-- the ids of presentation contexts
 abbrev pub ids : List AcceptedContext → List ℕ
 ids contexts = map (λ c. c.id) contexts
 
@@ -99,6 +99,6 @@ aborting requestor association = sending (on_local_event requestor events.AbortR
 abbrev pub with_begun : {A : Type 0} → AssociationView A → EstablishedView A → Begun A → AssociationView A
 with_begun association established begun = record { state = association.state; established = Some (record { parameters = established.parameters; assembler = record { ids = established.assembler.ids; begun = begun } }); ending = association.ending }
 
--- the context with an id
+-- the presentation context with an id
 abbrev pub context_at : ℕ → List AcceptedContext → Option AcceptedContext
 context_at id contexts = find (λ c. c.id == id) contexts

@@ -1,4 +1,4 @@
--- One turn of a session: something comes, and its indications are processed.
+-- One turn of a session: something arrives, and its indications are processed.
 use Rattle.std.specs.Prelude.{◌≡◌, ℕ, List, [], ◌∷◌, Result, Ok, Err}
 use Rattle.ups_session.specs.declared.fault.SessionFault.{SessionFault}
 use Rattle.ups_session.specs.declared.fault.SessionFault.TheVariants.{Read, Turns}

@@ -1,4 +1,4 @@
--- What a session calls its gate for, and what it writes then.
+-- The purposes for which a session calls its gate, and what it writes then.
 use Rattle.std.specs.Prelude.{◌≡◌, ◌⊎◌, ℕ, Bool, true, List, [], ◌∷◌, Result, Ok, Err}
 use Rattle.std.specs.List.{flat_map}
 use Rattle.std.specs.Io.KnownBytes.{Appends}
@@ -16,7 +16,7 @@ pub data Visit (A : Type 0) : Type 0 where
   timed : ℕ → Visit A
   wrote : Pdu A → Visit A
 
--- the calls of the gate: one for a moment; one before a PDU is written, and one behind that
+-- the calls of the gate: one for a moment; one before a PDU is written, and one after it
 abbrev pub calls_for : {A : Type 0} → Visit A → List GateCall
 calls_for (timed moment) = Moment moment ∷ []
 calls_for (wrote pdu) = Before ∷ After ∷ []
@@ -38,16 +38,16 @@ moments_of visits = flat_map visit_moment visits
 abbrev pub pdus_of : {A : Type 0} → List (Visit A) → List (Pdu A)
 pdus_of visits = flat_map pdu_of visits
 
--- a write failed, and not all was sent of the PDUs of which the writing began; or memory ran out between two of them
+-- a write failed, and not all bytes of the PDUs begun were sent; or memory ran out between two PDUs
 abbrev pub FallsShort : SessionFault → Bool → List ℕ → List ℕ → Type 0
 FallsShort fault failed bytes sent = ((fault ≡ Write) × (failed ≡ true) × IsCut sent bytes) ⊎ ((fault ≡ Memory) × (sent ≡ bytes))
 
--- all of the PDUs were begun and sent; or the first of them were begun, and sent in part
+-- all of the PDUs were begun and sent; or the first of them were begun, and sent in part or in whole
 abbrev pub Sends : {A X : Type 0} → List (Pdu A) → List (Pdu A) → List ℕ → Bool → Result X SessionFault → Type 0
 Sends said begun sent failed (Ok x) = (begun ≡ said) × (sent ≡ pdu_bytes said)
 Sends said begun sent failed (Err fault) = IsPrefix begun said × FallsShort fault failed (pdu_bytes begun) sent
 
--- these PDUs were sent, or the first of them
+-- these PDUs were sent, or only the first of them
 pub record SendsPdus {A X : Type 0} (said : List (Pdu A)) (old new : Output) (before later : Told) (result : Result X SessionFault) : Type 0 where
   pub visits : List (Visit A)
   pub sent : List ℕ

@@ -4,21 +4,22 @@ use Rattle.std.specs.Io.KnownBytes.{IsAtEnd}
 use Rattle.ups_session.specs.declared.watched_io.LastRead.{LastRead}
 use Rattle.ups_session.specs.declared.watched_io.LastRead.TheVariants.{Gave, Ended, Failed}
 
--- what a reader has left, where it says so, and what became of the last read
+-- the bytes that a reader has left, if it says so, and the outcome of the last read
 pub record Input : Type 0 where
   pub left : Option (List ℕ)
   pub last : LastRead
 
--- what a writer holds, where it says so, and whether the last write failed
+-- the bytes that a writer holds, if it says so, and whether the last write failed
 pub record Output : Type 0 where
   pub written : Option (List ℕ)
   pub failed : Bool
 
--- What becomes of a read with so much room: it failed; or it gave nothing where there was room, which tells the end.
+-- The outcome of a read into `room` bytes: it failed; or it gave nothing although there was room, which is the end of
+-- the input.
 abbrev pub last_read : {E : Type 0} → Result ℕ E → ℕ → LastRead
 last_read (Err e) room = Failed
 last_read (Ok n) room = if n == 0 && nat_lt 0 room then Ended else Gave
 
--- the last read met the end of the input
+-- the last read met the end of the input, of which nothing is left if the reader says so
 abbrev pub HasEnded : Input → Type 0
 HasEnded input = (input.last ≡ Ended) × IsAtEnd input.left

@@ -1,4 +1,4 @@
--- What a part of a session does to its writer, its gate and its service.
+-- The effects of a part of a session on its writer, its gate and its service.
 use Rattle.std.specs.Prelude.{◌≡◌, ℕ, List, [], ◌∷◌, Result, Ok, Err}
 use Rattle.std.specs.Io.KnownBytes.{Appends}
 use Rattle.ups_life.specs.Settings.{Settings}
@@ -11,7 +11,7 @@ use Rattle.ups_session.specs.Wire.{IsPrefix}
 use Rattle.ups_session.specs.Visits.{Visit, calls_of, moments_of, pdus_of, Sends}
 use Rattle.ups_session.specs.Fold.{Asked, Exchange, Chain}
 
--- what a writer is, what a gate told of the calls of it, and what a service is and has seen
+-- the state of the writer, the calls that the gate recorded, and the service with what it has seen
 pub record World (A : Type 0) : Type 0 where
   pub output : Output
   pub told : Told
@@ -23,27 +23,27 @@ pub record World (A : Type 0) : Type 0 where
 abbrev pub world : {A : Type 0} → Output → Told → Settings → Others → ℕ → Seen A → World A
 world output told settings others caller seen = record { output = output; told = told; settings = settings; others = others; caller = caller; seen = seen }
 
--- the service answered these asks, one after the other, each at its moment, with these replies
+-- the service answered these asks one after the other, each at its moment, with these replies
 abbrev pub ServesAll : {A : Type 0} → Settings → Others → ℕ → Seen A → List (Asked A) → List ℕ → List (Reply A) → Seen A → Type 0
 ServesAll settings others caller seen [] [] [] after = after ≡ seen
 ServesAll {A} settings others caller seen (asked ∷ asks) (moment ∷ moments) (reply ∷ replies) after =
     (then : Seen A) × Serves settings others caller seen asked.ae moment asked.ask reply then × ServesAll settings others caller then asks moments replies after
 ServesAll settings others caller seen asks moments replies after = ⊥
 
--- the same where a call was left for each of them
+-- the same, if a call was left for each of them
 abbrev pub GrantsAll : {A : Type 0} → Settings → Others → ℕ → Seen A → List (Asked A) → List ℕ → List (Reply A) → Seen A → Type 0
 GrantsAll settings others caller seen [] [] [] after = after ≡ seen
 GrantsAll {A} settings others caller seen (asked ∷ asks) (moment ∷ moments) (reply ∷ replies) after =
     (then : Seen A) × Grants settings others caller seen asked.ae moment asked.ask reply then × GrantsAll settings others caller then asks moments replies after
 GrantsAll settings others caller seen asks moments replies after = ⊥
 
--- all of it was processed, or the first of it
+-- all of the list was processed, or a beginning of it
 abbrev pub IsDone : {L X Y : Type 0} → L → L → List X → List X → Result Y SessionFault → Type 0
 IsDone end after some all (Ok y) = (end ≡ after) × (some ≡ all)
 IsDone end after some all (Err fault) = IsPrefix some all
 
--- A side of an association processed these indications, one after the other, and this is what was written, asked and
--- replied. The gate was called for the moment of each ask, and before and after each PDU was written.
+-- A side of an association processed these indications or arrivals, one after the other, and this was written, asked
+-- and replied. The gate was called for the moment of each ask, and before and after each PDU was written.
 pub record Performed {A L X Y : Type 0} (Step : L → X → Exchange A → L → Type 0) (all : List X) (from after : L) (old new : World A) (result : Result Y SessionFault) : Type 0 where
   pub some : List X
   pub exchange : Exchange A

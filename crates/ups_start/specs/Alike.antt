@@ -3,14 +3,14 @@ use Rattle.std.specs.Prelude.{◌≡◌}
 use Rattle.std.specs.declared.alloc.Global.{Global}
 use Rattle.ups_journal.specs.declared.record.Columns.{Columns}
 
--- the same is done to the same step
+-- the same operation, instance, Transaction UID and state
 pub record HaveOneTarget (a b : Columns Global) : Type 0 where
   pub operation : a.operation ≡ b.operation
   pub instance : a.instance ≡ b.instance
   pub transaction : a.transaction ≡ b.transaction
   pub state : a.state ≡ b.state
 
--- for the same watcher, and with the same attributes
+-- the same Receiving AE, Deletion Lock, event number, offset and attributes
 pub record HaveOneWatcher (a b : Columns Global) : Type 0 where
   pub receiver : a.receiver ≡ b.receiver
   pub lock : a.lock ≡ b.lock

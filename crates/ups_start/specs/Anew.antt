@@ -1,4 +1,4 @@
--- What was put while the requests of a store are replaced.
+-- The records put while the requests of a store are replaced.
 use Rattle.std.specs.Prelude.{List, IsTrue}
 use Rattle.std.specs.declared.alloc.Global.{Global}
 use Rattle.sqlite_trees.specs.View.{IsClean}

@@ -1,4 +1,4 @@
--- What a ledger tells of a fault of its store.
+-- The ledger's fault for a fault of its store.
 use Rattle.ups_store.specs.declared.fault.StoreFault.{StoreFault}
 use Rattle.ups_store.specs.declared.fault.StoreFault.TheVariants as store
 use Rattle.ups_ledger.specs.declared.fault.LedgerFault.{LedgerFault}

@@ -1,4 +1,4 @@
--- What is kept in a store.
+-- The records that are kept in a store.
 use Rattle.std.specs.Prelude.{List, [], IsTrue}
 use Rattle.std.specs.declared.alloc.Global.{Global}
 use Rattle.sqlite_trees.specs.declared.store.Store.{Ghosts}
@@ -10,7 +10,7 @@ use Rattle.ups_start.specs.declared.shelf.Shelf.{Shelf}
 use Rattle.ups_start.specs.Started.{said}
 
 module _ {S : Type 0} {g : Ghosts S} where
-  -- the records that are committed, where the store is open
+  -- the committed records, if the store is open
   abbrev pub records_in : Held S g → List (Record Global)
   records_in (Open store) = said (requests store)
   records_in (Shut count) = []
@@ -24,6 +24,6 @@ module _ {S : Type 0} {g : Ghosts S} where
   abbrev pub kept_in : Shelf S g → List (Record Global)
   kept_in shelf = records_in shelf.held
 
-  -- it is open, and never had to be opened anew
+  -- the store is open, and never had to be reopened
   abbrev pub IsSound : Shelf S g → Type 0
   IsSound shelf = IsTrue shelf.is_first × IsOpenStore shelf.held

@@ -13,16 +13,16 @@ use Rattle.ups_store.specs.declared.reading.Replay.{Replay}
 use Rattle.ups_store.specs.declared.runs.Run.{Run}
 use Rattle.ups_store.specs.Shown.{all_of, given_out}
 
--- the moment at which a run began, or the last one that has a date
+-- the moment at which a run began, at most the last one that has a date
 abbrev pub moment_in : Run → ℕ
 moment_in about = min about.moment last_moment
 
--- what was asked, without the runs in which it was
+-- the records of requests, without their runs
 abbrev pub said : List StoredRequest → List (Record Global)
 said requests = map (λ r. r.asked) requests
 
 module _ {S : Type 0} {g : Ghosts S} where
-  -- the next request was taken, or all have been
+  -- the next request was taken and counted, or all have been taken
   abbrev pub TakesRecord : Replay S g → Replay S g → State Global → State Global → Restoration → Restoration → Bool → Option Restored → Type 0
   TakesRecord old new before after was is may None = (all_of new ≡ all_of old) × (given_out new ≡ given_out old) × (given_out new ≡ all_of new) × (after ≡ before) × (is ≡ was)
   TakesRecord old new before after was is may (Some became) = (all_of new ≡ all_of old)

@@ -1,7 +1,7 @@
--- The places of steps, in order of creation. A place is free where a step was removed.
+-- The places of steps, in order of creation. A place is free once its step is removed.
 use Rattle.std.specs.Prelude.{ℕ, List, [], ◌∷◌, Option, None, Some}
 
--- with the step that holds a place before them, if one does
+-- these steps, with the step that holds a place in front of them, if one does
 abbrev pub with_held : {X : Type 0} → List ℕ → Option X → List (List ℕ × X) → List (List ℕ × X)
 with_held u None hs = hs
 with_held u (Some h) hs = (u, h) ∷ hs

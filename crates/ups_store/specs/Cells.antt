@@ -1,4 +1,4 @@
--- The cells of a row that stand for single values, and the values that cells say.
+-- Single values as cells of a row, and the values in cells.
 use Rattle.std.specs.Prelude.{ℕ, ℤ, pos, negsuc, Bool, true, false, List, [], Option, None, Some, ◌==◌, ◌^◌, nat_lt, unwrap_or, if◌then◌else◌}
 use Rattle.std.specs.Int.{w64, cast_signed, cast_unsigned}
 use Rattle.sqlite_value.specs.declared.value.Value.{Value}
@@ -10,7 +10,7 @@ use Rattle.ups_journal.specs.declared.operation.Operation.{Operation}
 use Rattle.ups_journal.specs.declared.operation.Operation.TheVariants.{Create}
 use Rattle.ups_store.specs.Words.{operation_named, state_named}
 
--- a number of 64 bits, where one of 2^63 or more stands as a negative integer
+-- a number of 64 bits; one of 2^63 or more is stored as a negative integer
 abbrev pub number_cell : ℕ → Value
 number_cell n = Int (cast_signed w64 n)
 
@@ -18,7 +18,7 @@ abbrev pub number_in : Value → ℕ
 number_in (Int n) = cast_unsigned w64 n
 number_in _ = 0
 
--- a number of 32 bits
+-- a number of 32 bits; 0 if it is larger
 abbrev pub short_in : Value → ℕ
 short_in v = if nat_lt (number_in v) (2 ^ 32) then number_in v else 0
 
@@ -39,7 +39,7 @@ abbrev pub lock_in_cell : Value → Option Bool
 lock_in_cell (Int n) = Some (cast_unsigned w64 n == 1)
 lock_in_cell _ = None
 
--- minutes east of UTC, in 16 bits
+-- minutes east of UTC, in 16 bits; read as 0 if out of range
 abbrev pub offset_cell : Option ℤ → Value
 offset_cell None = Null
 offset_cell (Some n) = Int n

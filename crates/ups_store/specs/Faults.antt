@@ -13,7 +13,7 @@ store_fault_of kit.Full = Full
 store_fault_of kit.Broken = Shut
 store_fault_of kit.Unstorable = TooLarge
 
--- what has to hold for a call to answer each fault
+-- what has to hold if a call answers each fault
 pub record Reasons : Type 1 where
   -- the disk failed or refused during the call, or a limit of the file was met
   pub Failed : Type 0
@@ -34,7 +34,7 @@ HasReason r TooMany = r.AreTooMany
 HasReason r NotRequest = r.IsNotRequest
 HasReason r Short = ⊥
 
--- the same of a run that is begun or noted, which may find that requests are lost
+-- the same for beginning or noting a run, which may find that requests are lost
 abbrev pub HasRunReason : Reasons → Type 0 → StoreFault → Type 0
 HasRunReason r AreLost Memory = HasReason r Memory
 HasRunReason r AreLost Disk = HasReason r Disk

@@ -1,4 +1,4 @@
--- What an open finds.
+-- What an open finds in the files.
 use Rattle.std.specs.Prelude.{◌≡◌, ◌⊎◌, ℕ, List, [], ◌∷◌, codes}
 use Rattle.sqlite_disk.specs.declared.Disk as disk
 use Rattle.sqlite_disk.specs.declared.Files.{Files}
@@ -15,11 +15,11 @@ use Rattle.sqlite_store.specs.Listing.{file_trees}
 use Rattle.sqlite_store.specs.Db.{rows_at, IsFile}
 use Rattle.sqlite_pool.specs.File.{in_use}
 
--- a page of 4096 bytes less its sum
+-- a page of 4096 bytes without its checksum
 abbrev pub used_page : ℕ
 used_page = 4088
 
--- a table with this name and this text
+-- a table with this name and this SQL text
 abbrev pub table_of : List ℕ → List ℕ → Wanted
 table_of name sql = record { shape = Table; reals = 0; row = Text (codes "table") ∷ Text name ∷ Text name ∷ Text sql ∷ [] }
 
@@ -36,7 +36,7 @@ run_table =
 abbrev pub the_schema : List Wanted
 the_schema = request_table ∷ run_table ∷ []
 
--- what reads of the two files return
+-- the two files as reads return them
 abbrev pub image_of : {D : Type 0} → disk.Ghosts D → Files D → Image
 image_of g files = seen_image g files.log files.db
 
@@ -48,7 +48,7 @@ ReadAs size image schema db = (pages : PageMap) × Recovers size image pages × 
 abbrev pub HoldsTables : Image → Type 0
 HoldsTables image = (pages : PageMap) × Recovers used_page image pages × IsFile used_page the_schema pages
 
--- there is no request and no run
+-- the database has no request and no run
 abbrev pub HasNone : Trees → Type 0
 HasNone db = (db 0 ≡ []) × (db 1 ≡ [])
 
@@ -64,7 +64,7 @@ IsUnused image = IsBlankFile used_page image ⊎ ListsNothing used_page image
 abbrev pub HoldsNone : Image → Type 0
 HoldsNone image = IsBlankFile used_page image ⊎ (¬ HoldsTables image)
 
--- both recover to the same pages
+-- both images recover to the same pages
 abbrev pub StandAlike : ℕ → Image → Image → Type 0
 StandAlike size old new = (pages : PageMap) × Recovers size old pages × Recovers size new pages
 

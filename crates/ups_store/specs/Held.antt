@@ -1,4 +1,4 @@
--- What a store with the two tables shows between two calls.
+-- The state of a store with the two tables between two calls.
 use Rattle.std.specs.Prelude.{◌≡◌, ℕ, ◌+◌, ◌≤◌, false, List, ◌++◌, length, take, IsTrue}
 use Rattle.sqlite_trees.specs.declared.store.Shape.TheVariants.{Table}
 use Rattle.sqlite_trees.specs.View.{View}
@@ -11,35 +11,35 @@ pub record HasTables (v : View) : Type 0 where
   pub runs : v.shape 1 ≡ Table
   pub alike : v.committed_shape ≡ v.shape
 
--- the transaction sees so many requests, numbered from 1
+-- the transaction is sound and has `count` requests, numbered from 1
 pub record IsAdding (v : View) (count : ℕ) : Type 0 where
   pub sound : v.is_broken ≡ false
   pub numbered : IsNumbered (v.trees 0)
   pub counted : length (v.trees 0) ≡ count
 
--- and nothing is written that is not committed
+-- the tables and `count` requests, with nothing uncommitted
 pub record Holds (v : View) (count : ℕ) : Type 0 where
   pub tables : HasTables v
   pub adding : IsAdding v count
   pub same : v.trees ≡ v.committed
 
--- so many requests are committed, unless a fault has shut the store
+-- `count` requests are committed, unless a fault has shut the store
 abbrev pub HoldsIfOpen : View → ℕ → Type 0
 HoldsIfOpen v count = IsTrue v.is_open → Holds v count
 
--- A store that was just opened has the tables, and nothing is written.
+-- A store that was just opened has the tables, and nothing uncommitted.
 pub record IsFresh (v : View) : Type 0 where
   pub tables : HasTables v
   pub sound : v.is_broken ≡ false
   pub same : v.trees ≡ v.committed
 
--- the first so many rows of a store that was just opened are requests, numbered from 1
+-- the first `count` rows of a store that was just opened are requests, numbered from 1
 pub record HasGiven (v : View) (count : ℕ) : Type 0 where
   pub fresh : IsFresh v
   pub within : count ≤ length (v.trees 0)
   pub rows : take count (v.trees 0) ≡ rows_from 1 (take count (requests_in v.trees))
 
--- the transaction has these requests behind those before
+-- the transaction has these requests after the `count` ones before
 pub record Adds (old new : View) (requests : List StoredRequest) (count : ℕ) : Type 0 where
   pub adding : IsAdding new (count + length requests)
   pub more : requests_in new.trees ≡ requests_in old.trees ++ requests

@@ -20,7 +20,7 @@ use Rattle.ups_store.specs.declared.fault.OpenFault.TheVariants.{Memory, Busy, U
 abbrev pub pair : {D : Type 0} → Files D → D × D
 pair files = (files.log, files.db)
 
--- how often calls of the two files have failed
+-- the number of failed calls of the two files
 abbrev pub faults_in : {D : Type 0} → disk.Ghosts D → Files D → ℕ
 faults_in g files = g.faults files.log + g.faults files.db
 
@@ -32,15 +32,15 @@ AreCleanFiles g files = AreClean g files.log files.db
 abbrev pub IsUnusable : {D : Type 0} → disk.Ghosts D → Files D → Type 0
 IsUnusable g files = ¬ (IsTrue (g.is_usable files.log) × IsTrue (g.is_usable files.db))
 
--- a call of the files failed between these, or a sync
+-- a call of the files failed between these states, or a sync has failed
 abbrev pub HasFailed : {D : Type 0} → disk.Ghosts D → Files D → Files D → Type 0
 HasFailed g old new = MoreFaults (faults_in g old) (faults_in g new) ⊎ IsUnusable g new
 
--- the log has more frames than there are numbers for pages
+-- a log for pages of 4096 bytes; 32 bits do not number its frames or the pages of the database
 abbrev pub IsLongLog : {D : Type 0} → disk.Ghosts D → Files D → Type 0
 IsLongLog g files = IsLogFor 4096 (g.seen files.log) × IsHuge 4096 (image_of g files)
 
--- a limit of the format was met in the files
+-- a limit of the file format was met
 abbrev pub MeetsLimit : {D : Type 0} (g : disk.Ghosts D) → Files D → Type 0
 MeetsLimit {D} g files = (it : Unopened D g) × (files_of it ≡ (files.log, files.db)) × (IsFullFile it ⊎ StopsCreating it)
 
@@ -52,7 +52,7 @@ fault_of_opening kit.Io name = Disk
 fault_of_opening kit.Full name = AtLimit
 fault_of_opening kit.Refused name = NotStore
 
--- what has to hold for an open to answer each fault
+-- what has to hold if an open answers each fault
 pub record OpenReasons : Type 1 where
   pub Failed : Type 0
   pub AtLimit : Type 0
@@ -69,11 +69,11 @@ HasOpenReason r Damaged = r.Failed ⊎ r.Refused
 HasOpenReason r NotStore = r.Refused
 HasOpenReason r OtherFormat = r.Refused
 
--- the reasons of an open that leaves the files so
+-- the reasons of an open, by the files before and after it
 abbrev pub reasons : {D : Type 0} (g : disk.Ghosts D) → Files D → Files D → OpenReasons
 reasons g old new = record { Failed = HasFailed g old new; AtLimit = MeetsLimit g new ⊎ IsLongLog g old; Refused = HoldsNone (image_of g old) }
 
--- what files may be that hold no sound database of the tables, unless memory ran out
+-- a fault of files that hold no sound database of the tables, or lack of memory
 abbrev pub IsKind : OpenFault → Type 0
 IsKind Memory = ⊤
 IsKind Damaged = ⊤

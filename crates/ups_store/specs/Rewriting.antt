@@ -1,4 +1,4 @@
--- What a store shows while its requests are being replaced.
+-- The state of a store while its requests are replaced.
 use Rattle.std.specs.Prelude.{◌≡◌, ℕ, false, List, [], ◌∷◌, ◌++◌, Vec, IsTrue}
 use Rattle.std.specs.declared.alloc.Global.{Global}
 use Rattle.sqlite_trees.specs.Tree.{Trees}
@@ -22,7 +22,7 @@ module _ {S : Type 0} {g : Ghosts S} where
   abbrev pub written_anew : Rewrite S g → List StoredRequest
   written_anew it = requests_in (seen it).trees
 
-  -- how many there are, also once a call has failed
+  -- their number, even after a call has failed
   abbrev pub written_count : Rewrite S g → ℕ
   written_count it = it.count
 
@@ -30,7 +30,7 @@ module _ {S : Type 0} {g : Ghosts S} where
   abbrev pub GoesOnRewriting : Rewrite S g → Type 0
   GoesOnRewriting it = IsTrue it.is_whole × ((seen it).is_broken ≡ false)
 
-  -- the requests of the database are those that were put, and no call had failed
+  -- no call has failed, and the database has the requests that were put, numbered from 1
   pub record IsReplaced (it : Rewrite S g) (db : Trees) : Type 0 where
     pub sound : GoesOnRewriting it
     pub requests : requests_in db ≡ written_anew it

@@ -1,4 +1,4 @@
--- The row of the table of requests that a request is, and what a row says.
+-- The row of a request, and the request that a row stands for.
 use Rattle.std.specs.Prelude.{◌≡◌, ℕ, suc, ℤ, pos, List, [], ◌∷◌, ◌++◌, map}
 use Rattle.std.specs.declared.alloc.Global.{Global}
 use Rattle.sqlite_value.specs.declared.value.Value.{Value}
@@ -15,15 +15,15 @@ use Rattle.ups_store.specs.Cells.{number_cell, number_in, short_in, event_cell, 
 abbrev pub stored_in_run : ℕ → Record Global → StoredRequest
 stored_in_run run r = record { run = run; asked = r }
 
--- in which run, who asked and when
+-- run, caller, moment and AE title
 abbrev pub caller_cells : StoredRequest → List Value
 caller_cells r = number_cell r.run ∷ number_cell r.asked.caller ∷ number_cell r.asked.moment ∷ Text r.asked.title ∷ []
 
--- what was done to which step
+-- operation, instance, Transaction UID and state
 abbrev pub step_cells : Columns Global → List Value
 step_cells c = Text (name_of c.operation) ∷ text_cell c.instance ∷ text_cell c.transaction ∷ state_cell c.state ∷ []
 
--- for which watcher, and with which attributes
+-- Receiving AE, Deletion Lock, event number, offset from UTC and attributes
 abbrev pub watcher_cells : Columns Global → List Value
 watcher_cells c = text_cell c.receiver ∷ lock_cell c.lock ∷ event_cell c.number ∷ offset_cell c.offset ∷ blob_cell c.attributes ∷ []
 
@@ -47,28 +47,28 @@ columns_in row = record {
 abbrev pub record_in : Row → Record Global
 record_in row = record { caller = short_in (column row 3); title = bytes (column row 5); moment = number_in (column row 4); request = columns_in row }
 
--- what a row says
+-- the request that a row stands for
 abbrev pub request_in : Row → StoredRequest
 request_in row = record { run = number_in (column row 2); asked = record_in row }
 
--- the numbers of a caller are read again as they were laid
+-- run, caller and moment are read as they were written
 pub record IsCallerAgain (r : StoredRequest) : Type 0 where
   pub run : number_in (number_cell r.run) ≡ r.run
   pub caller : short_in (number_cell r.asked.caller) ≡ r.asked.caller
   pub moment : number_in (number_cell r.asked.moment) ≡ r.asked.moment
 
--- and so are those of a watcher
+-- Deletion Lock, event number and offset are read as they were written
 pub record IsWatcherAgain (c : Columns Global) : Type 0 where
   pub lock : lock_in_cell (lock_cell c.lock) ≡ c.lock
   pub event : event_in (event_cell c.number) ≡ c.number
   pub offset : offset_in (offset_cell c.offset) ≡ c.offset
 
--- the rows of these, numbered from this number on
+-- the rows of these requests, numbered from this number on
 abbrev pub rows_from : ℕ → List StoredRequest → List Row
 rows_from number [] = []
 rows_from number (r ∷ rs) = request_row (pos number) r ∷ rows_from (suc number) rs
 
--- what the first table of a database says
+-- the requests in the first table of a database
 abbrev pub requests_in : Trees → List StoredRequest
 requests_in db = map request_in (db 0)
 

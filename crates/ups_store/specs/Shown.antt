@@ -1,4 +1,4 @@
--- What a store shows, and what was read of it.
+-- What a store shows, and what was read from it.
 use Rattle.std.specs.Prelude.{◌≡◌, ℕ, Bool, true, false, List, [], ◌∷◌, ◌++◌, take, Option, Some, None}
 use Rattle.sqlite_value.specs.Order.{Row}
 use Rattle.sqlite_trees.specs.View.{View}
@@ -10,7 +10,7 @@ use Rattle.ups_store.specs.declared.request.StoredRequest.{StoredRequest}
 use Rattle.ups_store.specs.declared.store.RequestStore.{RequestStore}
 use Rattle.ups_store.specs.Rows.{requests_in}
 
--- with the next request behind them, or they are all
+-- the next request was given after the old ones; or they are all
 abbrev pub GivesRequest : List StoredRequest → List StoredRequest → List StoredRequest → Option StoredRequest → Type 0
 GivesRequest all old new None = (new ≡ old) × (new ≡ all)
 GivesRequest all old new (Some request) = new ≡ old ++ request ∷ []
@@ -33,18 +33,18 @@ module _ {S : Type 0} {g : Ghosts S} where
   abbrev pub runs : RequestStore S g → List Row
   runs it = (requests_shown it).committed 1
 
-  -- how many there are, also once the store is shut
+  -- the number of requests, even after the store is shut
   abbrev pub count_of : RequestStore S g → ℕ
   count_of it = it.count
 
-  -- the same of a store that is being read
+  -- the view of a store that is being read
   abbrev pub shown_by : Replay S g → View
   shown_by it = g.view it.store
 
   abbrev pub all_of : Replay S g → List StoredRequest
   all_of it = requests_in (shown_by it).committed
 
-  -- those that were given
+  -- the requests given so far
   abbrev pub given_out : Replay S g → List StoredRequest
   given_out it = take it.count (all_of it)
 

@@ -1,4 +1,4 @@
--- Which records the file cannot store.
+-- The records that the file cannot store.
 use Rattle.std.specs.Prelude.{ℕ, pos, List}
 use Rattle.std.specs.List.{Any}
 use Rattle.std.specs.declared.alloc.Global.{Global}

@@ -1,4 +1,4 @@
--- What the tables say of a peer, by its place, and of a step; and what they have to do with each other.
+-- What the tables say about a peer, named by its place, and about a step; and how the tables fit each other.
 use Rattle.std.specs.Prelude.{◌≡◌, ℕ, Bool, true, ◌&&◌, not, List, Option, None, is_some, length, slice_set, if◌then◌else◌}
 use Rattle.ups_life.specs.declared.watching.Subscription.{Subscription}
 use Rattle.ups_life.specs.Distinct.{Distinct}
@@ -16,15 +16,15 @@ use Rattle.ups_tables.specs.Held.{held_at, final_of, is_used}
 abbrev pub how : {A : Type 0} → Tables A → ℕ → List ℕ → Option Subscription
 how t p u = watch.watching t.watchers p u
 
--- how each peer is subscribed to u, at the place of the peer
+-- the subscriptions of the peers to u, in the order of their places
 abbrev pub cells_at : {A : Type 0} → Tables A → List ℕ → Cells
 cells_at t u = watch.cells_of t.watchers u
 
--- one of the peers keeps u by a deletion lock (PS3.4 CC.2.3)
+-- one of the peers keeps u by a Deletion Lock (PS3.4 CC.2.3)
 abbrev pub has_lock : {A : Type 0} → Tables A → List ℕ → Bool
 has_lock t u = watch.is_locked_by_any (cells_at t u)
 
--- when the state of u became final (PS3.4 CC.1.1); None where it is not final, or u is not held
+-- when the state of u became final (PS3.4 CC.1.1); None if it is not final, or if u is not held
 abbrev pub final_in : {A : Type 0} → Tables A → List ℕ → Option ℕ
 final_in t u = final_of (held_at u t.steps.entries)
 
@@ -36,15 +36,15 @@ holds t u = is_some (held_at u t.steps.entries)
 abbrev pub queue_line : {A : Type 0} → Tables A → ℕ → Line
 queue_line t p = line_at t.queues p
 
--- the UID u was used
+-- the UID u has been used
 abbrev pub uses : {A : Type 0} → Tables A → List ℕ → Bool
 uses t u = is_used u t.used.keys
 
 -- THE TABLES FIT EACH OTHER
 
--- there is a queue for each peer, the table of subscriptions knows the steps that are held and has a cell in each of them
--- for each peer, and those steps wait for their removal, each once and since its state became final, that are final and that
--- no peer keeps
+-- There is a queue for each peer. The table of subscriptions knows exactly the held steps, and has a cell for each peer
+-- in each of them. The steps that wait for their removal, each once and since its state became final, are exactly the
+-- final ones that no peer keeps.
 pub record TablesFit {A : Type 0} (t : Tables A) : Type 0 where
   pub queues : length t.queues ≡ length t.watchers.covers
   pub known : (u : List ℕ) → watch.knows t.watchers u ≡ holds t u
@@ -52,18 +52,18 @@ pub record TablesFit {A : Type 0} (t : Tables A) : Type 0 where
   pub once : Distinct (steps_of t.due.steps)
   pub waiting : (u : List ℕ) → waits u t.due.steps ≡ unless_kept (has_lock t u) (final_in t u)
 
--- WHICH STEPS LOCKS THAT END WOULD FREE
+-- WHICH STEPS WOULD BE FREED IF LOCKS ENDED
 
--- one of the peers would keep u by a deletion lock, were the peer at a place subscribed to it so
+-- u would be kept by a Deletion Lock if the peer at a place had this subscription to it
 abbrev pub kept_if : {A : Type 0} → Tables A → ℕ → Option Subscription → List ℕ → Bool
 kept_if t peer subscription u = watch.is_locked_by_any (slice_set (cells_at t u) peer subscription)
 
--- since when u would wait for its removal that does not now, were the peer at a place subscribed to it so: since its state
--- became final, where it is kept now and would not be; None else
+-- since when u would newly wait for its removal if the peer at a place had this subscription to it: since its state
+-- became final, if u is kept now and would not be kept then; None otherwise
 abbrev pub freed_if : {A : Type 0} → Tables A → ℕ → Option Subscription → List ℕ → Option ℕ
 freed_if t peer subscription u = if has_lock t u && not (kept_if t peer subscription u) then final_in t u else None
 
--- of the steps that pass a test these are the ones that would wait then, each once
+-- the list has, each once, the steps that pass a test and that would then newly wait
 pub record AreFreed {A : Type 0} (t : Tables A) (peer : ℕ) (subscription : Option Subscription) (chosen : List ℕ → Bool) (freed : List Final) : Type 0 where
   pub once : Distinct (steps_of freed)
   pub waiting : (u : List ℕ) → waits u freed ≡ (if chosen u then freed_if t peer subscription u else None)

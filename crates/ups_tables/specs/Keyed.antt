@@ -1,4 +1,4 @@
--- The steps that the tables hold, each with its UID, as the definitions have them.
+-- The steps that the tables hold, each with its UID, in the form of the definitions.
 use Rattle.std.specs.Prelude.{ℕ, List, map, Option, None, Some}
 use Rattle.std.specs.Option.{option_map}
 use Rattle.ups_life.specs.declared.row.Row.{Row}
@@ -6,23 +6,23 @@ use Rattle.ups_life.specs.declared.row.Holder.{Holder}
 use Rattle.ups_tables.specs.declared.rows.HeldStep.{HeldStep}
 use Rattle.ups_steps.specs.declared.held.Held.{Held}
 
--- what is held of a step, with its UID
+-- a step from its UID and what is held of it
 abbrev pub step_with_held : {A : Type 0} → List ℕ → Held A → HeldStep A
 step_with_held step held = record { step = step; row = held.row; holder = held.holder }
 
--- the step that stands in the table under its UID
+-- the step of an entry of the table
 abbrev pub as_step : {A : Type 0} → List ℕ × Held A → HeldStep A
 as_step e = step_with_held e.0 e.1
 
--- the steps of the table, in their order
+-- the steps of the table, in their order there
 abbrev pub as_steps : {A : Type 0} → List (List ℕ × Held A) → List (HeldStep A)
 as_steps es = map as_step es
 
--- the row of a step, by what is held of it; None where nothing is
+-- the row of a step, from what is held of it; None if nothing is held
 abbrev pub row_held : {A : Type 0} → Option (Held A) → Option (Row A)
 row_held {A} o = option_map (λ (h : Held A). h.row) o
 
--- who has claimed a step, by what is held of it (PS3.4 CC.2.1); None where nobody has, or nothing is held
+-- who has claimed a step, from what is held of it (PS3.4 CC.2.1); None if nobody has, or if nothing is held
 abbrev pub holder_held : {A : Type 0} → Option (Held A) → Option Holder
 holder_held None = None
 holder_held (Some h) = h.holder

@@ -1,5 +1,5 @@
--- The plan of a request is right: all that it is to make of the tables is as the definitions say. A history is looked at with
--- its newest entry first.
+-- The plan of a request is right: all changes that it makes to the tables agree with the definitions. Histories are
+-- listed with their newest entry first.
 use Rattle.std.specs.Prelude.{◌≡◌, ◌≤◌, ◌<◌, ◌+◌, ℕ, Bool, true, false, List, [], ◌∷◌, map, Option, None, Some, is_some, length, slice_index_or, if◌then◌else◌}
 use Rattle.std.specs.HashSet as sets
 use Rattle.ups_dataset.specs.Data.{El}
@@ -32,8 +32,8 @@ use Rattle.ups_tables.specs.Places.{place_of_title}
 
 -- REQUESTS ON A STEP
 
--- what is to be held of the step of an entry is what the definitions hold after it, and what is to be told of it is its news
--- (PS3.4 CC.2.4)
+-- `held` is what the definitions hold of the step of the entry after it, and `told` is the news of the entry on the
+-- step (PS3.4 CC.2.4)
 pub record PlansStep {A : Type 0} (s : Settings) (es : List (Entry A)) (e : Entry A) (step : List ℕ) (held : Held A) (told : List Report) : Type 0 where
   pub steps : put_step (step_with_held step held) (held_steps s es) ≡ held_steps s (e ∷ es)
   pub row : held.row ≡ row_of s (e ∷ es) step
@@ -45,14 +45,14 @@ pub record PlansCreate {A : Type 0} (s : Settings) (es : List (Entry A)) (e : En
   pub request : e.request ≡ Create step attributes
   pub on : PlansStep s es e step held told
 
--- the state of a step is to change, or a cancellation is asked for (PS3.4 CC.2.1, CC.2.2): nobody is subscribed by it
+-- the state of a step is to change, or its cancellation is requested (PS3.4 CC.2.1, CC.2.2); neither subscribes anybody
 pub record PlansChange {A : Type 0} (s : Settings) (es : List (Entry A)) (e : Entry A) (step : List ℕ) (held : Held A) (told : List Report) : Type 0 where
   pub request : step_of e.request ≡ Some step
   pub old : is_of_watch e.request ≡ false
   pub on : PlansStep s es e step held told
 
--- attributes of a step are to be set (PS3.4 CC.2.6): those peers are subscribed to it by the way that are not, and whose
--- global subscriptions take the step in after it and did not before; they are told of the step as it is then
+-- attributes of a step are to be set (PS3.4 CC.2.6); this subscribes the peers that are not subscribed to the step and
+-- whose global subscriptions cover it only after the change, and they are told of the step as it is then
 pub record PlansSet {A : Type 0} (s : Settings) (es : List (Entry A)) (e : Entry A) (t : Tables A) (step : List ℕ) (held : Held A) (told : List Report) (newly : List (Option Subscription)) (first : List Report) : Type 0 where
   pub transaction : Transaction
   pub attributes : List El
@@ -64,7 +64,7 @@ pub record PlansSet {A : Type 0} (s : Settings) (es : List (Entry A)) (e : Entry
 
 -- REQUESTS OF A WATCHER (PS3.4 CC.2.3)
 
--- a peer is to be subscribed to one step, and told of it as it is
+-- a peer is to be subscribed to one held step, and told of it as it is
 pub record PlansSingle {A : Type 0} (s : Settings) (es : List (Entry A)) (e : Entry A) (peer : ℕ) (step : List ℕ) (subscription : Subscription) (told : List Report) : Type 0 where
   pub receiver : List ℕ
   pub place : place_of_title s.peers receiver ≡ Some peer
@@ -74,8 +74,8 @@ pub record PlansSingle {A : Type 0} (s : Settings) (es : List (Entry A)) (e : En
   pub here : is_held s es step ≡ true
   pub news : told ≡ map (as_it_is s es) (step ∷ [])
 
--- a peer is to be subscribed globally, with keys or without, and so to the steps held that its subscription takes in, of each
--- of which it is told as it is; the steps freed are those that the peer kept so far
+-- a peer is to be subscribed globally, with or without keys, and so to the held steps that its subscription covers; it
+-- is told of each of these as it is; freed are the final ones that this peer alone kept and no longer keeps
 pub record PlansGlobal {A : Type 0} (s : Settings) (es : List (Entry A)) (e : Entry A) (t : Tables A) (peer : ℕ) (cover : Cover A) (steps : List (List ℕ)) (freed : List Final) (told : List Report) : Type 0 where
   pub receiver : List ℕ
   pub place : place_of_title s.peers receiver ≡ Some peer
@@ -93,7 +93,7 @@ pub record PlansEnd {A : Type 0} (s : Settings) (e : Entry A) (peer : ℕ) (step
   pub place : place_of_title s.peers receiver ≡ Some peer
   pub request : e.request ≡ Unsubscribe (At (Some step)) receiver
 
--- all subscriptions of a peer are to end; the steps freed are those that it kept so far
+-- all subscriptions of a peer are to end; freed are the final steps that this peer alone kept
 pub record PlansEndAll {A : Type 0} (s : Settings) (e : Entry A) (t : Tables A) (peer : ℕ) (freed : List Final) : Type 0 where
   pub receiver : List ℕ
   pub place : place_of_title s.peers receiver ≡ Some peer
@@ -106,26 +106,26 @@ pub record PlansSuspend {A : Type 0} (s : Settings) (e : Entry A) (peer : ℕ) :
   pub place : place_of_title s.peers receiver ≡ Some peer
   pub request : e.request ≡ Suspend receiver
 
--- REQUESTS OF THE PROFILE
+-- REQUESTS DEFINED BY THE PROFILE
 
--- a peer acknowledges its events up to a number, which it may
+-- a peer acknowledges its events up to a number that is allowed
 pub record PlansAck {A : Type 0} (s : Settings) (e : Entry A) (t : Tables A) (peer upto : ℕ) : Type 0 where
   pub place : place_of_title s.peers e.ae ≡ Some peer
   pub request : e.request ≡ Ack upto
   pub allowed : ack_fault (queue_at t.queues peer) upto ≡ None
 
--- a sweep is to remove the steps that wait at least as long as final steps are kept
+-- a sweep is to remove the steps that have waited at least as long as final steps are kept
 pub record PlansSweep {A : Type 0} (s : Settings) (e : Entry A) (t : Tables A) (due : List Final) (moment : ℕ) : Type 0 where
   pub request : e.request ≡ Sweep
   pub since : moment + s.keep ≡ e.moment
   pub due_are : due ≡ due_until moment t.due.steps
 
--- a sweep is to remove nothing: no step waits as long as final steps are kept
+-- a sweep is to remove nothing: no step has waited as long as final steps are kept
 pub record PlansIdle {A : Type 0} (s : Settings) (e : Entry A) (t : Tables A) : Type 0 where
   pub request : e.request ≡ Sweep
   pub none : (since : ℕ) → since + s.keep ≤ e.moment → due_until since t.due.steps ≡ []
 
--- THE PLAN of an entry, of whatever kind, is right
+-- THE PLAN of an entry of any kind is right
 abbrev pub IsPlan : {A : Type 0} → Settings → List (Entry A) → Entry A → Tables A → Plan A → Type 0
 IsPlan s es e t (ToCreate step held told) = PlansCreate s es e step held told.items
 IsPlan s es e t (ToChange step held told) = PlansChange s es e step held told.items
@@ -139,36 +139,36 @@ IsPlan s es e t (ToAck peer upto) = PlansAck s e t peer upto
 IsPlan s es e t (ToSweep due moment) = PlansSweep s e t due.items moment
 IsPlan s es e t ToIdle = PlansIdle s e t
 
--- WHICH STEPS GO, and how many
+-- WHICH STEPS ARE REMOVED, and how many
 
--- the steps that a plan removes: those of a sweep
+-- the steps that a plan removes; only a sweep removes any
 abbrev pub removed_by : {A : Type 0} → Plan A → List Final
 removed_by (ToSweep due moment) = due.items
 removed_by plan = []
 
--- how many steps a plan removes: a sweep answers it
+-- the number of steps that a plan removes: the reply to a sweep
 abbrev pub swept_by : {A : Type 0} → Plan A → ℕ
 swept_by (ToSweep due moment) = length due.items
 swept_by plan = 0
 
 -- THE ROOM that a plan needs
 
--- to create a step: for the step and its UID, for its row of subscriptions, and for so many events of each peer with a global
--- subscription
+-- to create a step: room for the step and its UID, for its row of subscriptions, and for `news` events for each peer
+-- with a global subscription
 pub record RoomToCreate {A : Type 0} (t : Tables A) (news : ℕ) : Type 0 where
   pub steps_room : 0 < t.steps.spare
   pub used_room : 0 < sets.spare t.used
   pub rows_room : 0 < t.watchers.spare
   pub events_room : RoomFor (λ p. is_some (slice_index_or t.watchers.covers p None)) news t.queues
 
--- to change what is held of a step: for its wait, for so many events of who watches it, and for so many of whom `newly`
--- subscribes to it
+-- to change what is held of a step: room for its wait, for `news` events of each peer that watches it, and for `first`
+-- events of each peer that `newly` subscribes to it
 pub record RoomToChange {A : Type 0} (t : Tables A) (step : List ℕ) (news : ℕ) (newly : List (Option Subscription)) (first : ℕ) : Type 0 where
   pub due_room : 0 < t.due.spare
   pub news_room : RoomFor (λ p. is_some (how t p step)) news t.queues
   pub first_room : RoomFor (λ p. is_some (slice_index_or newly p None)) first t.queues
 
--- of each kind of plan
+-- the room that each kind of plan needs
 abbrev pub room_for : {A : Type 0} → Tables A → Plan A → Type 0
 room_for t (ToCreate step held told) = RoomToCreate t (length told.items)
 room_for t (ToChange step held told) = (0 < t.due.spare) × RoomFor (λ p. is_some (how t p step)) (length told.items) t.queues

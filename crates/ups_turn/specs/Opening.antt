@@ -2,7 +2,7 @@
 use Rattle.std.specs.Prelude.{ℕ}
 use Rattle.ups_service.specs.State.{State}
 
--- the manager as it is then, and how many passes there are
+-- the manager at that time, and the number of passes
 pub record Opening (A : Type 0) : Type 0 where
   pub manager : State A
   pub seats : ℕ

@@ -1,4 +1,4 @@
--- What a pass and a desk are seen as, and what one call, a meeting and the close of a desk promise.
+-- A pass and a desk as contracts see them, and what one call, a meeting and the closing of a desk guarantee.
 use Rattle.std.specs.Prelude.{◌≡◌, ◌≢◌, ℕ, zero, suc, pos, ◌+◌, ◌^◌, nat_lt, nat_le, ◌&&◌, Bool, true, false, List, [], ◌∷◌, ◌++◌, All, None, MatchBool, ◌≤◌, ◌==◌, count_by}
 use Rattle.atomic_table.specs.Seated.{TableId}
 use Rattle.ups_life.specs.declared.entry.Entry.{Entry}
@@ -15,7 +15,7 @@ use Rattle.ups_turn.specs.declared.view.View.{View}
 use Rattle.ups_turn.specs.Rule.{Behind, IsPassNumber}
 use Rattle.ups_turn.specs.Plays.{Knows, longer}
 
--- how a pass stands: at which desk, with which number, how many calls it has made, and the history that it has seen
+-- a pass: its desk, the settings, its number, how many calls it has made, and the history that it has seen
 pub record PassView (A : Type 0) : Type 0 where
   pub table : TableId
   pub settings : Settings
@@ -23,24 +23,24 @@ pub record PassView (A : Type 0) : Type 0 where
   pub calls : ℕ
   pub seen : List (Entry A)
 
--- a desk: its table, how many passes it has, and the manager that it opened with
+-- a desk: its table, the number of its passes, and the manager with which it opened
 pub record Opened (A : Type 0) : Type 0 where
   pub table : TableId
   pub seats : ℕ
   pub opening : State A
 
--- how many passes a desk may have, and how many calls a pass may make
+-- the greatest number of passes of a desk, and of calls of a pass
 abbrev pub most_seats : ℕ
 most_seats = 1024
 
 abbrev pub most_calls : ℕ
 most_calls = 2 ^ 40
 
--- what a pass has of its service: the history that it has seen, and the calls that it has made
+-- what a pass has of its service: the history that it has seen, and how many of its calls it has made
 abbrev pub seen_by : {A : Type 0} → PassView A → Seen A
 seen_by p = seen_so p.seen (bounded p.calls most_calls)
 
--- so many passes a desk may have
+-- a desk may have this many passes
 abbrev pub are_seats : ℕ → Bool
 are_seats seats = nat_le 1 seats && nat_le seats most_seats
 
@@ -48,7 +48,7 @@ abbrev pub seats_fault : Bool → OpenFault
 seats_fault true = Memory
 seats_fault false = BadSeats
 
--- why a desk with so many seats does not open
+-- why a desk with this many seats does not open
 abbrev pub open_fault : ℕ → OpenFault
 open_fault seats = seats_fault (are_seats seats)
 
@@ -63,11 +63,11 @@ abbrev pub seen_in : {A : Type 0} → List (Part A) → List (Entry A)
 seen_in [] = []
 seen_in (p ∷ ps) = p.seen
 
--- the seat stands for the pass with this number, between its calls
+-- the seat stands for the pass with this number, and is between calls
 abbrev pub IsAtRest : {A : Type 0} → ℕ → Knows A → Type 0
 IsAtRest number me = me ≡ (resting me.0.settings number me.0.draws (seen_in me.0.parts), [])
 
--- how the pass with this number stands, by its seat's view
+-- the pass with this number, by the view of its seat
 abbrev pub standing : {A : Type 0} → TableId → ℕ → View A → PassView A
 standing table number v = record { table = table; settings = v.settings; number = number; calls = v.draws; seen = seen_in v.parts }
 
@@ -77,12 +77,12 @@ IsShelf place table = (place ≡ table) × (table.words ≡ 3) × (table.slots �
 abbrev pub part_of : {A : Type 0} → PassView A → Part A
 part_of p = record { number = p.number; seen = p.seen }
 
--- the pass is at its desk, with its number, as before
+-- the pass has the same desk, settings and number as before
 abbrev pub SamePass : {A : Type 0} → PassView A → PassView A → Type 0
 SamePass old new = (new.table ≡ old.table) × (new.settings ≡ old.settings) × (new.number ≡ old.number)
 
--- A call in its turn: others made a legal history of what the pass had seen. The reply is the one by that history, which the
--- pass has seen afterwards, with the call's own request at its end where that was accepted.
+-- A call in its turn: requests of others legally continue the history that the pass had seen. The reply is the one by
+-- that history. Afterwards the pass has seen it, with the call's own request at its end if that was accepted.
 pub record IsServed {A : Type 0} (old : PassView A) (ae : List ℕ) (moment : ℕ) (ask : Ask A) (reply : Reply A) (new : PassView A) : Type 0 where
   pub same : SamePass old new
   pub calls : new.calls ≡ old.calls + 1
@@ -92,14 +92,15 @@ pub record IsServed {A : Type 0} (old : PassView A) (ae : List ℕ) (moment : �
   pub answers : Answers old.settings (old.seen ++ between) old.number ae moment ask reply
   pub seen : new.seen ≡ (old.seen ++ between) ++ entered old.number ae moment ask reply
 
--- A pass that has made as many calls as it may refuses each later one, and has seen no more.
+-- A pass that has made all the calls that it may refuses each later one, and sees nothing more.
 abbrev pub IsSpent : {A : Type 0} → PassView A → Ask A → Reply A → PassView A → Type 0
 IsSpent old ask reply new = (reply ≡ Answered (lacking ask)) × (new ≡ old)
 
 abbrev pub IsCall : {A : Type 0} → PassView A → List ℕ → ℕ → Ask A → Reply A → PassView A → Type 0
 IsCall old ae moment ask reply new = MatchBool (nat_lt old.calls most_calls) (IsServed old ae moment ask reply new) (IsSpent old ask reply new)
 
--- A look at the history in a turn: others made a legal history of what the pass had seen, which it has seen afterwards.
+-- A look at the history in a turn: requests of others legally continue the history that the pass had seen, and the pass
+-- sees it.
 pub record HasObserved {A : Type 0} (old new : PassView A) : Type 0 where
   pub same : SamePass old new
   pub calls : new.calls ≡ old.calls + 1
@@ -108,8 +109,8 @@ pub record HasObserved {A : Type 0} (old new : PassView A) : Type 0 where
   pub legal : is_legal old.settings (old.seen ++ between)
   pub seen : new.seen ≡ old.seen ++ between
 
--- a pass has learned what another has seen: where that is longer, it has seen it too, to which its own goes on by others'
--- requests alone
+-- a pass learns what another has seen: if that is longer, the pass has now seen it too; it continues the pass's own by
+-- requests of others alone
 pub record Learns {A : Type 0} (old from new : PassView A) : Type 0 where
   pub same : SamePass old new
   pub calls : new.calls ≡ old.calls
@@ -122,20 +123,20 @@ pub record Learns {A : Type 0} (old from new : PassView A) : Type 0 where
 abbrev pub fresh : {A : Type 0} → TableId → State A → ℕ → PassView A
 fresh table m k = record { table = table; settings = m.settings; number = k; calls = 0; seen = m.history }
 
--- n passes from the number k on that have made no call
+-- n passes that have made no call, numbered from k on
 abbrev pub passes_from : {A : Type 0} → TableId → State A → ℕ → ℕ → List (PassView A)
 passes_from table m k zero = []
 passes_from table m k (suc n) = fresh table m k ∷ passes_from table m (suc k) n
 
--- what each pass has seen goes on to the history by requests of others alone: so its own are all there
+-- the history continues what each pass has seen by requests of others alone, and so has all requests of the pass
 abbrev pub EndsFor : {A : Type 0} → List (Entry A) → List (PassView A) → Type 0
 EndsFor history passes = All (λ p. Behind history (part_of p)) passes
 
--- the numbers of passes go from 1 to that of the seats, and no two passes have the same
+-- the passes have numbers from 1 to the number of seats, and no two have the same
 abbrev pub HaveNumbers : {A : Type 0} → ℕ → List (PassView A) → Type 0
 HaveNumbers seats passes = All (λ p. IsPassNumber seats p.number) passes × ((k : ℕ) → count_by (λ p. p.number == k) passes ≤ 1)
 
--- what stands for a desk, for its settings and for a number where none is picked
+-- what stands for a desk, and for its settings, if none is given
 abbrev pub no_table : TableId
 no_table = record { words = 0; slots = 0; views_name = 0; atom = 0; block = 0; offset = 0; slot_names = [] }
 

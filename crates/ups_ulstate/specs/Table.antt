@@ -9,7 +9,7 @@ use Rattle.ups_ulstate.specs.declared.state.UlEvent.TheVariants as events
 use Rattle.ups_ulstate.specs.declared.state.UlAction.{UlAction}
 use Rattle.ups_ulstate.specs.declared.state.UlAction.TheVariants.{Ae1, Ae2, Ae3, Ae4, Ae5, Ae6, Ae7, Ae8, Dt1, Dt2, Ar1, Ar2, Ar3, Ar4, Ar5, Ar6, Ar7, Ar8, Ar9, Ar10, Aa1, Aa2, Aa3, Aa4, Aa5, Aa6, Aa7, Aa8}
 
--- the number of a state: the columns of table 9-10
+-- the number of a state, which is its column in table 9-10
 abbrev pub state_number : UlState → ℕ
 state_number Sta1 = 1
 state_number Sta2 = 2
@@ -25,8 +25,8 @@ state_number Sta11 = 11
 state_number Sta12 = 12
 state_number Sta13 = 13
 
--- PS3.8 table 9-10, row by row: the states in which an action is called for, for each action of the row; a
--- state that isn't named has an empty cell
+-- PS3.8 table 9-10, row by row: each action of the row, with the states in which it is taken; a state that is not
+-- listed has an empty cell
 abbrev pub cells : UlEvent → List (List ℕ × UlAction)
 cells events.AssociateRequest = (1 ∷ [], Ae1) ∷ []
 cells events.TransportConfirmed = (4 ∷ [], Ae2) ∷ []
@@ -48,13 +48,13 @@ cells events.TransportClosed = (2 ∷ [], Aa5) ∷ (3 ∷ 4 ∷ 5 ∷ 6 ∷ 7 �
 cells events.TimerExpired = (2 ∷ 13 ∷ [], Aa2) ∷ []
 cells events.Invalid = (2 ∷ [], Aa1) ∷ (3 ∷ 5 ∷ 6 ∷ 7 ∷ 8 ∷ 9 ∷ 10 ∷ 11 ∷ 12 ∷ [], Aa8) ∷ (13 ∷ [], Aa7) ∷ []
 
--- the action of the first entry of a row that names the state
+-- the action of the first entry of a row that lists the state
 abbrev pub action_of : ℕ → List (List ℕ × UlAction) → Option UlAction
 action_of state [] = None
 action_of state (c ∷ cs) = if list_any (λ n. state == n) c.0 then Some c.1 else action_of state cs
 
--- PS3.8 tables 9-6 to 9-9: the next state of each action. AE-6 leads on where the service provider can accept
--- the association request, AR-8 by the side on which the association was requested.
+-- PS3.8 tables 9-6 to 9-9: the next state of each action. That of AE-6 depends on whether the service provider can
+-- accept the association request, that of AR-8 on which side requested the association.
 abbrev pub after : Bool → Bool → UlAction → UlState
 after requestor acceptable Ae1 = Sta4
 after requestor acceptable Ae2 = Sta5
@@ -85,6 +85,6 @@ after requestor acceptable Aa6 = Sta13
 after requestor acceptable Aa7 = Sta13
 after requestor acceptable Aa8 = Sta13
 
--- PS3.8 table 9-10 whole: what is done at an event in a state, and the state after it
+-- PS3.8 table 9-10 as a whole: the action taken on an event in a state, and the state after it
 abbrev pub next_of : Bool → Bool → UlEvent → UlState → Option (UlAction × UlState)
 next_of requestor acceptable event state = option_map (λ a. (a, after requestor acceptable a)) (action_of (state_number state) (cells event))

@@ -9,8 +9,8 @@ use Rattle.ups_watch.specs.declared.cover.Cover.{Cover}
 use Rattle.ups_watch.specs.Covers.{covering_in}
 use Rattle.ups_watch.specs.Rows.{Cells, cells_in, watching_in, knows_in, HasWidth}
 
--- the global subscription of each peer, the steps that are known with how each peer is subscribed to each of them, and for
--- how many more steps there is room
+-- the global subscription of each peer, the known steps with the subscriptions of the peers to each of them, and the
+-- number of further steps for which there is room
 pub record WatchersView (A : Type 0) : Type 0 where
   pub covers : List (Option (Cover A))
   pub rows : List (List ℕ × Cells)
@@ -24,27 +24,27 @@ watching t p u = watching_in t.rows p u
 abbrev pub knows : {A : Type 0} → WatchersView A → List ℕ → Bool
 knows t u = knows_in t.rows u
 
--- how the peer at a place is subscribed to a step that is created with these attributes
+-- how the peer at a place is subscribed to a step created with these attributes
 abbrev pub covering : {A : Type 0} → WatchersView A → ℕ → List El → Option Subscription
 covering t p attributes = covering_in t.covers p attributes
 
--- how each peer is subscribed to the step u, at the place of the peer; empty where u is not known
+-- the subscriptions of the peers to the step u, in the order of their places; empty if u is not known
 abbrev pub cells_of : {A : Type 0} → WatchersView A → List ℕ → Cells
 cells_of t u = unwrap_or (cells_in t.rows u) []
 
--- one of the peers has a deletion lock on a step, to which they are subscribed so
+-- one of the peers has a Deletion Lock on the step with these cells
 abbrev pub is_locked_by_any : Cells → Bool
 is_locked_by_any cells_in = list_any is_locked cells_in
 
--- how many peers have a deletion lock on the step u
+-- the number of peers with a Deletion Lock on the step u
 abbrev pub locks : {A : Type 0} → WatchersView A → List ℕ → ℕ
 locks t u = length (filter is_locked (cells_of t u))
 
--- the rows for steps that are yet to be created have a cell for each of n peers, and no peer is subscribed
+-- the rows for steps yet to be created have a cell for each of n peers, and no peer is subscribed
 abbrev pub AreBlank : ℕ → List Cells → Type 0
 AreBlank n rows = (k : ℕ) → k < length rows → slice_index_or rows k [] ≡ replicate n None
 
--- what the parts of the table have to do with each other: there is a cell for each peer in each row
+-- how the parts of the table fit each other: each row, also a blank one, has a cell for each peer
 pub record KeepsWatchers {A : Type 0} (covers : List (Option (Cover A))) (rows : List (List ℕ × Cells)) (blanks : List Cells) : Type 0 where
   pub width : HasWidth (length covers) rows
   pub blank : AreBlank (length covers) blanks

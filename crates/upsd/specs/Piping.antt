@@ -8,7 +8,7 @@ use Rattle.ups_session.specs.Tells.{Told}
 use Rattle.ups_session.specs.WatchedIo.{Output}
 use Rattle.ups_life.specs.Limits.{history_limit}
 
--- these peers may watch steps
+-- the settings if these peers may watch steps
 abbrev pub settings : List Peer → Settings
 settings peers = record { peers = peers; keep = keep_seconds; offset = local_offset; limit = history_limit }
 
@@ -16,10 +16,10 @@ settings peers = record { peers = peers; keep = keep_seconds; offset = local_off
 abbrev pub epoch : Told
 epoch = record { calls = []; all = false; always = Some 0 }
 
--- what a session is told of this application entity: its title, and its local time
+-- the configuration of a session: the title of this application entity, and its local time
 abbrev pub config : List ℕ → Config
 config ae = record { ae = ae; offset = local_offset }
 
--- a writer of lines of hex digits, which doesn't say what it holds, before its first write
+-- a writer of lines of hex digits before its first write; what it holds is unknown
 abbrev pub unwritten : Output
 unwritten = record { written = None; failed = false }

@@ -16,19 +16,19 @@ exit_code Usage = 1
 exit_code Stopped = 2
 exit_code Memory = 3
 
--- of an association: 0 at each End, 3 for lack of memory, 2 for any other fault
+-- the status of an association: 0 at each End, 3 for lack of memory, 2 for any other fault
 abbrev pub session_status : Result End SessionFault → Status
 session_status (Ok end) = Done
 session_status (Err sessions.Memory) = Memory
 session_status (Err fault) = Stopped
 
--- of a script: 0 at the end of its input, 3 for lack of memory, 2 for any other fault
+-- the status of a script: 0 at the end of its input, 3 for lack of memory, 2 for any other fault
 abbrev pub script_status : Result Unit ScriptFault → Status
 script_status (Ok done) = Done
 script_status (Err scripts.Memory) = Memory
 script_status (Err fault) = Stopped
 
--- of a command line of which the parser makes nothing: 0 where it asks for the usage or the version, 3 for want of
+-- the status of a command line that the parser does not accept: 0 if it asks for the help or the version, 3 for lack of
 -- memory, 1 for any other
 abbrev pub parse_status : ErrorKind → Status
 parse_status kinds.DisplayHelp = Done
