@@ -2,10 +2,10 @@
 """Compares two builds of `upsd`, an older and a newer one, row by row over the same input; prints a table.
 
 The rows are those of bench/pipe.py and bench/script.py. A figure leaves out what the same input takes without the
-requests that a row is about. The two programs take turns, and the least of their runs counts, so that a machine that is
-busy for a while slows down both. With --instructions or --allocations the processor's instructions, or the blocks of
-memory asked for, are counted in place of the time, by valgrind (from Debian's package of that name) and over shorter
-inputs: that is slow, but the same at each run, whatever else the machine does.
+requests that its row is about. The two programs take turns, and the shortest of their runs counts, so that a machine
+that is busy for a while slows down both. With --instructions or --allocations, valgrind (from Debian's package of that
+name) counts the processor's instructions or the allocated blocks of memory instead of the time, over shorter inputs:
+that is slow, but the same at each run, whatever else the machine does.
 """
 
 import argparse
@@ -85,7 +85,7 @@ def script_rows(few):
 
 
 def run(command, stdin):
-    """The seconds of one run, and what it wrote on standard error."""
+    """Returns the seconds of one run, and what it wrote to standard error."""
     with tempfile.TemporaryFile() as given:
         given.write(stdin)
         given.seek(0)
@@ -98,19 +98,19 @@ def run(command, stdin):
 
 
 def instructions(command, stdin):
-    """The instructions of one run."""
+    """Counts the instructions of one run."""
     _, told = run(["valgrind", "--tool=callgrind", "--callgrind-out-file=/dev/null", *command], stdin)
     return int(re.search(r"Collected : (\d+)", told)[1])
 
 
 def allocations(command, stdin):
-    """How many blocks of memory one run asks for."""
+    """Counts the blocks of memory that one run allocates."""
     _, told = run(["valgrind", "--tool=memcheck", "--leak-check=no", *command], stdin)
     return int(re.search(r"total heap usage: ([\d,]+) allocs", told)[1].replace(",", ""))
 
 
 def compared(programs, words, base, whole, times, count):
-    """What each program takes for the whole input beyond the base: by a count, or the least time of runs by turns."""
+    """Returns what each program takes for the whole input beyond the base: a count, or the least time of runs by turns."""
     if count:
         return [count([it, *words], whole) - count([it, *words], base) for it in programs]
     least = {}

@@ -1,12 +1,12 @@
 #!/usr/bin/env python3
-"""Counts what one request costs: instructions of the processor, and blocks of memory, for each kind; prints a table.
+"""Counts what one request of each kind costs, in instructions of the processor and blocks of memory; prints a table.
 
-Each figure is what a run with so many more of the requests takes beyond one without, divided by their number, over steps that
-are held: `upsd pipe`, counted by valgrind (from Debian's package of that name). It is slow, and the same at each run,
-whatever else the machine does. Of several programs, an older one first, each has its columns.
+Each figure is what a run of `upsd pipe` with some requests takes beyond one without them, divided by their number, while steps
+are held. It is counted by valgrind (from Debian's package of that name), which is slow, but the same at each run, whatever else
+the machine does. Each of several programs, an older one first, has its own columns.
 
-With --longest it measures a server over TCP instead: the longest N-CREATE among the last of so many steps, by the clock, which
-a machine that is busy makes longer.
+With --longest it measures a server over TCP instead: the longest N-CREATE among the last tenth of the steps, by the clock, so a
+busy machine makes it longer.
 """
 
 import argparse
@@ -21,14 +21,14 @@ from compare import PIPE, allocations, instructions
 from peer import Peer
 from serve import Measured
 
-HELD = 1_000  # steps that are there
-ASKED = 200  # requests that are counted
+HELD = 1_000  # steps held
+ASKED = 200  # requests counted
 OPENING = dicom.associate([(dicom.PUSH, dicom.EXPLICIT), (dicom.PULL, dicom.EXPLICIT), (dicom.VERIFICATION, dicom.EXPLICIT)])
 PUSH_ON, PULL_ON, ECHO_ON = 1, 3, 5
 
 
 def attributes(i):
-    """Nine attributes of a step, of which a worklist is looked up by five."""
+    """Returns nine attributes of a step, of which five are indexed."""
     row = (
         (0x0010, 0x0010, b"PN", b"DOE^JANE"),
         (0x0010, 0x0020, b"LO", b"P%05d" % (i % 100_000)),
@@ -90,7 +90,7 @@ STATUS = bytes((0, 0, 0, 9, 2, 0, 0, 0))  # the header of Status (0000,0900)
 
 
 def granted(program, stdin):
-    """How many responses a run has, each of which says 0000, or FF00."""
+    """Returns how many responses a run has; fails if one has another status than 0000 or FF00."""
     _, out, _ = pipe.timed([program, *PIPE], stdin)
     commands, at = 0, 0
     while at < len(out):
@@ -119,7 +119,7 @@ def counted(programs):
 
 
 def longest(program, steps, last):
-    """Each of the last N-CREATE, from the longest, in milliseconds until it was answered."""
+    """Returns the milliseconds until each of the last N-CREATEs was answered, from the longest."""
     with Measured(program, 1) as server:
         peer, took = Peer(server.port), []
         for i in range(steps):

@@ -4,19 +4,20 @@
     bench/day.py [PROGRAM] [--sizes 1000 10000] [--away] [--keep SECONDS] [--limit SECONDS]
 
 It starts the server on a free port of this machine with ten peers. Three of them watch: one all steps, with a deletion lock
-that it ends later; one by a filter that takes in each tenth step; one single steps. These three listen here and take their
-reports. With `--away` the first of them never listens, so that its reports stay pending all day. Steps are then created,
-found, claimed, set twice and finished, until so many requests were accepted; the server sweeps by itself.
+that it ends and takes again in turn; one by a filter that only the steps for timing a report match; one single steps. These
+three listen here and take their reports. With `--away` the first of them never listens, so that its reports stay pending all
+day. Steps are then created, found, got, claimed, set twice and finished, until as many requests are accepted as a size says;
+the server sweeps by itself.
 
 At each size it measures, over 100 requests of each kind, the processor time that the workers of the server take from the
-request to its answer, by /proc, as the median and the 99th percentile in microseconds. Meanwhile, and in three seconds more, a
-sweep each second removes what was finished, and a round each second reports it: "sweeping" and "reporting" are what one of each
-costs. Then come ten seconds in which nobody asks anything: what a sweep and a round cost in them, and which part of a processor
-the server uses in all; the longest time from a change to the report of it at the second watcher; the steps held; and the
-resident memory. It ends by itself, and with status 1 where the server didn't get as far within the limit (default 900 seconds).
+request to its answer, by /proc, as the median and the 99th percentile in microseconds. Meanwhile, and for three more seconds, a
+sweep each second removes finished steps, and a round each second reports changes: "sweeping" and "reporting" are what one of
+each costs. For ten idle seconds it then measures what a sweep and a round cost, and what part of a processor the server uses in
+all; after that the longest time from a change to its report at the second watcher, the steps held, and the resident memory. It
+ends by itself, with status 1 if the server doesn't get that far within the limit (default 900 seconds).
 
-The thread that sweeps is the first of the process, as `serve` has it. The deliverer is the one of the others that has run most
-before anybody asks for anything.
+The sweeping thread is the first of the process, as `serve` has it. The deliverer is the one of the others that has run most
+before the first request.
 """
 
 import argparse
@@ -32,8 +33,8 @@ from machine import resident, used_by
 from peer import FILTERED, GLOBAL, PULL_ON, PUSH_ON, Asker, a_step, claim, progress, subscribe, told, unsubscribe
 from server import Server
 
-COUNT = 100  # requests of each kind that are measured
-LOCKED = 500  # lives of steps between the beginning of a lock of everything and its end
+COUNT = 100  # measured requests of each kind
+LOCKED = 500  # lives of steps between the beginning and the end of the lock of all steps
 
 
 def instance(number):
@@ -46,7 +47,7 @@ PERFORMED = told(0x0008, 0x1195, b"UI", TRANSACTION) + told(0x0074, 0x1000, b"CS
 
 
 def kinds(number):
-    """The requests of a step's life, in order, by name."""
+    """Yields the requests of a step's life in order, each with its name."""
     step = instance(number)
     asked = told(0x0008, 0x0018, b"UI", b"") + told(0x0010, 0x0020, b"LO", b"P%d" % (number % 10))
     yield "create", create(PUSH_ON, 1, step, a_step(b"P%d" % (number % 10)))
@@ -74,14 +75,14 @@ class Day:
         self.asker, self.number, self.away = Asker(server.port), 0, away
 
     def used(self):
-        """The nanoseconds that the sweeper, the deliverer and the workers have run."""
+        """Returns the nanoseconds that the sweeper, the deliverer and the workers have run."""
         return (used_by(self.pid, self.pid), used_by(self.pid, self.deliverer), self.worked())
 
     def worked(self):
         return sum(used_by(self.pid, task) for task in self.workers)
 
     def live(self, times=None):
-        """The life of one step; what each request took."""
+        """Runs the life of one step, and adds what each request took to `times`, if given."""
         self.number += 1
         for name, request in kinds(self.number):
             before = self.worked()
@@ -92,14 +93,14 @@ class Day:
             if times is not None:
                 times.setdefault(name, []).append((self.worked() - before) / 1000)
         if self.number % LOCKED == 0 and not self.away:
-            # a lock ends, so that what is finished can be swept, and later begins again
+            # the lock ends, so that finished steps can be swept, and later begins again
             if self.number // LOCKED % 2:
                 self.asker.do(unsubscribe(GLOBAL, b"EVERY"))
             else:
                 self.asker.do(subscribe(GLOBAL, b"EVERY", b"TRUE"))
 
     def settle(self):
-        """Waits until the deliverer has told what is to be told, for half a minute at most."""
+        """Waits until the deliverer is idle, for half a minute at most."""
         for _ in range(30):
             before = used_by(self.pid, self.deliverer)
             time.sleep(1)
@@ -107,7 +108,7 @@ class Day:
                 return
 
     def measure(self, watcher):
-        """What each request took, and then the other cells of the line, as texts."""
+        """Returns what each request took, and the other cells of the line as texts."""
         self.settle()
         times, began, before = {}, time.monotonic(), self.used()
         for _ in range(COUNT):
@@ -124,11 +125,11 @@ class Day:
                        f"{sum(idle) / 1e6:.2%}", f"{lag:.2f} s", f"{held:,}", f"{resident(self.pid) / 1e6:,.1f} MB"]
 
     def held(self):
-        """How many steps are held: those that a query for all of them finds."""
+        """Returns how many steps are held: those that a query for all finds."""
         return self.asker.count(find(PULL_ON, 1, told(0x0008, 0x0018, b"UI", b"")))
 
     def lag(self, watcher):
-        """The longest time from a change to its report, of five."""
+        """Returns the longest of five times from a change to its report."""
         longest = 0.0
         for _ in range(5):
             self.number += 1

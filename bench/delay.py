@@ -3,12 +3,12 @@
 
     bench/delay.py [PROGRAM] [--delays 0 1 20] [--count 100]
 
-The client runs in a network namespace of its own. Between it and the server lie two TUN devices, whose packets this script
-carries, each after the delay (in milliseconds, each way). So both ends are the system's TCP, and a kernel without `netem`
-will do. It has to run as root.
+The client runs in a network namespace of its own. Two TUN devices lie between it and the server, and this script carries
+their packets, each after the delay (in milliseconds, each way). So both ends use the system's TCP, and a kernel without
+`netem` will do. It has to run as root.
 
 DCMTK sends a request in two parts. With its default settings the second waits until the first is acknowledged; with
-TCP_NODELAY set it doesn't. Both are measured: the milliseconds of a request, and of a round trip beside it.
+TCP_NODELAY set it doesn't. Both are measured: the milliseconds of a request, next to those of a round trip.
 """
 
 import argparse
@@ -40,7 +40,7 @@ def ip(*words: str, check: bool = True) -> None:
 
 
 def device(name: str) -> int:
-    """A new TUN device: its file."""
+    """Makes a TUN device, and returns its file."""
     file = os.open("/dev/net/tun", os.O_RDWR)
     fcntl.ioctl(file, TUNSETIFF, struct.pack("16sH", name.encode(), IFF_TUN_NO_PI))
     return file
@@ -76,7 +76,7 @@ class Carrier:
 
 @contextlib.contextmanager
 def network(delay: float) -> Iterator[None]:
-    """A namespace that is reached after a delay, in seconds."""
+    """Makes a namespace that is reached after a delay, in seconds."""
     ip("netns", "del", NAMESPACE, check=False)
     files = device(DEVICES[0]), device(DEVICES[1])
     try:
@@ -98,14 +98,14 @@ def network(delay: float) -> Iterator[None]:
 
 
 def round_trip() -> float:
-    """The milliseconds of a round trip, by `ping`: the average of five."""
+    """Returns the milliseconds of a round trip by `ping`, the average of five."""
     told = subprocess.run(["ip", "netns", "exec", NAMESPACE, "ping", "-q", "-c", "5", "-i", "0.2", HERE], capture_output=True, text=True)
     found = re.search(r"= [\d.]+/([\d.]+)/", told.stdout)
     return float(found[1]) if found else float("nan")
 
 
 def took(count: int, port: int, quick: bool) -> float:
-    """The milliseconds of a C-ECHO: of so many in one association."""
+    """Returns the milliseconds of a C-ECHO, the average of `count` in one association."""
     environment = {**os.environ, **({"TCP_NODELAY": "1"} if quick else {})}
     command = ["ip", "netns", "exec", NAMESPACE, "echoscu", "--repeat", str(count), "-aec", "UPSD", HERE, str(port)]
     begun = time.monotonic()
@@ -114,7 +114,7 @@ def took(count: int, port: int, quick: bool) -> float:
 
 
 def measure(program: str, delay: float, count: int) -> list[str]:
-    """The cells of one delay."""
+    """Returns the cells of one delay."""
     with network(delay / 1000), Server([program], "--bind", "0.0.0.0") as server:
         cells = [f"{round_trip():.1f}" if shutil.which("ping") else f"{2 * delay:.1f}"]
         return cells + [f"{took(count, server.port, quick):.1f}" for quick in (False, True)]

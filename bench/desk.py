@@ -1,11 +1,11 @@
 #!/usr/bin/env python3
-"""Measures calls through a desk of 1, 4 and 12 passes, beside the same calls behind a std `Mutex` round the same manager:
+"""Measures calls through a desk of 1, 4 and 12 passes, next to the same calls with a std `Mutex` around the same manager:
 gets, and finds by patient ID, over 1,000 steps. Prints a table: the calls a second and the processor time of each call, the
-best of several runs, of which each makes the same number of calls in all.
+best of several runs, each of which makes the same number of calls in all.
 
-The program that is measured is no crate of this repository. Its text stands in bench/desk, each file with `.txt` behind its
-name. It is built in a copy of the libraries that it uses, with what earlier checks kept of them, and proved there, which
-takes some minutes. Linux only.
+The measured program is not a crate of this repository. Its sources are in bench/desk, each file with `.txt` after its name.
+It is proved and built in a copy of the libraries that it uses, with what earlier checks kept of them, which takes some
+minutes. Linux only.
 
 Usage: bench/desk.py [--runs N] [--build FILE]      builds the program (and keeps it as FILE), and measures it
        bench/desk.py [--runs N] --program FILE      measures one that was built
@@ -22,20 +22,20 @@ import tempfile
 NAME = "desk_bench"
 USES = "ups_pdu ups_dataset ups_dimse ups_match ups_cycle ups_life ups_reports ups_service ups_manager ups_turn atomic_table std_heap"
 
-# what is asked, and how many calls a run makes in all
+# the requests, and how many calls a run makes in all
 ASKED = (("get", 240_000), ("find", 24_000))
 PASSES = (1, 4, 12)
 WAYS = ("desk", "lock")
 
 
 def listed(root):
-    """The lines of crates.txt for the libraries that the program uses."""
+    """Returns the lines of crates.txt for the libraries that the program uses."""
     lines = (root / "crates.txt").read_text().splitlines()
     return [line for line in lines if line.partition(":")[0] in USES.split()]
 
 
 def laid_out(root, to):
-    """Lays out the program and the libraries that it uses."""
+    """Copies the program and the libraries that it uses to a folder."""
     lines = listed(root)
     (to / "crates.txt").write_text("\n".join([*lines, f"{NAME}: {USES}", ""]))
     shutil.copy(root / "HANDLES", to)
@@ -61,7 +61,7 @@ def built(root, program):
 
 
 def once(program, way, asked, passes, calls):
-    """The calls a second and the microseconds of processor time of each call, in one run."""
+    """Returns the calls a second and the microseconds of processor time of each call, in one run."""
     line = f"{way} {asked} {passes} {calls // passes}"
     done = subprocess.run([program], input=line, capture_output=True, text=True)
     if done.returncode != 0:

@@ -1,6 +1,6 @@
 /* The least that a server does for a C-ECHO: one recv for a request and one send for its response, a thread for each
    association. It reads nothing of a message but its Message ID, accepts whatever is proposed, and checks nothing, so
-   it is no DICOM server: bench/serve.py compares the processor time of `upsd serve` with it. It prints its port. */
+   it is not a DICOM server: bench/serve.py compares the processor time of `upsd serve` with it. It prints its port. */
 
 #include <arpa/inet.h>
 #include <netinet/in.h>
@@ -18,7 +18,7 @@ static uint8_t accepted[74] = {2, 0, 0, 0, 0, 68, 0, 1};
 /* An A-RELEASE-RP (PS3.8 section 9.3.7). */
 static uint8_t released[10] = {6, 0, 0, 0, 0, 4};
 
-/* A C-ECHO-RSP in one P-DATA-TF, on the context 5 (PS3.7 section 9.3.5.2). */
+/* A C-ECHO-RSP in one P-DATA-TF, on presentation context 5 (PS3.7 section 9.3.5.2). */
 static const uint8_t response[] = {
     4, 0, 0, 0, 0, 84, 0, 0, 0, 80, 5, 3,
     0, 0, 0, 0, 4, 0, 0, 0, 66, 0, 0, 0,
@@ -29,7 +29,7 @@ static const uint8_t response[] = {
     0, 0, 0, 9, 2, 0, 0, 0, 0, 0,
 };
 
-/* Where the Message ID stands in that response, and in a request as check/lib/dicom.py writes it. */
+/* Where the Message ID is in that response, and in a request as check/lib/dicom.py writes it. */
 enum { ID_ANSWERED = 68, ID_ASKED = 68 };
 
 static void *serve(void *given)

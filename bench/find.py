@@ -3,14 +3,14 @@
 
     bench/find.py [PROGRAM] [--sizes 11 1000 10000 100000]
 
-At each size it starts the server on a free port of this machine and pushes steps to it. By each of patient ID, worklist label,
-station name code, state, priority and start, one step has a value of its own, ten others have another, and all the others
-have a third. A query for the first has one answer, and one for the second ten. Besides, steps are looked for by UID, by a label
-with a wild card and by nothing.
+At each size it starts the server on a free port of this machine and pushes steps to it. For each of patient ID, worklist label,
+station name code, state, priority and start, one step has its own value, ten others share another, and the rest have others. A
+query for the first value has one answer, and one for the second ten. Steps are also found by UID, by a worklist label with a
+wild card, and without a key.
 
 Each cell is the processor time that the workers of the server take for a find, by /proc: the median of 200 in microseconds (of
-5 where each step held is an answer). Beside it stand the same of N-CREATE, over the last 200, with the longest of all; of N-SET
-of a worklist label, with the longest of 200; and how much the resident memory grows at its most in a find of all steps.
+5 if each step held is an answer). Further rows have the same for N-CREATE, over the last 200, with the longest of all; for N-SET
+of a worklist label, with the longest of 200; and how much the resident memory grows at most during a find of all steps.
 """
 
 import argparse
@@ -34,12 +34,12 @@ def instance(number: int) -> bytes:
 
 
 def of_class(number: int, alone: bytes, ten: bytes, other: bytes) -> bytes:
-    """The value of a step: its own, that of ten, or that of all others."""
+    """Returns the value of a step: that of the one, of the ten, or of the others."""
     return alone if number == ALONE else ten if number in TEN else other
 
 
 def a_step(number: int) -> bytes:
-    """The attributes of a new step."""
+    """Returns the attributes of a new step."""
     text = lambda alone, ten, other: even(of_class(number, alone, ten, other), b" ")
     sequence = items([told(0x0008, 0x0100, b"SH", of_class(number, b"R1", b"R2", b"R3")) + told(0x0008, 0x0102, b"SH", b"99A")
                       + told(0x0008, 0x0104, b"LO", b"Room")])
@@ -53,7 +53,7 @@ def a_step(number: int) -> bytes:
 
 
 def queries() -> list[tuple[str, int | None, bytes]]:
-    """Each query: what it is by, how many answers it has (None for one for each step), and its keys."""
+    """Returns the queries: the name of the key, how many answers there are (None for one for each step), and the keys."""
     rows: list[tuple[str, int | None, bytes]] = []
     for name, key, alone, ten in (
         ("patient ID", lambda v: told(0x0010, 0x0020, b"LO", v), b"P1", b"P2"),
@@ -79,17 +79,17 @@ class Measured:
         self.workers = [task for task in os.listdir(f"/proc/{self.pid}/task") if task != str(self.pid)]
 
     def worked(self) -> float:
-        """The microseconds that the workers have run."""
+        """Returns the microseconds that the workers have run."""
         return sum(used_by(self.pid, task) for task in self.workers) / 1000
 
     def took(self, request: bytes) -> tuple[int, float]:
-        """The last status of a request, and the microseconds that it took."""
+        """Sends a request; returns its last status and the microseconds that it took."""
         before = self.worked()
         status = self.peer.ask(request)
         return status, self.worked() - before
 
     def fill(self, steps: int) -> list[float]:
-        """Pushes so many steps: what each took. Then one is claimed, and ten are canceled."""
+        """Pushes steps, claims one and cancels ten. Returns what each push took."""
         times = []
         for number in range(steps):
             status, took = self.took(create(PUSH_ON, 1, instance(number), a_step(number)))
@@ -101,11 +101,11 @@ class Measured:
         return times
 
     def find(self, keys: bytes, many: bool) -> float:
-        """The median of what a find takes."""
+        """Returns the median time of a find."""
         return statistics.median(self.took(find(PULL_ON, 1, keys))[1] for _ in range(5 if many else COUNT))
 
     def relabel(self) -> list[float]:
-        """What it takes to set the label of the step that is claimed, each time."""
+        """Sets the label of the claimed step again and again, and returns what each time took."""
         times = []
         for turn in range(COUNT):
             change = told(0x0008, 0x1195, b"UI", TRANSACTION) + told(0x0074, 0x1202, b"LO", b"NEW%d" % (turn % 2))
@@ -115,7 +115,7 @@ class Measured:
         return times
 
     def growth(self) -> float:
-        """By how many megabytes the resident memory grows at its most in a find of all steps."""
+        """Returns by how many megabytes the resident memory grows at most during a find of all steps."""
         with open(f"/proc/{self.pid}/clear_refs", "w", encoding="ascii") as it:
             it.write("5")
         before = resident(self.pid)
@@ -126,7 +126,7 @@ class Measured:
 
 
 def measure(program: str, steps: int) -> list[str]:
-    """The cells of one size."""
+    """Returns the cells of one size."""
     with Server([program], "--associations", "1") as server:
         it = Measured(server)
         creates = it.fill(steps)

@@ -1,8 +1,8 @@
 #!/usr/bin/env python3
-"""Measures how long one key takes to be matched with one stored value; prints a table.
+"""Measures how long it takes to match one key with one stored value; prints a table.
 
-The program that is measured asks a `Probe` and nothing else. It is no crate of this repository: make one of its text
-for the time of the measuring, over ups_pdu, ups_dataset and ups_match.
+The measured program asks a `Probe` and nothing else. It is not a crate of this repository: make one from its text
+while you measure, on ups_pdu, ups_dataset and ups_match.
 
 Usage: bench/matching.py --source       prints the text of the program
        bench/matching.py PROGRAM        measures it
@@ -68,7 +68,7 @@ def even(value):
 
 
 def seconds(program, representation, key, value):
-    """The best of three runs, or of one that takes long; none where it takes longer than the limit."""
+    """Returns the best time of three runs, or of one if it takes over 2 s; None if a run exceeds the limit."""
     stdin = b"\n".join((representation, even(key), even(value), b""))
     least = None
     for _ in range(3):
@@ -90,7 +90,7 @@ def uids(front, count):
     return b"\\".join(b"%s%d" % (front, 100_000 + i) for i in range(count))
 
 
-# each shape: its representation, and its key and value of so many bytes together
+# each shape: its representation, and its key and value of n bytes together
 SHAPES = (
     ("`*A..AB*` and letters `A`", b"LO", lambda n: (b"*" + b"A" * (n // 3) + b"B*", b"A" * (2 * n // 3))),
     ("`*?A..AB*` and letters `A`", b"LO", lambda n: (b"*?" + b"A" * (n // 3) + b"B*", b"A" * (2 * n // 3))),

@@ -14,7 +14,7 @@ from machine import arguments
 
 
 def timed(words, stdin):
-    """The seconds of one run, what it wrote, and how it ended."""
+    """Returns the seconds of one run, what it wrote, and how it ended."""
     with tempfile.TemporaryFile() as given, tempfile.TemporaryFile() as told:
         given.write(stdin)
         given.flush()
@@ -27,7 +27,7 @@ def timed(words, stdin):
 
 
 def run(program, stdin, before=()):
-    """The seconds of one run, and what it told on standard error."""
+    """Returns the seconds of one run, and what it wrote to standard error."""
     took, out, done = timed([*before, program, "pipe", "--ae", "UPSD"], stdin)
     if done.returncode != 0:
         sys.exit(f"{program}: {done.stderr}")
@@ -37,12 +37,12 @@ def run(program, stdin, before=()):
 
 
 def peak(program, stdin):
-    """The peak memory of one run, in bytes. (GNU time is small, so that what it forks counts by itself.)"""
+    """Returns the peak memory of one run, in bytes. (GNU time is small, so only the program that it forks counts.)"""
     return int(run(program, stdin, ["/usr/bin/time", "-f", "%M"])[1].split()[-1]) * 1024
 
 
 def best(program, stdin, times=5):
-    """The seconds of the best run, and the peak memory."""
+    """Returns the seconds of the best run, and the peak memory."""
     return min(run(program, stdin)[0] for _ in range(times)), peak(program, stdin)
 
 
@@ -66,14 +66,14 @@ def steps(program):
 
 
 def keys(texts):
-    """An identifier that asks for four attributes, some of them with a key."""
+    """Returns an identifier that asks for four attributes, some of them with a key."""
     row = {(0x0008, 0x0018): (b"UI", b""), (0x0010, 0x0020): (b"LO", b""), (0x0074, 0x1000): (b"CS", b""), (0x0074, 0x1204): (b"LO", b"")}
     row.update(texts)
     return b"".join(data(True, g, e, vr, value) for (g, e), (vr, value) in sorted(row.items()))
 
 
 def finds(program):
-    """Queries over many steps: one step has the patient ID, one in ten the text."""
+    """Measures queries over many steps: one step has the patient ID, one in ten the text."""
     opening = associate([(PUSH, EXPLICIT), (PULL, EXPLICIT)])
     for count in (100, 1_000):
         made = b""
@@ -92,7 +92,7 @@ def finds(program):
 
 
 def nested(explicit, size):
-    """Sequences of one item, eight deep, again and again."""
+    """Returns items in which sequences of one item are nested, eight deep, again and again."""
     inner = data(explicit, 0x0040, 0x4050, b"DT", b"20240229120000")
     for _ in range(7):
         inner = data(explicit, 0x0040, 0x4018, b"SQ", items([inner]))

@@ -19,12 +19,12 @@ def create(number):
 
 
 def run(program, stdin, before=()):
-    """The seconds of one run, what it wrote, and how it ended."""
+    """Returns the seconds of one run, what it wrote, and how it ended."""
     return timed([*before, program, "script"], stdin)
 
 
 def best(program, stdin, wanted, times=5):
-    """The seconds of the best run; each line of a run has to begin with the status that is wanted."""
+    """Returns the seconds of the best run; each line of a run has to begin with the wanted status."""
     least = None
     for _ in range(times):
         took, out, done = run(program, stdin)
@@ -49,7 +49,7 @@ def lines(program):
 
 
 def run_seconds(program, stdin, peers, times=5):
-    """The processor seconds of the best run of a script with these peers, all of whose lines are answered."""
+    """Returns the processor seconds of the best run of a script with these peers, which has to answer all lines."""
     least = None
     for _ in range(times):
         before = resource.getrusage(resource.RUSAGE_CHILDREN)
@@ -63,7 +63,7 @@ def run_seconds(program, stdin, peers, times=5):
 
 
 def watchers(program):
-    """What watchers ask over 100 and 1,000 steps, each watched by ten, and what creates cost where a hundred watch."""
+    """Measures what watchers ask over 100 and 1,000 steps, each watched by ten, and creates with a hundred watchers."""
     peers = [f"W{i}=localhost:{104 + i}" for i in range(100)]
     subscribed = [b"0 W%d subscribe global W%d FALSE\n" % (i, i) for i in range(100)]
     for count in (100, 1_000):
@@ -84,7 +84,7 @@ def print_rate(name, count, took):
 
 
 def peak(program, stdin):
-    """The peak memory of one run, in bytes, and the status of the last reply."""
+    """Returns the peak memory of one run, in bytes, and the status of the last reply."""
     _, out, done = run(program, stdin, ["/usr/bin/time", "-f", "%M"])
     return int(done.stderr.split()[-1]) * 1024, out.splitlines()[-1][:4].decode()
 

@@ -2,14 +2,15 @@
 """Measures `upsd serve`: requests a second and the server's processor time for each, at 1, 4 and 12 associations.
 
 It starts the server on a free port of this machine, with as many workers as there are associations, and ends by itself.
-Each association is a process of its own that sends one request and waits for its answer. These processes take more
-time than the server does, so the requests a second are those of the clients; the processor time is the server's alone,
-by the clock that the system keeps for it. Before that, eight associations claim the same hundred steps at the same moment, and each step has to
-go to one of them. Where DCMTK is installed, its storescp is asked for C-ECHO in the same way, for comparison; and so is
-bench/echo.c where gcc is: the least that a server does for it. A line tells the processor time of a C-ECHO beside that.
+Each association is a process of its own that sends one request at a time and waits for its answer. These processes take
+more time than the server does, so the requests a second are those of the clients; the processor time is the server's
+alone, by the clock that the system keeps for it. Before that, eight associations claim the same hundred steps at the same
+moment, and each step has to go to one of them. If DCMTK is installed, its storescp is asked for C-ECHO in the same way,
+for comparison; so is bench/echo.c, the least that a server does for one, if gcc is installed. The last line then compares
+the processor time of a C-ECHO with that.
 
-With --calls it counts the server's system calls for each request by strace instead, over 1,000 requests of each kind on
-one association, with the C library's memory as it comes and with one arena (MALLOC_ARENA_MAX=1).
+With --calls it counts the server's system calls for each request instead, by strace, over 1,000 requests of each kind on
+one association, with the C library's memory as it is by default and with one arena (MALLOC_ARENA_MAX=1).
 
 Usage: bench/serve.py [--calls] [PROGRAM]        (crates/upsd/out/upsd, which `rt run` builds)
 """
@@ -62,7 +63,7 @@ def one_life(peer, me, i):
 
 
 def worker(port, me, count, one, again, barrier, results):
-    """Asks so often, and tells how often the answer was 0000."""
+    """Asks `count` times, and tells how often the answer was 0000."""
     peer = None if again else Peer(port)
     barrier.wait()
     good = 0
@@ -85,7 +86,7 @@ def claimer(port, me, barrier, results):
 
 
 class Measured(Server):
-    """A server with so many workers, whose log nobody reads."""
+    """A server with this many workers, whose log nobody reads."""
 
     def __init__(self, program, workers, **variables):
         super().__init__([program], "--associations", str(workers), error=subprocess.DEVNULL, **variables)
@@ -98,7 +99,7 @@ class Measured(Server):
 
 
 class Least(Measured):
-    """The least that a server does for a C-ECHO: bench/echo.c."""
+    """bench/echo.c: the least that a server does for a C-ECHO."""
 
     def __init__(self, program, _):
         self.begin([program], subprocess.DEVNULL)
@@ -110,7 +111,7 @@ class Storescp(Measured):
 
     def __init__(self):
         self.port = free_port()
-        # Without this it writes an answer in two parts, of which the second waits for the client's kernel for 40 ms.
+        # Without this it writes an answer in two parts, and the second waits 40 ms for the client's kernel.
         self.begin(["storescp", str(self.port)], subprocess.DEVNULL, TCP_NODELAY="1")
         if not holds(lambda: listens(self.port), 10):
             sys.exit("storescp does not listen")
@@ -120,7 +121,7 @@ class Storescp(Measured):
 
 
 def race(program):
-    """Eight associations claim the same hundred steps."""
+    """Has eight associations claim the same hundred steps; each step has to go to one."""
     with Measured(program, 8) as server:
         server.fill(100)
         barrier, results = multiprocessing.Barrier(8), multiprocessing.Queue()
@@ -136,7 +137,7 @@ def race(program):
 
 
 def measure(start, name, steps, count, one, each=1, again=False, most=12):
-    """Prints a row, and gives the server's microseconds for each request."""
+    """Prints a row, and returns the server's microseconds for each request."""
     cells, took = [], []
     for associations in (1, 4, 12):
         if associations > most:
@@ -163,7 +164,7 @@ def measure(start, name, steps, count, one, each=1, again=False, most=12):
 
 
 def measure_echo(start):
-    """A C-ECHO, and beside it the least that a server does for one, where gcc is."""
+    """Measures a C-ECHO; if gcc is installed, also the least for one, and returns a line that compares them."""
     took = measure(start, "C-ECHO", 0, 10_000, one_echo)
     if not shutil.which("gcc"):
         return None
@@ -175,14 +176,14 @@ def measure_echo(start):
 
 
 def calls_of(program, one, **variables):
-    """The server's system calls for each of 1,000 requests, by name."""
+    """Returns the server's system calls for a request, by name, the average of 1,000."""
     with Measured(program, 1, **variables) as server, tempfile.NamedTemporaryFile("r") as counted:
         peer = Peer(server.port)
         for i in range(10):
             assert peer.ask(create(PUSH_ON, 1, b"1.2.0.%d" % i, a_step(b"P%d" % i))) == 0
         words = ["strace", "-f", "-c", "-o", counted.name, "-p", str(server.process.pid)]
         with subprocess.Popen(words, stderr=subprocess.PIPE, text=True) as strace:
-            strace.stderr.readline()  # it has attached
+            strace.stderr.readline()  # strace has attached
             assert all(one(peer, 0, i) == 0 for i in range(1_000))
             strace.send_signal(signal.SIGINT)
         peer.release()

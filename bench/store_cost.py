@@ -1,9 +1,9 @@
-"""Measures what a store costs: the processor time of a server for each accepted request, and how many of them it takes a second, by
-four associations, with a store and without one, and what a sync of this disk takes.
+"""Measures what a store costs: a server's processor time for each accepted request and its requests a second, over four
+associations, with a store and without one; and how long a sync of this disk takes.
 
-In one kind each association is a process that sends a request and waits for its answer; in the other one it has some on the way.
-Servers with a store and without one are asked in turn. A slower disk is had by strace, which lets each sync take longer: the
-processor time that it takes itself counts too, so only the requests a second tell something then.
+Each association is a process. It sends a request and waits for its answer, or, in the last kind, has some requests on the way.
+Servers with a store and without one are asked in turn. strace imitates a slower disk, by letting each sync take longer: its own
+processor time counts too, so only the requests a second are meaningful then.
 """
 
 from __future__ import annotations
@@ -28,13 +28,13 @@ from stored import Client, Stored, a_step_of, folder_for
 
 ASSOCIATIONS = 4
 SYNCS = 400
-ON_THE_WAY = 16  # requests of an association, in the second kind
-RATIO = 1.3  # of the processor time with a store to that without
+ON_THE_WAY = 16  # requests of an association, in the last kind
+RATIO = 1.3  # at most, of the processor time with a store to that without
 QUICK, SLOW = (0.0001, 5_000), (0.001, 1_500)  # seconds of a sync, and requests a second at least
 
 
 def sync_time(folder: str) -> float:
-    """The seconds that a sync of 4 KiB behind the end of a file takes, in the median."""
+    """Returns the median seconds of a sync of 4 KiB at the end of a file."""
     times, path = [], os.path.join(folder, "synced")
     with open(path, "wb", buffering=0) as opened:
         for _ in range(SYNCS):
@@ -47,7 +47,7 @@ def sync_time(folder: str) -> float:
 
 
 def least_rate(sync: float) -> float:
-    """How many requests a second have to be taken where a sync takes so long: between the two that are due, by the time of each."""
+    """Returns how many requests a second are due at this time of a sync: the time of each grows evenly, through QUICK and SLOW."""
     (quick, most), (slow, least) = QUICK, SLOW
     if sync <= quick:
         return most
@@ -56,7 +56,7 @@ def least_rate(sync: float) -> float:
 
 
 def waits_for_each(port: int, me: int, count: int, barrier: Barrier, is_life: bool) -> None:
-    """Asks so often, each time once the answer is there."""
+    """Asks for `count` creations or lives, one after the other."""
     peer = Client(port, b"STATION%d" % me)
     one = one_life if is_life else one_create
     barrier.wait()
@@ -67,7 +67,7 @@ def waits_for_each(port: int, me: int, count: int, barrier: Barrier, is_life: bo
 
 
 def has_some_on_the_way(port: int, me: int, count: int, barrier: Barrier) -> None:
-    """Creates so many steps, with some requests on the way."""
+    """Creates `count` steps, with some requests on the way."""
     peer, given = Client(port, b"STATION%d" % me), a_step_of(b"L")
     barrier.wait()
     asked = answered = 0
@@ -91,7 +91,7 @@ KINDS = {
 
 @dataclasses.dataclass(frozen=True)
 class Cost:
-    """The processor time of a server for each request, the part of it that is the system's, and the requests a second."""
+    """A server's processor time for each request, the system's part of it, and the requests a second."""
 
     used: float
     of_system: float
@@ -99,13 +99,13 @@ class Cost:
 
 
 def of_system(pid: int) -> float:
-    """The processor seconds that the system has run for a process."""
+    """Returns the processor seconds that the system has run for a process."""
     with open(f"/proc/{pid}/stat", encoding="utf-8") as it:
         return int(it.read().rpartition(") ")[2].split()[12]) / os.sysconf("SC_CLK_TCK")
 
 
 def measured(server: Server, pid: int, kind: str, count: int) -> Cost:
-    """What so many requests of a kind cost."""
+    """Returns what `count` requests of a kind cost on each association."""
     ask, each = KINDS[kind]
     count = max(1, count // each)
     barrier = multiprocessing.Barrier(ASSOCIATIONS + 1)
@@ -123,14 +123,14 @@ def measured(server: Server, pid: int, kind: str, count: int) -> Cost:
 
 
 def slowed(program: list[str], slow: int) -> list[str]:
-    """A program each of whose syncs takes so many microseconds longer."""
+    """Returns the command of a program whose syncs each take `slow` microseconds longer."""
     if not slow:
         return program
     return ["strace", "-f", "--seccomp-bpf", "-qq", "-o", "/dev/null", "-e", "trace=fdatasync", "-e", f"inject=fdatasync:delay_exit={slow}", *program]
 
 
 def one_run(program: list[str], folder: Optional[str], kind: str, count: int) -> Cost:
-    """The same at a new server, on a store in a folder or without one."""
+    """Returns the cost on a new server, with a store in a folder or without one."""
     if folder is None:
         with Server(program, "--associations", str(ASSOCIATIONS)) as server:
             return measured(server, pid_of(server.process), kind, count)

@@ -2,16 +2,16 @@
 """Compares the numbers that documents, help texts and the client repeat with the constants of the sources.
 
     check/facts.py              from the top of the checkout
-    check/facts.py --self-test  spoils each kind of fact in memory, in turn, and sees that it is found
+    check/facts.py --self-test  spoils each kind of fact in memory, in turn, and checks that it is found
 
-A number in README.md, in a page of docs or in a man page is compared where it has a mark in front, with the name of a fact:
-`<!--=keep-->60`. It has a comma behind each thousand, and is told in the unit of the constant, or in MiB, or in seconds for
-milliseconds. The mark `status` stands before the code of a status: where a page marks any, it has to mark all that `ups_cycle`
-has, and no other. A `[default: N]` in a help text of the program is compared by its option, and the man page of the program has
-each option with the same word and the same default, and no other. The client in examples has a text for each status but the one
-that more answers follow, and its options have the defaults that their help tells, and those of the sources.
+A number in README.md, in a page of docs or in a man page is compared if a mark with the name of a fact precedes it:
+`<!--=keep-->60`. It has commas between thousands, and is in the unit of the constant, or in MiB, or in seconds for
+milliseconds. The mark `status` precedes the code of a status: a page that marks any has to mark all that `ups_cycle` has, and
+no other. A `[default: N]` in a help text of the program is compared by its option, and the man page of the program has to have
+each option with the same word and the same default, and no other. The client in examples has to have a text for each status
+except the one that more answers follow, and its options the defaults that their help states, and those of the sources.
 
-It prints each difference, with its file and line, and then how many marks there are. The status is 1 where anything differs.
+It prints each difference with its file and line, and then the number of marks. The status is 1 if anything differs.
 """
 
 from __future__ import annotations
@@ -29,7 +29,7 @@ HERE = os.path.dirname(os.path.dirname(os.path.abspath(__file__)))
 Value = Union[int, str]
 Texts = dict[str, str]  # by path
 MILLISECONDS = {"short"}
-# where each fact stands: a crate, and a constant in its sources
+# the constant of each fact: its crate, and its name in the sources
 CONSTANTS = {
     "keep": ("ups_args", "KEEP"), "offset": ("ups_args", "OFFSET"),
     "max_workers": ("ups_settings", "MAX_WORKERS"), "workers": ("ups_settings", "WORKERS"),
@@ -42,21 +42,21 @@ CONSTANTS = {
     "min_offset": ("ups_life", "MIN_OFFSET"), "max_offset": ("ups_life", "MAX_OFFSET"),
 }
 OPTIONS = {"keep": "keep", "offset": "offset", "associations": "workers", "idle": "idle", "timeout": "timeout",
-           "delivery-timeout": "delivery_timeout", "bind": "address"}  # by which fact the help of an option tells its default
+           "delivery-timeout": "delivery_timeout", "bind": "address"}  # the fact that is the default of each option
 STATUS_FILE = "crates/ups_cycle/src/status.rt"
 MAN_PAGE = "packaging/man/upsd.8"
-VERSION_NAMES = ("crates/ups_assoc/src/negotiating.rt", "crates/ups_assoc/specs/Negotiation.antt")  # each says it once
+VERSION_NAMES = ("crates/ups_assoc/src/negotiating.rt", "crates/ups_assoc/specs/Negotiation.antt")  # each has it once
 DOCUMENTS = (".md", ".8")
 PENDING = 0xFF00
 MARK = re.compile(r"<!--=(\w+)-->")
 NUMBER = re.compile(r"-?[0-9A-Z]+(?:[.,][0-9]+)*")
 OPTION = re.compile(r'\b(?:worded|flag)\(\s*alloc,\s*"([\w-]+)",\s*(?:"(\w+)",)?')  # in the sources: its name, and its word
-ENTRY = re.compile(r"(?m)^\.It Fl -([\w-]+)(?: Ar (\w+))?\n((?:(?!\.It|\.El).*\n)*)")  # in the man page: so too, and its text
+ENTRY = re.compile(r"(?m)^\.It Fl -([\w-]+)(?: Ar (\w+))?\n((?:(?!\.It|\.El).*\n)*)")  # in the man page: the same, and its text
 DEFAULT = re.compile(r"\[default: ([^\]]+)\]")
 
 
 def texts() -> Texts:
-    """The files that are compared."""
+    """Returns the texts of the files that are compared."""
     crates = sorted({crate for crate, _ in CONSTANTS.values()} | {"ups_cycle"})
     forms = ["README.md", "docs/**/*.md", "examples/**/*.py", MAN_PAGE, *VERSION_NAMES, *(f"crates/{it}/src/**/*.rt" for it in crates)]
     found = {}
@@ -71,7 +71,7 @@ def place(path: str, text: str, at: int) -> str:
 
 
 def constant(files: Texts, crate: str, name: str) -> Optional[Value]:
-    """The value of the one constant of this name in a crate, or None."""
+    """Returns the value of the only constant of this name in a crate, or None."""
     found = [it[1] for path, text in files.items() if path.startswith(f"crates/{crate}/")
              for it in re.finditer(rf"\bconst {name}: [^=;]+ = ([^;]+);", text)]
     if len(found) != 1:
@@ -80,12 +80,12 @@ def constant(files: Texts, crate: str, name: str) -> Optional[Value]:
 
 
 def codes_of(files: Texts) -> set[int]:
-    """The codes of the statuses."""
+    """Returns the codes of the statuses."""
     return {int(it, 16) for it in re.findall(r"Status::\w+ => 0x([0-9A-Fa-f]{4})\b", files.get(STATUS_FILE, ""))}
 
 
 def spelled(name: str, value: Value, unit: str) -> str:
-    """A value as a page tells it in a unit."""
+    """Returns a value as a page writes it in a unit."""
     if isinstance(value, str):
         return value
     told = value / 2**20 if unit == "MiB" else value / 1000 if name in MILLISECONDS and unit != "ms" else value
@@ -93,7 +93,7 @@ def spelled(name: str, value: Value, unit: str) -> str:
 
 
 def marks(files: Texts) -> Iterator[tuple[str, str, int, re.Match[str]]]:
-    """Each mark of a document: the path, the text, and where what is told begins."""
+    """Yields each mark of a document: the path, the text, where the marked value begins, and the match."""
     for path, text in files.items():
         if path.endswith(DOCUMENTS):
             yield from ((path, text, it.end(), it) for it in MARK.finditer(text))
@@ -131,8 +131,8 @@ def faults_of_statuses(files: Texts, codes: set[int]) -> Iterator[str]:
 
 
 def defaults_of(files: Texts) -> Iterator[tuple[str, str, str]]:
-    """What the help texts of the program tell: where, of which option, which default. A text stands in the call that names the
-    option, or in a variable before it."""
+    """Yields the defaults in the help texts of the program: the place, the option and the default. A text is in the call that
+    names the option, or in a variable before it."""
     for path, text in files.items():
         for it in re.finditer(r'"[^"]*\[default: ([^\]]+)\]"', text) if path.startswith("crates/ups_args/") else ():
             variable = re.search(r"let (\w+) =\s*$", text[:it.start()])
@@ -154,7 +154,7 @@ def faults_of_help(files: Texts, values: dict[str, Value]) -> Iterator[str]:
 
 
 def faults_of_man_page(files: Texts) -> Iterator[str]:
-    """Whether the man page of the program has each of its options, once, with its word and its default."""
+    """Yields the faults of the man page, which must have each option of the program once, with its word and its default."""
     sources = "".join(text for path, text in files.items() if path.startswith("crates/ups_args/"))
     words = {it[1]: it[2] for it in OPTION.finditer(sources)}
     defaults = {option: default for _, option, default in defaults_of(files)}
@@ -172,7 +172,7 @@ def faults_of_man_page(files: Texts) -> Iterator[str]:
 
 
 def faults_of_client(files: Texts, codes: set[int], values: dict[str, Value]) -> Iterator[str]:
-    """What the client of the examples says of statuses, of the longest PDU, and in its help."""
+    """Yields the faults of the client of the examples: of its statuses, its longest PDU and its help."""
     has_statuses = False
     clients = {path: ast.walk(ast.parse(text)) for path, text in files.items() if path.endswith(".py")}
     for path, node in ((path, node) for path, nodes in clients.items() for node in nodes):
@@ -192,7 +192,8 @@ def faults_of_client(files: Texts, codes: set[int], values: dict[str, Value]) ->
 
 
 def faults_of_option(path: str, call: ast.Call, values: dict[str, Value]) -> Iterator[str]:
-    """Whether an option of the client has the default that its help tells in brackets, and --host the address of the server."""
+    """Yields the faults of an option of the client: its default must be the one in its help, in brackets, and that of --host
+    the address of the server."""
     given = {it.arg: it.value.value for it in call.keywords if isinstance(it.value, ast.Constant)}
     told = re.search(r"\(([^()\s]+)\)$", str(given.get("help", "")))
     name, default = ast.unparse(call.args[0]).strip("'"), given.get("default")
@@ -203,7 +204,7 @@ def faults_of_option(path: str, call: ast.Call, values: dict[str, Value]) -> Ite
 
 
 def faults_of_version_names(files: Texts, values: dict[str, Value]) -> Iterator[str]:
-    """Whether the implementation version name of an association ends in the version of the program."""
+    """Yields a fault for each implementation version name that does not end in the version of the program."""
     for path in VERSION_NAMES:
         told = re.findall(r'"UPSD_([^"]*)"', files.get(path, ""))
         if told != [values.get("version")]:
@@ -211,7 +212,7 @@ def faults_of_version_names(files: Texts, values: dict[str, Value]) -> Iterator[
 
 
 def faults(files: Texts) -> set[str]:
-    """Each difference."""
+    """Returns all differences."""
     values = {name: value for name, it in CONSTANTS.items() if (value := constant(files, *it)) is not None}
     found = {f"crates/{it[0]}/src: no constant {it[1]}, or more than one" for name, it in CONSTANTS.items() if name not in values}
     codes = codes_of(files)
@@ -223,7 +224,7 @@ def faults(files: Texts) -> set[str]:
 # the self-test
 
 def page_of(values: dict[str, Value], codes: set[int]) -> str:
-    """A page that marks each fact."""
+    """Returns a page that marks each fact."""
     lines = [f"{name}: <!--={name}-->{spelled(name, value, '')}." for name, value in values.items()]
     lines += [f"| <!--=status-->{it:04X} | a status |" for it in sorted(codes)]
     in_mib = spelled("longest_message", values["longest_message"], "MiB")
@@ -232,7 +233,7 @@ def page_of(values: dict[str, Value], codes: set[int]) -> str:
 
 
 PAGE = "docs/planted.md"
-IN_PAGE = {  # what is spoiled of it: a pattern, and what takes its place
+IN_PAGE = {  # what is spoiled in it: a pattern and its replacement
     "an amount in MiB": (r"\d MiB", "77 MiB"), "an amount in ms": (r"\d ms", "7 ms"), "a name": ("<!--=keep-->", "<!--=kept-->"),
     "the form of a mark": ("<!--=keep-->", "<!-- =keep -->"), "what is behind a mark": ("<!--=keep-->", "<!--=keep--> about "),
     "a status that is not marked": (".*C311.*\n", ""), "a marked status": ("C311", "C312"),
@@ -250,13 +251,13 @@ IN_MAN_PAGE = {
 
 
 def other(found: re.Match[str]) -> str:
-    """A constant with another value."""
+    """Returns the declaration of a constant with another value."""
     number = found[2].replace("_", "")
     return found[1] + (str(int(number) + 1) if number.lstrip("-").isdigit() else '"9.9"')
 
 
 def spoiled(files: Texts) -> Iterator[tuple[str, str, str]]:
-    """What is spoiled, in which file, and its text then."""
+    """Yields each spoiled fact: what is spoiled, the file, and its spoiled text."""
     for name, (crate, constant_name) in CONSTANTS.items():
         form = rf'(const {constant_name}: [^=;]+ = )([-\w]+|"[^"]*")'
         for path in [path for path in files if path.startswith(f"crates/{crate}/") and re.search(form, files[path])]:
@@ -277,7 +278,7 @@ def spoiled(files: Texts) -> Iterator[tuple[str, str, str]]:
 
 
 def self_test(files: Texts) -> None:
-    """Prints what is spoiled and not found, and ends the program."""
+    """Prints which spoiled facts are not found, and ends the program."""
     values = {name: value for name, it in CONSTANTS.items() if (value := constant(files, *it)) is not None}
     planted = {**files, PAGE: page_of(values, codes_of(files))}
     before, count = faults(planted), 0

@@ -1,27 +1,27 @@
 #!/usr/bin/env python3
-"""Has memory and devices fail under what the rows say, and sees that nothing comes of it but what is due.
+"""Makes memory and devices fail while the rows run, and checks that every outcome is an expected one.
 
-    check/failures.py rows/*.rows examples      over the built programs: crates/upsd/out/upsd, crates/refusals/out/refusals
+    check/failures.py rows/*.rows examples      with the built programs: crates/upsd/out/upsd, crates/refusals/out/refusals
 
-Memory: each growth of a course, and of the scripts of the examples and of the files named `attributes`, `life_cycle`,
-`lines`, `matching` and `watching`, is refused in turn. Each reply is then the one that is due, or the status of lacking
-memory; or what was asked ends for lack of memory behind a beginning of the replies. The history holds what was accepted,
+Memory: each growth is refused in turn, in the courses and in the scripts of the examples and of the files named `attributes`,
+`life_cycle`, `lines`, `matching` and `watching`. Each reply is then the expected one, or the status for lack of memory; or
+the association or script ends for lack of memory after the first part of the replies. The history holds what was accepted,
 and no more: what was not done is asked once more, and from there on all is answered as if nothing had been refused.
 
-Devices, under each association of `sessions`:
+Devices, for each association of `sessions`:
 
-- the input ends after a number of bytes: what is answered is the same wherever it ends within a PDU, and a beginning of the
-  answer that ends with a PDU; between two PDUs the association is closed, and within one the exit status and what is said
-  tell of that
-- the output has room for a number of bytes: it has the first ones, and the write that failed is told
-- the input comes, and the output goes, byte by byte, and a signal interrupts each call: all is answered (of one in three)
+- the input ends after a number of bytes: the answer is the same wherever it ends within a PDU, and is the whole answer up to
+  the end of one of its PDUs; between two PDUs the association is closed, and within one the exit status and standard error
+  report the end
+- the output has room for a number of bytes: it gets the first ones, and the failed write is reported
+- the input comes, and the output leaves, byte by byte, and a signal interrupts each call: all is answered (one in three)
 
-Under the examples the input breaks off, and the output has room for a number of bytes, in the same way.
+For the examples, the input breaks off and the output has room for a number of bytes in the same way.
 
-Watchers, some hundred of one server: the first association with each ends after another number of bytes that it answers, in
-the midst of the connection or by its reset. How it ends is told, and the report is made again where it was not acknowledged.
+Watchers, several hundred of one server: the first association with each ends after another number of the bytes that it
+answers, by an end of its data or by a reset. The log says how it ends, and an unacknowledged report is sent again.
 
-It prints how many failures were tried, and each that came to something else; the status is then 1.
+It prints how many failures were tried, and each that had an unexpected outcome; the status is 1 if there is one.
 """
 
 import argparse
@@ -44,19 +44,19 @@ import rows
 import runs
 
 COURSES = ("attributes.rows", "courses.rows", "life_cycle.rows", "lines.rows", "matching.rows", "watching.rows")
-SMALL = 4_000  # bytes of an input that is tried
-SHAKEN = 3  # of so many associations one is given and taken byte by byte, unless it has more bytes than:
+SMALL = 4_000  # the most bytes of an input that is tried
+SHAKEN = 3  # one in this many associations comes and leaves byte by byte, unless it has more bytes than:
 SHORT = 1_200
 READ = (2, b"upsd: a read failed, or the input ended inside a PDU\n")
 WRITE = (2, b"upsd: a write failed\n")
 BROKEN = (2, b"upsd: a read failed\n")
 WELL = (0, b"")
 WAIT = 30  # seconds for all watchers
-GIVEN = {"every": 7}  # what the command line gives
+GIVEN = {"every": 7}  # what the command line sets
 
 
 def quick(words, given, room=None):
-    """Runs a program on an input that ends behind these bytes, with room for so many bytes of output."""
+    """Runs a program on an input that ends after the bytes `given`, with room for `room` bytes of output."""
     source, giver = os.pipe()
     os.write(giver, given)
     os.close(giver)
@@ -75,7 +75,7 @@ def quick(words, given, room=None):
 
 
 def ends_of(pdus):
-    """Where the PDUs of bytes begin, and where the last one ends, if that is there."""
+    """Returns where the PDUs of bytes begin, and where the last one ends if it is complete."""
     ends = [0]
     while ends[-1] + 6 <= len(pdus):
         ends.append(ends[-1] + 6 + int.from_bytes(pdus[ends[-1] + 2:ends[-1] + 6], "big"))
@@ -83,13 +83,13 @@ def ends_of(pdus):
 
 
 def places(length, ends):
-    """The places from 0 to a length that are tried: those around each end of a PDU and behind its header, and others."""
+    """Returns the places from 0 to `length` to try: those around each end of a PDU and after its header, and others."""
     near = {it + more for it in ends for more in (-1, 0, 1, 5, 6, 7)}
     return [it for it in range(length + 1) if it in near or it % GIVEN["every"] == 0]
 
 
 class Memory:
-    """The growths of a course."""
+    """The growths of memory in a course."""
 
     program = "refusals"
 
@@ -97,11 +97,11 @@ class Memory:
         self.course, self.name = course, course.name
 
     def spoiled(self):
-        """The same with something else that is due."""
+        """Returns the same with another expected outcome."""
         return Memory(self.course.spoiled()[0])
 
     def tried(self, program):
-        """Refuses each, and gives how many there are and what came of them that is not due."""
+        """Refuses each, and returns how many there are, and the unexpected outcome."""
         try:
             count, _ = self.course.failures(program)
             return {"growths of memory refused": count}, []
@@ -118,11 +118,11 @@ class Ends:
         self.session, self.name = session, session.name
 
     def spoiled(self):
-        """The same with another answer that is due."""
+        """Returns the same with another expected answer."""
         return Ends(self.session.spoiled()[0])
 
     def tried(self, program):
-        """Has the input end at each, and gives how many there are and what came of them that is not due."""
+        """Ends the input at each, and returns how many there are, and the unexpected outcomes."""
         asked, ends = self.session.asked, ends_of(self.session.asked)
         tried, due, faults = places(len(asked), ends), b"", []
         for place in tried:
@@ -136,7 +136,7 @@ class Ends:
         return {"ends of an input": len(tried)}, faults
 
     def unlike(self, place, is_end, due, answer, ended):
-        """How what comes of an end is not due; None where it is."""
+        """Returns how the outcome of an end differs from the expected one; None if it does not."""
         whole = self.session.answered
         is_over = answer == whole and rows.ended_of(runs.Ran(ended[0], answer, ended[1])) == self.ended()
         if place == len(self.session.asked) or is_over:
@@ -146,12 +146,12 @@ class Ends:
         return None if ended == (WELL if is_end else READ) else f"it ends as {ended}"
 
     def ended(self):
-        """How the association ends as a whole, as far as the program tells that."""
+        """Returns how the whole association ends, as far as the program reports it."""
         return "Ok" if self.session.ended.startswith("Ok") else self.session.ended
 
 
 class Rooms:
-    """The numbers of bytes that there is room for in the output."""
+    """The numbers of bytes that the output has room for."""
 
     program = "upsd"
 
@@ -159,11 +159,11 @@ class Rooms:
         self.name, self.words, self.asked, self.answered = name, words, asked, answered
 
     def spoiled(self):
-        """The same with another answer that is due."""
+        """Returns the same with another expected answer."""
         return Rooms(self.name, self.words, self.asked, b"X" + self.answered)
 
     def tried(self, program):
-        """Leaves each, and gives how many there are and what came of them that is not due."""
+        """Leaves room for each, and returns how many there are, and the unexpected outcomes."""
         tried = places(len(self.answered), ends_of(self.answered))[:-1]
         faults = []
         for room in tried:
@@ -174,7 +174,7 @@ class Rooms:
 
 
 class Shaken:
-    """An association of which each byte is given and taken by itself, with a signal that interrupts the call."""
+    """An association in which each byte comes and leaves on its own, with a signal that interrupts the call."""
 
     program = "upsd"
 
@@ -182,11 +182,11 @@ class Shaken:
         self.session, self.name = session, session.name
 
     def spoiled(self):
-        """The same with another answer that is due."""
+        """Returns the same with another expected answer."""
         return Shaken(self.session.spoiled()[0])
 
     def tried(self, program):
-        """Shakes it, and gives how many bytes there are and what came of it that is not due."""
+        """Shakes it, and returns how many bytes there are, and the unexpected outcome."""
         ran = runs.run_shaken([program, "pipe", "--ae", "UPSD"], self.session.asked)
         count = len(self.session.asked) + len(self.session.answered)
         is_due = ran.output == self.session.answered and rows.ended_of(ran) == Ends(self.session).ended()
@@ -202,11 +202,11 @@ class Breaks:
         self.script, self.name = script, script.name
 
     def spoiled(self):
-        """The same with other replies that are due."""
+        """Returns the same with other expected replies."""
         return Breaks(self.script.spoiled()[0])
 
     def tried(self, program):
-        """Has it break off at each, and gives how many there are and what came of them that is not due."""
+        """Breaks it off at each, and returns how many there are, and the unexpected outcomes."""
         given, replies = self.script.script.encode(), self.script.replies.encode().splitlines(keepends=True)
         tried, faults = range(0, len(given), GIVEN["every"]), []
         for place in tried:
@@ -219,7 +219,7 @@ class Breaks:
 
 
 class Watchers:
-    """The places where what a watcher answers ends, or its connection is reset."""
+    """The places where the answer of a watcher ends, or its connection is reset."""
 
     program = "upsd"
 
@@ -228,18 +228,18 @@ class Watchers:
         self.taken, self.heard = taken, heard
 
     def spoiled(self):
-        """The same with something else that is to be heard."""
+        """Returns the same with other bytes for the watchers to hear."""
         return Watchers(self.name, self.subscribed, self.created, self.taken, [b"X" + self.heard[0], *self.heard[1:]])
 
     def titles(self):
-        """A title of two letters for each place and each way to end, and these."""
+        """Returns each place with each way to end, up to 1,000, by a title of two letters or digits."""
         letters = string.ascii_letters + string.digits
         names = ("".join(pair) for pair in itertools.product(letters, letters))
         ways = itertools.product(range(len(b"".join(self.taken)) + 1), ("end", "reset"))
         return dict(zip(names, list(ways)[:1000]))
 
     def tried(self, program):
-        """Runs a server with such watchers, and gives how many there are and what came of them that is not due."""
+        """Runs a server with these watchers, and returns how many there are, and the unexpected outcomes."""
         titles = self.titles()
         heard = {it: [] for it in titles}
         with socket.create_server(("127.0.0.1", 0), backlog=1000) as listener:
@@ -252,14 +252,14 @@ class Watchers:
         return {"watchers that end or reset": len(titles)}, faults
 
     def subscribe(self, port, titles):
-        """Subscribes each watcher to all steps, and creates one."""
+        """Subscribes each watcher to all steps, and creates a step."""
         first, subscription, last = self.subscribed
         each = b"".join(subscription.replace(b"W1", it.encode()) for it in titles)
         with runs.connected(port) as connection:
             runs.exchange(connection, first + each + self.created + last)
 
     def listen(self, listener, titles, heard):
-        """Answers associations until each watcher has had as many as are due, or the time is over."""
+        """Answers associations until each watcher has had as many as expected, or the time is over."""
         end = time.monotonic() + WAIT
         listener.settimeout(1)
         while time.monotonic() < end and any(len(heard[it]) < self.associations(titles[it]) for it in titles):
@@ -269,12 +269,12 @@ class Watchers:
                     self.answer(connection, titles, heard)
 
     def associations(self, way):
-        """How many associations are due of a watcher: another one unless the first acknowledged the report."""
+        """Returns how many associations a watcher should have: two, unless the first acknowledges the report."""
         place, _ = way
         return 1 if place >= len(b"".join(self.taken[:2])) else 2
 
     def answer(self, connection, titles, heard):
-        """Answers an association: the first of a watcher as far as it goes, and each other one well, byte by byte."""
+        """Answers an association: the first of a watcher up to its place, and each other one in full, byte by byte."""
         proposed = received(connection, len(self.heard[0]))
         title = proposed[10:26].decode(errors="replace").strip()
         place, how = titles[title]
@@ -295,7 +295,7 @@ class Watchers:
         heard[title][-1] += runs.rest_of(connection)
 
     def unlike(self, title, way, heard, told):
-        """How what a watcher heard, and what is told of it, is not due; None where it is."""
+        """Returns how what a watcher heard, or its end in the log, is not as expected; None if both are."""
         place, how = way
         due = [it.replace(b"W1", title.encode()) for it in self.heard]
         ends = list(itertools.accumulate([0, *(len(it) for it in self.taken)]))
@@ -315,7 +315,7 @@ class Watchers:
 
 
 def received(connection, length):
-    """So many bytes that come over a connection, or as many as there are."""
+    """Returns the next `length` bytes of a connection, or as many as there are."""
     found = b""
     while len(found) < length and (more := connection.recv(length - len(found))):
         found += more
@@ -323,7 +323,7 @@ def received(connection, length):
 
 
 def course_of(script):
-    """A script as a course; None where it has lines without a reply, or others than the program answers."""
+    """Returns a script as a course; None if it is too long, has lines without a reply, or options or peers that a course lacks."""
     lines, replies = script.script.splitlines(), script.replies.splitlines()
     is_known = script.words in (["script"], ["script", *rows.PEERS])
     if script.said or len(lines) != len(replies) or not is_known or len(script.script) > SMALL:
@@ -335,7 +335,7 @@ def course_of(script):
 
 
 def devices_of(file):
-    """What is tried of the associations of a file."""
+    """Yields what is tried with the associations of a file."""
     sessions = [it for it in rows.rows_of(file) if not (it.what or it.is_hexadecimal or len(it.asked) > SMALL)]
     for number, session in enumerate(sessions):
         yield Ends(session)
@@ -346,7 +346,7 @@ def devices_of(file):
 
 
 def watchers_of(file):
-    """The watchers of the names of a file of deliveries."""
+    """Yields the watchers that the names of a file of deliveries describe."""
     names = dicom.stored() | rows.names_in(file)
 
     def given(words):
@@ -362,7 +362,7 @@ def watchers_of(file):
 
 
 def tasks_of(file):
-    """What is tried of a file of rows, or of a folder of examples."""
+    """Yields what is tried with a file of rows, or a folder of examples."""
     if os.path.isdir(file):
         for script in rows.examples_of(file):
             yield Breaks(script)
@@ -383,7 +383,7 @@ TASKS = []
 
 
 def tried(number):
-    """What came of a task."""
+    """Runs a task, and returns its number, its counts and its faults."""
     task = TASKS[number]
     try:
         return number, *task.tried(GIVEN[task.program])

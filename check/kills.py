@@ -1,8 +1,8 @@
-"""Kills a server on a store at random moments, and sees that a new one on the same file has what was answered.
+"""Kills a server on a store at random moments, and checks that a new one on the same file has what was answered.
 
-Four workstations ask in associations of their own, a reader looks at their steps, and three watchers take their reports. Each
-step has an expectation: what it is behind the last request that was answered, and what it would be behind those that were
-asked since. Behind a start an N-GET has to tell one of these, whole.
+Four workstations send requests in associations of their own, a reader reads their steps, and three watchers take the reports.
+For each step the script keeps what it is after the last answered request, and what it would be after each one sent since. After
+a start, an N-GET has to return one of these, whole.
 """
 
 from __future__ import annotations
@@ -29,23 +29,23 @@ WORKSTATIONS = 4
 KEEP = "1000000"
 PATIENT = (0x0010, 0x0020)
 ALL_OF, SINGLE, PLAIN = b"W1", b"W2", b"W3"  # watch all steps; single ones, with the right to lock; single ones, without it
-SAMPLE = 40  # older steps that are looked at behind each start
-FEW = 1_000  # as long as there are no more steps, all are found behind each start
+SAMPLE = 40  # older steps that are checked after each start
+FEW = 1_000  # below this many steps, C-FINDs of all are checked after each start
 RANKS = {b"SCHEDULED": 0, b"IN PROGRESS": 1, b"COMPLETED": 2, b"CANCELED": 2}
-MOST = 30.0  # seconds in which watchers have to learn what they have not acknowledged, and finished steps go that nobody locks
-QUICK = 0.4  # seconds that most lives of a server have at most
+MOST = 30.0  # seconds for watchers to get what they have not acknowledged, and for finished steps without a Deletion Lock to go
+QUICK = 0.4  # seconds that most servers live at most, after the checks
 DURING_START, IDLE, ALL_EACH, LOCKS_EACH = 0.1, 0.15, 25, 10
 LIES = ("create", "set", "claim", "finish", "subscribe", "lock", "tell", "show")
 
 
 @dataclasses.dataclass(frozen=True)
 class Known:
-    """What a step is."""
+    """What requests have made of a step."""
 
     state: bytes = SCHEDULED.rstrip()
     version: int = 0  # how often a workstation has set it
     readiness: bytes = READY
-    transaction: Optional[bytes] = None  # of its claim
+    transaction: Optional[bytes] = None  # the Transaction UID of its claim
     is_asked_away: bool = False  # canceled by a request
 
     @property
@@ -58,21 +58,21 @@ class Known:
 
 @dataclasses.dataclass
 class Watch:
-    """A subscription to one step: with a lock or without; None where there is none."""
+    """A subscription to one step: with a lock or without; None if there is none."""
 
     lock: Optional[bool] = None
     asked: list[Optional[bool]] = dataclasses.field(default_factory=list)
 
 
 class Step:
-    """What is known of a step, and what was asked of it and not answered."""
+    """A step: its known content, and what its unanswered requests would make of it."""
 
     def __init__(self, uid: bytes, owner: int, patient: bytes) -> None:
         self.uid, self.owner = uid, owner
         self.now: Optional[Known] = None
         self.asked: list[Known] = []
         self.holder: Optional[int] = None  # the workstation that claimed it
-        self.is_offered = False  # any workstation may claim it, and nobody sets it before
+        self.is_offered = False  # any workstation may claim it, and none sets it before
         self.watches = {SINGLE: Watch(), PLAIN: Watch()}
         self.seen = (-1, -1)  # the greatest rank and version that anybody was shown
         self.given = step(True, {PATIENT: (b"LO", even(patient, b" "))})
@@ -81,7 +81,7 @@ class Step:
         self.seen = max(self.seen[0], rank), max(self.seen[1], version)
 
     def attributes(self, known: Known) -> Attributes:
-        """All attributes, but for the moment of a cancellation by request."""
+        """Returns all attributes, except the time of a cancellation by request."""
         found = read(True, self.given) | {SOP_CLASS: (b"UI", even(PUSH)), SOP_INSTANCE: (b"UI", even(self.uid))}
         if known.version:
             found |= read(True, performed(known.version))
@@ -90,7 +90,7 @@ class Step:
         return found
 
     def fault(self, told_of: Optional[Attributes], known: Optional[Known]) -> Optional[str]:
-        """Why what is told of it is not this; None where it is."""
+        """Returns why the attributes of an N-GET are not those of `known`; None if they are."""
         if told_of is None or known is None:
             return None if told_of is None and known is None else f"it is {'unknown' if told_of is None else 'there'}"
         wanted = self.attributes(known)
@@ -106,7 +106,7 @@ class Step:
 
 
 class Plan:
-    """All steps, and what was told so far."""
+    """All steps, and how much was asked and answered so far."""
 
     def __init__(self, seed: int) -> None:
         self.chance = random.Random(f"{seed} plan")
@@ -130,7 +130,7 @@ class Plan:
             return b"2.25.%d" % (self.transactions + 10**20)
 
     def recent(self, chance: random.Random) -> Optional[Step]:
-        """A step, in most cases a new one."""
+        """Returns a step, in most cases a new one."""
         with self.lock:
             uids = list(self.steps)
         if not uids:
@@ -139,7 +139,7 @@ class Plan:
 
 
 class Workstation:
-    """One that asks until the connection ends."""
+    """A workstation that sends requests until the connection ends."""
 
     def __init__(self, plan: Plan, number: int, seed: int) -> None:
         self.plan, self.number = plan, number
@@ -158,7 +158,7 @@ class Workstation:
             pass  # the server was killed: what was asked is not answered
 
     def ask(self, it: Step, becomes: Known, status: int, due: tuple[int, ...] = (0x0000,)) -> bool:
-        """Notes the answer to what was asked of a step: whether it is accepted."""
+        """Records the answer to a request about a step, and returns whether it was accepted."""
         if status not in due:
             raise Fault(f"{it.uid.decode()}, which is {it.now} or {it.asked}, was asked to be {becomes}: {status:04X}")
         with self.plan.lock:
@@ -169,7 +169,7 @@ class Workstation:
         return status == 0x0000
 
     def about(self, it: Step, becomes: Known) -> Known:
-        """Notes what is asked of a step."""
+        """Records a request about a step, by what it makes of the step."""
         with self.plan.lock:
             self.plan.asked += 1
             self.plan.touched.add(it.uid)
@@ -201,7 +201,7 @@ class Workstation:
         self.ask(it, becomes, self.client.set(it.uid, performed(becomes.version), it.now.transaction))
 
     def prepare(self, it: Step) -> None:
-        """Sets whether its input is ready, which the watchers are told of."""
+        """Changes whether its input is ready, which watchers are told."""
         becomes = self.about(it, turned(it.now))
         self.ask(it, becomes, self.client.set(it.uid, told(*READINESS, b"CS", becomes.readiness), it.now.transaction))
 
@@ -215,13 +215,13 @@ class Workstation:
         self.ask(it, becomes, self.client.cancel(it.uid))
 
     def watch(self, it: Step) -> None:
-        """Subscribes a watcher to a step, or ends that."""
+        """Subscribes or unsubscribes a watcher of a step."""
         title, lock = self.chance.choice((SINGLE, PLAIN)), self.chance.random() < 0.6
         becomes = None if self.chance.random() < 0.15 else lock and title == SINGLE
         watch_it(self.plan, self.client, it, title, lock, becomes)
 
     def choose(self) -> None:
-        """Asks one thing."""
+        """Sends one request."""
         mine = [it for it in list(self.plan.steps.values())[-60:] if it.owner == self.number and it.now and not it.is_offered and not it.asked]
         held = [it for it in list(self.plan.steps.values())[-120:] if it.holder == self.number and it.now.state == b"IN PROGRESS"]
         offered = [it for it in list(self.plan.steps.values())[-60:] if it.is_offered and it.now and it.now.rank == 0]
@@ -252,7 +252,7 @@ def turned(known: Known) -> Known:
 
 
 def watch_it(plan: Plan, client: Client, it: Step, title: bytes, lock: bool, becomes: Optional[bool]) -> None:
-    """Subscribes a watcher to a step, or ends that, and notes what was asked and answered."""
+    """Subscribes or unsubscribes a watcher of a step, and records the request and the answer."""
     watch = it.watches[title]
     with plan.lock:
         plan.asked += 1
@@ -271,7 +271,7 @@ def watch_it(plan: Plan, client: Client, it: Step, title: bytes, lock: bool, bec
 
 
 class Reader:
-    """One that looks at steps of others, also at those whose requests are not answered yet."""
+    """A reader of the steps of others, including those whose requests are not answered yet."""
 
     def __init__(self, plan: Plan, seed: int) -> None:
         self.plan, self.chance, self.count = plan, random.Random(f"{seed} reader"), 0
@@ -302,7 +302,7 @@ def version_in(told_of: Attributes) -> int:
 
 
 class Trial:
-    """A store over kills: its plan, its workstations, its watchers, and the faults by their kinds."""
+    """A store whose servers are killed: its plan, its workstations, its watchers, and the faults by kind."""
 
     def __init__(self, program: list[str], file: str, seed: int, given: argparse.Namespace) -> None:
         self.program, self.file, self.given = program, file, given
@@ -328,7 +328,7 @@ class Trial:
     # a life of the server
 
     def live(self, seconds: float, rest: float) -> None:
-        """Starts a server, judges what it has, has all work for so many seconds, rest for others, and kills it."""
+        """Starts a server, checks what it has, lets all work for `seconds` and rest for `rest`, and kills it."""
         with self.server() as server:
             self.longest = max(self.longest, server.took)
             self.judge(server)
@@ -349,12 +349,12 @@ class Trial:
         self.told("each answer is due", faults[0] if faults else None)
 
     def start_and_kill(self, seconds: float) -> None:
-        """Kills a server so many seconds behind its beginning."""
+        """Kills a server that many seconds after its start."""
         with self.server(waits=False) as server:
             time.sleep(seconds)
             server.kill()
 
-    # what is judged behind a start
+    # the checks after a start
 
     def judge(self, server: Stored) -> None:
         client = Client(server.port, b"JUDGE")
@@ -376,14 +376,14 @@ class Trial:
         self.plan.touched.clear()
 
     def judge_step(self, client: Client, it: Step) -> None:
-        """What an N-GET tells of a step is what was answered, or what was asked since."""
+        """Checks that an N-GET returns a step as it was answered, or as a later request would leave it."""
         told_of = client.got(it.uid)
         tries = [(it.now, it.fault(told_of, it.now))] + [(known, it.fault(told_of, known)) for known in it.asked]
         good = [known for known, fault in tries if fault is None]
         self.told("every answered request is there", None if good else f"{it.uid.decode()} is not {it.now}: {tries[0][1]}; asked was {it.asked}")
         if not good:
             return
-        is_open = len(good) > 1 and it.now not in good  # claims of several, of which one was done
+        is_open = len(good) > 1 and it.now not in good  # claims by several workstations, one of which was done
         it.now = self.holder_of(client, it, good) if is_open else good[0]
         it.asked.clear()
         found = (it.now.rank, it.now.version) if it.now else (-1, -1)
@@ -399,24 +399,24 @@ class Trial:
         return [it.last[uid] for it in self.watchers.values() if uid in it.last]
 
     def holder_of(self, client: Client, it: Step, claims: list[Known]) -> Known:
-        """The one of some claims, none of which was answered, that was done: its Transaction UID is the right one."""
+        """Returns the claim that was done, of several without an answer: the one whose Transaction UID is right."""
         right = [known for known in claims if client.set(it.uid, told(*LABEL, b"LO", b"CT READ"), known.transaction) == 0x0000]
         self.told("each holder is the holder", None if len(right) == 1 else f"{it.uid.decode()} has {len(right)} holders of {len(claims)}")
         return right[0] if right else claims[0]
 
     def judge_all(self, client: Client) -> None:
-        """A C-FIND of each workstation's steps tells each once, in the order of their creation."""
+        """Checks that a C-FIND of each workstation's steps returns each once, in the order of creation."""
         for number in range(WORKSTATIONS):
             found = [text_in(it, SOP_INSTANCE) for it in client.found((PATIENT, b"STATION%d" % number))]
             steps = [it for it in self.plan.steps.values() if it.owner == number]
             wanted = [it.uid for it in steps if it.now]
-            loose = {it.uid for it in steps if it.asked}  # not looked at yet
+            loose = {it.uid for it in steps if it.asked}  # not checked yet
             found = [it for it in found if it not in loose]
             self.told("a C-FIND tells each step once", None if found == [it for it in wanted if it not in loose] else
                       f"of workstation {number}: {len(found)} and not {len(wanted)}, {set(found) ^ set(wanted)} differ")
 
     def judge_holder(self, client: Client, it: Step) -> None:
-        """Another Transaction UID is refused, and the right one is accepted."""
+        """Checks that another Transaction UID is refused, and the right one accepted."""
         if not it.now or it.now.rank == 2:
             return
         other, change = self.plan.new_transaction(), performed(it.now.version + 1)
@@ -428,11 +428,11 @@ class Trial:
         status = client.set(it.uid, change, it.now.transaction)
         self.told("each holder is the holder", wrong(it, "a set with the right UID", status, 0x0000))
         it.now = dataclasses.replace(it.now, version=it.now.version + 1)
-        if it.holder is None:  # its claim was not answered: somebody goes on with it
+        if it.holder is None:  # its claim was not answered: any workstation goes on with it
             it.holder = self.plan.chance.randrange(WORKSTATIONS)
 
     def judge_watches(self, client: Client, touched: list[Step], both: list[Step]) -> None:
-        """Each watcher learns what each step is that it watches, also when that changes then."""
+        """Checks that each watcher learns how each step is that it watches, and then a change of it."""
         for it in touched:
             for title, watch in it.watches.items():
                 if watch.asked and it.now:
@@ -453,7 +453,7 @@ class Trial:
         self.told(kind, f"{len(faults)} of {len(steps)}: {faults[0]}" if faults else None)
 
     def unlearned(self, steps: list[Step]) -> list[str]:
-        """What watchers have not learned of steps that they watch."""
+        """Returns what watchers have not learned of the steps that they watch."""
         faults = []
         for it in [it for it in steps if it.now]:
             watching = [ALL_OF] + [title for title, watch in it.watches.items() if watch.lock is not None]
@@ -464,7 +464,7 @@ class Trial:
         return faults
 
     def judge_locks(self, folder: str) -> None:
-        """On a copy, by a server that keeps no finished step: those go that nobody locks, and the others stay."""
+        """Checks on a copy, with a server that keeps no finished step, that only those with a Deletion Lock stay."""
         finished = [it for it in self.plan.steps.values() if it.now and it.now.rank == 2 and not it.asked and not it.watches[SINGLE].asked]
         locked = {it.uid for it in finished if it.watches[SINGLE].lock}
         away = [it.replace(self.watchers[it[:2].encode()].place, "127.0.0.1:1") for it in self.peers]
@@ -486,10 +486,10 @@ def wrong(it: Step, what: str, status: int, due: int) -> Optional[str]:
     return None if status == due else f"{it.uid.decode()}, which is {it.now}: {what} is answered {status:04X} and not {due:04X}"
 
 
-# lies, by which what judges is judged
+# lies that test the checks
 
 def lie(trial: Trial, kind: str) -> None:
-    """Takes for answered what was not asked."""
+    """Records as answered what was not requested."""
     steps = [it for it in trial.plan.steps.values() if it.now and not it.asked]
     held = [it for it in steps if it.now.rank == 1]
     if kind == "create":
@@ -520,7 +520,7 @@ def lie(trial: Trial, kind: str) -> None:
 
 
 def can_lie(trial: Trial, kind: str) -> bool:
-    """Lies, where there are such steps already that it can."""
+    """Lies, if the steps for that exist already, and returns whether they do."""
     try:
         lie(trial, kind)
     except (IndexError, StopIteration):
@@ -529,7 +529,7 @@ def can_lie(trial: Trial, kind: str) -> bool:
 
 
 def tried_lie(program: list[str], given: argparse.Namespace, kind: str) -> Optional[str]:
-    """Whether a lie is found."""
+    """Tells a lie, and returns a fault if it is not found."""
     with folder_for(None) as folder:
         trial = Trial(program, os.path.join(folder, "store"), given.seed, given)
         while not can_lie(trial, kind):
@@ -542,10 +542,10 @@ def tried_lie(program: list[str], given: argparse.Namespace, kind: str) -> Optio
         return None if trial.faults else "it is not found"
 
 
-# all of it
+# the whole trial
 
 def run(program: list[str], given: argparse.Namespace, results: Results) -> None:
-    """Tells what comes of so many kills, of so many on one store."""
+    """Reports the outcome of that many kills, up to `each` on one store; or of the self-test."""
     if given.self_test:
         for kind in LIES:
             results.tell(f"a lie is found: {kind}", tried_lie(program, given, kind))
@@ -556,7 +556,7 @@ def run(program: list[str], given: argparse.Namespace, results: Results) -> None
 
 
 def run_part(program: list[str], given: argparse.Namespace, kills: int, seed: int, results: Results) -> None:
-    """The same on a new store."""
+    """Reports the outcome of that many kills on a new store."""
     with folder_for(given.folder and os.path.join(given.folder, str(seed))) as folder:
         trial = Trial(program, os.path.join(folder, "store"), seed, given)
         done = kill_often(trial, folder, kills)
@@ -572,7 +572,7 @@ def run_part(program: list[str], given: argparse.Namespace, kills: int, seed: in
 
 
 def kill_often(trial: Trial, folder: str, kills: int) -> int:
-    """Kills so many servers, or until there is a fault: how many."""
+    """Kills that many servers, or fewer if there is a fault, and returns how many."""
     chance = trial.chance
     for number in range(kills):
         try:
@@ -588,7 +588,7 @@ def kill_often(trial: Trial, folder: str, kills: int) -> int:
         if trial.faults:
             return number + 1
     try:
-        trial.counts["starts"] = 0  # all steps are looked at
+        trial.counts["starts"] = 0  # so all steps are checked
         trial.live(0.0, 0.0)
     except FAULTS as fault:
         trial.told("each server serves", repr(fault))
@@ -596,7 +596,7 @@ def kill_often(trial: Trial, folder: str, kills: int) -> int:
 
 
 def keep_faulty(trial: Trial, folder: str) -> None:
-    """Keeps the files of a store that has a fault."""
+    """Copies the files of a store that has a fault, unless they stay anyway."""
     if trial.faults and not trial.given.folder:
         kept = f"{folder}.faulty"
         shutil.copytree(folder, kept, dirs_exist_ok=True)

@@ -1,9 +1,9 @@
 #!/usr/bin/env python3
-"""Prints how many checks `rt ci` runs side by side, as RT_JOBS: one a processor, as many as have 3.5 GB of free memory each.
+"""Prints how many checks `rt ci` runs side by side, for RT_JOBS: one per processor, if each has 3.5 GB of free memory.
 
-Prints nothing where that is one, and `rt` then decides. `rt` plans a check's memory by the lines of its crate, two to three
-times what the check takes, and leaves processors idle for it. With RT_JOBS it runs that many, each with one job, whatever
-they need; a check that is killed for want of memory is tried again. A line on standard error says what was found.
+Prints nothing if that is one, and `rt` then decides. `rt` plans the memory of a check by the lines of its crate, at two to
+three times what the check takes, and so leaves processors idle. With RT_JOBS it runs that many, each with one job, whatever
+they need; a check that is killed for lack of memory is tried again. A line on standard error says what was found.
 """
 
 import os
@@ -13,7 +13,7 @@ EACH = 3_500_000_000
 
 
 def free():
-    """The bytes of memory that are free, by the machine and by the limit of the control group."""
+    """Returns the bytes of free memory, or the limit of the control group if that is less."""
     with open("/proc/meminfo", encoding="ascii") as lines:
         found = [1024 * int(line.split()[1]) for line in lines if line.startswith("MemAvailable:")]
     try:

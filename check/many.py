@@ -1,17 +1,18 @@
 #!/usr/bin/env python3
-"""Has one server answer sixteen associations at the same time, of which twelve are cut off.
+"""Runs sixteen associations with one server at the same time, and cuts off twelve of them.
 
     check/many.py [PROGRAM] [--rounds 8] [--seed 1]      (default: crates/upsd/out/upsd)
 
-In each round a new server is asked in sixteen associations for what is done with three steps of each: they are created, one
-is claimed, set and completed, and one is canceled. All say their bytes in pieces of any length, at the same time. Twelve end
-somewhere: they say no more and read on, or they hang up, or they reset the connection.
+In each round, sixteen associations with a new server work on three steps each: they create them, claim, set and complete one,
+and cancel one. All send their bytes at the same time, in pieces of random length. Twelve stop at a random place: they send no
+more and read on, or hang up, or reset the connection.
 
-The four that are not cut off, and those that read on as far as they went, have to be answered as if each were alone. Of each
-association an N-GET of each step then has to tell the steps as they are behind a number of its requests: no fewer than it
-was answered, no more than it said whole, and none by half. A C-FIND has to tell each of these steps once, and no other one.
+The four that are not cut off have to be answered as if each were alone, and those that read on as far as they went. After
+that, an N-GET of each step of an association has to show its steps as they are after some number of its requests: no fewer
+than were answered, no more than were sent whole, and none done by half. A C-FIND has to return each of these steps once, and
+no other.
 
-It prints how many associations and requests there were, and each that comes to something else; the status is then 1.
+It prints how many associations and whole messages there were, and each fault; the status is 1 if there is one.
 """
 
 import argparse
@@ -34,8 +35,8 @@ from machine import HERE
 ASSOCIATIONS, GOOD = 16, 4
 WAYS = ("ends", "hangs up", "resets")
 SEATS = ["--associations", str(ASSOCIATIONS)]
-# beside the names of rows/courses.rows: an N-GET request of the state and of what was performed, the response to it where
-# one of them is missing, and the data sets
+# in addition to the names of rows/courses.rows: an N-GET request for the state and for what was performed, the response to it
+# if one of them is missing, and the data sets
 MORE = {
     "GET_BOTH": '04 00 00000072 0000006e 01 03 00000000 04000000 60000000 00000300 1a000000 PUSH 00000001 02000000 1001 '
     '00001001 02000000 0200 00000008 02000000 0101 00000110 08000000 "1.2.3.4" 00 00000510 08000000 74000010 74001612',
@@ -48,7 +49,7 @@ MORE = {
     "COMPLETED_PERFORMED": '04 00 00000054 00000050 01 02 74000010 0a000000 "COMPLETED" 20 74001612 34000000 '
     'feff00e0 2c000000 40005040 0e000000 "20240229120100" 40005140 0e000000 "20240229120200"',
 }
-# a step by its number, a request, its reply, and what an N-GET of both tells of the step then
+# the number of a step, a request, its reply, and what an N-GET of both attributes then returns
 REQUESTS = (
     (0, "CREATE STEP", "CREATED", "GOT_PART SCHEDULED"),
     (1, "CREATE STEP", "CREATED", "GOT_PART SCHEDULED"),
@@ -63,13 +64,13 @@ NAMES = dicom.stored() | rows.names_in(f"{HERE}/rows/courses.rows") | MORE
 
 
 def spelled(words, association=0, step=0):
-    """The bytes of words, which speak of a step of an association."""
+    """Returns the bytes of words that are about a step of an association."""
     number = STEPS * association + step
     return dicom.bytes_of(NAMES, words).replace(b"1.2.3.4", b"1.2.%d.%d" % (4 + number // 10, number % 10))
 
 
 class Association:
-    """An association: what is said in it, how much of that, and in which way it ends then; and what was answered."""
+    """An association: what it has to send, how much of that it sends, how it ends then, and what was answered."""
 
     def __init__(self, number, chance, is_good):
         self.number, self.chance = number, random.Random(chance.random())
@@ -81,7 +82,7 @@ class Association:
         self.answered = b""
 
     def talk(self, port, barrier):
-        """Says what is said, in pieces, and reads what is answered."""
+        """Sends its bytes in pieces, and reads what is answered."""
         given, at = b"".join(self.said)[:self.place], 0
         with runs.connected(port) as connection, contextlib.suppress(ConnectionError):
             barrier.wait()
@@ -105,7 +106,7 @@ class Association:
             connection.setsockopt(socket.SOL_SOCKET, socket.SO_LINGER, struct.pack("ii", 1, 0))
 
     def whole(self):
-        """How many of its messages were said whole."""
+        """Returns how many of its messages were sent whole."""
         count, left = 0, self.place
         while count < len(self.said) and left >= len(self.said[count]):
             left -= len(self.said[count])
@@ -113,7 +114,7 @@ class Association:
         return count
 
     def acknowledged(self):
-        """How many of its messages were answered whole."""
+        """Returns how many of its messages were answered whole."""
         count, at = 0, 0
         while count < len(self.due) and self.answered.startswith(self.due[count], at):
             at += len(self.due[count])
@@ -121,14 +122,14 @@ class Association:
         return count
 
     def states(self, done):
-        """What an N-GET tells of each of its steps behind so many of its requests."""
+        """Returns what an N-GET of each of its steps returns after `done` of its requests."""
         told = ["NOT_HELD"] * STEPS
         for step, _, _, then in REQUESTS[:done]:
             told[step] = then
         return [spelled(it, self.number, step) for step, it in enumerate(told)]
 
     def fault(self, told):
-        """What is wrong with what was answered, or with what is told of its steps then; None where nothing is."""
+        """Returns what is wrong with what was answered, or with its steps in the end; None if nothing is."""
         if self.way == "ends" and self.answered != b"".join(self.due[:self.whole()]):
             return f"{self.acknowledged()} of {self.whole()} messages are answered, and {self.answered!r}"
         if not b"".join(self.due).startswith(self.answered):
@@ -141,7 +142,7 @@ class Association:
 
 
 def told_of(port, association):
-    """What an N-GET tells of each step of an association."""
+    """Returns the answers to an N-GET of each step of an association."""
     told = []
     for step in range(STEPS):
         with runs.connected(port) as connection:
@@ -152,7 +153,7 @@ def told_of(port, association):
 
 
 def found(port, associations):
-    """The steps that a C-FIND tells, each as the number of its association and its own; None for what is none of these."""
+    """Returns the steps that a C-FIND finds, each as the number of its association and its own; None for any other match."""
     with runs.connected(port) as connection:
         answer = runs.exchange(connection, spelled("PUSH_AND_PULL FIND KEYS RELEASE"))
     answer = answer.removeprefix(spelled("TWO_ACCEPTED")).removesuffix(spelled("DONE 0000 RELEASED"))
@@ -162,7 +163,7 @@ def found(port, associations):
 
 
 def talk_at_once(port, associations):
-    """Has all associations go on at the same time, and waits for their ends."""
+    """Runs all associations at the same time, and waits until they end."""
     barrier = threading.Barrier(len(associations))
     talks = [threading.Thread(target=it.talk, args=(port, barrier)) for it in associations]
     for talk in talks:
@@ -172,7 +173,7 @@ def talk_at_once(port, associations):
 
 
 def is_idle(log, count):
-    """Waits until a log has told how so many associations ended; False where it never does."""
+    """Waits until a log says how `count` associations ended; returns False if it never does."""
     end = time.monotonic() + runs.SECONDS
     while time.monotonic() < end:
         log.seek(0)
@@ -183,7 +184,7 @@ def is_idle(log, count):
 
 
 def tried(program, chance):
-    """What comes of a round: its associations, and the faults."""
+    """Runs a round, and returns its associations and the faults."""
     associations = [Association(it, chance, it < GOOD) for it in range(ASSOCIATIONS)]
     with runs.logging(program, SEATS) as (log, server):
         talk_at_once(server.port, associations)

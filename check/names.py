@@ -1,13 +1,13 @@
 #!/usr/bin/env python3
-"""Sees that a name of a definition means one thing in the whole workspace.
+"""Checks that a name of a definition means one thing in the whole workspace.
 
     check/names.py              reads crates/*/specs, from the top of the checkout
-    check/names.py --self-test  plants a name that stands there already, in each form, and sees that it is found
+    check/names.py --self-test  plants a name that is defined already, in each form, and checks that it is found
 
-A name is that of a definition of a module of specs, as `pub` or not: of a record, of a `data` and each of its constructors, of
-an `abbrev`, and of what has a type and equations alone. Fields of records are none, since they are written behind a value. It
-prints each name that stands in two modules or more, with the modules, and then how many names there are and how many stand
-twice. The status is 1 where one does.
+A name is that of a definition in a module of specs, `pub` or not: of a record, a `data` and each of its constructors, an
+`abbrev`, and whatever has only a type and equations. Fields of records do not count, since they are written after a value. It
+prints each name that is defined in two or more modules, with the modules, and then how many names there are and how many are
+defined twice. The status is 1 if any is.
 """
 
 from __future__ import annotations
@@ -20,10 +20,10 @@ import re
 import sys
 
 HERE = os.path.dirname(os.path.dirname(os.path.abspath(__file__)))
-# what may stand in front of a name; a `data` has its constructors below it, further in
+# what may precede a name; the constructors of a `data` are below it, indented
 HEAD = re.compile(r"(?:(?:abbrev|unfoldable|pub) +)*(?:(record|data) +)?([^\W\d][\w-]*)(?![\w.])(.*)")
 CONSTRUCTOR = re.compile(r" +(?:pub +)?([^\W\d][\w-]*) +:")
-BLOCK = re.compile(r"(?:abbrev +)?(?:mutual|module)\b.*")  # what has definitions below it, further in
+BLOCK = re.compile(r"(?:abbrev +)?(?:mutual|module)\b.*")  # what has definitions below it, indented
 PARAMETERS = re.compile(r"\([^(){}]*\)|\{[^(){}]*\}")
 OTHERS = {"use", "mod", "module", "mutual", "record", "data", "abbrev"}
 PLANTED = (  # forms of a definition, with the name for {0}
@@ -40,19 +40,19 @@ PLANTED = (  # forms of a definition, with the name for {0}
 
 
 def declared(line: str) -> tuple[str, str]:
-    """The kind of definition that a line declares, where it is a record or a `data`, and its name; empty where it declares none."""
+    """Returns the kind of definition that a line declares, if it is a record or a `data`, and its name; empty if there is none."""
     found = HEAD.fullmatch(line)
     if not found or found[2] in OTHERS:
         return "", ""
     rest = found[3]
-    while PARAMETERS.search(rest):  # they may have types too
+    while PARAMETERS.search(rest):  # they may be nested
         rest = PARAMETERS.sub("", rest)
     before, colon, _ = rest.partition(":")
     return ("", "") if not colon or "=" in before else (found[1] or "", found[2])
 
 
 def names_in(text: str) -> set[str]:
-    """The names that a module defines."""
+    """Returns the names that a module defines."""
     names, is_data, is_block = set(), False, False
     for line in re.sub(r"--.*", "", text).split("\n"):
         if line and not line.startswith(" "):
@@ -69,7 +69,7 @@ def names_in(text: str) -> set[str]:
 
 
 def texts() -> dict[str, str]:
-    """The text of each module, by its path."""
+    """Returns the text of each module, by path."""
     found = {}
     for path in sorted(glob.glob(f"{HERE}/crates/*/specs/**/*.antt", recursive=True)):
         with open(path, encoding="utf-8") as opened:
@@ -78,7 +78,7 @@ def texts() -> dict[str, str]:
 
 
 def modules_of(modules: dict[str, str]) -> dict[str, list[str]]:
-    """The modules in which each name is defined."""
+    """Returns the modules in which each name is defined."""
     found = collections.defaultdict(list)
     for path, text in modules.items():
         for name in names_in(text):
@@ -87,7 +87,7 @@ def modules_of(modules: dict[str, str]) -> dict[str, list[str]]:
 
 
 def self_test(modules: dict[str, str]) -> list[str]:
-    """The forms in which a name that is planted in another module is not found."""
+    """Returns the forms in which a name that is planted in another module is not found."""
     found = modules_of(modules)
     name = min(name for name, paths in found.items() if len(paths) == 1)
     missed = []

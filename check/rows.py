@@ -1,76 +1,77 @@
 #!/usr/bin/env python3
-"""Runs rows and the examples over the built programs, and lists each that they do not do.
+"""Runs rows and the examples with the built programs, and lists those that fail.
 
-    check/rows.py rows/*.rows examples              runs them over what rt ci proves and builds: crates/upsd/out/upsd,
+    check/rows.py rows/*.rows examples              runs them with what rt ci proves and builds: crates/upsd/out/upsd,
                                                     crates/readings/out/readings and crates/refusals/out/refusals
-    check/rows.py --self-test rows/*.rows examples  spoils what each expects, in each way, and sees that this is found
+    check/rows.py --self-test rows/*.rows examples  spoils what each expects, in each way, and checks that this is found
 
 A file of rows has sections. The first line of a section is `# ` and a heading; its rows follow. The first line of the file
 may say what the rows are: `sessions`, `commands`, `deliveries`, `readings`, `courses` or `services`. Otherwise each section
 is a script.
 
-A script has in each row a line of it, ` -> ` and its reply; or a line without a reply; or `! ` and what the program says on
-standard error where the script ends early. `N times: ` repeats a row, with the number of the time in the place of a `#` in
-the line; behind that, `{N: text}` so repeats a text of the line or of the reply. In a heading `(peers)` names the peers W1,
-which may lock steps, and W2, which may not; `(offset N)` sets the local time, in minutes east of UTC; `(without its line
-feed)` takes the line feed from the last line; `(as it is typed)` gives each line once the reply to the one before has come.
-In a line U1 to U3 stand for three steps, B for the attributes of a new one, IP for the state in progress, `=x*N` for a value
-of N letters x, and `\\r` for a carriage return.
+A row of a script is a line of it, ` -> ` and its reply; or a line without a reply; or `! ` and what the program says on
+standard error if the script ends early. `N times: ` repeats a row, with the number of the repetition in place of a `#` in
+the line; after that, `{N: text}` repeats a text of the line or of the reply in the same way. In a heading, `(peers)` names
+the peers W1, which may lock steps, and W2, which may not; `(offset N)` sets the local time, in minutes east of UTC;
+`(without its line feed)` removes the line feed of the last line; `(as it is typed)` gives each line after the reply to the one
+before. In a row U1 to U3 stand for three steps, B for the attributes of a new one, IP for the state in progress, `=x*N` for a
+value of N letters x, and `\\r` for a carriage return.
 
 A row of `sessions` is `FORM | ASKED | ANSWERED | ENDED`, an association of `upsd pipe` as UPSD, without peers: in `bytes`; or
-in hex digits, which are those of a `text`, or the `digits` of the words, of which the answered ones have a line each, or the
-same in `capitals`, or `shaky`. An association that ends well is asked of `upsd serve` too, which has to answer the same, and
-tells how it ends. Behind its first word the form may say what is short, as below.
+in hex digits, which a `text` spells out, or which are the `digits` of the words, with a line for each word that is answered,
+or the same in `capitals`, or `shaky`. An association that ends well also runs with `upsd serve`, which has to answer the
+same, and to log how it ends. After its first word the form may say what is short, as below.
 
-A row of `commands` is `WORDS | INPUT | OUTPUT | ERRORS | STATUS`: the words behind the program's name, in which `%hh` is the
-byte of two hex digits, and a word with `*N` at its end stands there N times; what is read; what is written, and what is said
-on standard error, or with `..` before it a part of that; and the exit status. Before the words stands in brackets what is
-short. With `no memory` in the place of the words there is none to read them.
+A row of `commands` is `WORDS | INPUT | OUTPUT | ERRORS | STATUS`: the words after the program's name, in which `%hh` is the
+byte of two hex digits, and a word with `*N` at its end is repeated N times; what is read; what is written, and what is said
+on standard error, or after `..` a part of either; and the exit status. What is short precedes the words, in brackets.
+`no memory` in place of the words means that there is no memory to read them.
 
-What is short is told by a word and a number, or the first and the last of several, which are tried in turn: the input has
-so many bytes (`end`), or fails behind them (`break`); so many of its last bytes are not awaited (`left`); the output has
-so much `room`, and the first bytes are written; the data take so many kilobytes of `memory`. What is `shaky` is given and
-taken byte by byte, with a signal that interrupts each call.
+What is short is given by a word and a number, or the first and the last of several, which are tried in turn: the input has
+that many bytes (`end`), or fails after them (`break`); the program does not wait for that many of its last bytes (`left`);
+the output has that much `room`, and the first bytes are written; the data have that many kilobytes of `memory`. What is
+`shaky` comes and leaves byte by byte, with a signal that interrupts each call.
 
 A row of `deliveries` is `PEERS | HOST | ASKED | TAKEN | HEARD | ENDED`: the words of `upsd serve` that name peers, in which
-PORT stands for a port where the watcher W1 listens at the host; what the server is asked in one association; what the
-watcher says then, and what it hears; and how the association with it ends.
+PORT stands for a port on which the watcher W1 listens at the host; what the server is asked in one association; what the
+watcher then sends, and what it hears; and how the association with it ends.
 
 A row of `readings` is `KIND | GIVEN | TOLD | WRITTEN`: the kind of some bytes (crates/readings/src/main.rt has the kinds),
-which are given to the program `readings`; what they are told to be, with bytes between `<` and `>` as hex digits, or with
-`..` before it a part of that; and the bytes that are written for them: `=` stands for those that are given, `..` for any, and
-without this column there are none. Behind its first words the kind may say where the bytes `end`.
+which are given to the program `readings`; how it describes them, with bytes between `<` and `>` as hex digits, or after `..`
+a part of that; and the bytes that it writes for them: `=` stands for those that are given, `..` for any, and without this
+column there are none. After its first words the kind may say where the bytes `end`.
 
-A section of `courses` is what one service takes, in parts: associations that a peer asks for, behind a row `serve`, or behind
-`cut` where its input ends without a release; those that this side asks W1 for, behind `deliver`; and scripts, behind `script`,
-whose rows are as above. A row of an association
-is `ASKED | ANSWERED | LACKING | ENTRIES`: what is asked, what is answered, what is answered where memory lacks, if that is
-ever told, and how many requests the history has then. In a delivery ID is the message ID of a report, which counts them.
+A section of `courses` is what one service handles, in parts: associations that a peer requests, after a row `serve`, or after
+`cut` if the input ends without a release; those that this side requests from W1, after `deliver`; and scripts, after `script`,
+whose rows are as above. A row of an association is `ASKED | ANSWERED | LACKING | ENTRIES`: what is asked, what is answered,
+what is answered for lack of memory, if that ever happens, and how many requests the history has then. In a delivery, ID is
+the Message ID of a report, which counts them.
 
 A row of `services` is `ASKED -> ANSWERED : ENDED N`, by the program `refusals`: what a new service is asked in an association,
-and what it answers; how that ends, and how many requests the history has then. In its heading `(delivers)` says that this
-side asks W1 for the association: `, pending` stands then at the end, with the numbers of the events that are left pending for
-W1; `(script)`, that a script is asked and answered. `(two events)` or another name stands for what is asked before, an
-association in each row of the section whose heading is `before: ` and that name. `(turns N)` limits the PDUs or lines that are
-read, `(history N)` the requests that are entered, and `(room N)` the bytes that are taken; `(offset N)` is the local time, as
-above. Where the input `(fails)` it does so behind its bytes; each of the `(reads)` or `(writes)` is interrupted once; and
-`(in full)` tells behind the number the calls of the gate, and of each request in the history the caller, the title and the
-moment. Before a row and ` | ` may stand what is short, as above: `end`, `break` or `room`, with the first and the last number.
+and what it answers; how that ends, and how many requests the history has then. In its heading, `(delivers)` means that this
+side requests the association from W1: the row then ends in `, pending` and the numbers of the events that are left pending for
+W1; `(script)`, that a script is asked and answered. `(two events)` or another name stands for what is asked before: an
+association for each row of the section whose heading is `before: ` and that name. `(turns N)` limits the PDUs or lines that are
+read, `(history N)` the requests that are entered, and `(room N)` the bytes that the output takes; `(offset N)` is the local
+time, as above. With `(fails)` the input fails after its bytes; with `(reads)` or `(writes)` each of these is interrupted once;
+and `(in full)` adds after the number the calls of the gate, and for each request in the history the caller, the title and the
+moment. A row may begin with what is short, as above, and ` | `: `end`, `break` or `room`, with the first and the last number.
 
-A section of `services` that goes `(line by line)` has lines of a script with their replies. Three other ones ask the program:
+A section of `services` that goes `(line by line)` has lines of a script with their replies. Three other lines ask the program:
 `entries`, how many requests the history has; `size U1`, how many bytes the row of a step takes; `due N U1`, whether that step
-is to be removed at a moment, as the plain program says. A line that enters no request leaves as it was all that is told of
-the steps U1 to U3; and behind the last line the plain programs list the steps that are held, and that W1 and W2 watch.
+is to be removed at a moment, as the plain program says. A line that enters no request has to leave all that is reported of
+the steps U1 to U3 as it was; and after the last line the plain programs list the steps that are held, and those that W1 and
+W2 watch.
 
-Bytes are words: hex digits, as often as a number behind `*` says; text in quotes; the names of the SOP classes, as PUSH; and
-the names of bytes: of the stored PDUs in crates/fixtures/src/vectors.rt, and of the sections whose heading begins with
-`names: `, where a row is a name, `: ` and bytes. A heading `names of ` and a file takes over the names of that file of rows. A
-`#` in these is an odd number, which goes up by two where the name is repeated.
+Bytes are written as words: hex digits, as often as a number after `*` says; text in quotes; the names of the SOP classes, such
+as PUSH; and the names of bytes: of the stored PDUs in crates/fixtures/src/vectors.rt, and of the sections whose heading begins
+with `names: `, where a row is a name, `: ` and bytes. A heading `names of ` and a file imports the names of that file of rows.
+A `#` in these is an odd number, which goes up by two if the name is repeated.
 
-A folder has examples: a script in NAME, the words of the command line in NAME.args, a line each, and what the program
+A folder has examples: a script in NAME, the words of the command line in NAME.args, one per line, and what the program
 writes in NAME.stdout.
 
-The last line is `N passed, M failed`, by scripts, examples and other rows. The status is 1 where one failed.
+The last line is `N passed, M failed`, counting scripts, examples and other rows. The status is 1 if one failed.
 """
 
 import argparse
@@ -96,7 +97,7 @@ PEERS = ["W1=127.0.0.1:11112,lock", "W2=127.0.0.1:11112"]
 SHORT = ("", "end", "break", "left", "room", "memory", "shaky")
 NO_MEMORY = ["x" * 100_000] * 15  # words that take more than the kilobytes of:
 MEMORY = 1024
-# what is said of a session that stops: with which exit status, and how it has ended
+# what is said of a session that stops: its exit status, and how it ended
 FAULTS = {
     "a read failed, or the input ended inside a PDU": (2, "Read"),
     "what was read is neither a hex digit nor white space": (2, "Read"),
@@ -109,29 +110,29 @@ FAULTS = {
 
 
 def spelled(line):
-    """A line of a script with what its words stand for."""
+    """Returns a line of a script with its words replaced by what they stand for."""
     words = " ".join(WORDS.get(it, it) for it in line.split(" "))
     return re.sub(r"=x\*(\d+)", lambda it: "=" + "x" * int(it[1]), words).replace("\\r", "\r")
 
 
 def repeated(text, times):
-    """A text so many times, with the number of the time in the place of a `#`."""
+    """Returns a text that many times, with the number of the repetition in place of a `#`."""
     return "".join(text.replace("#", str(number)) for number in range(1, times + 1))
 
 
 def unfolded(text):
-    """A text in which each part of the form `{N: text}` stands as often as it says."""
+    """Returns a text in which each part of the form `{N: text}` is repeated N times."""
     return re.sub(r"\{(\d+): ([^{}]*)\}", lambda it: repeated(it[2], int(it[1])), text)
 
 
 def apart(what, found, expected):
-    """Where what was found differs from what was expected."""
+    """Describes where what was found differs from what was expected."""
     at = len(os.path.commonprefix([found, expected]))
     return f"{what} is {found[at:at + 20]!r} and not {expected[at:at + 20]!r} from byte {at} on"
 
 
 class Script:
-    """A script, the words of its command line, what is replied, and what the program says beside that."""
+    """A script, the words of its command line, the replies, and what the program says on standard error."""
 
     program = "upsd"
 
@@ -156,7 +157,7 @@ class Script:
         self.replies += reply * int(times or 1) if arrow else ""
 
     def spoiled(self):
-        """The same with another last reply; or, where there is none, with something that the program should say."""
+        """Returns the same with another last reply; or, if there is none, with something else on standard error."""
         other = copy.copy(self)
         if self.replies:
             other.replies = self.replies[:-1] + "X\n"
@@ -171,7 +172,7 @@ class Script:
         return runs.run(words, script)
 
     def difference(self, program):
-        """How what the program does differs from the script; None where it doesn't."""
+        """Returns how the program differs from the script; None if it doesn't."""
         ran = self.run([program, *self.words], self.script.encode())
         found, said = ran.output.decode(errors="replace"), ran.said.decode(errors="replace")
         if found != self.replies:
@@ -197,14 +198,14 @@ class Row:
             raise ValueError(row)
 
     def difference(self, program):
-        """How what the program does differs from the row, at the first number where it does; None where it never does."""
+        """Returns how the program differs from the row, at the first number for which it does; None if there is none."""
         for number in range(self.first, self.last + 1):
             if why := self.difference_at(program, number):
                 return f"at {number}: {why}" if self.what else why
         return None
 
     def run(self, words, given, number):
-        """Runs a program on what it is given, as far as nothing is short."""
+        """Runs a program on what it is given, with what is short at a number."""
         if self.what == "shaky":
             return runs.run_shaken(words, given)
         if self.what in ("break", "left"):
@@ -214,13 +215,13 @@ class Row:
         return runs.run(words, self.cut(given, number), **limits)
 
     def cut(self, given, number):
-        """What is given, as far as it goes."""
+        """Returns what is given, as far as it goes."""
         if self.what == "left":
             return given[:-number]
         return given[:number] if self.what in ("end", "break") else given
 
     def written(self, output, number):
-        """What is written of an output, as far as there is room."""
+        """Returns what is written of an output, as far as there is room."""
         return output[:number] if self.what == "room" else output
 
 
@@ -240,13 +241,13 @@ class Session(Row):
             self.asked = self.asked.upper()
 
     def spoiled(self):
-        """The same with another answer, and with another end."""
+        """Returns the same with another answer, and with another end."""
         answer, end = copy.copy(self), copy.copy(self)
         answer.answered, end.ended = b"X" + self.answered, self.ended + "X"
         return [answer, end]
 
     def difference_at(self, program, number):
-        """How what the program does differs from the row at a number."""
+        """Returns how the program differs from the row at a number; None if it doesn't."""
         words = [program, "pipe", "--ae", "UPSD", *(["--hex"] if self.is_hexadecimal else [])]
         ran, answered = self.run(words, self.asked, number), self.written(self.answered, number)
         if ran.output != answered:
@@ -260,12 +261,12 @@ class Session(Row):
         return None if ended == self.ended else f"it ends as {ended}"
 
     def plain(self, text):
-        """The bytes of what is said or answered."""
+        """Returns the bytes of what is asked or answered."""
         return bytes.fromhex(text.decode()) if self.is_hexadecimal else text
 
 
 def ended_of(ran):
-    """How a session has ended by what the program says and its exit status: well, or with a fault."""
+    """Returns how a session ended, by what the program says and its exit status: well, or with a fault."""
     said = ran.said.decode(errors="replace")
     if ran.status == 0 and not said:
         return "Ok"
@@ -274,7 +275,7 @@ def ended_of(ran):
 
 
 class Command(Row):
-    """A command line, what is read, and what comes of it."""
+    """A command line, what is read, and the outcome."""
 
     def __init__(self, names, row):
         words, given, self.output, self.said, status = row.split(" | ")
@@ -285,7 +286,7 @@ class Command(Row):
         self.names, self.given, self.status = names, dicom.bytes_of(names, given), int(status)
 
     def spoiled(self):
-        """The same with another output, with something else that is said, and with another status."""
+        """Returns the same with another output, with something else on standard error, and with another status."""
         output, said, status = copy.copy(self), copy.copy(self), copy.copy(self)
         output.output, said.said, status.status = f'{self.output}"X"', f'{self.said}"X"', self.status + 1
         if self.what == "room":
@@ -293,14 +294,14 @@ class Command(Row):
         return [output, said, status]
 
     def difference_at(self, program, number):
-        """How what the program does differs from the row at a number."""
+        """Returns how the program differs from the row at a number; None if it doesn't."""
         ran = self.run([program, *self.words], self.given, number)
         if why := self.unlike("the output", ran.output, self.output, number) or self.unlike("what it says", ran.said, self.said):
             return why
         return None if ran.status == self.status else f"it ends with status {ran.status}"
 
     def unlike(self, what, found, column, room=None):
-        """How what is written differs from a column, as far as there is room."""
+        """Returns how what is written differs from a column, as far as there is room; None if it doesn't."""
         if column.startswith(".."):
             return None if column[2:].encode() in found else f"{what} is {found!r}"
         expected = dicom.bytes_of(self.names, column)
@@ -309,14 +310,14 @@ class Command(Row):
 
 
 def often(word):
-    """A word of a command line with what its escapes stand for, as often as it says."""
+    """Returns a word of a command line with its escapes replaced, as often as it says."""
     found = re.fullmatch(r"(.*)\*(\d+)", word)
     words = dicom.numbered(found[1], int(found[2])) if found else [word]
     return [re.sub(rb"%([0-9a-f]{2})", lambda it: bytes.fromhex(it[1].decode()), it.encode()) for it in words]
 
 
 class Delivery:
-    """The peers of a server, the host of its watcher, what the server is asked, what the watcher says and hears, and the end."""
+    """The peers of a server, the host of its watcher, what the server is asked, what the watcher sends and hears, and the end."""
 
     program = "upsd"
 
@@ -326,13 +327,13 @@ class Delivery:
         self.asked, self.taken, self.heard = (dicom.bytes_of(names, it) for it in said)
 
     def spoiled(self):
-        """The same with something else that is heard, and with another end."""
+        """Returns the same with something else that is heard, and with another end."""
         heard, end = copy.copy(self), copy.copy(self)
         heard.heard, end.ended = b"X" + self.heard, self.ended + "X"
         return [heard, end]
 
     def difference(self, program):
-        """How what the server does differs from the row; None where it doesn't."""
+        """Returns how the server differs from the row; None if it doesn't."""
         heard, ended = runs.deliver(program, self.peers, self.host, self.asked, self.taken)
         if heard != self.heard:
             return apart("what the watcher hears", heard, self.heard)
@@ -340,7 +341,7 @@ class Delivery:
 
 
 class Reading(Row):
-    """Bytes of a kind, what they are told to be, and what is written for them: None where that may be any bytes."""
+    """Bytes of a kind, how they are described, and what is written for them: None if that may be any bytes."""
 
     program = "readings"
 
@@ -353,7 +354,7 @@ class Reading(Row):
         self.written = written_for(names, self.given, "".join(written))
 
     def spoiled(self):
-        """The same that is told otherwise; and, unless any bytes may be written, with others of them."""
+        """Returns the same with another description; and, unless any bytes may be written, with other bytes."""
         told, written = copy.copy(self), copy.copy(self)
         told.told = f"{self.told}X"
         if self.written is None:
@@ -362,7 +363,7 @@ class Reading(Row):
         return [told, written]
 
     def difference_at(self, program, number):
-        """How what the program tells differs from the row at a number."""
+        """Returns how the program's output differs from the row at a number; None if it doesn't."""
         ran = runs.run([program], f"{self.kind} {self.cut(self.given, number).hex()}\n".encode())
         if ran.status or ran.said:
             return f"it ends with status {ran.status}, saying {ran.said.decode(errors='replace')!r}"
@@ -378,7 +379,7 @@ class Reading(Row):
 
 
 def written_for(names, given, column):
-    """The bytes that are written for what is given, by a column; None where they may be any."""
+    """Returns the bytes that are written for what is given, by a column; None if they may be any."""
     if column == "=":
         return given
     return None if column == ".." else dicom.bytes_of(names, column)
@@ -388,7 +389,7 @@ KINDS = {"sessions": Session, "commands": Command, "deliveries": Delivery, "read
 
 
 def rows_of(file):
-    """What is to be run of a file: its scripts, or its rows."""
+    """Yields what is to be run of a file: its scripts, or its rows."""
     kind, *sections = re.split(r"(?m)^# ", content(file))
     kind = kind.removesuffix("\n")
     if kind not in ("", "courses", "services", *KINDS) or not sections:
@@ -408,7 +409,7 @@ def rows_of(file):
 
 
 def rows_of_section(kind, heading, rows, names, befores):
-    """What is to be run of a section."""
+    """Yields what is to be run of a section."""
     if not kind:
         yield Script(heading, rows)
     elif kind == "courses":
@@ -420,13 +421,13 @@ def rows_of_section(kind, heading, rows, names, befores):
 
 
 def names_in(file):
-    """The texts of the names that a file of rows gives."""
+    """Returns the texts of the names that a file of rows defines."""
     sections = re.findall(r"(?m)^# names: .*\n((?:[^#].*\n)*)", content(file))
     return dict(row.split(": ", 1) for section in sections for row in section.splitlines())
 
 
 def examples_of(folder):
-    """The examples of a folder."""
+    """Yields the examples of a folder."""
     for name in sorted(os.listdir(folder)):
         if name.endswith(".args"):
             path = f"{folder}/{name.removesuffix('.args')}"
@@ -437,13 +438,13 @@ def examples_of(folder):
 
 
 def content(file):
-    """The text of a file."""
+    """Returns the text of a file."""
     with open(file, encoding="utf-8", newline="\n") as text:
         return text.read()
 
 
 def fault_of(program, row, is_spoiled):
-    """Why a row fails; None where it passes."""
+    """Returns why a row fails; None if it passes."""
     try:
         if not is_spoiled:
             return row.difference(program)

@@ -1,27 +1,27 @@
 #!/usr/bin/env python3
-"""Has eight workstations share the steps of one server, and sees what a server does by itself, and what one leaves that ends.
+"""Has eight workstations share the steps of one server, and checks what a server does by itself, and what it leaves at its end.
 
     check/sharing.py [PROGRAM] [--passes PASSES] [--steps 100] [--seed 1]
                                      (default: crates/upsd/out/upsd, and crates/passes/out/passes)
 
 Each of eight workstations creates each step, claims it, sets what it has performed, finds it, finishes it and shows it: some
-5,600 requests. A request has to be answered with a status that is due where the others may have been first, as docs/use/conformance.md
-has it. Of each step one creation and one claim are accepted, and what is set and finished is that of the workstation that
-claimed it. In the end an N-GET tells each step so, and C-FINDs of all and of each state tell the steps once each, in the order of their creation.
+5,600 requests. Each answer has to have a status that docs/use/conformance.md allows if another workstation may have been first.
+For each step, one creation and one claim are accepted, and only the workstation that claimed it sets and finishes it. In the
+end an N-GET has to return each step like that, and C-FINDs of all and of each state each step once, in the order of creation.
 
-A server of one worker then has three peers that connect and say nothing, before one that subscribes W1, which does not listen
-yet, and creates a step. It has to be answered as if it were alone. Once W1 listens it has to hear one report, and once the
-step is canceled and no longer kept, it has to be gone.
+A server with one worker then has three peers that connect and say nothing, before one that subscribes W1, which does not listen
+yet, and creates a step. That one has to be answered as if it were alone. Once W1 listens, it has to hear one report, and once
+the step is canceled and no longer kept, it has to be gone.
 
-Where an association has the only worker and three connections wait, the log has to tell how many.
+If an association has the only worker and three connections wait, the log has to say how many.
 
 The program `passes` runs a server that ends: with one worker for two associations, and with two workers for one each. In the
 first association W1 is subscribed to all steps and a step is created, of which W1 hears; in the second one the subscription
-ends and the step is canceled, and it is no longer kept. What the history then has in order, once the desk is closed, has to
-be the requests of these associations by the passes of the workers, the acknowledgement by that of the deliverer, and the
-sweep by that of the sweeper.
+ends and the step is canceled, and it is no longer kept. Once the desk is closed, the history has to have, in order, the
+requests of these associations by the passes of the workers, the acknowledgement by that of the deliverer, and the sweep by
+that of the sweeper.
 
-A line tells each of these, and then comes `N passed, M failed`. The status is 1 where one failed.
+A line reports each of these, and the last line is `N passed, M failed`. The status is 1 if one failed.
 """
 
 from __future__ import annotations
@@ -51,7 +51,7 @@ from server import Server
 
 WORKSTATIONS, PUSH_ON, PULL_ON = 8, 1, 3
 MOMENT = b"20240229120000"
-# the statuses of a request: where it is accepted, and where another workstation was first
+# the statuses of a request: if it is accepted, and if another workstation was first
 DUE = {
     "create": (0x0000, 0x0111),
     "claim": (0x0000, 0xC302, 0xC300),
@@ -61,7 +61,7 @@ DUE = {
 
 
 def last_state(number: int) -> bytes:
-    """The state in which a step is left: each tenth stays in progress, and the others are completed or canceled."""
+    """Returns the state in which a step is left: every tenth stays in progress, and the others are completed or canceled."""
     if number % 10 == 0:
         return IN_PROGRESS
     return COMPLETED if number % 2 else CANCELED
@@ -72,12 +72,12 @@ def uid_of(number: int) -> bytes:
 
 
 def texts(*elements: tuple[tuple[int, int], bytes, bytes]) -> bytes:
-    """A data set of these elements, each with its value representation."""
+    """Returns a data set of these elements, each with its value representation."""
     return b"".join(data(True, *tag, vr, value) for tag, vr, value in sorted(elements))
 
 
 class Workstation:
-    """An association that asks for each step, and which of its requests were accepted, by the kind."""
+    """An association with requests for each step, and the steps for which they were accepted, by kind of request."""
 
     def __init__(self, port: int, number: int) -> None:
         self.association = Association(port, True, b"PERFORM%d" % number, runs.SECONDS)
@@ -87,7 +87,7 @@ class Workstation:
         self.asked = 0
 
     def ask(self, verb: str, number: int, spelled: bytes) -> None:
-        """Asks for something of a step, and notes whether that was accepted."""
+        """Sends a request about a step, and records whether it was accepted."""
         self.association.socket.sendall(spelled)
         status = self.association.reply().status
         self.asked += 1
@@ -97,12 +97,12 @@ class Workstation:
             self.accepted[verb].add(number)
 
     def message(self) -> int:
-        """The number of the next message."""
+        """Returns the next Message ID."""
         self.association.number = self.association.number % 65535 + 1
         return self.association.number
 
     def performs(self, number: int) -> bytes:
-        """What is set of a step before it gets its last state."""
+        """Returns what is set of a step before it gets its last state."""
         if last_state(number) == CANCELED:
             item = texts((CANCELLATION_TIME, b"DT", MOMENT))
             return texts(self.transaction, (PROGRESS, b"SQ", items([item])), (LABEL, b"LO", self.label))
@@ -114,7 +114,7 @@ class Workstation:
         self.ask(verb, number, act(PULL_ON, self.message(), uid_of(number), 1, change))
 
     def work(self, number: int) -> None:
-        """Does all with a step that a workstation does."""
+        """Does with a step all that a workstation does."""
         uid = uid_of(number)
         self.ask("create", number, create(PUSH_ON, self.message(), uid, step(True)))
         self.change("claim", number, IN_PROGRESS)
@@ -126,7 +126,7 @@ class Workstation:
         self.shown(number)
 
     def shown(self, number: int) -> dict[tuple[int, int], tuple[bytes, bytes]]:
-        """What an N-GET tells of a step."""
+        """Returns the attributes of a step, by an N-GET."""
         self.association.socket.sendall(get(PUSH_ON, self.message(), uid_of(number)))
         reply = self.association.reply()
         self.asked += 1
@@ -135,7 +135,7 @@ class Workstation:
         return read(True, reply.data_set)
 
     def found(self, key: tuple[int, int], value: bytes) -> list[bytes]:
-        """The UIDs of the steps that a C-FIND tells."""
+        """Returns the UIDs of the steps that a C-FIND finds."""
         keys = texts((SOP_INSTANCE, b"UI", b""), (key, VRS[key], value))
         self.association.socket.sendall(find(PULL_ON, self.message(), keys))
         self.asked += 1
@@ -148,7 +148,7 @@ class Workstation:
 
 
 def at_once(workstations: list[Workstation], steps: int, chance: random.Random) -> list[str]:
-    """Has all workstations work at the same time; and gives their faults."""
+    """Has all workstations work at the same time, and returns their faults."""
     barrier, faults = threading.Barrier(len(workstations)), []
 
     def run(it: Workstation, pause: float) -> None:
@@ -170,7 +170,7 @@ def at_once(workstations: list[Workstation], steps: int, chance: random.Random) 
 
 
 def owner_of(workstations: list[Workstation], number: int) -> Workstation:
-    """Who has claimed a step; where not one has created it, one claimed it, and that one set and finished it, a fault."""
+    """Returns who claimed a step. Raises Fault unless one created it and one claimed it, who alone set it and, if due, finished it."""
     by = {verb: [it for it in workstations if number in it.accepted[verb]] for verb in DUE}
     wanted = 0 if last_state(number) == IN_PROGRESS else 1
     if len(by["create"]) != 1 or len(by["claim"]) != 1 or by["set"] != by["claim"] or by["finish"] != by["claim"] * wanted:
@@ -179,12 +179,12 @@ def owner_of(workstations: list[Workstation], number: int) -> Workstation:
 
 
 def audit(workstations: list[Workstation], steps: int) -> None:
-    """Compares all steps, as they are told, with what was accepted."""
+    """Compares all steps, as the server shows them, with what was accepted."""
     for number in range(steps):
         owner, told = owner_of(workstations, number), workstations[0].shown(number)
         if told[STATE][1] != last_state(number) or told[LABEL][1] != owner.label:
             raise Fault(f"step {number} is {told[STATE][1]!r}, {told[LABEL][1]!r}, and not {last_state(number)!r}, {owner.label!r}")
-    # each workstation asks for a step behind the one before it, so they are created in this order, by whomever
+    # each workstation goes from one step to the next, so they are created in this order, by whichever workstation
     if workstations[0].found(LABEL, b"READ BY * ") != [uid_of(it) for it in range(steps)]:
         raise Fault("a C-FIND of all does not tell each step once, in the order of their creation")
     for state in (IN_PROGRESS, COMPLETED, CANCELED):
@@ -193,7 +193,7 @@ def audit(workstations: list[Workstation], steps: int) -> None:
 
 
 def tried_sharing(program: str, steps: int, chance: random.Random) -> tuple[str, Optional[str]]:
-    """What comes of it that workstations share steps: how much was asked, and the first fault."""
+    """Has workstations share steps, and returns a line with the number of requests, and the first fault."""
     with runs.logging(program, ["--associations", str(WORKSTATIONS)]) as (_, server):
         workstations = [Workstation(server.port, it) for it in range(WORKSTATIONS)]
         faults = at_once(workstations, steps, chance)
@@ -209,7 +209,7 @@ def tried_sharing(program: str, steps: int, chance: random.Random) -> tuple[str,
 
 
 class Alone:
-    """A server of one worker, to which W1 is a watcher that does not listen yet; and some peers that say nothing."""
+    """A server with one worker, whose watcher W1 does not listen yet; and some peers that say nothing."""
 
     def __init__(self, port: int, watcher: socket.socket, silent: int) -> None:
         self.port, self.watcher = port, watcher
@@ -220,18 +220,18 @@ class Alone:
         return dicom.bytes_of(self.names, words)
 
     def answered(self, words: str, due: str) -> bool:
-        """Whether an association is answered as is due."""
+        """Returns whether an association is answered as expected."""
         with runs.connected(self.port) as connection:
             return runs.exchange(connection, self.spelled(words)) == self.spelled(due)
 
     def subscribes(self) -> Optional[str]:
-        """A peer behind the silent ones subscribes W1 and creates a step."""
+        """Subscribes W1 and creates a step, as a peer after the silent ones."""
         asked = "PUSH_AND_WATCH GLOBAL_ACTION 0300 TO_WATCH CREATE STEP RELEASE"
         due = "TWO_ACCEPTED GLOBAL_ACTED 0000 GLOBAL_ACTED_ON 0300 CREATED RELEASED"
         return None if self.answered(asked, due) else "it is answered something else"
 
     def reports(self) -> Optional[str]:
-        """W1 hears of the step, once it listens."""
+        """Lets W1 listen, and checks that it hears of the step."""
         self.watcher.listen()
         self.watcher.settimeout(runs.SECONDS)
         with self.watcher.accept()[0] as connection:
@@ -240,7 +240,7 @@ class Alone:
         return None if heard == self.spelled("PROPOSED FIRST_REPORT RELEASE") else f"it hears {heard!r}"
 
     def sweeps(self) -> Optional[str]:
-        """A step that is canceled goes, once it is no longer kept."""
+        """Cancels the step, and checks that it goes once it is no longer kept."""
         if not self.answered("REQUEST ACTION_ON_1 0200 NOTHING_ON_1 RELEASE", "ACCEPTED ACTED_ON_1 0000 ACTED_ON 0200 RELEASED"):
             return "it is not canceled"
         end = time.monotonic() + runs.SECONDS
@@ -252,7 +252,7 @@ class Alone:
 
 
 def try_alone(program: str, results: Results) -> None:
-    """Tells what a server does by itself."""
+    """Reports what a server does by itself."""
     with socket.socket() as watcher:
         watcher.bind(("127.0.0.1", 0))
         words = ["--associations", "1", "--keep", "1", f"W1=127.0.0.1:{watcher.getsockname()[1]}"]
@@ -264,7 +264,7 @@ def try_alone(program: str, results: Results) -> None:
 
 
 def tried_queue(program: str) -> Optional[str]:
-    """An association has the only worker, and three connections wait: the log tells how many."""
+    """Checks that the log says how many connections wait while an association has the only worker."""
     wanted, end = b"each of 1 workers has an association, 3 connections wait", time.monotonic() + runs.SECONDS
     with runs.logging(program, ["--associations", "1"]) as (log, server):
         connections = [runs.connected(server.port) for _ in range(4)]
@@ -278,15 +278,15 @@ def tried_queue(program: str) -> Optional[str]:
 
 
 class Ending:
-    """A server that ends, whose port is told, and W1, which listens."""
+    """A server that ends, by its port, and W1, which listens."""
 
-    ROUNDS = 8  # of the sweeper and of the deliverer, one a second
+    ROUNDS = 8  # of the sweeper and of the deliverer, one per second
 
     def __init__(self, port: int, watcher: socket.socket) -> None:
         self.alone = Alone(port, watcher, 0)
 
     def serves(self) -> Optional[str]:
-        """Has two associations, and W1 hear of the first."""
+        """Runs two associations, and has W1 hear of the first."""
         fault = self.alone.subscribes() or self.alone.reports()
         if fault:
             return fault
@@ -296,7 +296,7 @@ class Ending:
 
 
 def history_of(first: int, second: int, deliverer: int) -> list[str]:
-    """What a server leaves by the number of the pass that has the first association, of the one that has the second, and of
+    """Returns the history that a server leaves, by the numbers of the passes of the first and the second association, and of
     the deliverer."""
     return [
         f"{first} SCHED1 subscribe",
@@ -309,7 +309,7 @@ def history_of(first: int, second: int, deliverer: int) -> list[str]:
 
 
 def tried_ending(passes: str, workers: int, associations: int) -> Optional[str]:
-    """What a server leaves that has so many workers, each of which has so many associations."""
+    """Checks what a server leaves that has that many workers, each with that many associations."""
     with socket.socket() as watcher:
         watcher.bind(("127.0.0.1", 0))
         watcher.listen()
@@ -327,7 +327,7 @@ def tried_ending(passes: str, workers: int, associations: int) -> Optional[str]:
 
 
 def try_endings(passes: str, results: Results) -> None:
-    """Tells what servers leave that end, which run at the same time."""
+    """Reports what two servers that run at the same time leave at their ends."""
     with concurrent.futures.ThreadPoolExecutor() as pool:
         one = pool.submit(tried_ending, passes, 1, 2)
         two = pool.submit(tried_ending, passes, 2, 1)

@@ -3,24 +3,25 @@
 
     check/store.py TRIAL [NUMBER] [--program PROGRAM] [--seed 1] ..      (default: crates/upsd/out/upsd)
 
-    kills 20         kills so many servers on a file at random moments, which four workstations, a reader and three watchers use
-    cuts 2000        records the writes and syncs of a server by strace, and opens so many of the states that a disk may have kept
-                     where the power is cut
+    kills 20         kills that many servers on a file at random moments; four workstations, a reader and three watchers use them
+    cuts 2000        records the writes and syncs of a server with strace, and opens that many of the states that a disk may have
+                     kept if the power is cut
     full             fills a small tmpfs, and makes room again (as root)
-    failing 6        has the first, second and so on write and sync of a server fail, by strace
-    million 1000000  starts a server on so many requests: how long that takes, and its memory
+    failing 6        makes the first, second and so on write and sync of a server fail, with strace
+    million 1000000  starts a server on that many requests: how long that takes, and its memory
     settings         starts servers with other settings, on a file that is held, on files that are no store, and on damaged ones
-    compact 5000     compares what a store of so many requests shows before and after a compaction
-    histories 1000   compares the same of so many generated histories of 60 requests
-    cost             measures the processor time of a request with a store and without one, and requests a second
+    compact 5000     compares what a store of that many requests shows before and after a compaction
+    histories 1000   compares the same for that many generated histories of 60 requests
+    cost             measures the processor time of a request with a store and without one, and requests per second
 
-Behind each start on a file each request that was answered as accepted has to be there: each step as it was set last, or as it
-was asked to be since then, whole; each holder is the holder, no UID that was used is free, each subscription and each deletion
-lock stands, and each watcher learns what each step is. What was shown or told of a step has to be there too.
+After each start on a file, each request that was answered as accepted has to be there: each step as it was last set, or as a
+later request would leave it, whole; each holder is still the holder, no UID that was used is free, each subscription and each
+Deletion Lock is in force, and each watcher learns the state of each step. What was shown or reported of a step has to be there
+too.
 
-A line tells what passed and what failed, and then comes `N passed, M failed`. The status is 1 where one failed. With --self-test
-`kills` and `cuts` take for answered what was not, and see that this is found. --folder names where the stores are laid (and stay):
-on the disk that is to be tried. `check/store.py TRIAL --help` lists what each takes.
+A line reports each check that passed or failed, and the last line is `N passed, M failed`. The status is 1 if one failed. With
+--self-test, `kills` and `cuts` take for answered what was not, and check that this is found. --folder names the folder for the
+stores (where they stay), on the disk to be tried. `check/store.py TRIAL --help` lists the arguments of a trial.
 """
 
 from __future__ import annotations
@@ -45,7 +46,7 @@ from stored import FAULTS
 
 def options_of(trials: argparse._SubParsersAction, name: str, perform: object, *numbers: tuple[str, int, str], positional: bool = False,
                flags: tuple[tuple[str, str], ...] = ()) -> None:
-    """A trial with its numbers, of which the first may stand without a name, and its flags."""
+    """Adds a trial with its numbers, the first of which may be given without a name, and its flags."""
     it = trials.add_parser(name)
     for at, (number, default, about) in enumerate(numbers):
         if at == 0 and positional:
@@ -88,7 +89,7 @@ def arguments() -> argparse.Namespace:
 
 def main() -> None:
     given, results = arguments(), Results()
-    signal.signal(signal.SIGTERM, lambda *_: sys.exit(f"store.py: {given.trial} was ended"))  # and so its servers are
+    signal.signal(signal.SIGTERM, lambda *_: sys.exit(f"store.py: {given.trial} was ended"))  # which ends its servers too
     if given.limit:
         signal.signal(signal.SIGALRM, lambda *_: sys.exit(f"store.py: {given.trial} does not end in {given.limit} s"))
         signal.alarm(given.limit)

@@ -1,4 +1,4 @@
-"""Makes man pages and completions of the command line from what says it already: a page in Markdown, a parser, a --help."""
+"""Makes man pages and completions of the command line from existing texts: a page in Markdown, a parser, a --help."""
 
 from __future__ import annotations
 
@@ -11,7 +11,7 @@ from collections.abc import Iterator
 
 @dataclasses.dataclass(frozen=True)
 class Option:
-    """An option of a command, with its names, the name of its word, what is said of it, and the words that it takes alone."""
+    """An option or an operand of a command, with its names, the name of its value, its help, and the only values that it takes."""
 
     names: tuple[str, ...]
     word: str
@@ -21,7 +21,7 @@ class Option:
 
 @dataclasses.dataclass
 class Command:
-    """A command, what it does, its options, the words behind them, and an example."""
+    """A command, with its help, its options, its operands, and an example."""
 
     name: str
     about: str
@@ -30,10 +30,10 @@ class Command:
     example: str = ""
 
 
-# what says it
+# the sources
 
 def commands_of_parser(parser: argparse.ArgumentParser) -> list[Command]:
-    """The commands of a parser."""
+    """Returns the commands of a parser."""
     subparsers = next(it for it in parser._actions if isinstance(it, argparse._SubParsersAction))
     return [command_of(name, it) for name, it in subparsers.choices.items()]
 
@@ -54,7 +54,7 @@ def option_of(action: argparse.Action) -> Option:
 
 
 def commands_of_help(helps: dict[str, str]) -> list[Command]:
-    """The commands of the program, by what the --help of each says."""
+    """Returns the commands of the program, from the --help of each."""
     return [Command(name, text.partition("\n")[0], list(options_of_help(text)), []) for name, text in helps.items()]
 
 
@@ -66,13 +66,13 @@ def options_of_help(text: str) -> Iterator[Option]:
 # man pages
 
 def quoted(text: str) -> str:
-    """A text as troff prints it."""
+    """Escapes a text for troff."""
     text = text.replace("\\", "\\e").replace("-", "\\-")
     return re.sub(r"(?m)^(?=[.'])", r"\\&", text)
 
 
 def inline(text: str) -> str:
-    """A line of Markdown: what is code or bold becomes bold, and of a link its text stays."""
+    """Converts a line of Markdown: code and bold text become bold, and a link becomes its text."""
     text = re.sub(r"\[([^]]+)\]\([^)]*\)", r"\1", text)
     parts = re.split(r"`([^`]+)`|\*\*([^*]+)\*\*", text)
     plain, code, strong = parts[::3], parts[1::3], parts[2::3]
@@ -83,19 +83,19 @@ def inline(text: str) -> str:
 
 
 def head(name: str, section: str, about: str, date: str, version: str) -> str:
-    """The beginning of a man page."""
+    """Returns the beginning of a man page."""
     title = f'.TH {name.upper()} {section} "{date}" "upsd {version}"'
     return f"{title}\n.SH NAME\n{quoted(name)} \\- {quoted(about)}\n.ad l\n.nh\n"
 
 
 def page_of_markdown(text: str, start: str) -> str:
-    """A page in Markdown as a man page: behind its start, without its title."""
+    """Converts a page in Markdown, without its title, to a man page with this start."""
     blocks = re.split(r"\n{2,}(?! )|\n{2,}(?=    )", "\n" + re.sub(r"<!--.*?-->", "", text).strip("\n"))
     return start + ".SH DESCRIPTION\n" + "".join(block_of(it.strip("\n")) for it in blocks[1:] or blocks)
 
 
 def block_of(block: str) -> str:
-    """A heading, a table, a list, lines that stand as they are, or a paragraph."""
+    """Converts a heading, a table, a list, verbatim lines, or a paragraph."""
     if found := re.match(r"(#+) (.*)", block):
         return f".{'SH' if len(found[1]) < 3 else 'SS'} {inline(found[2].upper() if len(found[1]) < 3 else found[2])}\n"
     if block.startswith("|"):
@@ -109,20 +109,20 @@ def block_of(block: str) -> str:
 
 
 def table_of(block: str) -> str:
-    """A table: an entry for each row, whose first cell is named in front of the others."""
+    """Converts a table to an entry for each row, with its first cell in front of the others."""
     rows = [[it.strip() for it in row.strip("|").split("|")] for row in block.split("\n")]
     return "".join(f".TP 8\n{inline(first)}\n{inline('; '.join(others))}\n" for first, *others in rows[2:])
 
 
 def entry_of(option: Option) -> str:
-    """An option in a man page."""
+    """Returns the entry of an option or an operand in a man page."""
     names = ", ".join(rf"\fB{quoted(it)}\fR" for it in option.names) or rf"\fI{quoted(option.word)}\fR"
     word = rf" \fI{quoted(option.word)}\fR" if option.word and option.names else ""
     return f".TP\n{names}{word}\n{quoted(option.about)}\n"
 
 
 def page_of_parser(parser: argparse.ArgumentParser, start: str, program: str) -> str:
-    """The man page of a program by its parser."""
+    """Returns the man page of a program, from its parser."""
     commands = commands_of_parser(parser)
     often = Counter(option for it in commands for option in it.options)
     common = [option for option, count in often.items() if 2 * count > len(commands)]
@@ -139,7 +139,7 @@ def page_of_parser(parser: argparse.ArgumentParser, start: str, program: str) ->
 
 
 def section_of(command: Command, common: list[Option]) -> str:
-    """A command in a man page, with the options that are its own."""
+    """Returns the section of a command in a man page, with its options that are not common."""
     own = [it for it in command.options if it not in common]
     words = "".join(rf" \fI{quoted(it.word)}\fR" for it in command.operands)
     example = f".PP\nExample: \\fB{quoted(command.example)}\\fR\n" if command.example else ""
@@ -150,7 +150,7 @@ def section_of(command: Command, common: list[Option]) -> str:
 # completions
 
 def bash_of(program: str, commands: list[Command]) -> str:
-    """A completion for bash: the commands, then their options; else files."""
+    """Returns a completion for bash: the commands, then their options and values; otherwise files."""
     names = " ".join(it.name for it in commands)
     options = "".join(f"        {it.name}) words='{' '.join(name for option in it.options for name in option.names)}' ;;\n"
                       for it in commands)
@@ -180,12 +180,12 @@ complete -o default -F _{program} {program}
 
 
 def safe(text: str) -> str:
-    """A text within a word of zsh that stands in single quotes."""
+    """Escapes a text for a word of zsh in single quotes."""
     return re.sub(r"([\[\]:])", r"\\\1", text.replace("'", "'\\''"))
 
 
 def spec_of(option: Option, name: str) -> str:
-    """An option as zsh's _arguments takes it, by one of its names."""
+    """Returns an option under one of its names, as zsh's _arguments takes it."""
     if not option.word:
         return f"'*{name}[{safe(option.about)}]'"
     choices = " ".join(it.replace(" ", "\\ ") for it in option.choices)
@@ -194,7 +194,7 @@ def spec_of(option: Option, name: str) -> str:
 
 
 def zsh_of(program: str, commands: list[Command]) -> str:
-    """A completion for zsh: the commands, then their options, with what is said of each."""
+    """Returns a completion for zsh: the commands, then their options, each with its help."""
     specs = {it.name: " ".join(spec_of(option, name) for option in it.options for name in option.names) for it in commands}
     cases = "".join(f"    {name}) _arguments {spec} '*:word:_files' ;;\n" for name, spec in specs.items())
     names = " ".join(f"'{it.name}:{safe(it.about)}'" for it in commands)

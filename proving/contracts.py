@@ -1,11 +1,11 @@
 #!/usr/bin/env python3
-"""Compares the contracts of public functions with those of an older commit, but for names that were given anew.
+"""Compares the contracts of public functions with those of an older commit, up to renamed definitions.
 
     proving/contracts.py REVISION [--names FILE]
 
-A line of FILE is `crate module old new`: the definition `old` of that module of specs is called `new` now. A crate that went
-into another one is a line `crate OLD NEW`. It prints each public function whose contract differs, or that is there no more, and
-then how many were compared and how many differ; the status is 1 where one does.
+A line of FILE is `crate module old new`: the definition `old` of that module of specs is now called `new`. A crate that was
+merged into another has a line `crate OLD NEW`. It prints each public function whose contract differs, or that no longer exists,
+and then how many were compared and how many differ; the status is 1 if any does.
 """
 
 from __future__ import annotations
@@ -26,7 +26,7 @@ def git(*words: str) -> str:
 
 
 def sources_at(revision: str) -> dict[str, str]:
-    """Each source file of a crate at a revision, or as it stands where that is empty."""
+    """Returns each source file of a crate at a revision, or in the working tree if that is empty."""
     paths = git(*(["ls-tree", "-r", "--name-only", revision] if revision else ["ls-files"])).split("\n")
     wanted = [it for it in paths if re.fullmatch(r"crates/\w+/src/.*\.rt", it)]
     if revision:
@@ -35,7 +35,7 @@ def sources_at(revision: str) -> dict[str, str]:
 
 
 def contracts_in(path: str, text: str) -> dict[tuple[str, str, str], str]:
-    """The contracts of a file's public functions, by crate, the type that they belong to, and name."""
+    """Returns the contracts of a file's public functions, by crate, the type that they belong to, and name."""
     crate, owner, found, lines = path.split("/")[1], "", {}, text.split("\n")
     for at, line in enumerate(lines):
         if IMPL.match(line):
@@ -56,7 +56,7 @@ def contracts_at(revision: str) -> dict[tuple[str, str, str], str]:
 
 
 def names_in(file: str) -> tuple[dict[str, set[str]], dict[str, str]]:
-    """By an old name the new ones that it has, in one crate or another; and crates that went into others."""
+    """Returns the new names of each old one, in one crate or another; and the crates that were merged into others."""
     names: dict[str, set[str]] = {}
     crates: dict[str, str] = {}
     with open(file, encoding="utf-8") as lines:
@@ -69,7 +69,7 @@ def names_in(file: str) -> tuple[dict[str, set[str]], dict[str, str]]:
 
 
 def is_same(old: str, new: str, names: dict[str, set[str]]) -> bool:
-    """Whether two contracts are the same word for word, but for names that were given anew."""
+    """Returns whether two contracts are the same word for word, up to renamed definitions."""
     olds, news = re.findall(r"\w+|[^\w\s]", old), re.findall(r"\w+|[^\w\s]", new)
     return len(olds) == len(news) and all(a == b or b in names.get(a, set()) for a, b in zip(olds, news))
 

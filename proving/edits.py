@@ -1,11 +1,11 @@
 #!/usr/bin/env python3
-"""Has the prover refuse the further edits of crates, those in the folders `edits`, and tells any that it doesn't.
+"""Checks that the prover refuses the further edits of crates, those in the folders `edits`, and reports any that it doesn't.
 
 The gate tries the edits in `must-fail`: those of named rules and of the headline's promises, in the lowest crate that can
-refuse them. All others stand in `edits`, and are tried by this script after a change of the crate. It works on a copy of
-the tree, in which they stand in the place of the gate's, and runs `rt must-fail` for the crates. The libraries below are
-those that `rt check` has left in the tree, or are proved first; each crate is proved once more, as what its edits are tried
-over, and an edit takes 10 to 70 seconds.
+refuse them. All others are in `edits`, and this script tries them after a change of the crate. It works on a copy of the
+tree, in which they replace the gate's, and runs `rt must-fail` for the crates. The libraries below are those that `rt check`
+has left in the tree, or are proved first; each crate is proved once more, as the base of its edits, and an edit takes 10 to
+70 seconds.
 """
 
 import argparse
@@ -17,7 +17,7 @@ import tempfile
 
 
 def with_edits(root):
-    """The crates that have further edits, and how many."""
+    """Returns the crates that have further edits, and how many."""
     found = {}
     for name in sorted(os.listdir(f"{root}/crates")):
         folder = f"{root}/crates/{name}/edits"
@@ -32,7 +32,7 @@ def copied(root, to):
 
 
 def asked_of(words, found):
-    """The crates that words name, each with the edits of it that are tried: those named, or all."""
+    """Returns the crates that words name, each with its edits to try: those named, or all."""
     asked = {}
     for word in words or found:
         name, _, edit = word.partition("/")
@@ -43,7 +43,7 @@ def asked_of(words, found):
 
 
 def put_in(root, name, edits):
-    """Puts further edits of a crate in the place of the gate's."""
+    """Replaces the gate's edits of a crate by further ones."""
     folder = f"{root}/crates/{name}"
     shutil.rmtree(f"{folder}/must-fail", ignore_errors=True)
     os.rename(f"{folder}/edits", f"{folder}/must-fail")

@@ -1,9 +1,9 @@
 #!/usr/bin/env python3
-"""Measures what the gate costs: the processor seconds of each crate, by phase; prints a table, the dearest crate first.
+"""Measures the cost of the gate: the processor seconds of each crate, by phase; prints a table, the costliest crate first.
 
-`rt ci` tells no times. This runs its phases one after the other on a copy of the tree, each from nothing and with one
-job: the proof, the tests, the must-fail edits, and for a program its builds by both compilers with a run of each. Expect
-about the time that `rt ci` takes on one processor. Linux only.
+`rt ci` reports no times. This script runs its phases one after the other on a copy of the tree, each from nothing and with
+one job: the proof, the tests, the must-fail edits, and for a program its builds by both compilers with a run of each. It
+takes about as long as `rt ci` on one processor. Linux only.
 """
 
 import argparse
@@ -20,7 +20,7 @@ TICK = os.sysconf("SC_CLK_TCK")
 
 
 def crates_in(root):
-    """The libraries of the repository that each crate uses, by crates.txt."""
+    """Returns the libraries of the repository that each crate uses, by crates.txt."""
     found = {}
     with open(f"{root}/crates.txt") as lines:
         for line in lines:
@@ -31,7 +31,7 @@ def crates_in(root):
 
 
 def in_order(crates, names):
-    """The crates that are named and all that they stand on, lowest first."""
+    """Returns the named crates and all that they depend on, lowest first."""
     order = []
 
     def add(name):
@@ -46,7 +46,7 @@ def in_order(crates, names):
 
 
 def copied(root, to):
-    """Copies what a check reads: the list of crates and their folders, without what earlier runs made."""
+    """Copies what a check reads: the list of crates and their folders, without the output of earlier runs."""
     for name in ("crates.txt", "HANDLES"):
         if os.path.isfile(f"{root}/{name}"):
             shutil.copy(f"{root}/{name}", to)
@@ -54,15 +54,15 @@ def copied(root, to):
 
 
 def used():
-    """The processor seconds of all commands that have ended."""
+    """Returns the processor seconds of all commands that have ended."""
     usage = resource.getrusage(resource.RUSAGE_CHILDREN)
     return usage.ru_utime + usage.ru_stime
 
 
 def seconds_of(folder, *words, stdin=None, look=None):
-    """Runs rt in a folder, and returns the processor seconds that it took. What fails ends the script.
+    """Runs rt in a folder, and returns the processor seconds that it took. A failure ends the script.
 
-    Ten times a second `look` is called with the number of the process.
+    Ten times a second `look` is called with the process ID.
     """
     before = used()
     given = open(stdin, "rb") if stdin and os.path.isfile(stdin) else subprocess.DEVNULL
@@ -79,7 +79,7 @@ def seconds_of(folder, *words, stdin=None, look=None):
 
 
 def forget(folder):
-    """Has the next check begin from nothing. What was built for the crates above stays."""
+    """Makes the next check begin from nothing. What was built for the crates above stays."""
     shutil.rmtree(f"{folder}/out/incremental", ignore_errors=True)
 
 
@@ -98,7 +98,7 @@ def edits_of(folder):
 
 
 def look_at_edits(seconds, parent):
-    """Notes, by the folder of each edit's check, what a check that this process runs now has used."""
+    """Records, by the folder of each edit's check, the processor seconds of the check that `parent` now runs."""
     for process in filter(str.isdigit, os.listdir("/proc")):
         try:
             folder = os.readlink(f"/proc/{process}/cwd")
@@ -111,7 +111,7 @@ def look_at_edits(seconds, parent):
 
 
 def edits_apart(root, name):
-    """The processor seconds of a crate's edits, all together and by name. They are tried in the order of their names."""
+    """Returns the processor seconds of a crate's edits, in total and by name. They are tried in the order of their names."""
     seconds = {}
     took = seconds_of(root, "must-fail", name, look=lambda parent: look_at_edits(seconds, parent))
     names = edits_of(f"{root}/crates/{name}")
@@ -119,7 +119,7 @@ def edits_apart(root, name):
 
 
 def costs(root, name, phases, by_edit):
-    """The processor seconds of a crate by phase, and those of its edits. The crate is then built for those above it."""
+    """Returns the processor seconds of a crate by phase, and by edit if asked to. The crate is then built for those above it."""
     folder = f"{root}/crates/{name}"
     is_program = os.path.isfile(f"{folder}/src/main.rt")
     cost, edits = {"proof": seconds_of(folder, "check" if is_program else "lib", "--jobs", "1")}, []

@@ -1,20 +1,20 @@
 #!/usr/bin/env python3
-"""Reckons how long the gate takes on a machine of so many processors, from what each of its tasks takes.
+"""Estimates how long the gate takes on a given number of processors, from what each of its tasks takes.
 
     proving/plan.py COSTS [--processors 2 4] [--tasks]
 
-COSTS is what `proving/watch_gate.py --costs` writes: in each line a crate, its lines of code, the seconds of a check where
-nothing changed, of its proof and of the proof with its tests (0 where it has none), its edits, the seconds of each, and the
-crates below it. All seconds are of one processor. The schedule is rt's, with RT_JOBS: a task waits for the proofs of the
-crates below; proofs and tests come before edits, and among them those first that have the most lines above them; edits wait
-for the proof, the tests and the seed of their crate, which is a second proof.
+COSTS is what `proving/watch_gate.py --costs` writes: in each line a crate, its lines of code, the seconds of a check if
+nothing changed, of its proof and of the proof with its tests (0 if it has none), how many edits it has, the seconds of each,
+and the crates below it. All seconds are of one processor. The schedule is that of rt with RT_JOBS: a task waits for the proofs
+of the crates below; proofs and tests come before edits, those with the most lines above them first; edits wait for the proof,
+the tests and the seed of their crate, which is a second proof.
 """
 
 import argparse
 
 
 def read(file):
-    """The crates of a file of costs."""
+    """Returns the crates of a file of costs."""
     crates = []
     with open(file, encoding="utf-8") as costs:
         for line in costs:
@@ -25,7 +25,7 @@ def read(file):
 
 
 def below(name, direct):
-    """The crates below one, the lowest first."""
+    """Returns the crates below one, the lowest first."""
     found = []
     for it in direct[name]:
         found += [one for one in [*below(it, direct), it] if one not in found]
@@ -33,7 +33,7 @@ def below(name, direct):
 
 
 def tasks_of(crates):
-    """The tasks: of each what it waits for, its weight in lines, and its seconds. What it waits for stands before it."""
+    """Returns the tasks, each with what it waits for, its weight in lines, and its seconds. What it waits for precedes it."""
     tasks, direct = {}, {it[0]: it[7] for it in crates}
     for name, lines, load, proof, tests, edits, each, _ in sorted(crates, key=lambda it: len(below(it[0], direct))):
         waits = [(it, "proof") for it in below(name, direct)]
@@ -54,7 +54,7 @@ def tasks_of(crates):
 
 
 def weights(tasks):
-    """What each task weighs with the heaviest chain of those that wait for it, in lines."""
+    """Returns the weight of each task with the heaviest chain of those that wait for it, in lines."""
     behind = dict.fromkeys(tasks, 0)
     for key in reversed([*tasks]):
         waits, lines, _ = tasks[key]
@@ -65,7 +65,7 @@ def weights(tasks):
 
 
 def played(tasks, processors):
-    """The spans of the tasks, in the order in which they begin."""
+    """Returns the spans of the tasks, in the order in which they begin."""
     behind = weights(tasks)
     left = sorted(tasks, key=lambda it: (it[1] not in ("proof", "tests"), -behind[it]))
     now, running, done, spans = 0.0, {}, set(), []

@@ -1,14 +1,14 @@
 #!/usr/bin/env python3
-"""Runs the gate, or another command, and tells what it takes: the clock, the processor time, and the memory at its most.
+"""Runs the gate, or another command, and reports what it takes: time by the clock, processor time, and peak memory.
 
     proving/watch_gate.py [--costs FILE] [COMMAND ..]
 
-The command is `.ci/run` unless one is given. A table says what each crate takes, by phase: `proof`, `tests` (the crate
-proved with its tests), `seed` (the proof that the edits are tried over) and `edits`. Processor time is read from the
-processes once a second, so the table lacks what each did in its last second; the sum is what the system counts. What an
-earlier run passed on this machine is not run again, so a figure of all of it takes a new machine.
+The command is `.ci/run` unless one is given. A table shows what each crate takes, by phase: `proof`, `tests` (the crate
+proved with its tests), `seed` (the proof that is the base of the edits) and `edits`. Processor time is read from the
+processes once a second, so the table lacks what each did in its last second; the sum is what the system counts. What passed
+in an earlier run on this machine is not run again, so figures for the whole gate need a new machine.
 
-With `--costs`, FILE gets the table in the form that `proving/plan.py` reads.
+With `--costs`, the table is written to FILE in the form that `proving/plan.py` reads.
 """
 
 import argparse
@@ -24,7 +24,7 @@ PAGE = os.sysconf("SC_PAGE_SIZE")
 
 
 def processes():
-    """The processes that run: by number, the parent, the processor seconds, the resident bytes and the start."""
+    """Returns the running processes: by ID, the parent, the processor seconds, the resident bytes and the start."""
     found = {}
     for name in os.listdir("/proc"):
         if name.isdigit():
@@ -38,7 +38,7 @@ def processes():
 
 
 def below(found, root):
-    """The numbers of the processes that began under `root`, and of `root`."""
+    """Returns the IDs of `root` and of the processes below it."""
     children = collections.defaultdict(list)
     for number, (parent, *_) in found.items():
         children[parent].append(number)
@@ -51,7 +51,7 @@ def below(found, root):
 
 
 def described(number):
-    """What a process was started with, and where."""
+    """Returns the words that a process was started with, and its folder."""
     try:
         with open(f"/proc/{number}/cmdline", "rb") as it:
             words = it.read().decode("utf-8", "replace").split("\0")
@@ -66,12 +66,12 @@ class Check:
     def __init__(self, words, folder, start, seconds):
         self.crate = words[words.index("--crate-name") + 1]
         self.folder, self.start, self.seconds = folder, int(start), seconds
-        # edits, and what they are tried over, are checked in folders of their own
+        # edits, and the seed that they are tried on, are checked in folders of their own
         self.is_edit, self.is_tests = os.path.basename(folder).startswith("rt-edit-"), "--test" in words
 
 
 def checks_of(seen):
-    """The checks among the processes that were seen, in the order in which they began."""
+    """Returns the checks among the processes that were seen, in the order in which they began."""
     found = [
         Check(words, folder, start, seconds)
         for (_, start), (seconds, words, folder) in seen.items()
@@ -81,7 +81,7 @@ def checks_of(seen):
 
 
 class Costs:
-    """What a crate took, in processor seconds: its proof, its tests, and what its edits are tried over (the seed)."""
+    """The processor seconds of a crate: of its proof, its tests, the base of its edits (the seed), and each edit."""
 
     def __init__(self, checks):
         self.proof = sum(it.seconds for it in checks if not it.is_edit and not it.is_tests)
@@ -89,7 +89,7 @@ class Costs:
         tried = [it for it in checks if it.is_edit]
         over = [it for it in tried if it.folder == tried[0].folder]
         self.seed = over[0].seconds if over else 0
-        # the seed is looked at again when all edits were tried, with nothing to prove
+        # the seed is checked again after all edits, with nothing to prove
         self.load = over[-1].seconds if len(over) > 1 else 0
         self.edits = [it.seconds for it in tried if it not in over]
 
@@ -98,7 +98,7 @@ class Costs:
 
 
 def lines_of(crate):
-    """How many lines of code a crate has."""
+    """Returns how many lines of code a crate has."""
     count = 0
     for folder, _, files in os.walk(f"crates/{crate}/src"):
         for file in files:
@@ -108,7 +108,7 @@ def lines_of(crate):
 
 
 def uses():
-    """The crates of crates.txt, each with those of them that it uses."""
+    """Returns the crates of crates.txt, each with those of them that it uses."""
     with open("crates.txt", encoding="utf-8") as text:
         pairs = [line.split(":") for line in text if ":" in line and not line.startswith("#")]
     names = [name for name, _ in pairs]
@@ -116,7 +116,7 @@ def uses():
 
 
 def told(costs):
-    """Prints a table, a line for each crate."""
+    """Prints a table with a line for each crate."""
     print(f"{'crate':16}{'proof':>8}{'tests':>8}{'seed':>8}{'edits':>8}{'number':>8}{'all':>8}   processor seconds")
     for name, it in costs.items():
         numbers = [it.proof, it.tests, it.seed, sum(it.edits), len(it.edits), it.all()]
@@ -135,7 +135,8 @@ def written(costs, file):
 
 
 def watched(command):
-    """Runs a command: its status, what its processes took (by number and start: seconds, words, folder), and the memory."""
+    """Runs a command, and returns its status, what its processes took (by ID and start: seconds, words, folder), and the
+    peak memory."""
     seen, peak = {}, 0
     run = subprocess.Popen(command)
     while run.poll() is None:
@@ -146,7 +147,7 @@ def watched(command):
             _, seconds, _, start = found[number]
             words, folder = described(number)
             known = seen.get((number, start))
-            # a process is another one once it has begun to run another program
+            # a process counts as another one after it starts another program
             if known and (not words or words == known[1]):
                 known[0] = seconds
             elif words:

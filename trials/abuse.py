@@ -1,43 +1,45 @@
 #!/usr/bin/env python3
 """Tries `upsd serve` with hostile peers: 4 workers, and limits of 3 seconds (`--idle`, `--timeout`).
 
-After each kind of them, 4 working peers have to be served with C-ECHO at the same time, so that each worker is back: within
-2 limits while the hostile peers still hold their connections, and within one limit when they are gone. Then the memory of
-the server (VmHWM) has to have stayed under 100 MB, no thread may be lost, and SIGTERM has to end it.
+After each kind, 4 working peers must be served with C-ECHO at the same time, which shows that each worker is back: within
+2 limits while the hostile peers still hold their connections, and within one limit after they are gone. In the end the
+server's memory (VmHWM) must have stayed under 100 MB, no thread may be lost, and SIGTERM must end it.
 
-    say nothing         such a connection is closed within 2 limits, though nobody else comes
-    close in a PDU      in the header, in the body, in an association and in a message of a megabyte; half of them by a reset
-    garbage             random bytes, other protocols, PDUs out of place and with wrong lengths, also in an association: each
-                        is hung up on within one limit
+    say nothing         such a connection is closed within 2 limits, even if nobody else connects
+    close in a PDU      in the header, in the body, in an association and in a message of a megabyte; half of them with a reset
+    garbage             random bytes, other protocols, PDUs out of place or with wrong lengths, before and in an association:
+                        the server hangs up on each within one limit
     a byte a second     from the first byte, in the body of an association request, and in the header and in the body of a
                         P-DATA-TF: such a peer loses its worker within 2 limits
-    never read          200 C-FINDs with 50 answers of 10 KB each, of which the peer reads none: within 2 limits
-    1,000 silent peers  connect at the same time and say nothing. A connection that says nothing is closed where another one
-                        waits, so a working peer that comes behind them is served within one limit of 10 seconds
+    never read          200 C-FINDs with 50 answers of 10 KB each, none of which the peer reads: it loses its worker within 2
+                        limits
+    1,000 silent peers  connect at the same time and say nothing. A silent connection is closed if another one waits, so a
+                        working peer that comes after them is served within one limit of 10 seconds
 
-Then come crowds: 200 peers of one kind at the same time, at a server of their own with limits of 2 seconds.
+Then come the crowds: 200 peers of one kind at the same time, on a server of their own with limits of 2 seconds.
 
-    opens, never asks   an association, and nothing more
-    half open           the same, and the peer is gone without a word (by TCP_REPAIR, as root; else it stays and is silent)
-    slow sender         a byte in 0.7 seconds of a P-DATA-TF
-    empty fragments     P-DATA-TFs for ever, each with one PDV of no byte, of a command that doesn't end
-    asks, never reads   200 C-FINDs with 20 answers of 10 KB each, of which it reads none
-    slow taker          the same, of which it reads a byte a second
-    storm               connections that are closed at once, half of them by a reset, as fast as 8 threads make them
+    opens, never asks   opens an association, and does nothing more
+    half open           the same, but then vanishes without a word (by TCP_REPAIR, as root; otherwise it stays and is silent)
+    slow sender         sends a byte of a P-DATA-TF every 0.7 seconds
+    empty fragments     sends P-DATA-TFs forever, each with one empty PDV of a command set that never ends
+    asks, never reads   sends 200 C-FINDs with 20 answers of 10 KB each, and reads none of them
+    slow taker          the same, but reads a byte a second
+    storm               connections that are closed at once, half of them with a reset, as fast as 8 threads make them
 
-First they come to servers of 4 workers, one for each kind and all at the same time. The peers are served in order, 4 at a
-time, and each is cut off at its limit; so a working peer behind all of them is served within 52 limits, and one beside the
-storm, which connects anew where it can't, within 2. What each of the crowd hears last is an A-ABORT of the service provider
-where the limit is one of reading, and the log names the limit. Then they come, twice, to servers with a worker for each of
-them and 4 more, one kind after the other: 4 working peers beside them are served at the same time within 2 limits.
+First all kinds come at the same time, each to a server of its own with 4 workers. The peers are served in order, 4 at a
+time, and each is cut off at its limit; so a working peer after all of them is served within 52 limits, and one beside the
+storm, which retries if it can't connect, within 2. The last thing that a peer of `opens, never asks` or `slow sender` hears
+before it is cut off is an A-ABORT of the service provider; for each kind but the storm, the log names the limit. Then they
+come, twice, to servers with a worker for each of them and 4 more, one kind after the other: 4 working peers beside them are
+served at the same time within 2 limits.
 
-When a crowd is gone, the server is done with each of its connections within 15 limits. Then 4 working peers are served within
-2 limits; no thread and no descriptor may be lost, and the memory (VmRSS) has to come back: to what it was before, and with so
-many workers to what the first crowd left.
+After a crowd is gone, the server is done with each of its connections within 15 limits. Then 4 working peers are served within
+2 limits; no thread and no descriptor may be lost, and the memory (VmRSS) must come back, but for 16 MB: to what it was before,
+or with a worker for each peer to what the first crowd left.
 
-It starts the servers on free ports of this machine and ends by itself, in six minutes. It prints a line for each
-trial that doesn't agree, and in the end how many passed. It ends with 1 where one doesn't. With --no-memory it does not judge
-the memory, for a program that is built with checks.
+It starts the servers on free ports of this machine and ends by itself, after six minutes. It prints a line for each
+trial that fails, and in the end how many passed. The status is 1 if any failed. With --no-memory it does not judge the
+memory, for a program that is built with checks.
 """
 
 import argparse
@@ -63,18 +65,18 @@ from server import Server
 
 WORKERS = 4
 LIMIT = 3
-SLOW = 2 * LIMIT  # how long a peer may hold its worker that sends or reads slowly
+SLOW = 2 * LIMIT  # how long a peer that sends or reads slowly may hold its worker
 SILENT = 1000
 QUEUE = 10  # the time limit of the server that silent peers crowd
 MEMORY = 100_000_000
 CROWD = 200
-SHORT = 2  # the limits of a server that a crowd holds
-BEHIND = (CROWD // WORKERS + 2) * SHORT  # after how long a peer is served that comes behind a crowd
-LEFT = 15 * SHORT  # after how long no connection of a crowd that is gone waits any more
-PACE = 0.35 * SHORT  # seconds between two bytes of a slow sender: none comes at the moment when a limit is over
-STEPS, FEW_STEPS = 50, 20  # of 10 KB each: what a peer asks for, and one of a crowd
-SEGMENT = 536  # the bytes of a segment to one of a crowd, for which the system then holds some 100 KB that it doesn't read
-GROWTH = 16_000_000  # by how much the memory may grow with a crowd
+SHORT = 2  # the limits of a server that a crowd attacks
+BEHIND = (CROWD // WORKERS + 2) * SHORT  # how long a peer that comes after a crowd may wait
+LEFT = 15 * SHORT  # how long the connections of a crowd that is gone may remain
+PACE = 0.35 * SHORT  # seconds between two bytes of a slow sender: none comes just as a limit ends
+STEPS, FEW_STEPS = 50, 20  # of 10 KB each, that a peer asks for, and a peer of a crowd
+SEGMENT = 536  # bytes of a segment to a peer of a crowd: the system then holds some 100 KB that the peer doesn't read
+GROWTH = 16_000_000  # bytes by which the memory may grow with a crowd
 STORM = 4  # seconds
 TCP_REPAIR = 19
 ABORT = bytes.fromhex("07000000000400000200")  # by the service provider, reason not specified
@@ -85,7 +87,7 @@ ECHO = dicom.echo(1)
 
 
 class Caller(Peer):
-    """An association with few seconds for each answer, and as many or fewer to connect."""
+    """An association with a time limit for each answer, and the same one or a shorter one to connect."""
 
     def __init__(self, port, seconds, contexts=((VERIFICATION, IMPLICIT),), buffer=None, to_connect=None):
         self.use(connect(port, to_connect or seconds, buffer))
@@ -105,12 +107,12 @@ def connect(port, seconds=LIMIT, buffer=None, source=None):
 
 
 def begin(port, opened):
-    """A connection, with an association on it if that is wanted."""
+    """Returns a connection, with an association on it if `opened`."""
     return Caller(port, LIMIT, ((VERIFICATION, IMPLICIT), (PULL, EXPLICIT))).socket if opened else connect(port)
 
 
 def all_back(port, seconds):
-    """Why working peers, one for each worker, are not served at the same time within so many seconds, or None."""
+    """Returns why working peers, one for each worker, are not served at the same time within that many seconds, or None."""
     served, faults, over = [], [], threading.Event()
 
     def work():
@@ -134,7 +136,7 @@ def all_back(port, seconds):
     return None if good else f"{len(served)} of {WORKERS} workers are back after {seconds} s {faults}"
 
 
-# the hostile peers: each function has them say what they say; what they hold is closed with the stack
+# the hostile peers: each function lets them say what they say; the stack closes what they hold
 
 def say_nothing(port, stack):
     peers = [stack.enter_context(connect(port)) for _ in range(WORKERS)]
@@ -154,12 +156,12 @@ def close_inside(port, stack):
 
 
 def a_large_message():
-    """An N-CREATE of a megabyte without its last byte."""
+    """Returns an N-CREATE of a megabyte without its last byte."""
     return dicom.create(3, 1, b"1.2.3", bytes(1_000_000))[:-1]
 
 
 def garbage():
-    """Whether it is said in an association, and what."""
+    """Yields whether it is said in an association, and what is said."""
     chance = random.Random(1)
     fixed = [b"GET / HTTP/1.1\r\nHost: a\r\n\r\n", bytes.fromhex("16030100c8010000c40303") + bytes(200), bytes(1000), b"\xff" * 1000,
              struct.pack(">BBI", 1, 0, 0xFFFFFFFF), struct.pack(">BBI", 4, 0, 0xFFFFFFFF), struct.pack(">BBI", 4, 0, 16385),
@@ -175,7 +177,7 @@ def garbage():
 
 
 def hung_up(peer, deadline):
-    """Whether the server hangs up on a peer in time."""
+    """Returns whether the server hangs up on a peer before the deadline."""
     try:
         while True:
             peer.settimeout(max(deadline - time.monotonic(), 0.001))
@@ -196,7 +198,7 @@ def say_garbage(port, stack):
 
 
 def slowly(opened, said, at_once):
-    """Peers, one for each worker, that say this at a byte a second behind the bytes that they say at once."""
+    """Returns a function for peers, one for each worker, that say the first `at_once` bytes at once and then a byte a second."""
     def drip(peer, over):
         with contextlib.suppress(OSError):
             peer.sendall(said[:at_once])
@@ -221,7 +223,7 @@ BOTH = (PUSH, EXPLICIT), (PULL, EXPLICIT)
 
 
 def create_steps(port, count):
-    """So many steps of 10 KB each."""
+    """Creates that many steps of 10 KB each."""
     peer = Caller(port, SLOW, BOTH)
     for i in range(count):
         assert peer.ask(dicom.create(PUSH_ON, 1, b"1.2.0.%d" % i, dicom.step(True, {COMMENT: (b"LT", bytes(10_000))}))) == 0
@@ -229,12 +231,12 @@ def create_steps(port, count):
 
 
 def finds():
-    """C-FINDs for all of the steps, again and again."""
+    """Returns 200 C-FINDs, each for all of the steps."""
     return dicom.find(PULL_ON, 1, told(0x0008, 0x0018, b"UI", b"") + told(*COMMENT, b"LT", b"")) * 200
 
 
 def never_read(port, stack):
-    """Steps, and peers that ask for all of them again and again."""
+    """Creates steps, and peers that ask for all of them again and again."""
     create_steps(port, STEPS)
     for _ in range(WORKERS):
         peer = Caller(port, LIMIT, BOTH, 4096)
@@ -247,19 +249,19 @@ def never_read(port, stack):
 
 
 def connections(port):
-    """What the kernel tells of the connections to the server that neither side has given up, or the peer alone."""
+    """Returns the kernel's rows of the connections to the server that are open, or that the peer alone has closed."""
     with open("/proc/net/tcp") as it:
         rows = [line.split() for line in it][1:]
     return [row for row in rows if row[1].endswith(f":{port:04X}") and row[3] in ("01", "08")]
 
 
 def unsent(port):
-    """The bytes that the kernel holds of what the server has written, by connection."""
+    """Returns how many bytes of what the server has written the kernel still holds, by connection."""
     return sorted((row[2], row[4].split(":")[0]) for row in connections(port) if row[3] == "01")
 
 
 def silent(port, count, stack):
-    """Connections that say nothing."""
+    """Opens that many connections that say nothing."""
     peers = []
     for _ in range(count):
         peer = stack.enter_context(socket.socket())
@@ -276,7 +278,7 @@ def leave_silently(port, stack):
 
 
 def hostile_trial(server, results, name, hostile, seconds):
-    """All workers are back so many seconds after the hostile peers have said what they say, and then when they are gone."""
+    """Fails if not all workers are back that many seconds after the hostile peers have said what they say, or after they are gone."""
     with contextlib.ExitStack() as stack:
         try:
             hostile(server.port, stack)
@@ -288,8 +290,8 @@ def hostile_trial(server, results, name, hostile, seconds):
 
 
 def served(port, seconds, to_connect):
-    """After how long a working peer is served that connects anew where it can't within so many seconds, and then waits for its
-    turn; None where it isn't served in time."""
+    """Returns after how many seconds a working peer is served, or None if it isn't in time. It tries again if it can't connect
+    within `to_connect` seconds, and then waits for its turn."""
     began = time.monotonic()
     while (left := began + seconds - time.monotonic()) > 0:
         with contextlib.suppress(*FAULTS):
@@ -302,7 +304,8 @@ def served(port, seconds, to_connect):
 
 
 def silent_trial(program, results):
-    """Silent peers at a server of its own, and a working peer behind them: after how long that was served, and the memory."""
+    """Tries silent peers on a server of their own, and a working peer after them: returns after how long that one was served,
+    and the memory."""
     with Server(program, "--associations", str(WORKERS), "--timeout", str(QUEUE), "--idle", str(QUEUE)) as server, contextlib.ExitStack() as stack:
         silent(server.port, SILENT, stack)
         waited = served(server.port, QUEUE, QUEUE)
@@ -324,7 +327,7 @@ def descriptors(server):
     return len(os.listdir(f"/proc/{server.process.pid}/fd"))
 
 
-# a crowd: each function has one of its peers do what it does, until it is cut off
+# a crowd: each function lets one of its peers do what it does, until it is cut off
 
 class Holder:
     """A peer of a crowd, what it has heard, and whether it was cut off."""
@@ -402,7 +405,7 @@ async def takes_slowly(holder):
 
 
 async def hold(port, kind, holders, over):
-    """Peers of a kind that come at the same time, until all are cut off or it is over."""
+    """Lets peers of a kind come at the same time, until all are cut off or it is over."""
     async def one(holder):
         with contextlib.suppress(*FAULTS):
             await holder.connect(port)
@@ -421,7 +424,7 @@ def crowd(port, kind, holders):
     over = threading.Event()
     thread = threading.Thread(target=asyncio.run, args=(hold(port, kind, holders, over),), daemon=True)
     thread.start()
-    time.sleep(1)  # so that they have the workers, and wait, before others come
+    time.sleep(1)  # so that they have the workers, or wait for one, before others come
     try:
         yield
     finally:
@@ -433,7 +436,7 @@ def crowd(port, kind, holders):
 
 @contextlib.contextmanager
 def storm(port):
-    """Connections that are closed at once, each thread's from an address of its own: one address has too few ports."""
+    """Makes connections that are closed at once. Each thread has an address of its own, since one address has too few ports."""
     end = time.monotonic() + STORM
 
     def blow(source):
@@ -454,17 +457,17 @@ def storm(port):
 
 
 def is_left(port):
-    """Whether it comes to hold that no connection to the server is open, or waits."""
+    """Returns whether in time no connection to the server is open or waits."""
     return holds(lambda: not connections(port), LEFT)
 
 
 def resources_of(server):
-    """The threads, the descriptors and the memory of the server."""
+    """Returns how many threads, descriptors and bytes of memory the server has."""
     return threads(server), descriptors(server), status(server, "VmRSS") * 1024
 
 
 def what_is_lost(server, before, growth):
-    """Why threads, descriptors or memory are not what they were, or None. The memory may grow by so many bytes."""
+    """Returns why threads, descriptors or memory are not what they were, or None. The memory may grow by `growth` bytes."""
     def is_back():
         now = resources_of(server)
         return now[0] == before[0] and now[1] <= before[1] and now[2] <= before[2] + growth
@@ -475,7 +478,7 @@ def what_is_lost(server, before, growth):
 
 
 def settled(server):
-    """The same where nobody is connected: the least of a second, since the last descriptor may be about to be closed."""
+    """Returns the same when nobody is connected, with the fewest descriptors in a second: one may be about to be closed."""
     is_left(server.port)
     looks = []
     for _ in range(10):
@@ -489,7 +492,7 @@ def server_of(program, workers):
 
 
 def behind_trial(program, results, growth, name, kind, limit, is_aborted):
-    """A crowd of a kind, which runs into a limit, at a server of few workers."""
+    """Tries a crowd of a kind, which runs into a limit, on a server with few workers."""
     with server_of(program, WORKERS) as server:
         create_steps(server.port, FEW_STEPS)
         results.tell(f"{name}, before", all_back(server.port, SHORT))
@@ -510,7 +513,7 @@ def behind_trial(program, results, growth, name, kind, limit, is_aborted):
 
 
 def beside_trial(program, results, growth, name, kind):
-    """A crowd of a kind at a server that has a worker for each of them, and more; and then another."""
+    """Tries a crowd of a kind on a server that has a worker for each of them, and more; and then another crowd."""
     with server_of(program, CROWD + WORKERS) as server:
         create_steps(server.port, FEW_STEPS)
         for turn in ("the first", "the second"):
@@ -522,7 +525,7 @@ def beside_trial(program, results, growth, name, kind):
 
 
 def tell_gone(server, results, name, before, growth):
-    """What is there again when a crowd is gone."""
+    """Fails if connections, workers or resources are not back after a crowd is gone."""
     results.tell(f"{name}, all connections", None if is_left(server.port) else f"{len(connections(server.port))} are left after {LEFT} s")
     results.tell(f"{name}, all workers", all_back(server.port, 2 * SHORT))
     is_left(server.port)
@@ -541,7 +544,7 @@ KINDS = (
 
 
 def crowd_trials(program, results, growth):
-    """Each kind of crowd, in threads at servers of few workers, and then one after the other."""
+    """Tries each kind of crowd: all at once in threads, on servers with few workers, and then one after the other."""
     def attempt(trial, name, *more):
         try:
             trial(program, results, growth, name, *more)
@@ -558,7 +561,7 @@ def crowd_trials(program, results, growth):
 
 
 def end_trial(server, results):
-    """SIGTERM, while hostile peers have all workers."""
+    """Sends SIGTERM while hostile peers have all workers."""
     with contextlib.ExitStack() as stack:
         silent(server.port, 2 * WORKERS, stack)
         server.process.send_signal(signal.SIGTERM)

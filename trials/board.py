@@ -1,22 +1,22 @@
 #!/usr/bin/env python3
-"""Tries the board of the client `ups` in headless Chromium, over a server and three workstations.
+"""Tries the board of the client `ups` in headless Chromium, with a server and three workstations.
 
     trials/board.py [--program PROGRAM [WORD..]] [--steps 200] [--many 10000] [--picture FILE]
 
 It installs what is missing (`apt-get install -y chromium python3-pydicom python3-websocket`, which needs root), starts a server
 and a board on free ports of this machine, and ends by itself. It prints a line for each trial, and then `N passed, M failed`;
-the exit status is 1 where one failed.
+the exit status is 1 if any failed.
 
     lives        three workstations take steps through their lives: created, claimed, progress set, and completed or canceled by
-                 the performer or by request. The page has to show each state of each step within a second behind the answer of
-                 the server; in the end both tellings, of queries and of reports, have the states that the workstations gave
-    a step       the page shows the attributes of a step that is chosen, who holds it, and its reports in their order
-    a search     a patient's name, part of it, leaves that patient's steps
-    an event 4   `ups announce` is shown, and makes the board subscribe anew
+                 the performer or by request. The page must show each state of each step within a second of the server's
+                 answer; in the end both tellings, of queries and of reports, have the states that the workstations gave
+    a step       the page shows the attributes of a chosen step, who holds it, and its reports in their order
+    a search     part of a patient's name leaves that patient's steps
+    an event 4   `ups announce` is shown, and makes the board subscribe again
     a restart    the server is stopped: the page says so; it is started again, and both tellings agree on what it holds
     many         a server holds 10,000 steps: the page draws the newest 200 of a state within 2 seconds, while reports are coming
                  and at rest
-    elsewhere    a request with another host name in it gets no page, and the port is open to this machine alone
+    elsewhere    a request that names another host gets no page, and the port is open to this machine alone
     the console  has no error
 """
 
@@ -60,7 +60,7 @@ PATIENTS = ("DOE^JANE", "MÜLLER^JÜRGEN", "OKAFOR^ADA", "NOVÁK^PETR", "SILVA^A
 LABELS = ("CT head", "CT thorax", "CT abdomen", "MR knee", "MR spine", "CT angiography")
 ALL = 900  # seconds for all trials
 
-# notes when a card comes to stand in the column of a state
+# notes when a card appears in the column of a state
 OBSERVER = """
 window.noted = {};
 new MutationObserver(changes => {
@@ -98,7 +98,7 @@ class Browser:
         self.ask("Page.addScriptToEvaluateOnNewDocument", source=OBSERVER)
 
     def note(self, told: dict[str, Any]) -> None:
-        """Keeps what is an error of the console."""
+        """Keeps the message if it is an error of the console."""
         what, more = told.get("method"), told.get("params", {})
         is_error = what == "Runtime.consoleAPICalled" and more["type"] in ("error", "assert")
         if is_error or what == "Runtime.exceptionThrown" or what == "Log.entryAdded" and more["entry"]["level"] == "error":
@@ -114,14 +114,14 @@ class Browser:
             self.note(told)
 
     def run(self, script: str) -> Any:
-        """The value of a script in the page."""
+        """Returns the value of a script in the page."""
         return self.ask("Runtime.evaluate", expression=script, returnByValue=True, awaitPromise=True)["result"].get("value")
 
     def size(self, width: int, height: int) -> None:
         self.ask("Emulation.setDeviceMetricsOverride", width=width, height=height, deviceScaleFactor=1, mobile=False)
 
     def go(self, address: str, done: str, seconds: float) -> Optional[float]:
-        """Opens a page, and tells how long it took until a script says so."""
+        """Opens a page, and returns how long it took until the script `done` says that it is, or None after `seconds`."""
         begun = time.monotonic()
         self.ask("Page.navigate", url=address)
         while time.monotonic() < begun + seconds:
@@ -131,12 +131,12 @@ class Browser:
         return None
 
     def scheme(self, word: str) -> None:
-        """Light or dark colors."""
+        """Sets light or dark colors."""
         self.ask("Emulation.setEmulatedMedia", features=[{"name": "prefers-color-scheme", "value": word}])
         time.sleep(0.3)
 
     def picture(self, path: str) -> None:
-        """A picture of the page, with 128 colors where that can be."""
+        """Takes a picture of the page, with 128 colors if Pillow is installed."""
         with open(path, "wb") as file:
             file.write(base64.b64decode(self.ask("Page.captureScreenshot", format="png")["data"]))
         if importlib.util.find_spec("PIL"):  # Debian's python3-pil
@@ -168,7 +168,7 @@ class Board:
             return json.load(told)
 
     def agrees(self, steps: int) -> bool:
-        """Whether both tellings have so many steps and agree on each."""
+        """Returns whether both tellings have that many steps and agree on each."""
         told = self.state()
         same = told["steps"] == told["told"] == steps and told["counts"] == told["toldCounts"]
         return same and not told["waiting"] and not told["trouble"]
@@ -179,7 +179,7 @@ class Board:
 
 
 class Workstation(threading.Thread):
-    """Takes its steps through their lives, and notes when the server had answered each change."""
+    """A workstation that takes its steps through their lives, and notes when the server answered each change."""
 
     def __init__(self, port: int, place: int, count: int, held: float = HELD) -> None:
         super().__init__(daemon=True)
@@ -213,7 +213,7 @@ class Workstation(threading.Thread):
         self.ask(stock.change(uid, **stock.OWN, **self.performed(), **progress), uid)
 
     def performed(self, **more: str) -> dict[str, Any]:
-        """What the workstation tells of its work: where it is done, and when it began."""
+        """Returns what the workstation tells of its work: where it is done, and when it began."""
         station = [{"CodeValue": self.station, "CodingSchemeDesignator": "99HOSP", "CodeMeaning": f"Room {self.station}"}]
         return {"UnifiedProcedureStepPerformedProcedureSequence": [
             {"PerformedStationNameCodeSequence": station, "PerformedProcedureStepStartDateTime": time.strftime("%Y%m%d%H%M%S"),
@@ -251,7 +251,7 @@ class Workstation(threading.Thread):
 
 
 def lateness(stations: list[Workstation], noted: dict[str, float]) -> tuple[list[str], list[float]]:
-    """The states that the page did not show within a second, and how late each was."""
+    """Returns the states that the page did not show within a second, and how late each state that it showed was, sorted."""
     answered = {what: moment for each in stations for what, moment in each.answered.items()}
     late = {what: noted[what] - moment if what in noted else None for what, moment in answered.items()}
     missed = [f"{what} {'never' if seconds is None else f'after {seconds:.2f} s'}" for what, seconds in late.items()
@@ -260,7 +260,7 @@ def lateness(stations: list[Workstation], noted: dict[str, float]) -> tuple[list
 
 
 def try_lives(board: Board, browser: Browser, port: int, steps: int, results: Results) -> list[Workstation]:
-    """The lives of steps before the eyes of the page."""
+    """Tries whether the page shows the lives of steps, and returns the workstations."""
     share = [steps // 3 + (place < steps % 3) for place in range(3)]
     stations = [Workstation(port, place, count) for place, count in enumerate(share)]
     for each in stations:
@@ -288,7 +288,7 @@ def try_lives(board: Board, browser: Browser, port: int, steps: int, results: Re
 
 
 def try_step(browser: Browser, uid: str, results: Results) -> None:
-    """A step that was completed, chosen by a click."""
+    """Tries what the page shows of a completed step that is chosen by a click."""
     browser.run(f"document.querySelector('[data-uid=\"{uid}\"]').click()")
     holds(lambda: browser.run("document.querySelectorAll('#life li').length"), 5)
     life = browser.run("[...document.querySelectorAll('#life li span:not(.soft)')].map(each => each.lastChild.textContent)")
@@ -315,7 +315,7 @@ def try_search(browser: Browser, results: Results) -> None:
 
 
 def try_announcement(board: Board, browser: Browser, listen: int, steps: int, results: Results) -> None:
-    """A change of the server's status, which makes the board subscribe anew."""
+    """Tries a change of the server's status, which makes the board subscribe again."""
     subprocess.run([sys.executable, CLIENT, "announce", f"BOARD=127.0.0.1:{listen}"], stdout=subprocess.DEVNULL, timeout=60)
     found = holds(lambda: ": RESTARTED COLD START" in browser.run("document.getElementById('asked').textContent"), 10)
     results.tell("the page tells a change of the server's status", None if found else "it doesn't")
@@ -338,7 +338,7 @@ def try_elsewhere(board: Board, results: Results) -> None:
 
 @contextlib.contextmanager
 def tried(program: list[str], port: int, listen: int) -> Iterator[subprocess.Popen]:
-    """A server on a port that stays the same."""
+    """Runs a server on this port."""
     words = [*program, "serve", "--ae", "UPSD", "--port", str(port), "--keep", "86400", f"BOARD=127.0.0.1:{listen}"]
     process = subprocess.Popen(words, stdout=subprocess.DEVNULL, stderr=subprocess.DEVNULL, start_new_session=True)
     try:
@@ -350,7 +350,7 @@ def tried(program: list[str], port: int, listen: int) -> Iterator[subprocess.Pop
 
 
 def try_restart(program: list[str], board: Board, browser: Browser, port: int, listen: int, results: Results) -> None:
-    """A server that begins anew behind one that the board knew."""
+    """Tries a new server in place of the one that the board knew."""
     says = "document.getElementById('trouble').hidden ? '' : document.getElementById('trouble').textContent"
     found = holds(lambda: "does not answer" in (browser.run(says) or ""), 10)
     results.tell("the page says that the server is gone", None if found else f"it says {browser.run(says)!r}")
@@ -365,7 +365,7 @@ def try_restart(program: list[str], board: Board, browser: Browser, port: int, l
 
 
 def load(board: Board, browser: Browser, when: str, drawn: str, results: Results) -> None:
-    """How long the page takes to be drawn."""
+    """Fails if the page takes too long to be drawn."""
     told = board.state()
     took = browser.go(board.address, drawn, 30)
     what = f"{told['steps']:,} steps, {when} ({told['told']:,} told), the page is drawn within {LOADS:.0f} s"
@@ -374,7 +374,7 @@ def load(board: Board, browser: Browser, when: str, drawn: str, results: Results
 
 
 def fill(port: int, many: int) -> None:
-    """Creates so many steps."""
+    """Creates that many steps."""
     peer = Peer(port)
     for number in range(many):
         assert peer.ask(dicom.create(PUSH_ON, 1, b"1.2.0.%d" % number, a_step(b"P%d" % number))) == 0
@@ -382,7 +382,7 @@ def fill(port: int, many: int) -> None:
 
 
 def try_many(program: list[str], browser: Browser, many: int, results: Results) -> None:
-    """The page over a server with many steps."""
+    """Tries the page with a server that has many steps."""
     listen = free_port()
     with Server(program, "--keep", "86400", f"BOARD=127.0.0.1:{listen}") as server:
         fill(server.port, many)
@@ -403,7 +403,7 @@ def try_many(program: list[str], browser: Browser, many: int, results: Results) 
 
 
 def take_picture(program: list[str], browser: Browser, path: str) -> Optional[str]:
-    """The page in the middle of slow work, with a step that is held, at a moment at which both tellings agree."""
+    """Takes pictures of the page in the middle of slow work, with a held step chosen, at a moment at which both tellings agree."""
     count = "state => document.querySelectorAll(`[data-state='${state}'] .card`).length"
     begun = f"['SCHEDULED', 'IN PROGRESS', 'COMPLETED'].map({count}).every((there, place) => there > [5, 5, 15][place])"
     ready = f"!!document.querySelector('.verdict.agree') && {begun}"
@@ -439,7 +439,7 @@ def try_all(asked: argparse.Namespace, browser: Browser, results: Results) -> No
         try_elsewhere(board, results)
         try_announcement(board, browser, listen, asked.steps, results)
     try_restart(asked.program, board, browser, port, listen, results)
-    browser.go("about:blank", "document.readyState == 'complete'", 10)  # before the board ends, which the page would tell
+    browser.go("about:blank", "document.readyState == 'complete'", 10)  # before the board ends, which the page would report as an error
     board.end()
     if asked.many:
         try_many(asked.program, browser, asked.many, results)

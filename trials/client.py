@@ -3,17 +3,17 @@
 
     trials/client.py [PROGRAM [WORD..]]      (crates/upsd/out/upsd, which `rt run` builds)
 
-It installs pydicom where it is missing (`apt-get install -y python3-pydicom`, which needs root), starts servers on free ports of
-this machine, and ends by itself. It prints a line for each trial that doesn't agree, and in the end how many agree; the exit
-status is 1 where one doesn't. trials/stock.py has the life of steps through the client, and trials/board.py its board.
+It installs pydicom if it is missing (`apt-get install -y python3-pydicom`, which needs root), starts servers on free ports of
+this machine, and ends by itself. It prints a line for each trial, and then `N passed, M failed`; the exit status is 1 if any
+failed. trials/stock.py has the life of steps through the client, and trials/board.py its board.
 
     commands     what each prints, and its exit status; in Explicit and in Implicit VR Little Endian
-    check        data sets with each fault that an N-CREATE, an N-SET or a final state can have: what `ups check` says, of JSON
-                 and of a DICOM file, is what docs/use/conformance.md has for it, and what the server answers when it is sent
+    check        data sets with each fault that an N-CREATE, an N-SET or a final state can have: what `ups check` says of JSON
+                 and of a DICOM file is what docs/use/conformance.md says, and what the server answers if it gets the data set
     json         what `find --json` and `get --json` print is DICOM JSON with the attributes that were sent
     status       counts what was created; the line, the performance data and the exit status of a plugin; the text format of
                  Prometheus, also in a file
-    watch        with another status and with a delay: what the server says of it in its log
+    watch        with another status and with a delay: what the server's log says of it
     announce     what a watcher that listens here is told
 """
 
@@ -50,7 +50,7 @@ HOLDER = ["--transaction", "2.25.7"]
 
 @dataclasses.dataclass
 class Ran:
-    """What a command came to."""
+    """The exit status of a command, and what it printed."""
 
     status: int
     out: str
@@ -58,7 +58,7 @@ class Ran:
 
 
 def run(*words: str, given: str = "") -> Ran:
-    """Runs the client. One that does not end has the status -1."""
+    """Runs the client. If it does not end, the status is -1."""
     command = [sys.executable, os.path.join(HERE, "examples/ups.py"), *words]
     environment = {**os.environ, "PYTHONIOENCODING": "utf-8"}
     try:
@@ -69,14 +69,14 @@ def run(*words: str, given: str = "") -> Ran:
 
 
 def wrong(ran: Ran, status: int, *told: str) -> Optional[str]:
-    """Why a command didn't come to this status, or what it didn't tell."""
+    """Returns why a command didn't end with this status, or what it didn't tell, or None."""
     said = (ran.out + ran.error).strip()
     if ran.status != status:
         return f"it ended with {ran.status} and not {status}: {said}"
     return next((f"it did not tell {each!r}: {said}" for each in told if each not in said), None)
 
 
-# the commands, in order: a name, the words, the exit status, and what is told
+# the commands, in order: a name, the words, the exit status, and parts of what is printed
 COMMANDS: list[tuple[str, list[str], int, list[str]]] = [
     ("echo", ["echo"], DONE, ["0000 success"]),
     ("create", ["create", A, "--label", "CT READ", "--patient-name", "MÜLLER^JÜRGEN", "-k", "(0040,4025)[0].(0008,0100)=R1"],
@@ -105,12 +105,12 @@ COMMANDS: list[tuple[str, list[str], int, list[str]]] = [
     ("nobody there to announce to", ["announce", "WATCHER=127.0.0.1:1"], NO_ANSWER, ["WATCHER: ", "refused"]),
 ]
 
-# data sets for N-CREATE: a name, what is other than in a good one (None takes it away), and the status of docs/use/conformance.md
+# data sets for N-CREATE: a name, how it differs from a good one (None removes a value), and the status of docs/use/conformance.md
 LONG = "x" * 700_000
 
 
 def nested(deep: int) -> list[dict[str, Any]]:
-    """Items so deep in one another."""
+    """Returns items that are nested that deep."""
     return [{"ReferencedSOPSequence": nested(deep - 1)}] if deep else []
 
 
@@ -164,7 +164,7 @@ CHANGES: list[tuple[str, dict[str, Any], int]] = [
      {"ScheduledProcedureStepStartDateTime": "", "ScheduledProcedureStepPriority": "URGENT"}, 0x0121),
     ("an attribute that isn't checked", {"PatientID": ""}, 0x0000),
 ]
-# for a final state: what the step has when it is asked to change to it
+# for a final state: a name, the state, what the step has when it is asked to change to it, and the status
 BEGUN = {"PerformedProcedureStepStartDateTime": "20240229120100"}
 ENDED = {"PerformedProcedureStepEndDateTime": "20240229120200"}
 STOPPED = {"ProcedureStepCancellationDateTime": "20240229120300"}
@@ -192,13 +192,13 @@ def try_commands(results: Results, port: int) -> None:
 
 
 def sent(given: dict[str, Any]) -> dict[str, Any]:
-    """A data set without what is taken away."""
+    """Returns a data set without the values that are None."""
     return {keyword: value for keyword, value in given.items() if value is not None}
 
 
 @dataclasses.dataclass
 class Case:
-    """A data set, the status that the profile has for it, and the one that the server answered."""
+    """A data set, the status that the profile names for it, and the one that the server answered."""
 
     name: str
     given: dict[str, Any]
@@ -207,12 +207,13 @@ class Case:
 
 
 def verdicts(ran: Ran) -> list[str]:
-    """The statuses that `check` says, one for each data set."""
+    """Returns the statuses that `check` prints, one for each data set."""
     return re.findall(r"^[^ ].*: ([0-9A-F]{4}) ", ran.out, re.MULTILINE)
 
 
 def judge(results: Results, folder: str, cases: list[Case], *words: str) -> None:
-    """Compares what `check` says with the profile and with the server's answer: of all in a file of JSON, of some in DICOM."""
+    """Compares what `check` says with the profile and with the server's answer: for all cases in a file of JSON, for some in a
+    DICOM file."""
     path = os.path.join(folder, "steps.json")
     with open(path, "w", encoding="utf-8") as file:
         json.dump([plain(sent(case.given)) for case in cases], file)
@@ -241,13 +242,13 @@ def status_of(wire: Any, request: tuple[str, dict[str, Any], Any]) -> int:
 
 
 def created(wire: Any, uid: str, given: dict[str, Any]) -> int:
-    """The status of an N-CREATE."""
+    """Returns the status of an N-CREATE."""
     context, elements, _ = stock.create(uid)
     return status_of(wire, (context, elements, sent(given)))
 
 
 def finished(wire: Any, uid: str, state: str, changes: dict[str, Any]) -> int:
-    """The status of the last change of a step that is created, claimed and set."""
+    """Returns the status of a change to a final state, for a step that is created, claimed and set before."""
     for request in (stock.create(uid), stock.move(uid, "IN PROGRESS"), stock.change(uid, **OWN, **changes)):
         assert status_of(wire, request) == 0, uid
     return status_of(wire, stock.move(uid, state))
@@ -273,7 +274,7 @@ def try_check(results: Results, wire: Any, folder: str) -> None:
 
 
 def try_files(results: Results, folder: str) -> None:
-    """A message that is too long, standard input, and files that are none."""
+    """Tries `check` on a message that is too long, on standard input, on no file and on no JSON."""
     long = json.dumps(plain({**STEP, "ReasonForCancellation": LONG, "TextValue": LONG}))
     results.tell("check, a message that is too long",
                wrong(run("check", "-", given=long), 1, "the association would end", "1,048,576"))
@@ -285,7 +286,7 @@ def try_files(results: Results, folder: str) -> None:
 
 
 def json_of(ran: Ran) -> Any:
-    """The array that a command printed, by UID."""
+    """Returns the array that a command printed, by UID."""
     return {each["00080018"]["Value"][0]: each for each in json.loads(ran.out)}
 
 
@@ -314,7 +315,7 @@ SAMPLE = re.compile(r'([a-z_]+)(\{state="([A-Z ]+)"\})? ([0-9.]+)')
 
 
 def samples(text: str) -> dict[tuple[str, str], float]:
-    """What the text format says; a line that isn't of it is an error."""
+    """Returns the samples of a text in the format of Prometheus; a line that isn't in the format is an error."""
     found = {}
     for line in text.splitlines():
         if not re.fullmatch(r"# (HELP|TYPE) [a-z_]+ .+", line):
@@ -368,7 +369,7 @@ def try_prometheus(results: Results, place: list[str], path: str) -> None:
 
 
 def try_watch(results: Results, program: list[str]) -> None:
-    """A watcher that answers with a failure, and one that is slow."""
+    """Tries a watcher that answers with a failure, and one that is slow."""
     listen = free_port()
     with Server(program, "--keep", "3600", f"WATCHER=127.0.0.1:{listen}") as server:
         place, watch = ["--port", str(server.port)], ["watch", "--ae", "WATCHER", "--listen", str(listen), "--associations", "1"]
@@ -390,7 +391,7 @@ def try_watch(results: Results, program: list[str]) -> None:
 
 
 def try_suspend(results: Results, place: list[str], watch: list[str]) -> None:
-    """A watcher that has suspended is told of the steps that it watched before, and of no others."""
+    """Tries whether a watcher that has suspended is told of the steps that it watched before, and of no others."""
     asked = [["suspend", "--receiver", "WATCHER"], ["create", "1.2.8.9"], ["claim", "1.2.8.0", *HOLDER]]
     statuses = [run(*words, *place).status for words in asked]
     ran = run(*watch)
@@ -400,7 +401,7 @@ def try_suspend(results: Results, place: list[str], watch: list[str]) -> None:
 
 
 def try_announce(results: Results) -> None:
-    """Two watchers are told, each under its title."""
+    """Tries whether `announce` tells both of two watchers, here one watcher that is named twice."""
     for syntax, words, wanted in (
             (stock.EXPLICIT, [],
              {"SCPStatus": "RESTARTED", "SubscriptionListStatus": "COLD START", "UnifiedProcedureStepListStatus": "COLD START"}),
@@ -424,7 +425,7 @@ def main() -> None:
                         help="the program, and words before those of `serve` (crates/upsd/out/upsd, which `rt run` builds)")
     asked = parser.parse_args()
     install({})
-    warnings.simplefilter("ignore")  # pydicom warns of the values that are tried
+    warnings.simplefilter("ignore")  # pydicom warns about the values that are tried
     signal.signal(signal.SIGALRM, lambda *_: sys.exit(f"client.py: not done in {ALL} seconds"))
     signal.alarm(ALL)
     results = Results()

@@ -3,10 +3,10 @@
 
     trials/connect.py [PROGRAM]      (crates/upsd/out/upsd, which `rt run` builds)
 
-The blocks run in their order, at the top of the repository, against one server that has just begun, as the page has it but on
-free ports: sh by `sh`, python by Debian's Python, which has pydicom. What is printed stands behind `# ->`. It installs what is
-missing (`apt-get install -y dcmtk python3-pydicom`, which needs root), prints a line for each block, and then `N passed, M
-failed`. The exit status is 1 where one failed.
+The blocks run in order, at the top of the repository, against one server that has just started, as on the page but on free
+ports: sh with `sh`, python with Debian's Python, which has pydicom. What a block prints follows `# ->` in it. The script
+installs what is missing (`apt-get install -y dcmtk python3-pydicom`, which needs root), prints a line for each block, and then
+`N passed, M failed`. The exit status is 1 if any failed.
 """
 
 from __future__ import annotations
@@ -30,7 +30,7 @@ SECONDS = 120  # for one block
 
 
 def blocks() -> list[tuple[str, str, list[str]]]:
-    """The language, the words and what is printed of each block that was tried."""
+    """Returns the language, the words and the printed lines of each block that says `# tried`."""
     with open(PAGE, encoding="utf-8") as page:
         found = re.findall(r"(?ms)^```(sh|python)\n# tried\n(.*?)^```$", page.read())
     lines = [(language, text.split("\n")) for language, text in found]
@@ -39,7 +39,7 @@ def blocks() -> list[tuple[str, str, list[str]]]:
 
 
 def placed(words: str, server: int, watcher: int) -> str:
-    """The words of a block with the ports in place of the page's; the client is told the server's."""
+    """Returns the words of a block with these ports in place of the page's; the client is told the server's."""
     words = words.replace(SERVER, str(server)).replace(WATCHER, str(watcher))
     return re.sub(r"(?m)^examples/ups\.py (\w+)", rf"/usr/bin/python3 examples/ups.py \1 --port {server}", words)
 

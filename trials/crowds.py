@@ -1,26 +1,26 @@
 #!/usr/bin/env python3
-"""Tries how long a working peer waits behind 200 others at `upsd serve` that have begun something and don't go on.
+"""Measures how long a working peer of `upsd serve` waits after 200 others that have begun something and don't go on.
 
     trials/crowds.py [PROGRAM..] [--limit 15]      (default: crates/upsd/out/upsd)
 
-At servers of 16 workers, with `--timeout 10`, 200 peers come at the same time, and
+200 peers come at the same time to a server of 16 workers with `--timeout 10`, and
 
     half a header     send three bytes of an association request, and nothing more
     all but a byte    send an association request without its last byte, and nothing more
     associates        ask for an association, and nothing more
 
-A working peer that comes a second behind them has to be served within 15 seconds (`--limit`). Four peers that had an
-association before, and ask twice a second, go on being answered all the while.
+A working peer that comes a second after them must be served within 15 seconds (`--limit`). Four peers that had an association
+before, and ask twice a second, must be answered all the while.
 
-At a server of two workers one peer has an association and says nothing, another asks twice a second, and a third one waits. The
-silent one has to make way when it has been silent for ten seconds, and hears an A-ABORT of which the log tells; the other goes on.
-The third one then asks each three seconds, while a fourth one waits: it goes on, too.
+On a server of two workers one peer has an association and says nothing, another asks twice a second, and a third one waits. The
+silent one must make way after ten seconds of silence, and hear an A-ABORT, which the log reports; the other must go on. The
+third one then asks every three seconds, while a fourth one waits: it must go on, too.
 
-Where nobody waits, `--timeout` and `--idle` hold: with 4 and 14 seconds a connection with half a header is closed after 4 and an
-association that says nothing after 14, each within a second, and neither before.
+If nobody waits, `--timeout` and `--idle` hold: with 4 and 14 seconds a connection with half a header is closed after 4 and an
+association that says nothing after 14, each within a second, and neither earlier.
 
-It ends by itself, in two minutes where all is well. It prints how long each peer waited, a line for each trial that doesn't
-agree, and in the end how many passed. It ends with status 1 where one doesn't. `trials/abuse.py` has peers of many other kinds.
+It ends by itself, in two minutes if all is well. It prints how long each peer waited, a line for each trial that fails, and
+in the end how many passed. It ends with status 1 if any failed. `trials/abuse.py` has peers of many other kinds.
 """
 
 from __future__ import annotations
@@ -43,14 +43,14 @@ from results import Results
 from server import Server
 
 WORKERS, BUSY = 16, 4
-TIMEOUT = 10  # seconds: of the server that a crowd comes to, and behind which a silent association makes way
-PATIENCE = 180  # seconds for which a working peer waits at most, so that it is told after how many it is served
-SHORT, LONG = 4, 14  # the limits where nobody waits
+TIMEOUT = 10  # seconds: the limit of the server that a crowd comes to, and after which a silent association makes way
+PATIENCE = 180  # seconds for which a working peer waits at most, longer than the limit so that its time can be reported
+SHORT, LONG = 4, 14  # the limits if nobody waits
 SLACK = 1.0
 
 
 def sends(said: bytes) -> Callable[[Holder], Awaitable[None]]:
-    """A peer that sends these bytes, and nothing more."""
+    """Returns a kind of peer that sends these bytes, and nothing more."""
     async def begins(holder: Holder) -> None:
         await holder.say(said)
         await holder.hear_all()
@@ -63,7 +63,7 @@ KINDS = {"half a header": sends(REQUEST[:3]), "all but a byte": sends(REQUEST[:-
 
 @contextlib.contextmanager
 def visitors(port: int, count: int) -> Iterator[list[Visitor]]:
-    """So many peers that have an association already, and ask twice a second."""
+    """Runs that many peers that have an association already, and ask twice a second until the body ends."""
     over = threading.Event()
     working = [Visitor(port, over) for _ in range(count)]
     holds(lambda: all(it.is_served for it in working), TIMEOUT)
@@ -76,13 +76,13 @@ def visitors(port: int, count: int) -> Iterator[list[Visitor]]:
 
 
 def fault_of(working: list[Visitor]) -> Optional[str]:
-    """Why peers that ask all the while are not answered, or None."""
+    """Returns why peers that ask all the while are not answered, or None."""
     faults = [it.fault or "it is not served" for it in working if it.fault or not it.is_served]
     return f"{len(faults)} of {len(working)}: {faults[0]}" if faults else None
 
 
 def crowd_trial(program: list[str], results: Results, name: str, limit: float) -> None:
-    """A working peer behind a crowd, and others that were there before."""
+    """Tries a working peer after a crowd, and others that were there before."""
     with Server(program, "--associations", str(WORKERS), "--timeout", str(TIMEOUT)) as server:
         with visitors(server.port, BUSY) as working, crowd(server.port, KINDS[name], [Holder() for _ in range(CROWD)]):
             waited = served(server.port, PATIENCE, 1)
@@ -94,7 +94,7 @@ def crowd_trial(program: list[str], results: Results, name: str, limit: float) -
 
 
 class Waiting:
-    """A peer that waits for its association, and then asks each so many seconds until it is told to go."""
+    """A peer that waits for its association, and then asks every `pause` seconds until it is told to go."""
 
     def __init__(self, port: int, pause: float, over: threading.Event) -> None:
         self.port, self.pause, self.over = port, pause, over
@@ -118,7 +118,7 @@ class Waiting:
 
 
 def idle_trial(program: list[str], results: Results) -> None:
-    """The association that has been silent for longest makes way, and no other."""
+    """Tries whether the association that has been silent for longest makes way, and no other."""
     over = threading.Event()
     with Server(program, "--associations", "2") as server, visitors(server.port, 1) as working:
         silent = Caller(server.port, TIMEOUT)
@@ -141,7 +141,7 @@ def idle_trial(program: list[str], results: Results) -> None:
 
 
 def heard(peer: Caller) -> Optional[str]:
-    """Why a peer that is cut off has not heard an A-ABORT, or None."""
+    """Returns why a peer that is cut off has not heard an A-ABORT, or None."""
     peer.socket.settimeout(SLACK)
     try:
         last = peer.socket.recv(65536)
@@ -151,7 +151,7 @@ def heard(peer: Caller) -> Optional[str]:
 
 
 def alone_trial(program: list[str], results: Results) -> None:
-    """Where nobody waits, the limits hold."""
+    """Tries whether the limits hold if nobody waits."""
     with Server(program, "--associations", "4", "--timeout", str(SHORT), "--idle", str(LONG)) as server:
         half, idle = connect(server.port), Caller(server.port, LONG).socket
         half.sendall(REQUEST[:3])

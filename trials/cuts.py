@@ -1,9 +1,9 @@
-"""Cuts the power of a server on a store, in thought: what a disk may keep of what was written has to be a store that has what was
+"""Simulates power cuts of a server on a store: whatever a disk may keep of what was written must be a store that has what was
 answered.
 
-The writes and syncs of two lives of a server are recorded by strace, with the answers and the reports that were sent between. At a
-point of that sequence the disk has what was written to a file before its last sync, and of what was written since then any part,
-also of single writes, in sectors of 512 bytes.
+strace records the writes and syncs of two lives of a server, with the answers and the reports that were sent in between. At a
+point of that sequence the disk has what was written to a file before its last sync, and any part of what was written since
+then, down to parts of single writes, in sectors of 512 bytes.
 """
 
 from __future__ import annotations
@@ -34,20 +34,20 @@ from stored import (FAULTS, SECONDS, Client, Hearing, Row, Stored, a_step_of, by
 
 SECTOR = 512
 FOREVER = 1 << 62
-STATIONS, LIVES, REST = 4, 2, 2.3  # seconds of rest between two bursts: the server tidies up
+STATIONS, LIVES, REST = 4, 2, 2.3  # seconds of rest between two bursts, in which the server tidies up
 TRACED = "pwrite64,write,ftruncate,fdatasync,fsync,sync_file_range,openat,sendto,sendmsg,writev,unlink,unlinkat,rename,renameat,renameat2"
 STRACE = ["strace", "-f", "-yy", "-xx", "-s", "50000000", "-e", f"trace={TRACED}"]
 PEERS = ["W1=127.0.0.1:1", "W2=127.0.0.1:1,lock"]
 NUMBER, INSTANCE, OPERATION, STATE_OF, RECEIVER, ATTRIBUTES = 0, 4, 3, 6, 7, 10  # columns of a row
 
-Key = tuple[bytes, ...]  # what was asked of a step
+Key = tuple[bytes, ...]  # what was asked of a step, shown or told of it
 
 
-# what strace tells
+# the output of strace
 
 @dataclasses.dataclass
 class Call:
-    """A call of the system: where in the sequence it began and ended, and what it did."""
+    """A system call: where in the sequence it began and ended, and what it did."""
 
     name: str
     arguments: str
@@ -60,12 +60,12 @@ class Call:
         return [unescaped(it) for it in re.findall(r'"((?:\\x[0-9a-f]{2})*)"', self.arguments)]
 
     def descriptor(self) -> str:
-        """What the first descriptor among the arguments is: a path, or a connection."""
+        """Returns what the descriptor at the start of the arguments is: a path, or a connection."""
         found = re.match(r"\d+<(.*?[^-])>", self.arguments)
         return plain(found[1]) if found else ""
 
     def numbers(self) -> list[int]:
-        """The numbers behind the last text."""
+        """Returns the numbers after the last string."""
         return [int(it) for it in re.findall(r", (\d+)", self.arguments[self.arguments.rfind('"') + 1:])]
 
 
@@ -83,7 +83,7 @@ RESUMED = re.compile(r"(\d+)\s+<\.\.\. (\w+) resumed>(.*)\)\s+= (-?\d+)(.*)")
 
 
 def calls_in(lines: list[str]) -> list[Call]:
-    """The calls that succeeded, or were cut off by the end of the program, in the order of their beginnings."""
+    """Returns the calls that succeeded, or were cut off by the end of the program, in the order in which they began."""
     calls, begun = [], {}
     for at, line in enumerate(lines):
         if found := RESUMED.fullmatch(line):
@@ -101,7 +101,7 @@ def calls_in(lines: list[str]) -> list[Call]:
 
 @dataclasses.dataclass
 class Write:
-    """Bytes that were written at a place of a file, or a new length of it (no bytes)."""
+    """Bytes that were written at a place of a file, or its new length (no bytes)."""
 
     at: int
     data: Optional[bytes]
@@ -110,12 +110,12 @@ class Write:
 
 
 class Traced:
-    """A file: what was written, when it was synced, and when it was made, if it was."""
+    """What was written to a file, when it was synced, and when it was made, if it was."""
 
     def __init__(self) -> None:
         self.writes: list[Write] = []
         self.syncs: list[tuple[int, int]] = []
-        self.made: Optional[tuple[int, int]] = None  # from when on it may be there, and from when on it is
+        self.made: Optional[tuple[int, int]] = None  # from when on it may exist, and from when on it does
 
 
 class Trace:
@@ -164,14 +164,14 @@ class Trace:
 # what a disk may keep
 
 class Disk:
-    """What a disk has of a file, as the sequence goes on."""
+    """What a disk has of a file as the sequence goes on."""
 
     def __init__(self, file: Traced, content: bytes) -> None:
         self.file, self.content, self.pending = file, bytearray(content), []
         self.writes, self.syncs = collections.deque(file.writes), collections.deque(sorted(file.syncs, key=lambda it: it[1]))
 
     def go_to(self, point: int) -> None:
-        """Goes on to a point: calls that have begun before it may have been done, and those that have ended are."""
+        """Goes on to a point: writes that began before it may be on the disk, and those that ended before a finished sync began are."""
         while self.syncs and self.syncs[0][1] < point:
             begin, _ = self.syncs.popleft()
             self.begin_writes(begin)
@@ -186,7 +186,7 @@ class Disk:
             self.pending.append(self.writes.popleft())
 
     def kept(self, chance: random.Random, point: int) -> Optional[bytes]:
-        """What it may have at this point; None where the file may not be there."""
+        """Returns what the disk may have of the file at this point, chosen at random; None if the file is missing."""
         if self.file.made and (point <= self.file.made[0] or point <= self.file.made[1] and chance.random() < 0.4):
             return None
         found = bytearray(self.content)
@@ -205,7 +205,7 @@ def put(content: bytearray, it: Write) -> None:
 
 
 def chosen(chance: random.Random, pending: list[Write]) -> list[Write]:
-    """Some of the writes since a sync, in some order, of which some are torn."""
+    """Returns some of the writes since a sync, in some order, some of them torn."""
     way = chance.random()
     if way < 0.1:
         some = []
@@ -228,7 +228,7 @@ def chosen(chance: random.Random, pending: list[Write]) -> list[Write]:
 
 
 def parts_of(chance: random.Random, it: Write) -> list[Write]:
-    """The sectors of a torn write that were written: the first of them, the last, or any."""
+    """Returns the sectors of a torn write that were written: the first ones, the last ones, or any."""
     if it.data is None:
         return [it]
     ends = [it.at, *range((it.at // SECTOR + 1) * SECTOR, it.at + len(it.data), SECTOR), it.at + len(it.data)]
@@ -240,7 +240,7 @@ def parts_of(chance: random.Random, it: Write) -> list[Write]:
 # what was sent
 
 def messages_in(sent: list[tuple[int, bytes]]) -> Iterator[tuple[int, dict[int, bytes], bytes]]:
-    """The messages that were sent over a connection: when the last byte of each was, its command set and its data set."""
+    """Yields the messages that were sent over a connection: when the last byte of each was sent, its command set and its data set."""
     stream = b"".join(data for _, data in sent)
     ends, total = [], 0
     for _, data in sent:
@@ -277,21 +277,21 @@ def elements_of(command: bytes) -> dict[int, bytes]:
 
 @dataclasses.dataclass
 class Asked:
-    """What was asked over the associations: by the port and the Message ID, what it was; and where the watcher listens."""
+    """What was asked, by the port of the association and the Message ID; and the port of the watcher."""
 
     requests: dict[tuple[int, int], Key]
     watcher: int
 
 
 def shown_by(attributes: Attributes, uid: bytes) -> Key:
-    """That a step is shown in a state, with what was set of it."""
+    """Returns the key of a step that is shown in a state, with its label."""
     return b"shown", uid, text_in(attributes, STATE), text_in(attributes, LABEL)
 
 
 # the work that is recorded
 
 class Station:
-    """One that does the same with each of its steps, in an association of its own for each burst."""
+    """A workstation that does the same with each of its steps, in an association of its own for each burst."""
 
     def __init__(self, number: int, asked: Asked) -> None:
         self.number, self.asked, self.count, self.faults = number, asked, 0, []
@@ -327,7 +327,7 @@ class Station:
 
 
 def look(port: int, over: threading.Event, asked: Asked) -> None:
-    """Looks at the steps of others."""
+    """Looks at the steps of the workstations until it is over."""
     chance, client = random.Random(1), Client(port, b"READER")
     while not over.wait(0.01):
         uid = b"1.2.%d.%d" % (chance.randint(1, STATIONS), chance.randint(1, 20))
@@ -338,7 +338,7 @@ def look(port: int, over: threading.Event, asked: Asked) -> None:
 
 @dataclasses.dataclass
 class Recording:
-    """What was recorded: the sequence, the rows in the end, and from which point on how many of them have to be there."""
+    """What was recorded: the sequence, the rows in the end, and from which point on how many of them must be there."""
 
     trace: Trace
     rows: list[Row]
@@ -346,12 +346,12 @@ class Recording:
     needed: list[int]
     answers: int
     reports: int
-    before: dict[str, bytes] = dataclasses.field(default_factory=dict)  # what the files had, and the rows of these
+    before: dict[str, bytes] = dataclasses.field(default_factory=dict)  # the files before the sequence, and their rows
     rows_before: Optional[list[Row]] = None
-    keep: str = "1000000"  # for how many seconds its server keeps finished steps
+    keep: str = "1000000"  # seconds for which its server keeps finished steps
 
     def needed_at(self, point: int) -> int:
-        """How many rows have to be there: what was sent before the point rests on them."""
+        """Returns how many rows must be there at a point: those on which what was sent before it rests."""
         at = bisect.bisect_left(self.points, point)
         return self.needed[at - 1] if at else 0
 
@@ -397,7 +397,7 @@ def work_at_once(server: Stored, stations: list[Station], steps: int, asked: Ask
 
 
 def await_end(log: str) -> None:
-    """Waits until strace has told the end of the program."""
+    """Waits until strace has reported the end of the program."""
     deadline = time.monotonic() + SECONDS
     while time.monotonic() < deadline:
         with open(log, "rb") as opened:
@@ -409,7 +409,7 @@ def await_end(log: str) -> None:
 
 
 def places_of(rows: list[Row]) -> dict[Key, int]:
-    """Behind how many rows each thing is done that was asked, and each is shown."""
+    """Returns after how many rows each request is done, and each state of a step can be shown or told."""
     places: dict[Key, int] = {}
     states: dict[bytes, bytes] = {}
     labels: dict[bytes, bytes] = {}
@@ -436,7 +436,7 @@ def places_of(rows: list[Row]) -> dict[Key, int]:
 
 
 def judged_by(trace: Trace, rows: list[Row], asked: Asked) -> Recording:
-    """From which point on how many rows have to be there."""
+    """Returns the recording, with from which point on how many rows must be there."""
     places, found, answers, reports = places_of(rows), [], 0, 0
     for port, sent in trace.sent.items():
         for point, elements, data_set in messages_in(sent):
@@ -459,7 +459,7 @@ def judged_by(trace: Trace, rows: list[Row], asked: Asked) -> Recording:
 # the states that a disk may have kept
 
 class Cuts:
-    """The states at random points, and what is wrong with them."""
+    """States that a disk may have kept at random points, and what is wrong with them."""
 
     def __init__(self, program: list[str], recording: Recording, folder: str, chance: random.Random) -> None:
         self.program, self.recording, self.folder, self.chance = program, recording, folder, chance
@@ -467,7 +467,7 @@ class Cuts:
         self.counts: collections.Counter[str] = collections.Counter()
 
     def points(self, count: int) -> list[int]:
-        """Points of the sequence: half of them where something is written and not synced."""
+        """Returns sorted points of the sequence, half of them just after a write begins or ends."""
         trace = self.recording.trace
         busy = [point for file in trace.files.values() for it in file.writes for point in (it.begin + 1, it.end + 1)]
         first = min(busy, default=0)
@@ -475,7 +475,7 @@ class Cuts:
         return sorted(some)
 
     def run(self, count: int, opened: int, most: int) -> None:
-        """Tries so many states, of which the program opens so many, or until so many are wrong."""
+        """Tries `count` states, of which the program opens `opened` and any that sqlite3 finds wrong, until `most` are wrong."""
         disks = {name: Disk(file, self.recording.before.get(name, b"")) for name, file in self.recording.trace.files.items()}
         by_program = set(self.chance.sample(range(count), min(opened, count)))
         for number, point in enumerate(self.points(count)):
@@ -496,7 +496,7 @@ class Cuts:
                 self.faults.append(f"state {number}, at {point} of {self.recording.trace.length}: {fault}")
 
     def laid(self, kept: dict[str, Optional[bytes]]) -> str:
-        """Lays the files of a state."""
+        """Writes the files of a state, and returns the path of the store."""
         file = os.path.join(self.folder, "state")
         for it in ("", "-wal", "-shm"):
             if os.path.exists(file + it):
@@ -508,14 +508,14 @@ class Cuts:
         return file
 
     def fault_of(self, kept: dict[str, Optional[bytes]], point: int) -> Optional[str]:
-        """Why sqlite3 doesn't find what has to be there."""
+        """Returns why sqlite3 doesn't find what must be there, or None."""
         try:
             return self.judge(rows_at(self.laid(kept)), point)
         except sqlite3.Error as fault:
             return f"sqlite3 says {fault}"
 
     def fault_by_program(self, kept: dict[str, Optional[bytes]], point: int) -> Optional[str]:
-        """Why the program doesn't start on it, or what has to be there isn't then."""
+        """Returns why the program doesn't start on it, or what must be there isn't there then; or None."""
         file = self.laid(kept)
         try:
             with Stored(self.program, file, "--keep", self.recording.keep, *PEERS):
@@ -525,7 +525,7 @@ class Cuts:
             return str(fault)
 
     def judge_started(self, rows: list[Row], point: int) -> Optional[str]:
-        """The same behind a start, which may have compacted."""
+        """Returns what is wrong after a start, which may have compacted, or None."""
         if self.recording.rows_before is None:
             return self.judge(rows, point)
         return None if len(rows) in (len(self.recording.rows), len(self.recording.rows_before)) else f"there are {len(rows)} requests"
@@ -544,7 +544,7 @@ class Cuts:
 # a compaction
 
 def record_compaction(program: list[str], folder: str) -> Recording:
-    """Records a compaction of a store, most of whose steps are gone."""
+    """Records a compaction of a store most of whose steps are gone."""
     file, log, words = os.path.join(folder, "compacted"), os.path.join(folder, "strace"), ["--keep", "0", *PEERS]
     with Stored(program, file, *words) as server:
         client = Client(server.port)
@@ -567,7 +567,7 @@ def record_compaction(program: list[str], folder: str) -> Recording:
 
 
 def try_compaction(program: list[str], folder: str, given: argparse.Namespace, results: Results) -> None:
-    """States that a disk may have kept of a compaction."""
+    """Tries states that a disk may have kept of a compaction."""
     recording = record_compaction(program, folder)
     cuts = tried(program, recording, given, max(1, given.cuts // 4), given.opened // 4)
     name = f"a compaction of {len(recording.rows_before or [])} requests to {len(recording.rows)}"
@@ -585,7 +585,7 @@ def tried(program: list[str], recording: Recording, given: argparse.Namespace, c
 
 
 def try_lies(program: list[str], recording: Recording, given: argparse.Namespace, results: Results) -> None:
-    """What is wrong has to be found: syncs that do nothing, an answer that is sent too early, and another row."""
+    """Tells whether faults are found: syncs that do nothing, answers that are sent too early, and another row."""
     files = recording.trace.files
     syncs = {name: it.syncs for name, it in files.items()}
     for it in files.values():
@@ -600,7 +600,7 @@ def try_lies(program: list[str], recording: Recording, given: argparse.Namespace
 
 
 def run(program: list[str], given: argparse.Namespace, results: Results) -> None:
-    """Tells what comes of so many cuts."""
+    """Records a server, and tells what comes of that many cuts."""
     if not shutil.which("strace"):
         print("skipped: strace is not here (apt-get install -y strace)", flush=True)
         return

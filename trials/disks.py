@@ -1,4 +1,4 @@
-"""Has the disk of a server on a store give out: one that is full, and writes and syncs that fail."""
+"""Tries a server on a store whose disk gives out: a full disk, and writes and syncs that fail."""
 
 from __future__ import annotations
 
@@ -21,15 +21,15 @@ from peer import GLOBAL
 from results import Results
 from stored import FAULTS, SECONDS, Client, Hearing, Stored, bytes_in, folder_for, text_in
 
-TIMEOUT = 5  # the server's, in seconds: so long an answer is withheld
-SLACK = 10.0  # seconds behind that by which its association ends
-AT_ONCE = 5.0  # seconds by which the log tells of it
-AGAIN = 10.0  # and by which all goes on, where there is room: two, on a machine that does nothing else
+TIMEOUT = 5  # the server's, in seconds: for how long an answer is withheld
+SLACK = 10.0  # seconds after that by which its association ends
+AT_ONCE = 5.0  # seconds by which the log reports it
+AGAIN = 10.0  # seconds by which all goes on once there is room: two, on a machine that does nothing else
 LARGE = 20_000  # bytes of a step that fills a disk
 TAKES_NONE, TAKES_AGAIN = r"(ERROR|<3>).*serve: the store takes no requests: ", r"serve: the store takes requests again"
 SHARES = 4  # failures that are tried at the same time
 COMMENT = (0x0040, 0x1400)
-SERVES, RESTS, STARTS = "in a server that serves", "in one that nobody asks anything", "in one that starts"  # where calls fail
+SERVES, RESTS, STARTS = "in a server that serves", "in one that nobody asks anything", "in one that starts"  # the servers whose calls fail
 REST = 2.5  # seconds in which a server that nobody asks anything copies its log into the file
 LOST = 2  # the status of a server whose store is lost, and of a start that is refused
 
@@ -44,7 +44,7 @@ def large_step(size: int) -> bytes:
 
 @dataclasses.dataclass
 class Filling:
-    """The steps that were asked to be created, and those that were answered."""
+    """How many steps were asked to be created, and those that were answered."""
 
     asked: int = 0
     answered: set[bytes] = dataclasses.field(default_factory=set)
@@ -53,7 +53,7 @@ class Filling:
         return {uid_of(it) for it in range(self.asked)} - self.answered
 
     def create(self, client: Client, size: int) -> bool:
-        """Asks for one more: whether that is answered, and not the association ended."""
+        """Asks for one more, and returns whether it is answered; if not, the association has ended."""
         uid = uid_of(self.asked)
         self.asked += 1
         try:
@@ -66,7 +66,7 @@ class Filling:
         return True
 
     def fault_in(self, client: Client) -> Optional[str]:
-        """Why what was answered is not there, or something else is; None where it is."""
+        """Returns why what was answered is not there, or something else is; or None."""
         found = [text_in(it, SOP_INSTANCE) for it in client.found()]
         missing, more = self.answered - set(found), set(found) - {uid_of(it) for it in range(self.asked)}
         if missing or more or len(found) != len(set(found)):
@@ -75,7 +75,7 @@ class Filling:
 
 
 def fault_behind_start(program: list[str], file: str, filling: Filling, *options: str) -> Optional[str]:
-    """Why a server that starts on the file has not what was answered."""
+    """Returns why a server that starts on the file doesn't have what was answered, or doesn't serve; or None."""
     try:
         with Stored(program, file, "--keep", "1000000", *options) as server:
             client = Client(server.port)
@@ -88,7 +88,7 @@ def fault_behind_start(program: list[str], file: str, filling: Filling, *options
 
 @contextlib.contextmanager
 def small_disk(mebibytes: int) -> Iterator[Optional[str]]:
-    """A folder on a file system of so many MiB, half of which is taken; None where none can be mounted."""
+    """Mounts a file system of that many MiB, and gives its folder, or None if none can be mounted."""
     with tempfile.TemporaryDirectory(prefix="small") as folder:
         mounted = subprocess.run(["mount", "-t", "tmpfs", "-o", f"size={mebibytes}m", "upsd-trial", folder], capture_output=True)
         if mounted.returncode:
@@ -113,7 +113,8 @@ def make_room(folder: str) -> None:
 
 
 def fill(filling: Filling, port: int) -> tuple[float, Optional[str]]:
-    """Creates large steps until one is not answered: after how long its association ended, and why that isn't as it should be."""
+    """Creates large steps until one is not answered. Returns after how long its association ended, and what is wrong with that,
+    or None."""
     client = Client(port, seconds=TIMEOUT + SLACK + 20)
     for _ in range(100_000):
         began = time.monotonic()
@@ -124,7 +125,7 @@ def fill(filling: Filling, port: int) -> tuple[float, Optional[str]]:
 
 
 def looked_at(port: int, filling: Filling) -> Optional[str]:
-    """Why what is shown on a full disk is wrong: it has nothing that is not committed."""
+    """Returns why the steps that are shown on a full disk are wrong, or None: none of them may be uncommitted."""
     try:
         client = Client(port, seconds=TIMEOUT + SLACK)
         found = {text_in(it, SOP_INSTANCE) for it in client.found()}
@@ -144,7 +145,7 @@ def is_echoed(port: int) -> Optional[str]:
 
 
 def goes_on(server: Stored, filling: Filling) -> tuple[float, Optional[str]]:
-    """After how long a creation is answered, where there is room again."""
+    """Returns after how long a creation is answered when there is room again, and what is wrong with that, or None."""
     began = time.monotonic()
     while time.monotonic() < began + SECONDS:
         with contextlib.suppress(*FAULTS):
@@ -169,7 +170,7 @@ def run_full(program: list[str], given: argparse.Namespace, results: Results) ->
 
 
 def full_trials(server: Stored, folder: str, filling: Filling, watcher: Hearing, given: argparse.Namespace, results: Results) -> None:
-    """A disk that fills under a server, and has room again."""
+    """Tries a disk that fills under a server, and has room again."""
     assert Client(server.port).subscribe(GLOBAL, b"W1", b"FALSE") == 0x0000
     waited, fault = fill(filling, server.port)
     full_since = time.monotonic() - waited
@@ -200,7 +201,7 @@ def full_trials(server: Stored, folder: str, filling: Filling, watcher: Hearing,
 
 def full_start(program: list[str], folder: str, file: str, filling: Filling, options: list[str], given: argparse.Namespace,
                results: Results) -> None:
-    """A server that is killed while the disk is full, and one that starts then."""
+    """Tries a server that is killed while the disk is full, and one that starts then."""
     with Stored(program, file, *options) as server:
         _, fault = fill(filling, server.port)
         results.tell("full again", fault)
@@ -223,7 +224,7 @@ def full_start(program: list[str], folder: str, file: str, filling: Filling, opt
 
 @dataclasses.dataclass(frozen=True)
 class Failure:
-    """A call of the system that fails, at its so-manyth time, or from then on, and where."""
+    """A system call that fails, at its nth time or from then on (`n+`), and in which server."""
 
     call: str
     error: str
@@ -234,7 +235,8 @@ class Failure:
         return f"{self.call} fails with {self.error}, {self.when} {self.where}"
 
     def words(self, file: str) -> list[str]:
-        """Those of strace, which has calls on the files of a store fail, and on their folder, and tells of them in a file beside them."""
+        """Returns the words of strace that let calls on the files of a store and on their folder fail, and log them beside the
+        store."""
         inject = f"inject={self.call}:error={self.error}:when={self.when}"
         paths = [word for it in (file, file + "-wal", os.path.dirname(file)) for word in ("-P", it)]
         return ["strace", "-f", *paths, "-o", file + ".strace", "-e", f"trace={self.call}", "-e", inject]
@@ -248,7 +250,7 @@ def failures(count: int) -> list[Failure]:
 
 
 def attached(failure: Failure, file: str, pid: int) -> subprocess.Popen:
-    """Has calls of a running server fail."""
+    """Lets calls of a running server fail, and returns the strace that does it."""
     strace = subprocess.Popen([*failure.words(file), "-p", str(pid)], stderr=subprocess.PIPE, text=True)
     while " attached" not in strace.stderr.readline():
         pass
@@ -256,7 +258,8 @@ def attached(failure: Failure, file: str, pid: int) -> subprocess.Popen:
 
 
 def ask_some(server: Stored, filling: Filling, until: float) -> bool:
-    """Creates steps, over new associations where one ends, until ten more are answered, or a time: whether they are."""
+    """Creates steps, in a new association whenever one ends, until ten more are answered or a time is reached: returns whether
+    they are."""
     wanted = len(filling.answered) + 10
     while time.monotonic() < until and server.process.poll() is None and len(filling.answered) < wanted:
         with contextlib.suppress(OSError, EOFError, AssertionError):
@@ -267,7 +270,7 @@ def ask_some(server: Stored, filling: Filling, until: float) -> bool:
 
 
 def tried_failure(program: list[str], folder: str, failure: Failure, number: int) -> tuple[str, Optional[str]]:
-    """What comes of a failure, in a word, and the fault."""
+    """Returns what comes of a failure, in a few words, and the fault or None."""
     file, filling, options = os.path.join(folder, f"failing{number}"), Filling(), ["--keep", "1000000", "--timeout", "2"]
     try:
         with Stored(program, file, *options) as server:
@@ -291,13 +294,13 @@ GOOD, NONE = ("goes on", "goes on when it is over", "ends", "is refused", "withh
 
 
 def has_failed(log: str) -> bool:
-    """Whether a call was made that strace had fail."""
+    """Returns whether strace let a call fail."""
     with open(log, encoding="ascii", errors="replace") as opened:
         return "(INJECTED)" in opened.read()
 
 
 def has_failing(server: Stored, failure: Failure, file: str, filling: Filling) -> str:
-    """What becomes of a server whose calls fail."""
+    """Returns what becomes of a running server whose calls fail."""
     strace = attached(failure, file, server.pid)
     if failure.where == RESTS:
         time.sleep(REST)
@@ -315,7 +318,7 @@ def has_failing(server: Stored, failure: Failure, file: str, filling: Filling) -
 
 
 def starts_failing(program: list[str], file: str, failure: Failure, filling: Filling, options: list[str]) -> str:
-    """What becomes of a server whose calls fail while it starts, and then."""
+    """Returns what becomes of a server whose calls fail while it starts, and afterwards."""
     try:
         with Stored([*failure.words(file), "-D", *program], file, *options) as server:
             is_there = filling.fault_in(Client(server.port, seconds=TIMEOUT + SLACK))

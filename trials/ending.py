@@ -1,13 +1,13 @@
 #!/usr/bin/env python3
-"""Tries `upsd serve` where what is around it gives out: standard error, descriptors, and its own life.
+"""Tries `upsd serve` when its surroundings give out: standard error, descriptors, and its own life.
 
     trials/ending.py [PROGRAM..]      (default: crates/upsd/out/upsd)
 
-Standard error, with --verbose, so that each request has a line. 20 associations with a C-ECHO each have to be served:
+Standard error, with --verbose, so that each request has a line. 20 associations with a C-ECHO each must be served:
 
     a full pipe         that nobody reads. When it is read again, its lines are there, and the log goes on
-    a pipe that fills   of 8,192 bytes that nobody reads, while 700 associations are served: then also a line tells how many
-                        lines were lost, since 1,024 wait at most
+    a pipe that fills   of 8,192 bytes that nobody reads, while 700 associations are served: then a line also says how many
+                        lines were lost, since at most 1,024 wait
     a full socket       that nobody reads; as a full pipe
     a terminal          in its usual mode, that nobody reads; as a pipe that fills
     a broken pipe       whose reader is gone
@@ -16,14 +16,14 @@ Standard error, with --verbose, so that each request has a line. 20 associations
     closed with input   as by `<&- 2>&-`: a connection may get the number of standard error, and no line may go there
 
 SIGTERM, five times, while 8 associations ask as fast as they can: the signal ends the process within a second, each peer sees
-the end of its connection, a new server listens on the same port at once, serves, and has none of the steps of before.
+the end of its connection, and a new server listens on the same port at once, serves, and has none of the earlier steps.
 
 16 descriptors (RLIMIT_NOFILE), 32 workers and 40 peers that keep their associations: at least 10 are served, and go on being
 answered. The others wait, and cost less than a fifth of a processor. When those that are served go, all others are served,
-none loses its connection, and the server has the descriptors and threads that it had.
+none loses its connection, and the server has as many descriptors and threads as before.
 
-It starts the servers on ports of this machine, and ends by itself, in a minute where all is well. It prints a line for each
-trial that doesn't agree, and in the end how many passed. It ends with 1 where one doesn't.
+It starts the servers on ports of this machine, and ends by itself, in a minute if all is well. It prints a line for each
+trial that fails, and in the end how many passed. The status is 1 if any failed.
 """
 
 from __future__ import annotations
@@ -54,17 +54,17 @@ from results import Results
 from server import Server, Sink
 
 LIMIT = 10  # seconds for an answer, and the limits of the servers
-COUNT, MANY = 20, 700  # so many associations: each has three lines
-ROOM = 8192  # bytes of a pipe: two pages, as one that has a page alone takes a line only where each before it was read
+COUNT, MANY = 20, 700  # associations, each of which has three lines
+ROOM = 8192  # bytes of a pipe: two pages, since a pipe of one page takes a line only if all lines before it were read
 AT_ONCE = 1  # second in which a signal ends the program
 ROUNDS, LOAD = 5, 8
 DESCRIPTORS, WORKERS, PEERS, FEWEST = 16, 32, 40, 10
-WATCHED, MOST = 3, 0.2  # for so many seconds, and this share of a processor
+WATCHED, MOST = 3, 0.2  # seconds, and the largest share of a processor
 LOST = re.compile(r"\d+ lines of the log were lost")
 
 
 class Launched(Server):
-    """`upsd serve` with any standard error, and what is done in its process before. Its port is 0 where it prints none."""
+    """`upsd serve` with any standard error, and a function that its process runs first. Its port is 0 if it prints none."""
 
     limit = LIMIT
 
@@ -78,14 +78,14 @@ class Launched(Server):
 
 
 def echo_once(port: int, number: int = 1) -> None:
-    """An association with a C-ECHO, which is released."""
+    """Opens an association, asks for a C-ECHO, and releases the association."""
     peer = Caller(port, LIMIT, ((VERIFICATION, IMPLICIT),))
     assert peer.ask(dicom.echo(number)) == 0, "a C-ECHO is not answered 0000"
     peer.release()
 
 
 def not_served(server: Launched, count: int) -> Optional[str]:
-    """Why so many associations, one after the other, are not served, or None."""
+    """Returns why that many associations, one after the other, are not served, or None."""
     for number in range(count):
         try:
             echo_once(server.port, number + 1)
@@ -97,7 +97,7 @@ def not_served(server: Launched, count: int) -> Optional[str]:
 # standard error
 
 def fill(descriptor: int) -> None:
-    """Leaves no room in a pipe or a socket, which blocks again afterwards."""
+    """Fills a pipe or a socket, and makes it blocking again."""
     os.set_blocking(descriptor, False)
     for size in (ROOM, 64, 1):
         with contextlib.suppress(BlockingIOError):
@@ -118,7 +118,7 @@ def socket_pair() -> tuple[int, int]:
 
 
 def unread_trial(program: list[str], results: Results, name: str, ends: tuple[int, int], is_full: bool, count: int) -> None:
-    """A standard error that nobody reads, and that is read again in the end."""
+    """Tries a standard error that nobody reads until the end."""
     reader, writer = ends
     if is_full:
         fill(writer)
@@ -131,7 +131,7 @@ def unread_trial(program: list[str], results: Results, name: str, ends: tuple[in
 
 
 class Reading:
-    """What is read of a standard error."""
+    """What is read from a standard error."""
 
     def __init__(self, reader: int) -> None:
         self.reader, self.text = reader, ""
@@ -144,9 +144,10 @@ class Reading:
         return self.text
 
     def goes_on(self, server: Launched, is_lossy: bool) -> Optional[str]:
-        """Why the lines of another association don't come, or no line tells how many were lost where some were, or None."""
+        """Returns None if the lines of another association come, and a line has said that some were lost exactly if `is_lossy`;
+        otherwise why not."""
         holds(lambda: len(self.text) == len(self.more()), LIMIT)
-        time.sleep(0.5)  # so that what waited has come too
+        time.sleep(0.5)  # so that lines that waited have come too
         before = len(self.more())
         if fault := not_served(server, 1):
             return fault
@@ -157,13 +158,13 @@ class Reading:
 
 
 def failing_trial(program: list[str], results: Results, name: str, error: object, prepare: Optional[Callable[[], None]] = None) -> None:
-    """A standard error that takes nothing."""
+    """Tries a standard error that takes nothing."""
     with Launched(program, "--verbose", error=error, prepare=prepare) as server:
         results.tell(f"standard error, {name}", not_served(server, COUNT))
 
 
 def close_all(*numbers: int) -> Callable[[], None]:
-    """Closes these descriptors in the process that is to be the program."""
+    """Returns a function that closes these descriptors, in the process that becomes the program."""
     def close() -> None:
         for it in numbers:
             os.close(it)
@@ -207,7 +208,7 @@ class Load:
 
 
 def term_trial(program: list[str], results: Results) -> None:
-    """SIGTERM under load, and the same port again, so many times."""
+    """Tries SIGTERM under load and a start on the same port, ROUNDS times."""
     port, uid = free_port(), None
     for turn in range(1, ROUNDS + 1):
         with Launched(program, "--associations", str(LOAD + 1), port=port) as server:
@@ -228,7 +229,7 @@ def term_trial(program: list[str], results: Results) -> None:
 
 
 def still_there(port: int, uid: bytes) -> Optional[str]:
-    """Why a step is not unknown, or None."""
+    """Returns why a step is not unknown, or None."""
     try:
         peer = Caller(port, LIMIT, ((PUSH, EXPLICIT), (PULL, EXPLICIT)))
         status = peer.ask(dicom.get(1, 1, uid))
@@ -265,7 +266,7 @@ def at_most(number: int) -> Callable[[], None]:
 
 
 def descriptor_trial(program: list[str], results: Results) -> None:
-    """More peers than descriptors."""
+    """Tries more peers than descriptors."""
     with Launched(program, "--associations", str(WORKERS), prepare=at_most(DESCRIPTORS)) as server:
         results.tell("few descriptors, before", not_served(server, 1))
         is_left(server.port)
@@ -294,7 +295,7 @@ def count_served(visitors: list[Visitor]) -> int:
 
 @contextlib.contextmanager
 def watched(server: Launched, results: Results) -> Iterator[None]:
-    """Measures what the server takes of a processor for some seconds, behind what is done within."""
+    """Fails if the server takes too large a share of a processor in the seconds after the body."""
     yield
     before, began = processor(server.process.pid), time.monotonic()
     time.sleep(WATCHED)

@@ -1,28 +1,28 @@
 #!/usr/bin/env python3
-"""Tries what becomes of the reports to a watcher of `upsd serve` that doesn't take them as it should, and what the log says.
+"""Tries what becomes of reports to a watcher of `upsd serve` that doesn't take them as it should, and what the log says.
 
     trials/faulty.py [PROGRAM] [--only TRIAL..] [--full]      (default: crates/upsd/out/upsd)
 
-A watcher subscribes to all steps, and five are pushed within two seconds. For 20 seconds it does one of these. Then one more is
-pushed, and it takes its reports as it should:
+A watcher subscribes to all steps, and five are pushed within two seconds. For 20 seconds it does one of the following; then it
+takes its reports as it should, and one more step is pushed:
 
     refuses    it accepts the association, and refuses the context of events
     fails      it answers each report with the status 0110 (processing failure)
-    ends       it ends the connection behind its answer to a report
-    drops      it ends the connection in the place of its answer to a report
-    aborts     it sends an A-ABORT in the place of its answer to a report
+    ends       it ends the connection after its answer to a report
+    drops      it ends the connection instead of answering a report
+    aborts     it sends an A-ABORT instead of answering a report
     full       (only with --full) the history is full before it takes its first report: this takes a million requests, or --entries
 
-It may be asked for an association six times in that time, by tries that are 1, 2, 4 and 8 seconds apart. Each report has to come
-to it in the end, once, in the order of the pushes. The log has to say how the first delivery ended, not `Released`, that the watcher
-is away, and once it has taken its reports that it is back. A report that is answered with a failure has been responded to, and
-comes no more; a warning names the watcher and the status.
+It may be asked for an association at most six times in that time, by tries that are 1, 2, 4 and 8 seconds apart. In the end each
+report must have come to it once, in the order of the pushes. The log must say how the first delivery ended, not `Released`, that
+the watcher is away, and once it has taken its reports that it is back. A report that is answered with a failure counts as
+answered, and no longer comes; a warning names the watcher and the status.
 
-Where the history is full no answer of the watcher can be entered, so the same report comes again: not each second, but as to one
-that is away. The log has to tell at least once a minute that the history is full.
+If the history is full, no answer of the watcher can be entered, so the same report comes again: not every second, but at the
+pace for a watcher that is away. The log must say at least once a minute that the history is full.
 
 It ends by itself, in a minute and a half, and with --full in some minutes more. It prints the log of each trial, a line for
-each thing that doesn't agree, and in the end how many passed. It ends with status 1 where one doesn't.
+each thing that fails, and in the end how many passed. It ends with status 1 if any failed.
 """
 
 from __future__ import annotations
@@ -49,9 +49,9 @@ from watchers import Paced, waited
 
 STEPS = 5
 BAD = 20.0  # seconds for which a watcher does as it shouldn't
-MOST = 6  # so often it may be asked for an association in them
-BACK = 45.0  # seconds in which it has all reports when it does as it should: it may be passed over for 32
-AGAIN = 4.0  # for so many seconds then it is seen whether one comes twice
+MOST = 6  # how often it may be asked for an association in them
+BACK = 45.0  # seconds in which it has all reports once it does as it should: it may be passed over for 32
+AGAIN = 4.0  # seconds for which it is then watched whether one comes twice
 WELL, FAILURE = element(0x0900, us(0x0000)), element(0x0900, us(0x0110))
 
 
@@ -70,7 +70,7 @@ class Answering:
 
 
 class Faulty(Paced):
-    """A watcher that does as it shouldn't for as long as it is bad."""
+    """A watcher that misbehaves as long as it is bad."""
 
     def __init__(self) -> None:
         self.is_bad = True
@@ -120,12 +120,12 @@ KINDS = {"refuses": Refuses, "fails": Fails, "ends": Ends, "drops": Drops, "abor
 
 
 def told_of(server: Server, words: str) -> list[str]:
-    """The lines of the log in which these words are found."""
+    """Returns the lines of the log in which these words are found."""
     return [line for line in server.log if re.search(words, line)]
 
 
 def push(asker: Asker, steps: dict[bytes, float], count: int) -> None:
-    """Pushes so many steps more, and notes when each was answered."""
+    """Pushes that many more steps, and notes when each was answered."""
     for _ in range(count):
         step = b"1.2.0.%d" % len(steps)
         asker.do(create(PUSH_ON, 1, step, a_step(b"P")))
@@ -134,7 +134,7 @@ def push(asker: Asker, steps: dict[bytes, float], count: int) -> None:
 
 
 def fault_of_log(server: Server, name: str) -> Optional[str]:
-    """Why the log doesn't say what it should of a watcher, or None."""
+    """Returns why the log doesn't say what it should of a watcher, or None."""
     if name == "fails":
         has_warned = any(re.search("WARN|<4>", line) for line in told_of(server, r"W1.*0110|0110.*W1"))
         return None if has_warned else "no warning names W1 and the status 0110"
@@ -146,7 +146,7 @@ def fault_of_log(server: Server, name: str) -> Optional[str]:
 
 
 def try_one(program: list[str], name: str, results: Results) -> list[str]:
-    """One trial, and the lines of the log about the watcher."""
+    """Runs one trial, and returns its summary and the lines of the log about the watcher."""
     watcher, steps = KINDS[name](), {}
     with Server(program, f"W1={watcher.place}") as server:
         asker = Asker(server.port)
@@ -169,19 +169,19 @@ def try_one(program: list[str], name: str, results: Results) -> list[str]:
 # a full history
 
 ENTRIES = 1_000_000
-BATCH = 500  # requests that are asked before the first of their answers is read
-LATELY = 70.0  # seconds in which the log tells of it
-WATCHED, BUSY = b"1.2.0.0", b"1.2.0.1"  # the step that is watched, and the one that is canceled again and again
+BATCH = 500  # requests that are sent before the first of their answers is read
+LATELY = 70.0  # seconds in which the log reports it
+WATCHED, BUSY = b"1.2.0.0", b"1.2.0.1"  # the step that is watched, and the one that is to be canceled again and again
 
 
 def cancel() -> bytes:
-    """Requests to cancel a step that another one performs: that is accepted, and kept in the history."""
+    """Returns a request to cancel a step that somebody else performs: it is accepted, and kept in the history."""
     of_step = [(0x1001, even(BUSY)), (0x1008, us(2))]
     return message(PUSH_ON, command([(0x0003, even(PUSH)), (0x0100, us(0x0130)), (0x0110, us(1)), (0x0800, us(0x0101)), *of_step]))
 
 
 def fill(port: int, count: int) -> int:
-    """Asks for so many cancellations over one association, or until one is refused: the last status."""
+    """Asks for that many cancellations in one association, or until one is refused: returns the highest status of the last batch."""
     peer, asked, status = Caller(port, 60, ((PUSH, EXPLICIT), (PULL, EXPLICIT))), 0, 0
     while asked < count and status == 0:
         peer.socket.sendall(cancel() * BATCH)
@@ -192,14 +192,14 @@ def fill(port: int, count: int) -> int:
 
 
 def fill_all(port: int, entries: int) -> int:
-    """Fills the history, and gives the status of a request then."""
+    """Fills the history, and returns the status of a request afterwards."""
     with concurrent.futures.ThreadPoolExecutor(4) as four:
         list(four.map(lambda _: fill(port, entries // 4 + BATCH), range(4)))
     return fill(port, BATCH)
 
 
 def try_full(program: list[str], entries: int, results: Results) -> list[str]:
-    """A watcher that takes its first report when the history is full already."""
+    """Tries a watcher that takes its first report when the history is already full."""
     watcher = Drops()
     with Server(program, "--associations", "8", f"W1={watcher.place}") as server:
         asker = Asker(server.port)

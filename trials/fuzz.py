@@ -1,8 +1,8 @@
 #!/usr/bin/env python3
-"""Runs `upsd pipe` on mutated associations, and on requests of extreme form.
+"""Runs `upsd pipe` on mutated associations, and on extreme requests.
 
-Each run has to end by itself within ten seconds, with status 0 or 2, and to write whole PDUs alone. It prints how
-often each status came, and the first input that did otherwise.
+Each run must end by itself within ten seconds, with status 0 or 2, and write nothing but whole PDUs. The script prints
+how often each status came, and the first input that failed.
 """
 
 import collections
@@ -19,7 +19,8 @@ from machine import arguments
 
 
 def life(explicit):
-    """A step that is claimed, set and completed, and one that is canceled by request: a push context 1, a pull context 3."""
+    """Returns the requests of a step that is claimed, set and completed, and of one that is canceled by request. Presentation
+    context 1 is push, 3 is pull."""
     uid = data(explicit, 0x0008, 0x1195, b"UI", b"2.1\0")
     times = data(explicit, 0x0040, 0x4050, b"DT", b"20240229120100") + data(explicit, 0x0040, 0x4051, b"DT", b"20240229120200")
     performed = data(explicit, 0x0074, 0x1216, b"SQ", items([times]))
@@ -39,7 +40,7 @@ def life(explicit):
 
 
 def queries(explicit):
-    """Steps that are asked for by keys of each kind: a push context 1, a pull context 3."""
+    """Returns the requests of steps that are queried by keys of each kind. Presentation context 1 is push, 3 is pull."""
     def asks(*elements):
         return b"".join(data(explicit, *element) for element in elements)
 
@@ -56,7 +57,7 @@ def queries(explicit):
 
 
 def seeds():
-    """Associations that are answered to the end."""
+    """Yields associations that are answered to the end."""
     yield associate([(VERIFICATION, IMPLICIT)]) + echo(1) + echo(2) + RELEASE
     for syntax, explicit in ((IMPLICIT, False), (EXPLICIT, True)):
         steps = b"".join(create(1, i, b"1.2.3.%d" % i, step(explicit)) + get(1, 10 + i, b"1.2.3.%d" % i) for i in (1, 2))
@@ -67,7 +68,7 @@ def seeds():
 
 
 def mutated(chance, seed, spoil):
-    """A seed with some of its bytes changed, dropped or doubled, or spoiled in a way of its own form."""
+    """Returns a seed with some of its bytes changed, dropped or doubled, or spoiled by `spoil` in a way of its own form."""
     given = bytearray(seed)
     for _ in range(chance.randint(1, 4)):
         at = chance.randrange(len(given))
@@ -86,7 +87,7 @@ def mutated(chance, seed, spoil):
 
 
 def spoil_pdus(chance, given, at):
-    """Turns a bit, puts a length, or cuts the bytes off."""
+    """Flips a bit, writes a length, or cuts the bytes off."""
     kind = chance.randrange(3)
     if kind == 0:
         given[at] ^= 1 << chance.randrange(8)
@@ -97,7 +98,7 @@ def spoil_pdus(chance, given, at):
 
 
 def are_pdus(out):
-    """Whether the bytes are whole PDUs."""
+    """Returns whether the bytes are whole PDUs."""
     while out:
         if len(out) < 6:
             return False
@@ -130,7 +131,7 @@ def proposed(ident, abstract, transfers):
 
 
 def largest(program):
-    """A request of 129,691 bytes, with 128 contexts and an unknown sub-item that fills it up."""
+    """Tries a request of 129,691 bytes, with 128 presentation contexts and an unknown sub-item that fills it up."""
     head = struct.pack(">HH", 1, 0) + b"UPSD".ljust(16) + b"BENCH".ljust(16) + bytes(32) + item(0x10, b"1.2.840.10008.3.1.1.1")
     others = [b"1.2.840.10008.1.2.4.%d" % n for n in range(30)]
     contexts = b"".join(proposed(2 * i + 1, PUSH, others + [(EXPLICIT, IMPLICIT)[i % 2], (IMPLICIT, EXPLICIT)[i % 2]]) for i in range(128))
@@ -146,7 +147,7 @@ def largest(program):
 
 
 def padded(program):
-    """Values of a million bytes of padding: nothing may be lost, or recursed into."""
+    """Tries values with a million bytes of padding: nothing may be lost, or recursed into."""
     for value in (b" " * 1_000_000, bytes(1_000_000), b"X" + b" " * 999_999):
         texts = [(0x0040, 0x4005, b"DT", b"20240229120000"), (0x0040, 0x4041, b"CS", b"READY "), (0x0074, 0x1000, b"CS", b"SCHEDULED "), (0x0074, 0x1200, b"CS", b"MEDIUM"), (0x0074, 0x1204, b"LO", value)]
         made = create(1, 1, b"1.2.3.1", b"".join(data(False, *text) for text in texts))

@@ -1,9 +1,9 @@
 #!/usr/bin/env python3
 """Runs `upsd script` on mutated scripts.
 
-Each run has to end by itself within ten seconds: with status 0 and a reply for each line, or with status 2, where the
-last line of the output is `bad line N` and there are N - 1 replies before it. It prints how often each status came, and
-the first script that did otherwise.
+Each run must end by itself within ten seconds: with status 0 and a reply for each line, or with status 2, N - 1 replies
+and `bad line N` as the last line of the output. The script prints how often each status came, and the first input that
+failed.
 """
 
 import collections
@@ -36,7 +36,7 @@ SEED = b"\n".join((
 
 
 def spoil_lines(chance, given, at):
-    """Puts a character that has a meaning, orders the lines anew, or puts a part of a word between."""
+    """Writes a character that has a meaning, shuffles the lines, or inserts a part of a word."""
     kind = chance.randrange(3)
     if kind == 0:
         given[at] = chance.choice(b"0123456789ABCDEF./=% \n")
@@ -49,7 +49,7 @@ def spoil_lines(chance, given, at):
 
 
 def is_told(done, lines):
-    """Whether the output is a reply for each line, or for those before the bad one."""
+    """Returns whether the output is a reply for each line, or for those before the bad one, which it names."""
     told = done.stdout.split(b"\n")
     if told.pop() != b"":
         return False

@@ -1,11 +1,12 @@
 #!/usr/bin/env python3
-"""Measures what `upsd serve` takes of a processor while nobody asks anything.
+"""Measures the share of a processor that `upsd serve` takes while nobody asks anything.
 
     trials/idle.py [PROGRAM] [--steps 14000] [--watchers 10] [--seconds 60]      (default: crates/upsd/out/upsd)
 
-It starts the server on a free port of this machine with so many watchers, each of which subscribes to all steps, and creates so
-many steps. When each watcher has the report of each step, the server has to take less than 0.1 % of a processor for so many
-seconds (`--most`), by /proc. It prints the share, and ends with status 1 where that is more, or where reports are missing.
+It starts the server on a free port of this machine with `--watchers` watchers, each of which subscribes to all steps, and
+creates `--steps` steps. When each watcher has the report of each step, the server must take less than 0.1 % of a processor
+(`--most`) for `--seconds` seconds, by its CPU clock. It prints the share, and ends with status 1 if that is more, or if reports
+are missing.
 """
 
 from __future__ import annotations
@@ -28,7 +29,7 @@ SETTLE = 5  # seconds after them, before anything is measured
 
 
 def filled(server: Server, watchers: list[Watcher], steps: int) -> bool:
-    """Creates so many steps; whether each watcher has as many reports in time."""
+    """Creates that many steps, and returns whether each watcher has as many reports in time."""
     asker = Asker(server.port)
     for number in range(len(watchers)):
         asker.do(subscribe(GLOBAL, b"W%d" % number, b"FALSE"))
@@ -39,13 +40,13 @@ def filled(server: Server, watchers: list[Watcher], steps: int) -> bool:
 
 
 def dearest(pid: int, before: dict[str, int]) -> str:
-    """Which threads ran longest since they had run so many nanoseconds."""
+    """Returns which three threads ran longest since `before`, which has the nanoseconds that each had run."""
     ran = {task: used_by(pid, int(task)) - then for task, then in before.items()}
     return ", ".join(f"thread {task}: {ran[task] / 1e6:.1f} ms" for task in sorted(ran, key=lambda it: -ran[it])[:3])
 
 
 def measured(pid: int, seconds: float) -> tuple[float, str]:
-    """The share of a processor that a process takes for so many seconds, and which of its threads take most."""
+    """Returns the share of a processor that a process takes for that many seconds, and which of its threads take most."""
     threads = {task: used_by(pid, int(task)) for task in os.listdir(f"/proc/{pid}/task")}
     before, began = processor(pid), time.monotonic()
     time.sleep(seconds)

@@ -1,8 +1,8 @@
 #!/usr/bin/env python3
 """Gives `upsd` the longest lines and messages that it takes, in every shape, and checks that each ends by itself.
 
-Each run has a stack of 2 MiB, as a thread has, and ten seconds of processor time; a run that needs more is killed and
-named. Prints the ten dearest, and ends with status 0 where none was killed.
+Each run has a stack of 2 MiB, like a thread, and ten seconds of processor time; a run that needs more is killed and
+named. Prints the ten slowest, and ends with status 0 if none was killed.
 
 Usage: trials/limits.py [PROGRAM]        (crates/upsd/out/upsd, which `rt run` builds)
 """
@@ -30,7 +30,7 @@ def confine():
 
 
 def run(words, stdin):
-    """The seconds of processor time of a run, and its status; below 0 where it was killed."""
+    """Returns the seconds of processor time of a run, and its status, which is negative if it was killed."""
     before = resource.getrusage(resource.RUSAGE_CHILDREN)
     with tempfile.TemporaryFile() as given:
         given.write(stdin)
@@ -41,14 +41,14 @@ def run(words, stdin):
 
 
 def tags():
-    """Tags that no dictionary has, by rising number."""
+    """Yields tags that no dictionary has, in ascending order."""
     for group in range(0x0101, 0xFFFF, 2):
         for number in range(0x1001, 0xFF00):
             yield group, number
 
 
 def texts(size):
-    """Attributes of a line, of at most so many bytes."""
+    """Yields attributes of a line, of about `size` bytes at most, each with a name."""
     nested = b"/".join(b"00404018.1" for _ in range(8))
     yield "one value", b"0074100A=" + b"A" * (size - 20)
     yield "one value, escaped", b"0074100A=" + b"%41" * ((size - 20) // 3)
@@ -63,7 +63,7 @@ def texts(size):
 
 
 def keys(size):
-    """Keys of a line, each dear against a value or a list of a megabyte, or against many items."""
+    """Yields keys of a line, each with a name, that are slow to match with a value or a list of a megabyte, or with many items."""
     half = size // 2
     yield "a run that fits nearly everywhere", b"00741204=*" + b"a" * min(half, 400_000) + b"b*"
     yield "a run with ?", b"00741204=*" + b"a" * min(half, 250_000) + b"?" + b"a" * min(half, 250_000) + b"b*"
@@ -113,7 +113,7 @@ def scripts():
 
 
 def sets(size):
-    """Data sets in Explicit VR Little Endian."""
+    """Yields data sets in Explicit VR Little Endian, each with a name."""
     count = size // 8
     yield "one value", data(True, 0x0101, 0x1001, b"UN", b"A" * (size - 400))
     yield "elements without value", b"".join(data(True, *tag, b"LO", b"") for _, tag in zip(range(count), tags()))
@@ -136,7 +136,7 @@ def messages():
     row = step(True)
     first = begin + create(1, 1, b"1.2.3.1", row)
     for name, more in sets(size - len(row)):
-        # the attributes of tags (0101,xxxx) stand behind those of the group 0020 and before 0032: they are sorted here
+        # the data set is `more` alone, without the attributes of `row`
         yield f"N-CREATE: {name}", begin + create(1, 1, b"1.2.3.1", more) + RELEASE
         yield f"N-SET: {name}", first + set_attributes(3, 2, b"1.2.3.1", more) + RELEASE
         yield f"N-ACTION: {name}", first + act(1, 2, b"1.2.3.1", 2, more) + RELEASE

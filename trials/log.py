@@ -1,19 +1,20 @@
 #!/usr/bin/env python3
-"""Compares the log of `upsd serve` with what 20 associations ask at the same time.
+"""Compares the log of `upsd serve` with what 20 simultaneous associations ask.
 
     trials/log.py [PROGRAM]
 
 Each association has its own calling AE title and its own number of requests, from 1 to 20, and all of them are open at once.
-The lines of an association have its number, its calling title and its address, as in
+The lines of an association have its number, its calling title and its address; the last one is like
 
     serve: Released #17 PERFORM1 192.0.2.7:51234, 12 requests, 3.1 s
 
-which is the last of them. With --verbose there is a line for each request before it, which names the operation, the step and
-the status; without, there is one for each request that is refused, and no other. The script finds the lines of each association by the number, and compares the
-title, the address, the number of requests, the seconds, and the requests with their statuses and their order.
+With --verbose there is a line before it for each request, which names the operation, the step and the status; without
+--verbose there is one for each request that is refused, and no other. The script finds the lines of each association by its
+number, and compares the title, the address, the number of requests, the seconds, and the requests with their statuses and
+their order.
 
 It starts servers on free ports of this machine, with and without --verbose, and ends by itself. It prints a line for each
-association, and then `N passed, M failed`. The exit status is 1 where one failed.
+association, and then `N passed, M failed`. The exit status is 1 if any failed.
 """
 
 from __future__ import annotations
@@ -37,8 +38,8 @@ from results import Results
 from server import Server
 
 COUNT = 20
-LIMIT = 30  # seconds for all associations of a server to be open, and for an answer
-SLACK = 1.0  # seconds by which the log and this side may differ on how long an association took
+LIMIT = 30  # seconds for all associations of a server to open, and for an answer
+SLACK = 1.0  # seconds by which the log and the script may differ on how long an association took
 OPERATION = re.compile(r"serve: (?:[CN]-[A-Z]+|Change) #")
 END = re.compile(r"serve: Released #\d+ \S+ \S+, (\d+) requests?, (\d+\.\d) s$")
 
@@ -53,7 +54,7 @@ class Request:
 
 
 def requests_on(step: str) -> list[Request]:
-    """The requests on one step, in order."""
+    """Returns the requests on one step, in order."""
     uid = step.encode()
     return [
         Request(create(PUSH_ON, 1, uid, a_step(b"P1")), 0x0000, ["N-CREATE", step, "0000"]),
@@ -78,7 +79,7 @@ class Caller(Peer):
         self.seconds = 0.0
 
     def run(self, barrier: threading.Barrier) -> None:
-        """Opens the association, asks when all others are open too, and releases it."""
+        """Opens the association, asks once all others are open too, and releases it."""
         try:
             self.associate(CONTEXTS, self.title.encode())
             barrier.wait(LIMIT)
@@ -93,7 +94,7 @@ class Caller(Peer):
 
 
 def lines_by_number(log: list[str]) -> dict[int, list[str]]:
-    """The lines of each association, by its number."""
+    """Returns the lines of each association, by its number."""
     found: dict[int, list[str]] = collections.defaultdict(list)
     for line in log:
         if number := re.search(r"serve: .*?#(\d+) ", line):
@@ -102,7 +103,7 @@ def lines_by_number(log: list[str]) -> dict[int, list[str]]:
 
 
 def lines_of(caller: Caller, found: dict[int, list[str]]) -> tuple[int, list[str]]:
-    """The number of an association, and its lines: those of the one number that has its title."""
+    """Returns the number of an association, and its lines: those of the only number that has its title."""
     having = [number for number, lines in found.items() if any(f" {caller.title} " in line for line in lines)]
     if not having:
         raise ValueError("no line has a number and this title")
@@ -112,7 +113,7 @@ def lines_of(caller: Caller, found: dict[int, list[str]]) -> tuple[int, list[str
 
 
 def compare_end(caller: Caller, line: str) -> None:
-    """Compares the last line with the association."""
+    """Raises ValueError if the last line differs from the association."""
     end = END.search(line)
     if not end:
         raise ValueError(f"the last line is {line!r}")
@@ -123,7 +124,7 @@ def compare_end(caller: Caller, line: str) -> None:
 
 
 def compare_requests(requests: list[Request], lines: list[str]) -> None:
-    """Compares the lines of requests with those that were made."""
+    """Raises ValueError if the lines of requests differ from the requests that were made."""
     if len(lines) != len(requests):
         raise ValueError(f"{len(lines)} lines name an operation, and {len(requests)} requests are to have one")
     for place, (line, request) in enumerate(zip(lines, requests), 1):
@@ -133,7 +134,7 @@ def compare_requests(requests: list[Request], lines: list[str]) -> None:
 
 
 def fault_of(caller: Caller, found: dict[int, list[str]], verbose: bool) -> Optional[str]:
-    """How the log differs from what an association did; None where it doesn't."""
+    """Returns how the log differs from what an association did, or None."""
     if caller.fault:
         return caller.fault
     try:
@@ -152,7 +153,7 @@ def fault_of(caller: Caller, found: dict[int, list[str]], verbose: bool) -> Opti
 
 
 def call_all(port: int) -> list[Caller]:
-    """The associations, all of them at the same time."""
+    """Runs all associations at the same time, and returns them."""
     barrier = threading.Barrier(COUNT)
     callers = [Caller(port, number) for number in range(1, COUNT + 1)]
     threads = [threading.Thread(target=it.run, args=(barrier,)) for it in callers]

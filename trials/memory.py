@@ -1,22 +1,22 @@
 #!/usr/bin/env python3
-"""Fills `upsd serve` with steps until its memory ends, and sees that what is asked of these steps goes on.
+"""Fills `upsd serve` with steps until its memory runs out, and checks that requests on these steps still work.
 
-The server may take 500 MB of addresses (RLIMIT_AS). Four associations are open at the same time, one at each worker, and each
-creates steps of 400 kB until three in a row are refused 0213. Then, on all four:
+The server may take 500 MB of addresses (RLIMIT_AS). Four associations are open at the same time, one for each worker, and each
+creates steps of 400 kB until three in a row are refused with 0213. Then, on all four:
 
-    creations           each further one is refused 0213
+    creations           each further one is refused with 0213
     looking             C-ECHO is answered, a step is shown whole, and a query without keys finds each step that was accepted,
-                        and no other; C-ECHO and N-GET are answered on 20 associations in a row too
-    the life of steps   each of 4 is claimed, and set, and shown as it was set; then it is completed
+                        and no other; C-ECHO and N-GET are also answered on 20 associations in a row
+    the life of steps   each of 4 is claimed, set, and shown as it was set; then it is completed
     the sweep           the other steps are canceled by request, 20 at a time, until they are swept (`--keep 1`): steps are
                         then created again, and each of these is found
 
-No association may end by itself, and the server goes on. All of it comes twice: with the memory of the C library as it is,
-and with one memory for all threads (MALLOC_ARENA_MAX=1). A program that is built with checks (`rt try`) can't be tried: it
-takes more addresses than that when it starts.
+No association may end by itself, and the server must go on. All of it runs twice: with the C library's memory as it is, and
+with one arena for all threads (MALLOC_ARENA_MAX=1). A program that is built with checks (`rt try`) can't be tried: it takes
+more addresses than that when it starts.
 
 It starts the servers on free ports of this machine and ends by itself, in five minutes. It prints a line for each trial that
-doesn't agree, and in the end how many passed. It ends with 1 where one doesn't.
+fails, and in the end how many passed. The status is 1 if any failed.
 """
 
 import argparse
@@ -36,13 +36,13 @@ from server import Server
 
 ADDRESSES = 500_000_000
 SIZE = 400_000  # bytes of a value of each step
-MOST = 2_000  # creations at a worker, far more than there is memory for
-REFUSALS = 3  # in a row, after which a worker has no memory for steps
+MOST = 2_000  # creations on one association, far more than there is memory for
+REFUSALS = 3  # in a row, after which there is no memory for steps
 FEWEST = 50  # steps, fewer than there is memory for
-AGAIN = 10  # steps that there has to be memory for after the sweep
+AGAIN = 10  # steps that there must be memory for after the sweep
 TRIES = 20
 WORKERS = 4
-AT_ONCE = 20  # steps that are canceled before a sweep: each takes its memory anew until then
+AT_ONCE = 20  # steps that are canceled before a sweep: each takes its memory again until then
 SWEEP = 20  # seconds
 DONE, NO_ROOM = 0x0000, 0x0213
 LARGE = 0x0101, 0x1001  # an attribute that no dictionary has
@@ -53,10 +53,10 @@ FAULTS = (OSError, EOFError, AssertionError)
 
 
 class Asker(Peer):
-    """An association that keeps the data sets that it is answered."""
+    """An association that keeps the data sets of the answers."""
 
     def answer(self) -> int:
-        """The status of a response, whose data set is kept."""
+        """Returns the status of a response, and keeps its data set."""
         elements, command = {}, self.fragments(True)
         while command:
             number, length = struct.unpack("<xxHI", command[:8])
@@ -80,7 +80,7 @@ def creation(number: int) -> bytes:
 
 
 def set_performed(number: int) -> bytes:
-    """An N-SET of what the state COMPLETED needs."""
+    """Returns an N-SET of what the state COMPLETED needs."""
     change = told(0x0008, 0x1195, b"UI", HOLDER) + data(True, 0x0074, 0x1216, b"SQ", items([PERFORMED]))
     return dicom.set_attributes(PULL_ON, 1, uid_of(number), change)
 
@@ -95,19 +95,19 @@ def cancellation(number: int) -> bytes:
 
 
 def found(peer: Asker) -> Optional[set[bytes]]:
-    """The UIDs of the steps that a query without keys finds; None where it is refused."""
+    """Returns the UIDs of the steps that a query without keys finds, or None if it is refused."""
     if peer.ask(dicom.find(PULL_ON, 1, told(0x0008, 0x0018, b"UI", b""))) != DONE:
         return None
     return {it[8:].rstrip(b"\0") for it in peer.sets}
 
 
 def is_shown(peer: Asker, number: int, part: bytes) -> bool:
-    """Whether a step is shown whole, with this part."""
+    """Returns whether a step is shown whole, with this part."""
     return peer.ask(dicom.get(PULL_ON, 1, uid_of(number))) == DONE and len(peer.sets[0]) > SIZE and part in peer.sets[0]
 
 
 class Trials:
-    """What is tried of one server."""
+    """The trials of one server."""
 
     def __init__(self, server: Server, results: Results, name: str):
         self.server, self.results, self.name = server, results, name
@@ -117,7 +117,7 @@ class Trials:
         self.results.tell(f"{self.name}: {what}", None if is_so else why)
 
     def serve(self, what: str, work: Callable[..., None], count: int = WORKERS) -> None:
-        """Has so many associations at the same time, which have to be served until they are released."""
+        """Does the work with that many associations at the same time, which must be served until they are released."""
         fault = None
         try:
             peers = [Asker(self.server.port) for _ in range(count)]
@@ -129,7 +129,7 @@ class Trials:
         self.results.tell(f"{self.name}: {what}, served", fault)
 
     def create(self, peer: Asker) -> int:
-        """Creates the next step: the status."""
+        """Creates the next step, and returns the status."""
         status = peer.ask(creation(self.next))
         if status == DONE:
             self.held.append(self.next)
@@ -137,7 +137,7 @@ class Trials:
         return status
 
     def finds_all(self, peer: Asker) -> bool:
-        """Whether a query without keys finds the steps that are there."""
+        """Returns whether a query without keys finds exactly the steps that are there."""
         return found(peer) == set(map(uid_of, self.held))
 
     def fill(self, *peers: Asker) -> None:
@@ -164,7 +164,7 @@ class Trials:
         self.tell("C-ECHO and N-GET", is_so, "they are not answered")
 
     def live(self, *peers: Asker) -> None:
-        """The life of a step at each worker, to its end."""
+        """Takes a step on each association through its life, to its end."""
         for peer in peers:
             step = self.held.pop(0)
             statuses = [peer.ask(it) for it in (claim(1, uid_of(step), HOLDER), set_performed(step))]
@@ -173,7 +173,7 @@ class Trials:
             self.tell(f"the life of step {step}", statuses == [DONE] * 3, f"{[f'{it:04X}' for it in statuses]}")
 
     def sweep(self, *peers: Asker) -> None:
-        """Cancels the steps, so many at a time, until they are swept."""
+        """Cancels the steps, AT_ONCE at a time, until they are swept."""
         while self.held:
             canceled, self.held = self.held[:AT_ONCE], self.held[AT_ONCE:]
             statuses = {peers[it % len(peers)].ask(cancellation(step)) for it, step in enumerate(canceled)}

@@ -1,32 +1,32 @@
 #!/usr/bin/env python3
-"""Has one server answer mutated associations for so many minutes, beside clients that keep a ledger of their own steps.
+"""Sends mutated associations to a server for a number of minutes, beside clients that keep a ledger of their own steps.
 
     trials/mutate.py [PROGRAM..] [--minutes 15] [--seed 1]      (default: crates/upsd/out/upsd)
 
-A mutator says one association after the other. Each is one of the valid ones of `fuzz.py`, or one that subscribes, and most
+A mutator sends one association after the other. Each is one of the valid ones of `fuzz.py`, or one that subscribes, and most
 are mutated, one to four times:
 
-    bytes       up to four bytes are others, or have a bit turned
-    order       two PDUs change places, one goes elsewhere, or all come in any order
-    lengths     the length of a PDU, of a PDV, or of anything at any place is another: a little, or an extreme one
+    bytes       up to four bytes are replaced, or have a bit flipped
+    order       two PDUs change places, one moves elsewhere, or all are shuffled
+    lengths     the length of a PDU, of a PDV, or of anything at any place is changed: by a little, or to an extreme one
     cuts        it ends at any place
-    repeats     a PDU comes up to twenty times, or some bytes within one come twice
+    repeats     a PDU is repeated up to twenty times, or some bytes within one come twice
     drops       a PDU is left out, or some bytes
     strangers   a PDU of another association comes in between, or any bytes
 
-It says them whole or in pieces, and then says no more and reads on, hangs up, or resets the connection; a mutator of its own
-stays silent and reads on. Who reads on has to be hung up on: at once where that was said, and else when the limit of 20
-seconds is over. What is read has to be whole PDUs. An association that isn't mutated has to be accepted, and released in the
-end. Nothing may take more than two minutes.
+It sends them whole or in pieces, and then closes its side and reads on, hangs up, or resets the connection; one mutator instead
+always stays silent and reads on. The server must hang up on one that reads on: at once if it has closed its side, otherwise
+after the limit of 20 seconds. What is read must be whole PDUs. An association that isn't mutated must be accepted, and released
+in the end. Nothing may take more than two minutes.
 
 At the same time ledger clients, one in Explicit and one in Implicit VR Little Endian, create, claim, set, finish, cancel, get
 and find steps of their own, under UIDs of a root that no mutation leads to. They compare the status of each reply, and each
-attribute of each step that is told, with their ledger; in the end they do so with every step (`ledger.py`).
+attribute of each step that they are shown, with their ledger; in the end they do so with every step (`ledger.py`).
 
-Nothing else may come: the server goes on, and has in the end the threads and the descriptors that it had at the start. SIGTERM
-ends it. What is said hangs on --seed, the number of the mutator and that of the association, and not on the clock; with
---count each mutator but the silent one says so many associations, and the minutes don't count. It prints how many associations and mutations
-there were, by kind, how many replies agree with the ledgers, and each fault. The status is 1 where there is one.
+The server must go on, and in the end have the threads and the descriptors that it had at the start. SIGTERM must end it. What
+is sent depends on --seed, the number of the mutator and that of the association, and not on the clock; with --count each
+mutator but the silent one sends that many associations, and the minutes don't count. It prints how many associations and
+mutations there were, by kind, how many replies agree with the ledgers, and each fault. The status is 1 if there is any.
 """
 
 from __future__ import annotations
@@ -53,20 +53,20 @@ from machine import HERE, holds
 from server import Server
 
 MUTATORS, LEDGERS = 4, 2  # the last mutator stays silent
-WORKERS = 6 * MUTATORS + LEDGERS  # an association that a mutator has left may be served for a while
+WORKERS = 6 * MUTATORS + LEDGERS  # an association that a mutator has left may still be served for a while
 LIMIT = 20  # seconds: the limits of the server
-PATIENCE = 120  # seconds in which anything has to come
+PATIENCE = 120  # seconds in which anything must come
 PAUSE = 0.02  # seconds between two requests of a ledger
-FRESH = 200  # roots of UIDs that mutants use: as many times are their steps new
-EVERY = 40  # of so many associations of a mutator one is the first that uses a root
+FRESH = 200  # roots of UIDs that the mutated associations use: that many times their steps are new
+EVERY = 40  # one in that many associations of a mutator is the first that uses a root
 ROOT = b"1.2.3."  # that of the valid associations
 WATCH = b"1.2.840.10008.5.1.4.34.6.2"
 ALL_STEPS, SOME_STEPS = b"1.2.840.10008.5.1.4.34.5", b"1.2.840.10008.5.1.4.34.5.1"
 WATCHER = "WATCHER=127.0.0.1:9"  # nobody listens there
 EXTREMES = (0, 1, 2, 3, 5, 0xFF, 0x7FFF, 0xFFFF, 16384, 16385, 131072, 1_048_577, 0x7FFFFFFF, 0xFFFFFFFE, 0xFFFFFFFF)
-WAYS = {"reads on": 60, "hangs up": 20, "resets": 20}  # in a hundred
+WAYS = {"reads on": 60, "hangs up": 20, "resets": 20}  # in percent
 SILENT = "stays silent"
-SHARE = 20  # of so many associations one is not mutated
+SHARE = 20  # one in that many associations is not mutated
 
 Pdus = list[bytes]
 
@@ -74,7 +74,8 @@ Pdus = list[bytes]
 # the valid associations
 
 def watching(explicit: bool) -> bytes:
-    """A step that is watched alone, by a filter and with all others: a push context 1, a watch context 3."""
+    """Returns the requests of a step that is watched alone, by a filter and with all others. Presentation context 1 is push, 3
+    is watch."""
     receiver = data(explicit, 0x0074, 0x1234, b"AE", b"WATCHER ")
     lock = data(explicit, 0x0074, 0x1230, b"LO", b"FALSE ")
     key = data(explicit, 0x0010, 0x0020, b"LO", b"P?")
@@ -86,7 +87,7 @@ def watching(explicit: bool) -> bytes:
 
 
 def origins() -> list[Pdus]:
-    """The PDUs of each valid association."""
+    """Returns the PDUs of each valid association."""
     whole = list(fuzz.seeds())
     for syntax, explicit in ((IMPLICIT, False), (EXPLICIT, True)):
         whole.append(associate([(PUSH, syntax), (WATCH, syntax), (PULL, syntax)]) + watching(explicit) + RELEASE)
@@ -94,7 +95,7 @@ def origins() -> list[Pdus]:
 
 
 def is_whole(said: bytes) -> bool:
-    """Whether no message of an association is cut short, so that it is released in the end."""
+    """Returns whether an association has whole PDUs alone, the last of which releases it."""
     pdus = pdus_of(said)
     return all(len(it) >= 6 and len(it) == 6 + int.from_bytes(it[2:6], "big") for it in pdus) and pdus[-1] == RELEASE
 
@@ -170,7 +171,7 @@ def insert_stranger(chance: random.Random, pdus: Pdus) -> None:
 
 
 def pick(chance: random.Random, pdus: Pdus) -> tuple[int, bytearray]:
-    """One of the PDUs that have bytes."""
+    """Returns the place of one of the PDUs that have bytes, and a copy of it."""
     at = chance.choice([i for i, it in enumerate(pdus) if it] or [0])
     return at, bytearray(pdus[at] or RELEASE)
 
@@ -181,7 +182,7 @@ KINDS = {"bytes": change_bytes, "order": change_order, "lengths": change_lengths
 
 
 class Association:
-    """What a mutator says in an association, by the seed and its number, and what comes of it."""
+    """What a mutator sends in an association, by the seed and the numbers of both, and what comes of it."""
 
     def __init__(self, seed: object, mutator: int, number: int) -> None:
         self.name = f"association {number} of mutator {mutator}"
@@ -198,13 +199,13 @@ class Association:
         self.heard = b""
 
     def root(self, number: int) -> bytes:
-        """The root of its UIDs, of the same length. A new one comes now and then, so that the steps don't become many."""
+        """Returns the root of its UIDs, of the same length. A new one comes only now and then, so that the steps don't become many."""
         known = min(number // EVERY, FRESH - 1)
         root = known if number % EVERY == 0 else self.chance.randint(0, known)
         return b"%d.%d.%d." % (1 + root // 100, root // 10 % 10, root % 10)
 
     def run(self, port: int) -> Optional[str]:
-        """Why what came of it is not what has to come, or None."""
+        """Returns why what came of it is not what must come, or None."""
         with socket.create_connection(("127.0.0.1", port), PATIENCE) as connection:
             try:
                 self.say(connection)
@@ -215,7 +216,7 @@ class Association:
                 return f"it takes nothing, or isn't hung up on, within {PATIENCE} s where it {self.way}"
 
     def say(self, connection: socket.socket) -> None:
-        """Says it, whole or in pieces."""
+        """Sends it, whole or in pieces."""
         pieces = 1 if self.chance.random() < 0.7 else self.chance.randint(2, 20)
         size = len(self.said) // pieces + 1
         connection.setsockopt(socket.IPPROTO_TCP, socket.TCP_NODELAY, 1)
@@ -223,7 +224,7 @@ class Association:
             connection.sendall(self.said[at:at + size])
 
     def end(self, connection: socket.socket) -> Optional[str]:
-        """Ends it in its way."""
+        """Ends it in its way, and returns what is wrong with what it hears, or None."""
         if self.way == "resets":
             connection.setsockopt(socket.SOL_SOCKET, socket.SO_LINGER, struct.pack("ii", 1, 0))
         if self.way in ("resets", "hangs up"):
@@ -243,7 +244,7 @@ class Association:
 
 
 class Mutator:
-    """Says one association after the other, and counts them."""
+    """A mutator, which sends one association after the other, and counts them."""
 
     def __init__(self, port: int, seed: object, number: int, count: Optional[int]) -> None:
         self.port, self.seed, self.number, self.count = port, seed, number, count
@@ -275,7 +276,7 @@ def listed(counted: collections.Counter[str]) -> str:
 
 
 def talk(server: Server, mutators: list[Mutator], ledgers: list[Ledger], seconds: float) -> Optional[str]:
-    """Has them talk until the time is over or the mutators are done; why the server doesn't go on, or None."""
+    """Lets them talk until the time is over or the mutators are done, and returns why the server doesn't go on, or None."""
     over, done = threading.Event(), threading.Event()
     mutating = [threading.Thread(target=it.run, args=(over,), daemon=True) for it in mutators]
     keeping = [threading.Thread(target=it.run, args=(done, PAUSE), daemon=True) for it in ledgers]
@@ -297,7 +298,7 @@ def talk(server: Server, mutators: list[Mutator], ledgers: list[Ledger], seconds
 
 
 def resources_fault(server: Server, before: tuple[int, int]) -> Optional[str]:
-    """Why threads or descriptors are lost, or None."""
+    """Returns why threads or descriptors are lost, or None."""
     is_left(server.port)
     if holds(lambda: threads(server) == before[0] and descriptors(server) <= before[1], PATIENCE):
         return None
@@ -305,14 +306,14 @@ def resources_fault(server: Server, before: tuple[int, int]) -> Optional[str]:
 
 
 def ended_fault(server: Server) -> Optional[str]:
-    """Why SIGTERM doesn't end the server, or None."""
+    """Returns why SIGTERM doesn't end the server, or None."""
     server.process.send_signal(signal.SIGTERM)
     holds(lambda: server.process.poll() is not None, LIMIT)
     return None if server.process.poll() == -signal.SIGTERM else f"SIGTERM: it ended with {server.process.poll()}"
 
 
 def words_of(log: list[str]) -> collections.Counter[str]:
-    """How often the log tells each end of an association."""
+    """Returns how often the log has each word for the end of an association."""
     return collections.Counter(it.split(" serve: ")[1].split()[0] for it in log if " serve: " in it and " #" in it)
 
 
@@ -331,7 +332,7 @@ def tell(mutators: list[Mutator], ledgers: list[Ledger], log: list[str]) -> None
 
 
 def judge_end(server: Server, ledgers: list[Ledger], before: tuple[int, int], memory: int) -> list[str]:
-    """Prints what is there in the end, and gives what else is wrong than the ledgers tell."""
+    """Prints what is there in the end, and returns the faults that the ledgers don't list."""
     steps, good = sum(len(it.steps) for it in ledgers), sum(it.audit() for it in ledgers)
     lost = resources_fault(server, before)
     print(f"{steps:,} steps in the end, {good:,} agree; VmRSS {memory / 1024:.1f} MiB, and {status(server, 'VmRSS') / 1024:.1f} MiB in the end")
@@ -339,7 +340,7 @@ def judge_end(server: Server, ledgers: list[Ledger], before: tuple[int, int], me
 
 
 def tried(server: Server, given: argparse.Namespace) -> list[str]:
-    """Runs all, and gives the faults."""
+    """Runs everything, and returns the faults."""
     ledgers = [Ledger(server.port, it, given.seed, PATIENCE) for it in range(LEDGERS)]
     for it in ledgers:
         it.begin()

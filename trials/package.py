@@ -4,16 +4,16 @@
     trials/package.py                  with crates/upsd/out/upsd, which `rt run` builds
     trials/package.py --program PATH   with another program
     trials/package.py --checked        with a program that is built with checks (`rt try`): LimitAS is too little for it
-    trials/package.py --root FOLDER    takes the bare Debian of a folder, and makes it there where there is none
+    trials/package.py --root FOLDER    takes the bare Debian of a folder, and makes it there if there is none
 
-Two builds have to be equal, `lintian` may find no error and no warning, `systemd-analyze security` no more than 2.0, and each
-option that a --help has stands in the man page of the command. Then `debootstrap` makes a Debian 12 with systemd (some 300 MB
-from deb.debian.org), and `systemd-nspawn` boots it, with a network of its own. There the package is installed with what it
-depends on; the unit, as it is but for the words in /etc/default/upsd, runs the tour of README.md through `ups`; a restart, an
-upgrade, a wrong word, a removal and a purge have to do what the package says. In the end nothing of it is left.
+Two builds must be equal, `lintian` may find no error and no warning, `systemd-analyze security` may say at most 2.0, and the
+synopsis of upsd(8) must have the options of each --help. Then `debootstrap` makes a Debian 12 with systemd (some 300 MB from
+deb.debian.org), and `systemd-nspawn` boots it, with a network of its own. There the package is installed with what it depends
+on; the unit, as it is but for the words in /etc/default/upsd, runs the tour of README.md through `ups`; a restart, an upgrade,
+a wrong word, a removal and a purge must do what the package says. In the end nothing of it may be left.
 
 It installs what is missing (lintian, debootstrap, systemd-container, man-db, python3-pydicom) and needs root. It prints a line
-for each trial, and then `N passed, M failed`. The exit status is 1 where one failed.
+for each trial, and then `N passed, M failed`. The exit status is 1 if any failed.
 """
 
 from __future__ import annotations
@@ -39,7 +39,7 @@ TOOLS = {"lintian": "lintian", "debootstrap": "debootstrap", "systemd-nspawn": "
 MIRROR = "http://deb.debian.org/debian"
 MOST_EXPOSED = 2.0
 STORE = "/var/lib/upsd/upsd.db"
-PORTS = {port: port for port in (tour.SERVER_PORT, tour.WATCHER_PORT)}  # all are free: what is booted has its own network
+PORTS = {port: port for port in (tour.SERVER_PORT, tour.WATCHER_PORT)}  # all are free: the booted Debian has its own network
 BOOT = 60  # seconds until it has booted
 QUIET = {**os.environ, "LC_ALL": "C.UTF-8", "DEBIAN_FRONTEND": "noninteractive", "PATH": "/usr/sbin:/usr/bin:/sbin:/bin"}
 NOT_COMPARED = ("var/log", "var/cache", "var/lib/dpkg", "var/lib/apt", "var/tmp", "var/lib/systemd", "tmp", "run", "proc", "sys",
@@ -51,7 +51,7 @@ def run(*words: str) -> subprocess.CompletedProcess[str]:
 
 
 def fault_of(ran: subprocess.CompletedProcess[str]) -> Optional[str]:
-    """Why a command failed, or None."""
+    """Returns why a command failed, or None."""
     return None if ran.returncode == 0 else f"status {ran.returncode}: {tour.last_line(ran.stderr or ran.stdout)}"
 
 
@@ -62,7 +62,7 @@ def unless(holds_so: bool, fault: str) -> Optional[str]:
 # the package by itself
 
 def built(program: str, folder: str) -> str:
-    """The path of a package that is built into a folder."""
+    """Builds a package into a folder, and returns its path."""
     ran = run("packaging/build", "--program", program, "--output", folder)
     if ran.returncode:
         sys.exit(f"package.py: it can't be built: {tour.last_line(ran.stderr)}")
@@ -80,7 +80,7 @@ def lint(package: str) -> Optional[str]:
 
 
 def exposure(unit: str) -> Optional[str]:
-    """Why a unit is too exposed, or None."""
+    """Returns why a unit is too exposed, or None."""
     said = run("systemd-analyze", "security", "--offline=true", unit).stdout
     found = re.search(r"exposure level for \S+: ([\d.]+)", said)
     return unless(found is not None and float(found[1]) <= MOST_EXPOSED, found[0] if found else "no level is told")
@@ -91,7 +91,7 @@ def options_in(text: str) -> set[str]:
 
 
 def synopsis(program: str) -> Optional[str]:
-    """Which options of the program's commands the synopsis of its man page lacks, or has too many; or None."""
+    """Returns which options of the program's commands the synopsis of its man page lacks, or has in excess; or None."""
     with open(os.path.join(HERE, "packaging/man/upsd.8"), encoding="utf-8") as opened:
         page = opened.read().partition(".Sh SYNOPSIS\n")[2].partition(".Sh ")[0]
     faults = []
@@ -102,7 +102,7 @@ def synopsis(program: str) -> Optional[str]:
 
 
 def man_pages(root: str) -> Optional[str]:
-    """What `man` warns of in the pages that are installed below a root."""
+    """Returns what `man` warns about in the pages that are installed below a root, or None."""
     faults = []
     for page in ("man1/ups.1.gz", "man5/upsd-script.5.gz", "man8/upsd.8dicom.gz"):
         ran = run("man", "--warnings", "-l", "-Tutf8", "-Z", os.path.join(root, "usr/share/man", page))
@@ -111,7 +111,7 @@ def man_pages(root: str) -> Optional[str]:
 
 
 def try_package(program: str, folder: str, results: Results) -> str:
-    """Builds the package, and looks at it: its path."""
+    """Builds the package, checks it, and returns its path."""
     package, other = built(program, folder), built(program, os.path.join(folder, "again"))
     results.tell("two builds are equal", unless(content(package) == content(other), "they differ"))
     results.tell("lintian", lint(package))
@@ -120,10 +120,10 @@ def try_package(program: str, folder: str, results: Results) -> str:
     return package
 
 
-# a Debian that is booted
+# a booted Debian
 
 def bare(folder: str) -> None:
-    """Makes a Debian with systemd and nothing more in a folder, unless it is there."""
+    """Makes a Debian with systemd and nothing more in a folder, unless it is there already."""
     if not os.path.exists(os.path.join(folder, "usr/bin/dpkg")):
         ran = run("debootstrap", "--variant=minbase", "--include=systemd-sysv", "bookworm", folder, MIRROR)
         if ran.returncode:
@@ -135,13 +135,13 @@ class Machine:
 
     def __init__(self, root: str) -> None:
         self.root = root
-        self.leader = ""  # the process that is its process 1
+        self.leader = ""  # the process that is process 1 in it
 
     def path(self, name: str) -> str:
         return os.path.join(self.root, name.lstrip("/"))
 
     def words(self) -> list[str]:
-        """What stands before a command that is run in it."""
+        """Returns the words that go before a command to run it there."""
         return ["nsenter", "-t", self.leader, "-m", "-u", "-i", "-n", "-p", "-C"] if self.leader else ["chroot", self.root]
 
     def run(self, *words: str) -> subprocess.CompletedProcess[str]:
@@ -151,7 +151,7 @@ class Machine:
         return self.run(*words).stdout.strip()
 
     def of_unit(self, name: str) -> str:
-        """A property of the unit."""
+        """Returns a property of the unit."""
         return self.says("systemctl", "show", "--property", name, "--value", "upsd.service")
 
     def has_booted(self, pid: int) -> bool:
@@ -160,7 +160,7 @@ class Machine:
         return bool(children) and self.says("systemctl", "is-system-running") in ("running", "degraded")
 
     def paths(self) -> set[str]:
-        """The files and folders in it, but for those that a running system, or a package manager, writes."""
+        """Returns the files and folders in it, but for those that a running system or a package manager writes."""
         found = set()
         for path, folders, names in os.walk(self.root):
             here = os.path.relpath(path, self.root).removeprefix(".")
@@ -211,10 +211,10 @@ def try_installation(machine: Machine, results: Results) -> None:
     results.tell("the man pages", man_pages(machine.root))
 
 
-# what is tried in it
+# the trials in it
 
 def serve_words(commands: list[tour.Command]) -> str:
-    """The words of the README's server, with a store."""
+    """Returns the words of the README's server, with a store."""
     command = next(it.text for it in commands if it.is_server)
     return f"{re.search(r' serve (.*?)(?: 2>.*)? &$', command)[1]} --store {STORE}"
 
@@ -224,7 +224,7 @@ def has_words(machine: Machine, words: str) -> None:
 
 
 def comes_to(machine: Machine, state: str, seconds: float = 20) -> Optional[str]:
-    """Why a unit does not come to a state in time, or None."""
+    """Returns why the unit does not come to a state in time, or None."""
     holds(lambda: machine.of_unit("ActiveState") == state, seconds)
     found = machine.of_unit("ActiveState"), machine.of_unit("Result"), machine.of_unit("ExecMainStatus")
     return unless(found[0] == state, f"it is {found[0]}, {found[1]}, with status {found[2]}")
@@ -239,7 +239,7 @@ def has_line(machine: Machine, name: str, line: str) -> None:
 
 
 def listens(machine: Machine, *options: str) -> Optional[str]:
-    """Why the server does not answer within some seconds, or None."""
+    """Returns why the server does not answer within some seconds, or None."""
     has_answered = holds(lambda: machine.run("ups", "echo", *options).returncode == 0, 20)
     return None if has_answered else machine.says("journalctl", "--quiet", "--lines=3", "--unit=upsd")
 
@@ -274,7 +274,7 @@ def try_unit(machine: Machine, commands: list[tour.Command], results: Results) -
 
 
 def try_ends(machine: Machine, commands: list[tour.Command], results: Results) -> None:
-    """How the unit ends, by the exit statuses of docs/use/command-line.md."""
+    """Tries how the unit ends, by the exit statuses of docs/use/command-line.md."""
     killed = machine.run("systemctl", "kill", "--signal=KILL", "upsd.service")
     begins = holds(lambda: machine.of_unit("NRestarts") == "1", 20)
     results.tell("a crash is mended", fault_of(killed) or unless(begins, "no restart") or listens(machine))
@@ -296,7 +296,7 @@ def try_ends(machine: Machine, commands: list[tour.Command], results: Results) -
 
 
 def try_port(machine: Machine, results: Results) -> None:
-    """Whether the unit takes DICOM's port, with the line that it names for that and without."""
+    """Tries whether the unit takes DICOM's port, without the line that it names for that and with it."""
     has_words(machine, "--ae UPSD --port 104")
     machine.run("systemctl", "start", "upsd.service")
     refused = holds(lambda: machine.of_unit("ExecMainStatus") == "2", 10)
@@ -339,7 +339,7 @@ def try_in(root: str, package: str, is_checked: bool, results: Results) -> None:
 
 @contextlib.contextmanager
 def copied(folder: Optional[str]) -> Iterator[str]:
-    """A copy of the bare Debian of a folder, which goes again; of a new one where none is named."""
+    """Makes a temporary copy of the bare Debian of a folder, or of a new one if no folder is named."""
     with tempfile.TemporaryDirectory(prefix="upsd-debian-") as place:
         bare(folder or os.path.join(place, "bare"))
         subprocess.run(["cp", "-a", folder or os.path.join(place, "bare"), os.path.join(place, "root")], check=True)

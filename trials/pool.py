@@ -1,16 +1,16 @@
 #!/usr/bin/env python3
-"""Tries whether a watcher waits for another one, gets a report twice or in another order, or has two associations at once.
+"""Tries whether a watcher waits for another one, gets a report twice or out of order, or has two associations at once.
 
     trials/pool.py [PROGRAM] [--silent 3] [--mute 0] [--needs 2,2,2] [--quick 1] [--steps 20] [--timeout SECONDS] [--limit 0.3]
 
-It starts `upsd serve` on a free port of this machine with so many watchers that take connections and say nothing, so many that
-take the association and say nothing more, one for each number that needs so many seconds for each answer, so many that answer
-at once, and one that refuses the context of events. Each subscribes to all steps. So many steps are pushed, a second apart and
-more. It prints the longest time from a push to its report at the quick ones, for the first step and the others; of how many
-steps a watcher that answers got no report, more than one, or one in another order; the most associations that one watcher had
-at once; and how often the one that refuses was asked. It ends with status 1 where a quick one waited longer than the limit, a
-report is missing, came twice or in another order, or a watcher had two associations. `--timeout` is the server's
-`--delivery-timeout`.
+It starts `upsd serve` on a free port of this machine with `--silent` watchers that take connections and say nothing, `--mute`
+ones that take the association and say nothing more, one for each number of `--needs` that needs that many seconds to take a
+report, `--quick` ones that answer at once, and one that refuses the presentation context of events. Each subscribes to all
+steps. `--steps` steps are pushed, a second or more apart. It prints the longest time from a push to its report at the quick
+watchers, for the first step and the others; for how many steps a watcher that answers got no report, more than one, or one out
+of order; the most associations that one watcher had at once; and how often the one that refuses was asked. It ends with status
+1 if a quick one waited longer than `--limit`, a report is missing, came twice or out of order, or a watcher had two
+associations. `--timeout` is the server's `--delivery-timeout`.
 """
 
 import argparse
@@ -29,11 +29,11 @@ from machine import holds
 from peer import GLOBAL, PUSH_ON, Asker, a_step, subscribe
 from server import Server
 
-PATIENCE = 15  # seconds for which the quick ones are waited for at each step
+PATIENCE = 15  # seconds to wait for the quick watchers at each step
 
 
 def push(asker, quick, count):
-    """The steps that are pushed, and how long the quick ones waited for each."""
+    """Pushes that many steps, and returns them and how long the slowest of the quick watchers waited for each."""
     times, steps = [], []
     for number in range(count):
         step = b"1.2.0.%d" % number
@@ -47,7 +47,7 @@ def push(asker, quick, count):
 
 
 def tell_log(log):
-    """How often each word stands behind each watcher in the log."""
+    """Prints how often each word follows each watcher in the log."""
     found = collections.Counter()
     for line in log:
         if told := re.search(r"deliver (W\d+)(?:: (\w+)| (is \w+))", line):

@@ -1,4 +1,4 @@
-"""Starts servers on stores that are not as they would have them: with other settings, held, foreign or damaged."""
+"""Starts servers on stores that are not as they expect: with other settings, held, foreign or damaged."""
 
 from __future__ import annotations
 
@@ -21,8 +21,8 @@ KEEP = ["--keep", "1000000"]
 W1, W1_PLAIN, W2 = "W1=127.0.0.1:1,lock", "W1=127.0.0.1:1", "W2=127.0.0.1:1"
 BOTH = [*KEEP, W1, W2]
 STEPS = 20
-TIDY = 10.0  # seconds by which a server that nobody asks anything has copied its log into the file
-REFUSED = 2  # the status of a start that is refused
+TIDY = 10.0  # seconds by which an idle server has copied its log into the file
+REFUSED = 2  # the exit status of a start that is refused
 OPERATION, RECEIVER = 3, 7  # columns of a row
 MISSING = r"fewer requests|lost|missing"
 
@@ -32,7 +32,7 @@ def uid_of(number: int) -> bytes:
 
 
 def ask_all(client: Client, first: int, count: int) -> None:
-    """Creates so many steps, claims and sets each second one, and subscribes watchers to some."""
+    """Creates that many steps, claims and sets every second one, and subscribes watchers to some."""
     for number in range(first, first + count):
         uid, transaction = uid_of(number), b"2.25.%d" % (number + 1)
         statuses = [client.create(uid, a_step_of(b"P%d" % number))]
@@ -47,7 +47,7 @@ def ask_all(client: Client, first: int, count: int) -> None:
 
 
 def make(program: list[str], file: str, steps: int = STEPS, tidies: bool = False) -> list[Row]:
-    """Makes a store with the requests of so many steps, and gives its rows. Its log may be copied into the file."""
+    """Makes a store with the requests of that many steps, and returns its rows. With `tidies` its log is copied into the file."""
     with Stored(program, file, *BOTH) as server:
         client = Client(server.port)
         ask_all(client, 0, steps)
@@ -59,12 +59,13 @@ def make(program: list[str], file: str, steps: int = STEPS, tidies: bool = False
 
 
 def is_sentence(said: str, words: str = "") -> bool:
-    """Whether a program tells on standard error why it doesn't use a store, in a line."""
+    """Returns whether a program says in a line of standard error why it doesn't use a store, with these words."""
     return bool(re.search(rf"^upsd: the store [^\n]*{words}", said, re.MULTILINE | re.IGNORECASE))
 
 
 def refused(come: Ended, words: str, before: dict[str, bytes], file: str, with_log: bool = True) -> Optional[str]:
-    """Why a start is not refused as it should be, with a sentence that has these words, and the files as they were."""
+    """Returns why a start is not refused as it should be, or None: with a sentence that has these words, and the files as they
+    were (only the file itself, without `with_log`)."""
     if come.status != REFUSED:
         return f"it ends with {come.status}: {come.said[-300:]!r}"
     if not is_sentence(come.said, words):
@@ -98,7 +99,7 @@ def other_settings(program: list[str], folder: str, results: Results) -> None:
 
 
 def leaves_out(program: list[str], file: str, rows: list[Row], left: list[tuple[int, object]]) -> Optional[str]:
-    """Why a server that may leave requests out doesn't do as it should, or None."""
+    """Returns why a server that may leave requests out doesn't do as it should, or None."""
     with Stored(program, file, *KEEP, W1, "--store-leave-out") as server:
         client = Client(server.port)
         is_summed = holds(lambda: bool(server.lines(rf"store: {len(left)} requests? .*left out")), 5)
@@ -117,7 +118,7 @@ def leaves_out(program: list[str], file: str, rows: list[Row], left: list[tuple[
 
 
 def serves_all(program: list[str], file: str, words: list[str], steps: int) -> Optional[str]:
-    """Why a server does not start with so many steps, or None."""
+    """Returns why a server does not start with exactly that many steps, or doesn't answer a holder; or None."""
     try:
         with Stored(program, file, *words) as server:
             client = Client(server.port)
@@ -139,7 +140,7 @@ def starts_or_says(program: list[str], file: str, words: list[str], steps: int) 
 
 
 def fault_of_runs(file: str) -> Optional[str]:
-    """Why the runs are not told of as they should be, or None: three have been."""
+    """Returns what is wrong with the table of runs, or None: it must have three runs or more."""
     runs = runs_of(file)
     if [it[0] for it in runs] != list(range(1, len(runs) + 1)) or len(runs) < 3:
         return f"there are {runs}"
@@ -147,10 +148,10 @@ def fault_of_runs(file: str) -> Optional[str]:
     return None if good else f"they are {runs}"
 
 
-# files that are held, or are none
+# files that are held, or are no store
 
 def held(program: list[str], folder: str) -> Optional[str]:
-    """Why a second process may use a file, or None."""
+    """Returns what is wrong when a second process uses a held file, or None: it must be refused, and the first one go on."""
     file = os.path.join(folder, "held")
     with Stored(program, file, *BOTH) as server:
         client = Client(server.port)
@@ -165,7 +166,7 @@ def held(program: list[str], folder: str) -> Optional[str]:
 
 
 def foreign_files(program: list[str], folder: str, results: Results) -> None:
-    """Files that are no store."""
+    """Tries files that are no store."""
     chance = random.Random(1)
     text, noise, other, short = (os.path.join(folder, it) for it in ("text", "noise", "other", "short"))
     for path, content in ((text, b"no store\n" * 1000), (noise, chance.randbytes(8192)), (short, b"SQLite")):
@@ -193,7 +194,7 @@ def foreign_files(program: list[str], folder: str, results: Results) -> None:
 # damage
 
 def damaged_files(program: list[str], folder: str, given: argparse.Namespace, results: Results) -> None:
-    """Flipped bits in the file, and in the log beside it."""
+    """Tries flipped bits in the file, and in the log beside it."""
     file = os.path.join(folder, "damaged")
     rows = make(program, file, STEPS, True)
     chance, faults, harmless = random.Random(f"{given.seed} damage"), [], 0
@@ -212,7 +213,7 @@ def damaged_files(program: list[str], folder: str, given: argparse.Namespace, re
 
 
 def start_briefly(program: list[str], file: str) -> Ended:
-    """What comes of a start, with the status None where it serves."""
+    """Returns what comes of a start, with the status None if it serves."""
     try:
         with Stored(program, file, *BOTH) as server:
             pass
@@ -222,7 +223,7 @@ def start_briefly(program: list[str], file: str) -> Ended:
 
 
 def flip(path: str, chance: random.Random, size: int) -> int:
-    """Flips a bit of the first so many bytes of a file."""
+    """Flips a bit in the first `size` bytes of a file, and returns its place."""
     place = chance.randrange(size)
     with open(path, "r+b") as opened:
         opened.seek(place)
@@ -233,7 +234,7 @@ def flip(path: str, chance: random.Random, size: int) -> int:
 
 
 def damaged_logs(program: list[str], folder: str, file: str, given: argparse.Namespace, chance: random.Random) -> Optional[str]:
-    """Why what is left of a damaged log is wrong: it has to be a beginning, with all that the file has."""
+    """Returns why what is left of a damaged log is wrong, or None: it must be the first requests, with all that the file has."""
     copied = len(rows_of(file))
     with Stored(program, file, *BOTH) as server:
         client = Client(server.port)
@@ -259,7 +260,7 @@ def damaged_logs(program: list[str], folder: str, file: str, given: argparse.Nam
 
 
 def used_of(path: str) -> int:
-    """How many bytes of a log are not zeros at its end."""
+    """Returns how many bytes a log has without the zeros at its end."""
     with open(path, "rb") as opened:
         return len(opened.read().rstrip(b"\0"))
 

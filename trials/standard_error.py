@@ -1,22 +1,22 @@
 #!/usr/bin/env python3
-"""Tries whether requests to `upsd serve` and reports to its watcher take longer where standard error takes no line.
+"""Tries whether requests to `upsd serve` and reports to its watcher take longer if standard error takes no line.
 
     trials/standard_error.py [PROGRAM..] [--requests 1000]      (default: crates/upsd/out/upsd)
 
-With --verbose each request has a line. In each trial a peer creates so many steps, one after the other, and a watcher of all
-steps takes their reports. Standard error is
+With --verbose each request has a line. In each trial a peer creates 1,000 steps (`--requests`), one after the other, and a
+watcher of all steps takes their reports. Standard error is
 
-    a file             which takes each line: by this the usual time is known, before the others and behind them
+    a file             which takes each line: this gives the usual time, before the others and after them
     a terminal         a pseudo terminal in its usual mode, that nobody reads
     a pipe, a socket   that nobody reads
     /dev/full          each write to it fails
     closed             as by `2>&-`
 
-A request has to take no longer than beside a file: in the median half as much again at most, and at worst 0.5 seconds more. The
-last report has to come within two seconds of its request, and another association is served then.
+A request must take no longer than with a file: in the median at most half as much again, and at worst 0.5 seconds more. The
+last report must come within two seconds of its request, and another association must be served then.
 
-It ends by itself, in a minute where all is well. It prints a line for each trial that doesn't agree, the times, and in the end
-how many passed. It ends with status 1 where one doesn't. `trials/ending.py` tries what is told when standard error is read again.
+It ends by itself, in a minute if all is well. It prints the times, a line for each trial that fails, and in the end how many
+passed. It ends with status 1 if any failed. `trials/ending.py` tries what the log says when standard error is read again.
 """
 
 from __future__ import annotations
@@ -43,8 +43,8 @@ from peer import GLOBAL, PUSH_ON, Asker, a_step, subscribe
 from results import Results
 
 SECONDS = 20  # for one answer
-FACTOR = 1.5  # of the median beside a file
-SLACK = 0.5  # seconds behind the longest time beside a file
+FACTOR = 1.5  # of the median with a file
+SLACK = 0.5  # seconds more than the longest time with a file
 LAST = 2.0  # seconds within which the last report comes
 
 Opened = contextlib.AbstractContextManager[object]
@@ -53,7 +53,7 @@ Prepare = Optional[Callable[[], None]]
 
 @contextlib.contextmanager
 def unread(ends: tuple[int, int]) -> Iterator[int]:
-    """The end of a pair that is written, whose other end nobody reads."""
+    """Gives the write end of a pair whose other end nobody reads."""
     try:
         yield ends[1]
     finally:
@@ -62,7 +62,7 @@ def unread(ends: tuple[int, int]) -> Iterator[int]:
 
 
 def errors() -> Iterator[tuple[str, Opened, Prepare]]:
-    """What standard error is: its name, what opens it, and what is done in the process before it begins."""
+    """Yields each standard error: its name, what opens it, and what the process does before the program begins."""
     yield "a file", tempfile.TemporaryFile(), None
     yield "a terminal", unread(pty.openpty()), None
     yield "a pipe", unread(small_pipe()), None
@@ -73,14 +73,14 @@ def errors() -> Iterator[tuple[str, Opened, Prepare]]:
 
 
 class Timed:
-    """How long each request took, and why not all was done that is to be; or None."""
+    """How long each request took, and what was not done as it should be, if anything."""
 
     def __init__(self, name: str) -> None:
         self.name, self.fault = name, ""
         self.times: list[float] = []
 
     def create_steps(self, server: Launched, watcher: Counting, count: int) -> None:
-        """Creates so many steps, whose reports the watcher is to take."""
+        """Creates that many steps, whose reports the watcher must take."""
         asker = Asker(server.port)
         asker.socket.settimeout(SECONDS)
         asker.do(subscribe(GLOBAL, b"W1", b"FALSE"))
@@ -93,7 +93,7 @@ class Timed:
         asker.release()
 
     def run(self, program: list[str], error: object, prepare: Prepare, count: int) -> None:
-        """The same at a server of its own, and another association."""
+        """Does the same on a server of its own, and asks on another association."""
         watcher = Counting()
         with Launched(program, "--verbose", f"W1={watcher.place}", error=error, prepare=prepare) as server:
             try:
@@ -107,7 +107,7 @@ class Timed:
         return f"{self.name}: {median:.2f} ms a request in the median, {max(self.times):.3f} s at worst"
 
     def judged_by(self, usual: list[Timed]) -> Optional[str]:
-        """Why it isn't as usual, or None."""
+        """Returns why it isn't as usual, or None."""
         if self.fault:
             return self.fault
         median = max(statistics.median(it.times) for it in usual)

@@ -1,9 +1,9 @@
 #!/usr/bin/env python3
 """Tries `upsd serve` with stock software in its default settings, DCMTK's clients and pydicom, and with examples/ups.py.
 
-It installs them where they are missing (`apt-get install -y dcmtk python3-pydicom`, which needs root; where the Python
-that runs this has no pydicom, it goes on in /usr/bin/python3), starts servers on free ports of this machine, and ends by
-itself. It prints a line for each trial that doesn't agree, and in the end how many passed. It ends with 1 where one doesn't.
+It installs them if they are missing (`apt-get install -y dcmtk python3-pydicom`, which needs root; if the Python that
+runs this has no pydicom, it goes on in /usr/bin/python3), starts servers on free ports of this machine, and ends by
+itself. It prints a line for each trial that fails, and in the end how many passed. The status is 1 if any failed.
 
     echoscu      C-ECHO once; five times in one association; with all 38 transfer syntaxes that it knows proposed; then
                  an abort in place of the release; a called title that is not the server's, which is rejected
@@ -14,11 +14,11 @@ itself. It prints a line for each trial that doesn't agree, and in the end how m
                  its performer, queried, and watched by a subscription to it or to all
     ups.py       the client of the examples, one association for each command: the life of three steps, of which one is
                  completed, one is canceled by request and one by its performer, with a watcher that takes its reports;
-                 texts with umlauts and in Cyrillic, in UTF-8 and in a character set that is named, which are shown, found
-                 and reported as they were given; keys within sequences, and the worklist of a station
+                 texts with umlauts and in Cyrillic, in UTF-8 and in a named character set, which are shown, found and
+                 reported as they were given; keys within sequences, and the worklist of a station
     the watcher  is a peer of the server that listens here. It takes the server's associations, answers each
                  N-EVENT-REPORT with 0000, and compares the reports with PS3.4 section CC.2.4: the step, the type, the
-                 data set and the order. A State Report may be left out where a later one of its step came in time
+                 data set and the order. A State Report may be left out if a later one of its step came in time
 """
 
 import argparse
@@ -50,7 +50,7 @@ GLOBAL = "1.2.840.10008.5.1.4.34.5"
 CONTEXTS = {PUSH: 1, PULL: 3, WATCH: 5}
 STATE_REPORT = 1  # an Event Type ID
 
-# what is tried: a name, the words, the exit status, what is read among what is told, and the line of the server's log
+# the trials of DCMTK: a name, the words, the exit status, part of what is printed, and part of a line of the server's log
 TRIALS = [
     ("C-ECHO", ["echoscu", "-v"], 0, "Received Echo Response (Success)", "serve: Released"),
     ("5 C-ECHO", ["echoscu", "-v", "--repeat", "5"], 0, "Received Echo Response (Success)", "serve: Released"),
@@ -61,7 +61,7 @@ TRIALS = [
     ("C-ECHO again", ["echoscu", "-v"], 0, "Received Echo Response (Success)", "serve: Released"),
 ]
 
-# what is tried of examples/ups.py, in order: a name, the words, the exit status, and what is read among what is told
+# the trials of examples/ups.py, in order: a name, the words, the exit status, and part of what is printed
 DONE, REFUSED, NO_ANSWER = 0, 1, 2
 F, G, H = "1.2.3.6", "1.2.3.7", "1.2.3.8"
 UMLAUTS, CYRILLIC, LATIN = "1.2.3.10", "1.2.3.11", "1.2.3.12"
@@ -104,7 +104,7 @@ CLIENT = [
     ("get umlauts", ["get", UMLAUTS], DONE, "PN: 'MÜLLER^JÜRGEN'"),
     ("get the character set", ["get", UMLAUTS], DONE, "CS: 'ISO_IR 192'"),
     ("find umlauts", ["find", "--label", "KÖPF*"], DONE, f"{UMLAUTS}  MÜLLER^JÜRGEN  P2  "),
-    ("find one letter of them", ["find", "-k", "PatientName=M??LLER*"], DONE, "1 found"),  # of two bytes: bytes are compared
+    ("find one letter of them", ["find", "-k", "PatientName=M??LLER*"], DONE, "1 found"),  # it has two bytes, and bytes are compared
     ("create in Cyrillic, for a station", ["create", CYRILLIC, "--label", "КТ", "--patient-name", "ИВАНОВ^ИВАН", "-k", STATION_CODE,
      "-k", "ScheduledStationNameCodeSequence[0].CodeMeaning=РЕНТГЕН"], DONE, "0000 success"),
     ("get Cyrillic in a sequence", ["get", CYRILLIC], DONE, "LO: 'РЕНТГЕН'"),
@@ -139,7 +139,7 @@ CLIENT = [
 
 
 def by_dcmtk(server, words, status, told, logged):
-    """Why a trial of DCMTK's clients doesn't agree, or None."""
+    """Returns why a trial of DCMTK's clients fails, or None."""
     before = len(server.log)
     aec = [] if "-aec" in words else ["-aec", "UPSD"]
     client = [words[0]] + aec + words[1:] + ["127.0.0.1", str(server.port)]
@@ -158,7 +158,7 @@ def by_dcmtk(server, words, status, told, logged):
 
 
 def by_client(words: list[str], status: int, told: str) -> Optional[str]:
-    """Why a trial of examples/ups.py doesn't agree, or None."""
+    """Returns why a trial of examples/ups.py fails, or None."""
     client = [sys.executable, os.path.join(HERE, "examples/ups.py"), *words]
     try:
         utf_8 = {**os.environ, "PYTHONIOENCODING": "utf-8"}
@@ -172,7 +172,7 @@ def by_client(words: list[str], status: int, told: str) -> Optional[str]:
 
 
 def live_by_client(program: list[str], results: Results, reports: bool) -> None:
-    """The life of steps through examples/ups.py, with or without its reports."""
+    """Tries the life of steps through examples/ups.py, with or without its reports."""
     watcher = free_port()
     with Server(program, "--timeout", "10", "--keep", "3600", f"WATCHER=127.0.0.1:{watcher}") as server:
         for name, words, status, told in CLIENT:
@@ -182,7 +182,7 @@ def live_by_client(program: list[str], results: Results, reports: bool) -> None:
                 results.tell(f"ups.py, {name}", by_client([*words, "--listen", str(watcher)], status, told))
 
 
-# pydicom: sets are given by keyword, a sequence as a list of items
+# pydicom: data sets are given by keyword, a sequence as a list of items
 
 def made(attributes):
     from pydicom.dataset import Dataset
@@ -208,14 +208,14 @@ def read(found, syntax):
 
 
 class Wire(Peer):
-    """An association of which pydicom writes and reads each command set and data set, on either side of it."""
+    """An association, on either side of it, whose command sets and data sets pydicom writes and reads."""
 
     def __init__(self, connection, syntax):
         self.use(connection)
         self.syntax, self.number = syntax, 0
 
     def ahead(self):
-        """The type of the next PDU, which stays to be read."""
+        """Returns the type of the next PDU, which is left to be read."""
         self.left = self.take(6) + self.left
         return self.left[0]
 
@@ -226,12 +226,12 @@ class Wire(Peer):
         self.socket.sendall(dicom.message(context, spelled(command, IMPLICIT), data_set))
 
     def message(self):
-        """A command set, and a data set where one follows."""
+        """Returns a command set, and a data set if one follows, or None."""
         command = read(self.fragments(True), IMPLICIT)
         return command, None if command.CommandDataSetType == 0x0101 else read(self.fragments(False), self.syntax)
 
     def ask(self, context, elements, given=None):
-        """The responses to a request."""
+        """Sends a request, and returns the responses to it."""
         self.number += 1
         self.send(CONTEXTS[context], {**elements, "MessageID": self.number}, given)
         responses = [self.message()]
@@ -292,7 +292,7 @@ def suspend():
 
 
 def state(uid, now, readiness="READY", **more):
-    """The event that tells the state of a step."""
+    """Returns the event that reports the state of a step."""
     return 1, uid, {"ProcedureStepState": now, "InputReadinessState": readiness, **more}
 
 
@@ -312,7 +312,7 @@ WHY = {"ReasonForCancellation": "ILL", "ProcedureStepDiscontinuationReasonCodeSe
 WHOM = {"ContactURI": "tel:1", "ContactDisplayName": "DOE"}
 STATE, LABEL = 0x00741000, 0x00741204
 
-# what is tried: a name, the request, the status, the data sets of the answer, and the events of the watcher
+# the trials of pydicom: a name, the request, the status, the data sets of the answer, and the events of the watcher
 LIFE = [
     ("subscribe to all", subscribe(GLOBAL), 0, [], []),
     ("subscribe a stranger", subscribe(GLOBAL, "STRANGER"), 0xC308, [], []),
@@ -362,12 +362,12 @@ LIFE = [
 
 
 def plain(found):
-    """A set in a form that can be compared and printed."""
+    """Returns a data set in a form that can be compared and printed."""
     return (found if hasattr(found, "to_json_dict") else made(found)).to_json_dict()
 
 
 def wrong(responses, asked, number, status, answers):
-    """What is wrong with the responses to a request, or None."""
+    """Returns what is wrong with the responses to a request, or None."""
     last, _ = responses[-1]
     if last.Status != status:
         return f"the status is {last.Status:04X} and not {status:04X}"
@@ -384,7 +384,7 @@ def wrong(responses, asked, number, status, answers):
 
 
 class Watcher:
-    """A peer that listens. It takes one association after the other, and keeps the reports and what is wrong with them."""
+    """A peer that listens, takes one association after the other, and keeps the reports and what is wrong with them."""
 
     def __init__(self, syntax):
         self.syntax, self.reports, self.faults, self.released = syntax, [], [], 0
@@ -412,7 +412,7 @@ class Watcher:
             self.faults.append(f"{what} is {told} and not {wanted}")
 
     def accept(self, wire):
-        """Answers an association request, in the watcher's transfer syntax where it is offered."""
+        """Answers an association request, in the watcher's transfer syntax if it is offered."""
         kind, body = wire.pdu()
         self.expect("the type of the first PDU", kind, 1)
         self.expect("the called and the calling title", (body[4:20].strip(), body[20:36].strip()), (b"WATCHER", b"UPSD"))
@@ -442,7 +442,7 @@ class Watcher:
 
 
 def items(body):
-    """The items of an association request, or of one of its items."""
+    """Yields the type and the content of the items of an association request, or of one of its items."""
     while body:
         length = struct.unpack(">H", body[2:4])[0]
         yield body[0], body[4:4 + length]
@@ -450,7 +450,7 @@ def items(body):
 
 
 def live(server, syntax, results, name):
-    """The life of the steps."""
+    """Tries the life of the steps."""
     wire = None
     for what, (context, elements, given), status, answers, _ in LIFE:
         try:
@@ -467,7 +467,7 @@ def live(server, syntax, results, name):
 
 
 def watch(watcher, results, name):
-    """The reports of that life: all in order, but for State Reports that later ones of their steps superseded in time."""
+    """Tries the reports of that life: all in order, but for State Reports that later ones of their steps superseded in time."""
     wanted = [(what, (number, uid, plain(attributes))) for what, *_, events in LIFE for number, uid, attributes in events]
     holds(lambda: watcher.reports[-1:] == [wanted[-1][1]], LIMIT)
     time.sleep(2)  # for those that should not come, and for the release

@@ -29,24 +29,24 @@ from stored import (FAULTS, READINESS, READY, SECONDS, WAITING, Client, Hearing,
 KEEP = 2  # seconds for which a finished step is kept
 STATIONS, NAMES = 4, ("W1", "W2", "W3")  # watchers of all steps, of single ones with a lock, and of those of a patient
 FILTER = b"PATIENT3"
-HEARD = 0.2  # the part of a day in which the watchers listen
-QUIET = 3.0  # seconds without a report, behind which none is on its way
+HEARD = 0.2  # the share of a day's requests during which the watchers listen
+QUIET = 3.0  # seconds without a report after which none is on its way
 OPERATION = 3  # a column of a row
-BATCH, SETS = 10, 7  # lives that are asked at once, and sets of each
-GROWTH, FEW = 1.25, 64 * 2**20  # how much more memory a server may take that has a store
+BATCH, SETS = 10, 7  # lives that are asked at once, and N-SETs of each
+GROWTH, FEW = 1.25, 64 * 2**20  # how much more memory a server with a store may take: a factor, and bytes
 
 
 # a day
 
 def peers_of(watchers: Optional[dict[str, Hearing]]) -> list[str]:
-    """The words that name the watchers: where they listen, or nowhere."""
+    """Returns the words that name the watchers: where they listen, or a place where nobody does."""
     places = {name: watchers[name].place if watchers else "127.0.0.1:1" for name in NAMES}
     return [f"{name}={place}{',lock' if name != 'W3' else ''}" for name, place in places.items()]
 
 
 @dataclasses.dataclass
 class Day:
-    """The steps of a day, by the Transaction UIDs of their claims."""
+    """The steps of a day, with the Transaction UIDs of their claims, and the faults."""
 
     claims: dict[bytes, bytes] = dataclasses.field(default_factory=dict)
     uids: list[bytes] = dataclasses.field(default_factory=list)
@@ -54,7 +54,8 @@ class Day:
 
 
 def live(client: Client, uid: bytes, chance: random.Random, day: Day) -> int:
-    """What is asked of a step in a day: some stay scheduled, some in progress, and the others are finished. How much was asked."""
+    """Takes a step through its part of a day, and returns how many requests that took: some steps stay scheduled, some in
+    progress, and the others are finished."""
     transaction, patient, kind = b"2.25." + uid[4:].replace(b".", b""), b"PATIENT%d" % chance.randrange(10), chance.random()
     statuses = [client.create(uid, a_step_of(patient))]
     day.uids.append(uid)
@@ -83,7 +84,7 @@ def failed(uid: bytes, statuses: list[int]) -> int:
 
 
 def work(port: int, me: int, first: int, requests: int, seed: int, day: Day) -> None:
-    """Lives of steps, until so many requests are accepted."""
+    """Takes steps through their lives, until that many requests are accepted."""
     try:
         chance, client, asked, number = random.Random(f"{seed} day {me} {first}"), Client(port, b"STATION%d" % me), 0, first
         while asked < requests:
@@ -106,7 +107,7 @@ def work_at_once(port: int, first: int, requests: int, seed: int, day: Day) -> N
 
 @contextlib.contextmanager
 def hearing() -> Iterator[dict[str, Hearing]]:
-    """Watchers by their names, which listen meanwhile."""
+    """Gives watchers by their names, which listen while the body runs."""
     watchers = {it: Hearing() for it in NAMES}
     try:
         yield watchers
@@ -116,7 +117,7 @@ def hearing() -> Iterator[dict[str, Hearing]]:
 
 
 def spend_day(program: list[str], file: str, given: argparse.Namespace) -> Day:
-    """A day of so many requests: the watchers listen at first, and then no more."""
+    """Spends a day of that many requests on a store: the watchers listen at first, and later no longer."""
     day = Day()
     for first, part, hears in ((0, HEARD, True), (10**6, 1 - HEARD, False)):
         listens = hearing() if hears else contextlib.nullcontext()
@@ -135,7 +136,7 @@ def spend_day(program: list[str], file: str, given: argparse.Namespace) -> Day:
 
 
 def await_swept(server: Stored) -> None:
-    """Waits until nothing more is removed."""
+    """Waits until no more steps are removed."""
     client, before = Client(server.port), -1
     time.sleep(KEEP + 1)
     while (now := len(client.found())) != before:
@@ -147,7 +148,7 @@ def await_swept(server: Stored) -> None:
 
 @dataclasses.dataclass
 class Picture:
-    """What a server shows of its steps, and what each watcher is told behind its start."""
+    """What a server shows of its steps, and what each watcher is told after its start."""
 
     found: list[Attributes]
     got: dict[bytes, Optional[Attributes]]
@@ -166,7 +167,7 @@ class Picture:
 
 
 def await_quiet(watchers: dict[str, Hearing]) -> None:
-    """Waits until no watcher is told anything any more."""
+    """Waits until no watcher is told anything for QUIET seconds."""
     def told_of() -> int:
         return sum(len(it.reports) for it in watchers.values())
 
@@ -178,7 +179,7 @@ def await_quiet(watchers: dict[str, Hearing]) -> None:
 
 
 def picture_of(program: list[str], file: str, day: Day) -> Picture:
-    """What a server shows that starts on a file; which is changed then."""
+    """Returns what a server shows that starts on a file, which is changed by this."""
     with hearing() as watchers, Stored(program, file, "--keep", str(KEEP), *peers_of(watchers)) as server:
         await_quiet(watchers)
         await_swept(server)
@@ -196,7 +197,7 @@ def picture_of(program: list[str], file: str, day: Day) -> Picture:
 
 
 def ask_holders(client: Client, picture: Picture, day: Day) -> dict[str, list[tuple[bytes, int]]]:
-    """How requests of others and of the holders are answered, and such as watchers are told of."""
+    """Asks as others and as the holders, and what watchers are told of, and returns how each request is answered."""
     answers: dict[str, list[tuple[bytes, int]]] = {"others": [], "holders": [], "again": [], "readiness": [], "new": []}
     for it in picture.found:
         uid, state = text_in(it, SOP_INSTANCE), text_in(it, STATE)
@@ -214,7 +215,7 @@ def ask_holders(client: Client, picture: Picture, day: Day) -> dict[str, list[tu
 
 
 def finish_some(client: Client, picture: Picture, day: Day) -> list[tuple[bytes, int]]:
-    """Finishes each second step in progress: those go that nobody locks."""
+    """Cancels every second step in progress, and returns the statuses: those that nobody locks are removed."""
     busy = [text_in(it, SOP_INSTANCE) for it in picture.found if text_in(it, STATE) == b"IN PROGRESS"]
     return [(uid, client.change(uid, b"CANCELED", day.claims[uid])) for uid in busy[::2]]
 
@@ -237,7 +238,7 @@ def tell_same(name: str, one: Picture, other: Picture, results: Results) -> None
 
 
 def differing(one: list[Report], other: list[Report]) -> Optional[str]:
-    """Where what was told differs; None where it does not."""
+    """Returns where the reports differ, or None."""
     if one == other:
         return None
     at = next((at for at, (a, b) in enumerate(zip(one, other)) if a != b), min(len(one), len(other)))
@@ -247,7 +248,7 @@ def differing(one: list[Report], other: list[Report]) -> Optional[str]:
 # compactions
 
 def check_good(picture: Picture, results: Results) -> None:
-    """What has to be so for the comparison to tell anything."""
+    """Fails if the day is not answered as it must be for the comparison to mean anything."""
     counts = {what: len(it) for what, it in picture.answers.items()} | {name: len(picture.of_held(it)) for name, it in picture.reports.items()}
     print(f"    the day: {len(picture.got)} steps, {len(picture.found)} held; {counts}", flush=True)
     of_state = {uid: text_in(it or {}, STATE) for uid, it in picture.got.items()}
@@ -272,7 +273,7 @@ def run_compact(program: list[str], given: argparse.Namespace, results: Results)
 
 
 def by_command(program: list[str], file: str, folder: str, day: Day, rows: list[Row], plain: Picture, results: Results) -> None:
-    """`upsd compact`, twice, and a start then."""
+    """Tries `upsd compact`, twice, and then a start."""
     copy = copy_of(file, folder, "compacted")
     words = [*program, "compact", "--keep", str(KEEP), copy, *peers_of(None)]
     counts = []
@@ -292,7 +293,7 @@ def by_command(program: list[str], file: str, folder: str, day: Day, rows: list[
 
 
 def fault_of_history(program: list[str], folder: str, given: argparse.Namespace, seed: int) -> Optional[str]:
-    """What `upsd compact` makes other than it was of a generated history of few requests."""
+    """Returns how `upsd compact` changes what a generated history of few requests shows, or None."""
     results, file = Results(tells_passed=False), os.path.join(folder, f"history {seed}")
     try:
         day = spend_day(program, file, argparse.Namespace(requests=given.requests, seed=seed))
@@ -307,7 +308,7 @@ def fault_of_history(program: list[str], folder: str, given: argparse.Namespace,
 
 
 def run_histories(program: list[str], given: argparse.Namespace, results: Results) -> None:
-    """Generated histories, each compacted, many at once: a server waits most of the time for what is due by the clock."""
+    """Tries generated histories, each compacted, many at once: a server mostly waits for what is due by the clock."""
     seeds = range(given.seed, given.seed + given.histories)
     with folder_for(given.folder) as folder, ThreadPool(given.beside) as pool:
         found = pool.starmap(fault_of_history, [(program, folder, given, it) for it in seeds], chunksize=1)
@@ -322,7 +323,7 @@ def used_again(program: list[str], file: str, uids: list[bytes]) -> int:
 
 
 def cut_off(program: list[str], file: str, folder: str, given: argparse.Namespace, rows: list[Row], results: Results) -> None:
-    """Compactions that are killed: the store is what it was, or compacted."""
+    """Tries compactions that are killed: the store must be as it was, or compacted."""
     chance, faults, done, longest, least = random.Random(f"{given.seed} compact"), [], 0, 0.5, 0
     for number in range(20):
         copy = copy_of(file, folder, "cut off")
@@ -345,7 +346,7 @@ def cut_off(program: list[str], file: str, folder: str, given: argparse.Namespac
 
 
 def at_a_start(program: list[str], file: str, day: Day, count: int, plain: Picture, results: Results) -> None:
-    """A start that compacts, since most of its requests are about steps that are gone."""
+    """Tries a start that compacts, since most requests are about steps that are gone."""
     with Stored(program, file, "--keep", str(KEEP), *peers_of(None)) as server:
         client = Client(server.port)
         for number in range(count):
@@ -366,7 +367,7 @@ def at_a_start(program: list[str], file: str, day: Day, count: int, plain: Pictu
 # a million requests
 
 def fill(port: int, me: int, requests: int) -> None:
-    """Asks for so many requests in lives of steps, some lives at a time."""
+    """Sends that many requests, in lives of steps, BATCH lives at a time."""
     client, number, asked = Client(port, b"STATION%d" % me, 600), 0, 0
     given, sets = a_step_of(b"PATIENT%d" % me), [performed(it + 1) for it in range(SETS)]
     while asked < requests:
@@ -388,7 +389,7 @@ def fill(port: int, me: int, requests: int) -> None:
 
 
 def fill_all(port: int, requests: int) -> float:
-    """The same by four associations: the seconds that it took."""
+    """Does the same in four processes, and returns the seconds that it took."""
     began = time.monotonic()
     shares = [requests // STATIONS + (it < requests % STATIONS) for it in range(STATIONS)]
     filling = [multiprocessing.Process(target=fill, args=(port, it, share)) for it, share in enumerate(shares)]
@@ -402,7 +403,7 @@ def fill_all(port: int, requests: int) -> float:
 
 
 def memory_of(pid: int) -> int:
-    """The resident memory of a process, in bytes."""
+    """Returns the resident memory of a process, in bytes."""
     with open(f"/proc/{pid}/status", encoding="ascii") as lines:
         return next(int(line.split()[1]) * 1024 for line in lines if line.startswith("VmRSS"))
 
@@ -431,7 +432,7 @@ def run_million(program: list[str], given: argparse.Namespace, results: Results)
 
 
 def fault_of_filled(port: int, requests: int) -> Optional[str]:
-    """Why not each of some steps is as it was left, or None."""
+    """Returns why some steps, chosen at random, are not as they were left, or None."""
     client, chance, lives = Client(port), random.Random(1), requests // STATIONS // (SETS + 3)
     for _ in range(min(500, lives)):
         uid = b"1.2.%d.%d" % (chance.randint(1, STATIONS), chance.randint(1, lives))

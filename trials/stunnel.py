@@ -1,15 +1,15 @@
 #!/usr/bin/env python3
-"""Tries `upsd serve` behind TLS: `stunnel` on both sides, by the two configurations of docs/use/operating.md.
+"""Tries `upsd serve` behind TLS: `stunnel` on both sides, with the two configurations of docs/use/operating.md.
 
     trials/stunnel.py [PROGRAM]
 
-It takes the configurations as the page has them, with free ports of this machine in the place of theirs and with certificates
-that `openssl` makes in a temporary folder. Through both tunnels examples/ups.py then asks for an echo, makes a step, claims
+It takes the configurations as the page has them, with free ports of this machine in place of theirs and with certificates
+that `openssl` makes in a temporary folder. Through both tunnels examples/ups.py then asks for an echo, creates a step, claims
 and finishes it, and takes its report. A client without a certificate, and one with a certificate that the server doesn't
 know, get no answer.
 
 It installs what is missing (`apt-get install -y stunnel4 openssl python3-pydicom`, which needs root), and ends by itself. It
-prints a line for each trial, and then `N passed, M failed`. The exit status is 1 where one failed.
+prints a line for each trial, and then `N passed, M failed`. The exit status is 1 if any failed.
 """
 
 from __future__ import annotations
@@ -32,10 +32,10 @@ from stock import DONE, NO_ANSWER, by_client
 
 STEP = "1.2.3.1"
 HOLDER = ["--transaction", "2.25.7"]
-# the ports of the page: of the server, of TLS before it, of the watcher's tunnel, of TLS before the watcher, and of the watcher
+# the ports of the page: of the server, of TLS before it, of the tunnel to the watcher, of TLS before the watcher, of the watcher
 SERVER, SERVER_TLS, TUNNEL, WATCHER_TLS, WATCHER = 11112, 2762, 11121, 2763, 11113
 
-# what is tried through both tunnels, in order: a name, the words, and what is read among what is told
+# the trials through both tunnels, in order: a name, the words, and part of what is printed
 LIFE = [
     ("echo", ["echo"], "0000 success"),
     ("subscribe", ["subscribe", "--receiver", "WATCH1"], "0000 success"),
@@ -48,7 +48,7 @@ REPORT = f"{STEP} state: InputReadinessState=READY  ProcedureStepState=COMPLETED
 
 
 def configurations() -> list[str]:
-    """The configurations of the page: the server's and the workstation's."""
+    """Returns the configurations of the page: the server's and the workstation's."""
     with open(os.path.join(HERE, "docs/use/operating.md"), encoding="utf-8") as page:
         section = page.read().partition("\n## TLS\n")[2].partition("\n## ")[0]
     found = re.findall(r"(?ms)^```ini\n(.*?)^```$", section)
@@ -58,14 +58,14 @@ def configurations() -> list[str]:
 
 
 def placed(configuration: str, folder: str, ports: dict[int, int]) -> str:
-    """A configuration with the files of a folder, and with other ports, all of this machine."""
+    """Returns a configuration with the files of a folder, and with other ports, all of this machine."""
     text = configuration.replace("/etc/stunnel/", f"{folder}/")
     text = re.sub(r"(?m)^(accept|connect) = (?:\S+:)?(\d+)$", lambda it: f"{it[1]} = 127.0.0.1:{ports[int(it[2])]}", text)
     return f"foreground = yes\npid =\nsyslog = no\n{text}"
 
 
 def certify(folder: str, name: str) -> None:
-    """Makes a key, and a certificate that it signs itself."""
+    """Makes a key and a self-signed certificate."""
     words = ["openssl", "req", "-x509", "-newkey", "rsa:2048", "-nodes", "-days", "1", "-subj", f"/CN={name}",
              "-keyout", f"{folder}/{name}.key", "-out", f"{folder}/{name}.crt"]
     subprocess.run(words, check=True, capture_output=True)
@@ -73,7 +73,7 @@ def certify(folder: str, name: str) -> None:
 
 @contextlib.contextmanager
 def tunnel(folder: str, name: str, configuration: str, port: int) -> Iterator[None]:
-    """A running stunnel, which listens on this port."""
+    """Runs a stunnel, which listens on this port."""
     path = f"{folder}/{name}.conf"
     with open(path, "w", encoding="utf-8") as text:
         text.write(configuration)
@@ -88,7 +88,8 @@ def tunnel(folder: str, name: str, configuration: str, port: int) -> Iterator[No
 
 
 def clients(configuration: str) -> list[tuple[str, str, int]]:
-    """The part of a workstation's configuration that connects to the server, in three forms: a name, and what comes of it."""
+    """Returns three forms of the part of a workstation's configuration that connects to the server, each with a name and the
+    exit status of a client."""
     own = configuration.partition("[watch1]")[0]
     return [
         ("a client with its certificate", own, DONE),
@@ -98,7 +99,7 @@ def clients(configuration: str) -> list[tuple[str, str, int]]:
 
 
 def live(port: int, watcher: int, results: Results) -> None:
-    """The life of a step through both tunnels, and its report."""
+    """Tries the life of a step through both tunnels, and its report."""
     for name, words, told in LIFE:
         results.tell(name, by_client([*words, "--port", str(port)], DONE, told))
     watch = ["watch", "--ae", "WATCH1", "--associations", "1", "--listen", str(watcher)]
@@ -106,7 +107,7 @@ def live(port: int, watcher: int, results: Results) -> None:
 
 
 def call(folder: str, name: str, configuration: str, status: int, ports: dict[int, int], results: Results) -> None:
-    """An echo through a tunnel of its own to the server's."""
+    """Tries an echo through a tunnel of its own to the server's."""
     port = free_port()
     with tunnel(folder, name.replace(" ", "-"), placed(configuration, folder, {**ports, SERVER: port}), port):
         results.tell(name, by_client(["echo", "--port", str(port)], status, ""))
@@ -119,7 +120,7 @@ def trials(program: list[str], folder: str, results: Results) -> None:
     shutil.copy(f"{folder}/station.crt", f"{folder}/stations.crt")
     server_side, station_side = configurations()
     ports = {named: free_port() for named in (SERVER_TLS, TUNNEL, WATCHER_TLS, WATCHER)}
-    entry = free_port()  # of the workstation's tunnel to the server
+    entry = free_port()  # the port of the workstation's tunnel to the server
     with contextlib.ExitStack() as stack:
         server = stack.enter_context(Server(program, "--timeout", "10", f"WATCH1=127.0.0.1:{ports[TUNNEL]}"))
         at_server = placed(server_side, folder, {**ports, SERVER: server.port})

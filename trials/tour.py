@@ -4,13 +4,13 @@
     trials/tour.py                  proves and builds the program first, as the README does: an hour or more on a new machine
     trials/tour.py --program PATH   uses a program that is built already, and leaves out the commands of `rt`
 
-A command is a line that begins with `$ ` in a block of the kind `console`. The lines below it are what it prints; where
-there are none, its exit status has to be 0. A moment of 14 digits may be any other. A command that ends with `&` is the
-server: it runs to the end of the tour, and the next command waits until it listens. Where a port of the README is not free,
-a free one takes its place, and the clients are told. `rt ci` is left out: it is the gate.
+A command is a line that begins with `$ ` in a `console` block. The lines below it are what it prints; if there are none, its
+exit status must be 0. A time of 14 digits matches any other. A command that ends with `&` is the server: it runs to the end
+of the tour, and the next command waits until it listens. If a port of the README is not free, a free one takes its place,
+and the clients are told. `rt ci` is left out: it is the gate.
 
-It installs pydicom where it is missing (`apt-get install -y python3-pydicom`, which needs root). It prints a line for each
-command, and then `N passed, M failed`. The exit status is 1 where one failed.
+It installs pydicom if it is missing (`apt-get install -y python3-pydicom`, which needs root). It prints a line for each
+command, and then `N passed, M failed`. The exit status is 1 if any failed.
 """
 
 from __future__ import annotations
@@ -33,8 +33,8 @@ from results import Results
 
 PROGRAM = "crates/upsd/out/upsd"
 CLIENT = "examples/ups.py"
-SERVER_PORT, WATCHER_PORT = 11112, 11113  # those that the README names
-LIMIT = 60  # seconds for a command, but for those of `rt`
+SERVER_PORT, WATCHER_PORT = 11112, 11113  # the ports that the README names
+LIMIT = 60  # seconds for a command, except those of `rt`
 
 
 @dataclasses.dataclass
@@ -58,7 +58,7 @@ class Command:
 
 
 def commands_of(text: str) -> Iterator[Command]:
-    """The commands of a text in Markdown."""
+    """Yields the commands of a text in Markdown."""
     for block in re.findall(r"(?ms)^```console\n(.*?)^```$", text):
         for part in re.split(r"(?m)^\$ ", block)[1:]:
             first, *shown = part.removesuffix("\n").split("\n")
@@ -66,7 +66,7 @@ def commands_of(text: str) -> Iterator[Command]:
 
 
 def port_for(named: int) -> int:
-    """A port that the README names where it is free, and else a free one."""
+    """Returns the port that the README names if it is free, otherwise a free one."""
     for port in (named, 0):
         with contextlib.suppress(OSError), socket.create_server(("127.0.0.1", port)) as listener:
             return listener.getsockname()[1]
@@ -74,12 +74,12 @@ def port_for(named: int) -> int:
 
 
 def moved(text: str, ports: dict[int, int]) -> str:
-    """A text with other ports."""
+    """Returns a text with other ports."""
     return re.sub(r"\b\d{5}\b", lambda it: str(ports.get(int(it[0]), it[0])), text)
 
 
 def runnable(command: Command, program: str, ports: dict[int, int]) -> str:
-    """The command as it is run: with the program, and with other ports where they are not those of the README."""
+    """Returns the command as it is run: with the program, and with other ports if they are not those of the README."""
     words = moved(command.text.removesuffix(" &"), ports).replace(PROGRAM, shlex.quote(program))
     if not command.text.startswith(CLIENT):
         return words
@@ -91,22 +91,22 @@ def runnable(command: Command, program: str, ports: dict[int, int]) -> str:
 
 
 def environment() -> dict[str, str]:
-    """That of the commands: the Python that runs this, which has pydicom, comes first."""
+    """Returns the environment of the commands: the Python that runs this, which has pydicom, comes first."""
     return {**os.environ, "PATH": f"{os.path.dirname(sys.executable)}:{os.environ['PATH']}"}
 
 
 def plain(lines: list[str]) -> list[str]:
-    """Lines in which each moment is the same."""
+    """Returns the lines with the same word in place of each time."""
     return [re.sub(r"\b\d{14}\b", "<moment>", line) for line in lines]
 
 
 def last_line(said: str) -> str:
-    """The last line of what a command says on standard error."""
+    """Returns the last line of what a command says."""
     return said.strip().rpartition("\n")[2]
 
 
 def difference(command: Command, words: str, ports: dict[int, int]) -> Optional[str]:
-    """How what a command does differs from what the README shows; None where it doesn't."""
+    """Returns how what a command does differs from what the README shows, or None."""
     try:
         limit = None if command.is_of_rt else LIMIT
         ran = subprocess.run(["bash", "-c", words], cwd=HERE, env=environment(), capture_output=True, text=True, timeout=limit)
@@ -124,7 +124,7 @@ def difference(command: Command, words: str, ports: dict[int, int]) -> Optional[
 
 @contextlib.contextmanager
 def started(words: str) -> Iterator[subprocess.Popen[bytes]]:
-    """A command that runs meanwhile."""
+    """Runs a command while the body runs."""
     with subprocess.Popen(["bash", "-c", words], cwd=HERE, env=environment(), stdin=subprocess.DEVNULL, start_new_session=True) as process:
         try:
             yield process
@@ -134,7 +134,7 @@ def started(words: str) -> Iterator[subprocess.Popen[bytes]]:
 
 
 def serve(words: str, port: int, stack: contextlib.ExitStack) -> Optional[str]:
-    """Why a server doesn't listen, or None; it ends with the stack."""
+    """Starts a server that ends with the stack, and returns why it doesn't listen, or None."""
     process = stack.enter_context(started(words))
     if holds(lambda: listens(port) or process.poll() is not None, 10) and process.poll() is None:
         return None
@@ -142,7 +142,7 @@ def serve(words: str, port: int, stack: contextlib.ExitStack) -> Optional[str]:
 
 
 def tour(commands: list[Command], program: str, results: Results) -> None:
-    """Runs the commands, and tells of each."""
+    """Runs the commands, and tells how each went."""
     ports = {named: port_for(named) for named in (SERVER_PORT, WATCHER_PORT)}
     with contextlib.ExitStack() as stack:
         for command in commands:

@@ -1,28 +1,28 @@
 #!/usr/bin/env python3
-"""Tries how soon reports come to a watcher, beside others that are slow or don't answer.
+"""Measures how soon reports come to a watcher, beside others that are slow or don't answer.
 
     trials/watchers.py [PROGRAM] [--only TRIAL..] [--steps 20]      (default: crates/upsd/out/upsd)
 
 In each trial it starts `upsd serve` on a free port of this machine with some watchers, each of which subscribes to all steps.
-So many steps are pushed, at times that have nothing to do with the rounds of the server. The time of a report is that from the
-answer to the push until the watcher has answered the report.
+20 steps (`--steps`) are pushed, at times that have nothing to do with the rounds of the server. The time of a report runs from
+the answer to the push until the watcher has answered the report.
 
     alone      a quick watcher, which answers at once
     beside     a quick one, three that never answer, and three that need two seconds for each answer
     unlimited  a quick one, and eight that never answer, with `--delivery-timeout 0`
     mute       a quick one, and eight that take the association and no report, with `--delivery-timeout 0`
     paces      watchers that need 0, 0.3, 0.6, 2 and 4.9 seconds for each answer, with `--delivery-timeout 5`, and one that needs
-               0.6 seconds to answer the association request alone; the steps are pushed four at a time
+               0.6 seconds to answer the association request only; the steps are pushed four at a time
     many       50 watchers: one never answers, one refuses connections, one sends a byte a second, and the others are quick
 
-An answer is that to the association request, to a report, or to the release. Of each watcher that answers, each report has to
-come, none twice, in the order of the pushes; it never has two associations at once, and the log never says that it is away. In
-`alone` and `beside` the quick one has each within 0.1 seconds in the median, and within 0.3 at worst (`--median`, `--worst`). In
-`unlimited` and `mute` this holds from 15 seconds behind the first push on, by when the reports before are there. In `many` each
-comes to all within 2 seconds.
+An answer is one to the association request, to a report, or to the release. To each watcher that answers, each report must
+come once, in the order of the pushes; it may never have two associations at once, and the log may never say that it is away.
+In `alone` and `beside` the quick one must have its reports within 0.1 seconds in the median, and within 0.3 at worst
+(`--median`, `--worst`). In `unlimited` and `mute` this holds from 15 seconds after the first push on, by when the earlier
+reports must be there. In `many` each report must come to all quick ones within 2 seconds.
 
-It ends by itself, in some six minutes. It prints what the quick ones waited, a line for each thing that doesn't agree, and in
-the end how many passed. It ends with status 1 where one doesn't.
+It ends by itself, in some six minutes. It prints how long the quick ones waited, a line for each thing that fails, and in
+the end how many passed. It ends with status 1 if any failed.
 """
 
 from __future__ import annotations
@@ -46,14 +46,14 @@ from results import Results
 from server import Server
 
 TIMEOUT = 5  # seconds: what --delivery-timeout is unless told otherwise
-LATE = 15.0  # seconds behind the first push by which late reports are there where there is no limit
-CROWDED = 2.0  # and each, where there are many watchers
-AGAIN = 4.0  # for so many seconds behind the last report it is seen whether one comes twice
+LATE = 15.0  # seconds after the first push by which late reports are there if there is no limit
+CROWDED = 2.0  # seconds within which each report comes if there are many watchers
+AGAIN = 4.0  # seconds after the last report in which it is watched whether one comes twice
 ESTABLISHED = 1  # the state of a connection, by TCP_INFO
 
 
 class Late:
-    """A connection on which the first answer takes so many seconds, and each other one."""
+    """A connection on which the first answer takes `opening` seconds, and each later one `pace`."""
 
     def __init__(self, connected: socket.socket, opening: float, pace: float) -> None:
         self.connected, self.next, self.pace, self.recv = connected, opening, pace, connected.recv
@@ -65,7 +65,7 @@ class Late:
 
 
 class Paced(Counting):
-    """A watcher that needs so many seconds for each answer, or other ones for that to the association request, and sees how
+    """A watcher that needs `pace` seconds for each answer, or `opening` for the one to the association request, and counts how
     many connections it has at once."""
 
     def __init__(self, pace: float = 0.0, opening: Optional[float] = None) -> None:
@@ -86,7 +86,7 @@ class Paced(Counting):
         super().talk(Late(connected, self.opening, self.pace))
 
     def fault(self, steps: dict[bytes, float]) -> Optional[str]:
-        """How what came differs from what was pushed, or None."""
+        """Returns how what came differs from what was pushed, or None."""
         missing = sum(it not in self.came for it in steps)
         twice = sum(count > 1 for count in self.came.values())
         is_ordered = [it for it in steps if it in self.came] == self.order
@@ -107,7 +107,7 @@ class Dripping(Counting):
 
 
 def is_open(connected: socket.socket) -> bool:
-    """Whether neither side has ended a connection."""
+    """Returns whether neither side has ended a connection."""
     try:
         return connected.getsockopt(socket.IPPROTO_TCP, socket.TCP_INFO, 1)[0] == ESTABLISHED
     except OSError:
@@ -116,7 +116,7 @@ def is_open(connected: socket.socket) -> bool:
 
 @dataclasses.dataclass
 class Trial:
-    """What the server is told, its watchers that answer, the places of those that don't, and how many steps are pushed at a
+    """The options of the server, its watchers that answer, the places of those that don't, and how many steps are pushed at a
     time."""
 
     words: list[str]
@@ -131,13 +131,13 @@ class Trial:
         return max(it.pace for it in self.answering)
 
     def peers(self) -> list[str]:
-        """The words that name the watchers to the server, those that answer last."""
+        """Returns the words that name the watchers to the server, the answering ones last."""
         places = self.others + [it.place for it in self.answering]
         return [f"W{number}={place}" for number, place in enumerate(places)]
 
 
 def silent(count: int) -> list[str]:
-    """The places of so many watchers that never answer."""
+    """Returns the places of that many watchers that never answer."""
     return [Silent().place for _ in range(count)]
 
 
@@ -159,7 +159,7 @@ TRIALS = ("alone", "beside", "unlimited", "mute", "paces", "many")
 
 
 def pushed(port: int, watchers: int, count: int, burst: int) -> dict[bytes, float]:
-    """Subscribes all watchers to all steps, and pushes so many, some at a time: when each was answered."""
+    """Subscribes all watchers to all steps, pushes that many steps, `burst` at a time, and returns when each was answered."""
     asker, steps = Asker(port), {}
     for number in range(watchers):
         asker.do(subscribe(GLOBAL, b"W%d" % number, b"FALSE"))
@@ -174,7 +174,7 @@ def pushed(port: int, watchers: int, count: int, burst: int) -> dict[bytes, floa
 
 
 def run(program: list[str], trial: Trial, count: int) -> tuple[dict[bytes, float], list[str]]:
-    """Pushes so many steps, and waits until each report has come, or could have come twice: the steps, and the log."""
+    """Pushes that many steps, waits until each report has come, and could have come twice, and returns the steps and the log."""
     peers = trial.peers()
     with Server(program, *trial.words, *peers) as server:
         steps = pushed(server.port, len(peers), count, trial.burst)
@@ -184,12 +184,12 @@ def run(program: list[str], trial: Trial, count: int) -> tuple[dict[bytes, float
 
 
 def waited(watcher: Paced, steps: dict[bytes, float]) -> list[float]:
-    """How long each report took to a watcher, of those that came."""
+    """Returns how long each report that came took to a watcher."""
     return [watcher.first[step] - since for step, since in steps.items() if step in watcher.first]
 
 
 def too_late(name: str, times: list[float], pushes: list[float], given: argparse.Namespace) -> Optional[str]:
-    """Why the reports of a quick watcher came too late, or None. They are all there."""
+    """Returns why the reports of a quick watcher came too late, or None. They must all be there."""
     judged = times
     if name in ("unlimited", "mute"):
         judged = [it for it, since in zip(times, pushes) if it <= given.worst or since + it > pushes[0] + LATE] or times
@@ -200,7 +200,7 @@ def too_late(name: str, times: list[float], pushes: list[float], given: argparse
 
 
 def try_one(program: list[str], name: str, given: argparse.Namespace, results: Results) -> None:
-    """Tells of one trial."""
+    """Runs one trial, and tells its results."""
     trial = trial_of(name)
     steps, log = run(program, trial, given.steps)
     for number, it in enumerate(trial.answering, len(trial.others)):

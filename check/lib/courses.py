@@ -1,8 +1,8 @@
-"""Courses: parts that one service takes, one after the other, and what is due where one growth of its memory is refused.
+"""Courses: parts that one service handles, one after the other, and what is expected if one growth of its memory is refused.
 
-A part is an association that a peer asks for (`serve`), one whose input ends without a release (`cut`), one that this side asks
-the watcher W1 for (`deliver`), or a script.
-Its rows are what is asked and what is answered, one after the other. The program `refusals` runs a course.
+A part is an association that a peer requests (`serve`), one whose input ends without a release (`cut`), one that this side
+requests from the watcher W1 (`deliver`), or a script. Its rows are what is asked and what is answered, one after the other. The
+program `refusals` runs a course.
 """
 
 import copy
@@ -13,57 +13,57 @@ import dicom
 import runs
 
 ENDS = {"serve": "Released", "cut": "Closed", "deliver": "Released", "script": "Done"}
-# the verbs of a script whose requests are entered in the history, and those that are answered a status of lacking memory
+# the verbs of a script whose requests are entered in the history, and the statuses that verbs answer for lack of memory
 ENTERED = ("create", "set", "change", "cancel", "subscribe", "unsubscribe", "suspend", "ack")
 TOLD = {"find": "A700", **dict.fromkeys(("get", "pending", "sweep", *ENTERED), "0213")}
 BATCH = 200
 
 
 class Row:
-    """What is asked, what is answered, what is answered where memory lacks (None where that is never told), and how many
-    requests the history has then."""
+    """What is asked, what is answered, what is answered for lack of memory (None if that never happens), and how many requests
+    the history has then."""
 
     def __init__(self, asked, answered, lacking, entries):
         self.asked, self.answered, self.lacking, self.entries = asked, answered, lacking, entries
 
 
 class Part:
-    """A part of a course: its kind, how many requests the history has before, and its rows."""
+    """A part of a course: its kind, how many requests the history has before it, and its rows."""
 
     def __init__(self, kind, before, rows=()):
         self.kind, self.before, self.rows = kind, before, list(rows)
 
     def asked(self):
-        """All that is asked."""
+        """Returns all that is asked."""
         return b"".join(it.asked(number) for number, it in enumerate(self.rows))
 
     def answered(self):
-        """All that is answered."""
+        """Returns all that is answered."""
         return b"".join(self.answers())
 
     def answers(self):
-        """What is answered to each row."""
+        """Returns the answer to each row."""
         return [it.answered(number) for number, it in enumerate(self.rows)]
 
     def entries(self):
-        """How many requests the history has behind it."""
+        """Returns how many requests the history has after it."""
         return self.rows[-1].entries if self.rows else self.before
 
     def due(self):
-        """What is told of it where nothing is refused."""
+        """Returns what is reported of it if nothing is refused."""
         return self.answered(), ENDS[self.kind], self.entries()
 
     def words(self):
-        """The word that asks for it."""
+        """Returns the word that asks for it."""
         kind = "serve" if self.kind == "cut" else self.kind
         return f"{kind}:{self.asked().hex()}"
 
     def entries_before(self, place):
-        """How many requests the history has before a row."""
+        """Returns how many requests the history has before a row."""
         return self.rows[place - 1].entries if place else self.before
 
     def from_row(self, place):
-        """The part that asks for what is left from a row on. An association begins anew, and a delivery with its reports."""
+        """Returns the part that asks for the rest, from a row on. An association begins anew, a delivery with that report."""
         if self.kind == "script":
             return Part(self.kind, self.entries_before(place), self.rows[place:])
         if place == 0:
@@ -75,21 +75,21 @@ class Part:
         return self.from_report(place)
 
     def from_report(self, place):
-        """The delivery that begins with the report that a row is answered."""
+        """Returns the delivery that begins with the report in the answer to a row."""
         first, agreed = copy.copy(self.rows[0]), copy.copy(self.rows[place])
         first.entries = agreed.entries
         agreed.asked = self.rows[1].asked
         return Part(self.kind, agreed.entries, [first, agreed, *self.rows[place + 1:]])
 
     def twice(self, place):
-        """The part in which a row is asked twice, and is told first that memory lacks."""
+        """Returns the part in which a row is asked twice, and is first answered with a lack of memory."""
         row = self.rows[place]
         refused = Row(row.asked, row.lacking, None, self.entries_before(place))
         return Part(self.kind, self.before, [*self.rows[:place], refused, *self.rows[place:]])
 
 
 def rows_of_part(names, kind, texts, before):
-    """The rows of a part."""
+    """Returns the rows of a part."""
     rows = []
     for text in texts:
         rows.append(row_of_line(text, before) if kind == "script" else row_of_message(names, text))
@@ -98,7 +98,7 @@ def rows_of_part(names, kind, texts, before):
 
 
 def row_of_message(names, text):
-    """The row of a message. ID is the message ID of the report that is answered, which counts the reports."""
+    """Returns the row of a message. ID is the Message ID of the report that is answered, which counts the reports."""
     asked, answered, lacking, entries = text.split(" | ")
 
     @functools.cache
@@ -114,7 +114,7 @@ def row_of_message(names, text):
 
 
 def row_of_line(text, before):
-    """The row of a line of a script, and its reply."""
+    """Returns the row of a line of a script and its reply."""
     line, reply = text.split(" -> ")
     verb, status = line.split(" ")[2], reply.split(" ")[0]
     is_entered = verb in ENTERED and status in ("0000", "B301") or verb == "sweep" and reply > "0000 0"
@@ -128,8 +128,8 @@ def row_of_line(text, before):
 
 
 def parts_of(names, rows, spelled):
-    """The parts of rows: a word for the kind of each part stands before its own. A script is spelled with what its words
-    stand for."""
+    """Returns the parts of rows: a word for the kind of each part precedes its rows. In a script, `spelled` replaces the words
+    by what they stand for."""
     parts = []
     for text in rows:
         if text in ENDS:
@@ -144,7 +144,7 @@ def parts_of(names, rows, spelled):
 
 
 def run(program, courses):
-    """What the program tells of courses: of each, what is told of its parts, and whether the growth was refused."""
+    """Runs courses, and returns for each what the program reports of its parts, and whether the growth was refused."""
     lines = [" ".join([str(number), *(it.words() for it in parts)]) for number, parts in courses]
     ran = runs.run([program], "\n".join([*lines, ""]).encode())
     if ran.status or ran.said:
@@ -153,7 +153,7 @@ def run(program, courses):
 
 
 def told_in(line):
-    """What is told in a line."""
+    """Returns what a line of output reports."""
     *parts, last = line.split(" | ")
     told = []
     for part in parts:
@@ -163,19 +163,20 @@ def told_in(line):
 
 
 class Fault(Exception):
-    """What a course comes to is not due."""
+    """An outcome of a course that is not an expected one."""
 
 
 def different(parts, told):
-    """The first part of which something else is told than where nothing is refused; None where there is none."""
+    """Returns the place of the first part with another report than if nothing is refused; None if there is none."""
     return next((place for place, part in enumerate(parts) if told[place] != part.due()), None)
 
 
 def rest_of(parts, told):
-    """The parts that are due where a growth is refused, of which something else is told than where none is, and what is to be
-    told of each. What was not done is asked once more: in the same part, where that tells so, or in another one behind it.
+    """Returns the parts to run with the same growth refused, after a report that differs from that without a refusal, and what
+    each should then report. What was not done is asked once more: in the same part if it was answered with a lack of memory, or
+    else in another one after it.
 
-    Raises Fault where what is told is no reply that is due.
+    Raises Fault if what is reported is not expected.
     """
     place = different(parts, told)
     part, (written, end, entries) = parts[place], told[place]
@@ -194,7 +195,7 @@ def rest_of(parts, told):
 
 
 def answered_rows(part, written):
-    """How many rows are answered as is due, and how many bytes that takes."""
+    """Returns how many rows are answered as expected, and how many bytes that takes."""
     at = 0
     for place, answer in enumerate(part.answers()):
         if not written.startswith(answer, at):
@@ -204,7 +205,7 @@ def answered_rows(part, written):
 
 
 def row_told(part, written):
-    """The row that is told that memory lacks."""
+    """Returns the place of the row that is answered with a lack of memory."""
     place, at = answered_rows(part, written)
     if place == len(part.rows):
         raise Fault(f"{part.kind}: more is answered than is due, or it ends otherwise")
@@ -215,7 +216,7 @@ def row_told(part, written):
 
 
 def row_after_end(part, written, entries):
-    """The row with which a part goes on that ended for lack of memory: that which is not answered, unless it is entered."""
+    """Returns the row to go on with after a part ended for lack of memory: the unanswered one, or the next if that is entered."""
     place, at = answered_rows(part, written)
     if place == len(part.rows) or not part.answers()[place].startswith(written[at:]):
         raise Fault(f"{part.kind}: it ends for lack of memory, and row {place + 1} is answered {written[at:at + 99]!r}")
@@ -227,7 +228,7 @@ def row_after_end(part, written, entries):
 
 
 def after_delivery(part, written, end, entries):
-    """The delivery of the reports that are not acknowledged. That before ended for lack of memory, or was released early."""
+    """Returns the delivery of the reports that are not acknowledged, after one that ran out of memory or was released early."""
     place, at = answered_rows(part, written)
     is_released = end == "Released" and written[at:] in (b"", part.rows[-2].answered(0))
     if not is_released and (end != "Memory" or not part.answered().startswith(written)):
@@ -240,7 +241,7 @@ def after_delivery(part, written, end, entries):
 
 
 class Course:
-    """A course, by its heading and its parts."""
+    """A course: its heading and its parts."""
 
     program = "refusals"
 
@@ -248,7 +249,7 @@ class Course:
         self.name, self.parts = name, parts
 
     def spoiled(self):
-        """The same with something else that is answered at its end, and with another number of entries."""
+        """Returns the same with another answer at its end, and with another number of entries."""
         answer, entry = copy.deepcopy(self), copy.deepcopy(self)
         last = answer.parts[-1].rows[-1].answered
         answer.parts[-1].rows[-1].answered = lambda place: last(place) + b"X"
@@ -256,15 +257,15 @@ class Course:
         return [answer, entry]
 
     def difference(self, program):
-        """How what the program tells differs from the course where nothing is refused; None where it doesn't."""
+        """Returns how the program's report differs from the course if nothing is refused; None if it doesn't."""
         told, _ = run(program, [(0, self.parts)])[0]
         place = different(self.parts, told)
         return None if place is None else f"of part {place + 1} is told {told[place]} and not {self.parts[place].due()}"
 
     def failures(self, program):
-        """Refuses each growth in turn: how many there are, and how often each thing came of it.
+        """Refuses each growth in turn, and returns how many there are, and how often each kind of outcome occurred.
 
-        Raises Fault where something that is not due comes of one.
+        Raises Fault if an outcome is not expected.
         """
         number, fates = 0, {}
         while True:
@@ -277,8 +278,8 @@ class Course:
                 return number, fates
 
     def judge(self, program, before, told, fates):
-        """Judges what came of growths, the first of which has the number behind this one, and has what was not done asked
-        for once more."""
+        """Checks the outcomes of growths, the first of which has the number after `before`, and asks once more for what was
+        not done."""
         due = []
         for number, it in enumerate(told, before + 1):
             fate = "not begun" if not it else "as due" if different(self.parts, it) is None else "told or ended"

@@ -1,4 +1,4 @@
-"""Spells what DICOM sends: PDUs, command sets and data sets, and bytes by words that a person can read."""
+"""Encodes what DICOM sends: PDUs, command sets and data sets, and bytes written as words that a person can read."""
 
 import os
 import re
@@ -27,7 +27,7 @@ def pdu(kind, body):
 
 
 def associate(contexts, calling=b"BENCH"):
-    """An A-ASSOCIATE-RQ with a context for each (abstract syntax, transfer syntax), ids 1, 3, .."""
+    """Returns an A-ASSOCIATE-RQ with a presentation context for each (abstract syntax, transfer syntax), IDs 1, 3, .."""
     body = struct.pack(">HH", 1, 0) + b"UPSD".ljust(16) + calling.ljust(16) + bytes(32)
     body += item(0x10, b"1.2.840.10008.3.1.1.1")
     for i, (abstract, transfer) in enumerate(contexts):
@@ -44,7 +44,7 @@ def even(value, pad=b"\0"):
 
 
 def element(number, value):
-    """An element of a command set."""
+    """Returns an element of a command set."""
     return struct.pack("<HHI", 0, number, len(value)) + value
 
 
@@ -58,7 +58,7 @@ def us(number):
 
 
 def message(context, command_set, data_set=None):
-    """A message in PDUs of at most 16,384 bytes."""
+    """Returns a message in PDUs of at most 16,384 bytes."""
     out = b""
     for control, last, part in ((1, 3, command_set), (0, 2, data_set)):
         if part is None:
@@ -89,30 +89,30 @@ def get(context, number, instance):
 
 
 def set_attributes(context, number, instance, data_set):
-    """An N-SET."""
+    """Returns an N-SET request."""
     elements = [(0x0003, even(PUSH)), (0x0100, us(0x0120)), (0x0110, us(number)), (0x0800, us(1)), (0x1001, even(instance))]
     return message(context, command(elements), data_set)
 
 
 def act(context, number, instance, action, data_set):
-    """An N-ACTION of a type."""
+    """Returns an N-ACTION request of a type."""
     elements = [(0x0003, even(PUSH)), (0x0100, us(0x0130)), (0x0110, us(number)), (0x0800, us(1)), (0x1001, even(instance)), (0x1008, us(action))]
     return message(context, command(elements), data_set)
 
 
 def find(context, number, identifier):
-    """A C-FIND of medium priority."""
+    """Returns a C-FIND request of medium priority."""
     elements = [(0x0002, even(PULL)), (0x0100, us(0x0020)), (0x0110, us(number)), (0x0700, us(0)), (0x0800, us(1))]
     return message(context, command(elements), identifier)
 
 
 def give_up(context, number):
-    """A C-CANCEL of a C-FIND."""
+    """Returns a C-CANCEL request for a C-FIND."""
     return message(context, command([(0x0100, us(0x0FFF)), (0x0120, us(number)), (0x0800, us(0x0101))]))
 
 
 def data(explicit, group, number, vr, value):
-    """An element of a data set."""
+    """Returns an element of a data set."""
     tag = struct.pack("<HH", group, number)
     if not explicit:
         return tag + struct.pack("<I", len(value)) + value
@@ -126,7 +126,7 @@ def items(elements):
 
 
 def step(explicit, more=()):
-    """The attributes of a step that is accepted: 20 of them, one a sequence, and more."""
+    """Returns the attributes of a step that is accepted: 20 of them, one a sequence, updated by `more`."""
     row = {
         (0x0010, 0x0010): (b"PN", b"DOE^JANE"),
         (0x0010, 0x0020): (b"LO", b"P1"),
@@ -153,23 +153,23 @@ def step(explicit, more=()):
     return b"".join(data(explicit, g, e, vr, value) for (g, e), (vr, value) in sorted(row.items()))
 
 
-# bytes by words
+# bytes written as words
 
 def stored():
-    """The stored PDUs that the tests of the crates have too, as texts by their names."""
+    """Returns the stored PDUs that the tests of the crates use too, as texts by name."""
     with open(VECTORS, encoding="utf-8") as text:
         found = re.findall(r'pub const (\w+): &str =\s*"((?:[^"\\]|\\")*)";', text.read())
     return {name: spelled.replace('\\"', '"') for name, spelled in found}
 
 
 def bytes_of(names, text):
-    """The bytes of a text: what stands in quotes, and what each of the other words stands for."""
+    """Returns the bytes of a text: those in quotes, and what each other word stands for."""
     parts = re.findall(r'"([^"]*)"|([^\s"]+)', text)
     return b"".join(bytes_of_word(names, word) if word else quoted.encode() for quoted, word in parts)
 
 
 def bytes_of_word(names, word):
-    """The bytes of a word: of a name, a UID or hex digits, as often as a number behind `*` says."""
+    """Returns the bytes of a word: of a name, a UID or hex digits, as often as a number after `*` says."""
     name, _, count = word.partition("*")
     times = int(count or 1)
     if name not in names:
@@ -180,5 +180,5 @@ def bytes_of_word(names, word):
 
 
 def numbered(text, times):
-    """A text so many times, with two hex digits or more in the place of a `#`: 01, 03, 05 and so on."""
+    """Returns a text that many times, with two or more hex digits in place of a `#`: 01, 03, 05 and so on."""
     return [text.replace("#", f"{number:02x}") for number in range(1, 2 * times, 2)]

@@ -1,7 +1,7 @@
 """A client of `upsd serve` that keeps a ledger of steps of its own, and compares each reply with it.
 
-What is due is what PS3.4 table CC.1.1-2 and docs/use/conformance.md say of a step in its state. Nobody else may know the UIDs of the
-steps: a ledger counts on it that only its own requests change them.
+The reply that is due is the one that PS3.4 table CC.1.1-2 and docs/use/conformance.md give for a step in its state. Nobody else may
+know the UIDs of the steps: a ledger relies on only its own requests changing them.
 """
 
 from __future__ import annotations
@@ -40,7 +40,7 @@ MOMENT = rb"20\d{12}\+0000 "
 
 
 class Fault(Exception):
-    """A reply that is another than the one that is due."""
+    """A reply that is not the one that is due."""
 
 
 @dataclasses.dataclass
@@ -58,7 +58,7 @@ class Held:
 
 @dataclasses.dataclass
 class Reply:
-    """A response: its command set, and its data set where one follows."""
+    """A response: its command set, and its data set if one follows."""
 
     elements: dict[int, bytes]
     data_set: Optional[bytes]
@@ -69,7 +69,7 @@ class Reply:
 
 
 def read(explicit: bool, spelled: bytes) -> Attributes:
-    """The elements of a data set, by rising tag. Sequences stay bytes."""
+    """Returns the elements of a data set, in ascending order of tags. Sequences stay bytes."""
     found: Attributes = {}
     while spelled:
         tag = struct.unpack("<HH", spelled[:4])
@@ -86,7 +86,7 @@ def read(explicit: bool, spelled: bytes) -> Attributes:
 
 
 class Association(Peer):
-    """An association, and the number of its last message."""
+    """An association, and the Message ID of its last request."""
 
     def __init__(self, port: int, explicit: bool, title: bytes, seconds: float) -> None:
         self.number = 0
@@ -102,7 +102,7 @@ class Association(Peer):
 
 
 class Ledger:
-    """The steps that this client has made, and what is known of them. `number` tells ledgers of one server apart."""
+    """The steps that this client has created, and what is known of them. `number` distinguishes the ledgers of one server."""
 
     def __init__(self, port: int, number: int, seed: object, seconds: float = 30) -> None:
         self.port, self.number, self.seconds = port, number, seconds
@@ -111,7 +111,7 @@ class Ledger:
         self.chance = random.Random(f"{seed} ledger {number}")
         self.steps: list[Held] = []
         self.association: Optional[Association] = None
-        self.left = 0  # how many requests are still asked on the association
+        self.left = 0  # how many more requests the association is used for
         self.replies: collections.Counter[str] = collections.Counter()
         self.agreed = 0
         self.faults: list[str] = []
@@ -119,22 +119,22 @@ class Ledger:
     # data sets
 
     def spelled(self, attributes: dict[Tag, bytes]) -> bytes:
-        """A data set of these texts."""
+        """Returns a data set of these texts."""
         return b"".join(data(self.explicit, *tag, VRS[tag], even(value, b"\0" if VRS[tag] == b"UI" else b" "))
                         for tag, value in sorted(attributes.items()))
 
     def sequence(self, *elements: tuple[Tag, bytes, bytes]) -> bytes:
-        """A sequence of one item."""
+        """Returns a sequence of one item."""
         return items([b"".join(data(self.explicit, *tag, vr, value) for tag, vr, value in elements)])
 
     def told(self, tag: Tag, value: bytes) -> tuple[bytes, bytes]:
-        """An attribute as a data set tells it."""
+        """Returns an attribute as it is read from a data set."""
         return VRS[tag] if self.explicit else b"", value
 
     # one request
 
     def ask(self, name: str, field: int, instance: bytes, spelled: bytes, due: int, action: Optional[int] = None) -> list[Reply]:
-        """The replies to a request, of which the last has this status, and each names what was asked."""
+        """Sends a request and returns its replies, the last of which must have the status `due`; each must name what was asked."""
         wire = self.wire()
         wire.socket.sendall(spelled)
         replies = [wire.reply()]
@@ -153,7 +153,7 @@ class Ledger:
         return replies
 
     def wire(self) -> Association:
-        """The association, or a new one, with the number of its next message."""
+        """Returns the association, or a new one, with the Message ID of its next request."""
         if self.association and self.left == 0:
             self.association.release()
             self.association = None
@@ -164,7 +164,7 @@ class Ledger:
         return self.association
 
     def next_number(self) -> int:
-        """The number of the message that is asked next."""
+        """Returns the Message ID of the next request."""
         return self.association.number + 1 if self.association and self.left else 1
 
     # the requests, each with what is due
@@ -197,7 +197,7 @@ class Ledger:
             held.attributes[STATE] = self.told(STATE, state)
 
     def status_to_finish(self, held: Held, state: bytes, transaction: Optional[bytes]) -> int:
-        """What a change to a final state is answered (PS3.4 table CC.1.1-2)."""
+        """Returns the status that is due for a change to a final state (PS3.4 table CC.1.1-2)."""
         if transaction is None or held.transaction != transaction:
             return 0xC310 if transaction and held.state == SCHEDULED else 0xC301
         if held.state in FINAL:
@@ -210,7 +210,7 @@ class Ledger:
         self.ask("Change UPS State", 0x0130, held.uid, spelled, due, 1)
 
     def transaction_for(self, held: Held) -> Optional[bytes]:
-        """A Transaction UID that is right in most cases."""
+        """Returns a Transaction UID, or None; it is right in most cases."""
         chance = self.chance.random()
         return None if chance < 0.1 else UNLISTED if chance < 0.2 else held.transaction or UNLISTED
 
@@ -225,7 +225,7 @@ class Ledger:
             held.attributes |= read(self.explicit, self.spelled(given))
 
     def status_to_set(self, held: Held, given: dict[Tag, bytes], transaction: Optional[bytes]) -> int:
-        """What an N-SET is answered (docs/use/conformance.md, "Statuses by the state of the step")."""
+        """Returns the status that is due for an N-SET (docs/use/conformance.md, "Statuses by the state of the step")."""
         if held.state in FINAL:
             return 0xC300
         if transaction and held.state == SCHEDULED:
@@ -235,7 +235,7 @@ class Ledger:
         return 0x0106 if STATE in given or given.get(PRIORITY) == b"SOON" else 0x0000
 
     def something(self) -> dict[Tag, bytes]:
-        """What an N-SET gives."""
+        """Returns what an N-SET sets."""
         number = b"%d" % self.chance.randrange(10**6)
         when = b"202402291201%02d" % self.chance.randrange(60)
         performed = self.sequence(((0x0040, 0x4050), b"DT", when), ((0x0040, 0x4051), b"DT", when))
@@ -245,7 +245,7 @@ class Ledger:
         ])
 
     def cancel(self, held: Held) -> None:
-        """A request to cancel. Where that is done, the moment that the step has then is taken from what an N-GET tells."""
+        """Sends a request to cancel. If that is done, the time that the step then has is taken from an N-GET."""
         due = {COMPLETED: 0xC311, CANCELED: 0xB304}.get(held.state, 0x0000)
         reason = b"REASON%d" % self.chance.randrange(10, 100)
         spelled = act(PUSH_ON, self.next_number(), held.uid, 2, self.spelled({REASON: reason}))
@@ -256,14 +256,14 @@ class Ledger:
             self.get(held)
 
     def cancellation(self, got: Attributes, reason: bytes) -> bytes:
-        """The progress information that a request to cancel gives a step."""
+        """Returns the progress information that a request to cancel gives a step."""
         moment = got.get(PROGRESS, (b"", b""))[1][16:36]
         if not re.fullmatch(MOMENT, moment):
             raise Fault(f"Request UPS Cancel, the progress information is {got.get(PROGRESS)!r}")
         return self.sequence((CANCELLATION_TIME, b"DT", moment), (REASON, b"LT", reason))
 
     def get(self, held: Held) -> None:
-        """An N-GET of all attributes, or of some, of which one is never there."""
+        """Checks an N-GET of all attributes, or of some; these may include the Transaction UID, which is never there."""
         asked = self.chance.choice([[], [], [LABEL, STATE], [SOP_INSTANCE, PERFORMED, STATE], [TRANSACTION, PATIENT]])
         wanted = {it: held.attributes[it] for it in sorted(asked) if it in held.attributes} if asked else held.attributes
         compare(f"N-GET of {held.uid.decode()}", self.got(held, asked), wanted)
@@ -283,7 +283,7 @@ class Ledger:
         self.ask("N-GET of nothing", 0x0110, uid, message(PUSH_ON, command(elements)), 0xC307)
 
     def find(self, held: Held) -> None:
-        """A C-FIND of one step by its UID, of a patient's, or of all of this ledger by a wild card."""
+        """Checks a C-FIND of one step by its UID, of those of a patient, or of those of some patients by a wild card."""
         patient = held.attributes[PATIENT][1].rstrip()
         key, value, found = self.chance.choice([
             (SOP_INSTANCE, held.uid, lambda it: it is held),
@@ -293,7 +293,7 @@ class Ledger:
         self.found(key, value, [it for it in self.steps if found(it)])
 
     def found(self, key: Tag, value: bytes, wanted: Iterable[Held]) -> None:
-        """A C-FIND tells these steps, in the order of their creation (PS3.4 CC.2.8)."""
+        """Checks that a C-FIND returns these steps, in the order of their creation (PS3.4 CC.2.8)."""
         keys = {it: b"" for it in (SOP_INSTANCE, PATIENT, STATE, LABEL, PERFORMED, TRANSACTION)} | {key: value}
         replies = self.ask("C-FIND", 0x0020, b"", find(PULL_ON, self.next_number(), self.spelled(keys)), 0x0000)
         told = [read(self.explicit, it.data_set or b"") for it in replies[:-1]]
@@ -303,10 +303,10 @@ class Ledger:
         for one, other in zip(told, due):
             compare(f"C-FIND by {value!r}", one, other)
 
-    # all of it
+    # the run, and its audit
 
     def choose(self) -> None:
-        """Asks one thing."""
+        """Sends a request of a random kind."""
         kind = self.chance.random()
         if kind < 0.12 or not self.steps:
             return self.create()
@@ -318,7 +318,7 @@ class Ledger:
 
     @contextlib.contextmanager
     def judged(self) -> Iterator[None]:
-        """Counts what is asked within, and whether that agrees. Behind a fault there is a new association."""
+        """Counts the requests within, and those that agree. After a fault there is a new association."""
         before = self.replies.total()
         try:
             yield
@@ -338,21 +338,21 @@ class Ledger:
         self.close()
 
     def run(self, over: threading.Event, pause: float) -> None:
-        """Asks again and again until it is over, with a pause between."""
+        """Sends requests until it is over, each after a pause."""
         while not over.wait(pause):
             with self.judged():
                 self.choose()
         self.close()
 
     def close(self) -> None:
-        """Releases the association, where there is one."""
+        """Releases the association, if there is one."""
         with self.judged():
             if self.association:
                 self.association.release()
             self.association = None
 
     def audit(self) -> int:
-        """Compares each step as an N-GET tells it, and what C-FINDs tell of all; and gives how many steps agree."""
+        """Compares each step with an N-GET, and all of them with C-FINDs; returns how many agree with the N-GET."""
         good = 0
         for held in self.steps:
             before = len(self.faults)
@@ -369,7 +369,7 @@ class Ledger:
 
 
 def compare(name: str, found: Attributes, wanted: Attributes) -> None:
-    """Raises what differs, of which the first is told."""
+    """Raises Fault with the first difference, if there is one."""
     for tag in sorted(found.keys() | wanted.keys()):
         if found.get(tag) != wanted.get(tag):
             raise Fault(f"{name}: {tag[0]:04X},{tag[1]:04X} is {found.get(tag)!r} and not {wanted.get(tag)!r}")

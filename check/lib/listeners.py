@@ -1,4 +1,4 @@
-"""Watchers that listen for the associations of a server, each of which takes its reports in a way of its own."""
+"""Watchers that listen for the associations of a server, each kind of which takes reports in a way of its own."""
 
 import collections
 import contextlib
@@ -12,7 +12,7 @@ from peer import Peer
 
 
 class Watcher:
-    """A peer that listens: it answers each report with 0000, and remembers when the last one of a step came."""
+    """A peer that listens: it answers each report with 0000, and remembers when the last one of each step came."""
 
     def __init__(self, title):
         self.title, self.arrived, self.reports = title, {}, 0
@@ -33,14 +33,14 @@ class Watcher:
 
 
 class Incoming(Peer):
-    """An association that the server asks for, and the Event Type ID and the Event Information of its last report."""
+    """An association that the server requests, and the Event Type ID and the Event Information of its last report."""
 
     def __init__(self, connected):
         self.use(connected)
         self.event = self.information = b""
 
     def reports(self):
-        """The steps of the reports, each of which is answered."""
+        """Accepts the association, answers each report, and yields its step."""
         kind, body = self.pdu()
         user = item(0x51, struct.pack(">I", 16384)) + item(0x52, b"1.2.3")
         accepted = item(0x21, bytes([1, 0, 0, 0]) + item(0x40, EXPLICIT))
@@ -67,7 +67,7 @@ class Incoming(Peer):
 
 
 class Counting:
-    """A peer that listens, serves each connection at once, and counts how many it has."""
+    """A peer that listens, serves each connection at once, and counts connections and reports."""
 
     def __init__(self):
         self.came, self.first, self.order = collections.Counter(), {}, []
@@ -83,7 +83,7 @@ class Counting:
                 threading.Thread(target=self.serve, args=(self.listener.accept()[0],), daemon=True).start()
 
     def close(self):
-        """Listens no more."""
+        """Stops listening."""
         with contextlib.suppress(OSError):
             self.listener.shutdown(socket.SHUT_RDWR)
         self.listener.close()
@@ -112,13 +112,13 @@ class Counting:
             self.take(step)
 
     def disordered(self, steps):
-        """How many of the steps came before one that was pushed earlier."""
+        """Returns how many of the steps came after one that was pushed later."""
         places = [steps.index(step) for step in self.order if step in steps]
         return sum(place < max(places[:at], default=-1) for at, place in enumerate(places))
 
 
 class Slow(Counting):
-    """One that needs its time before it takes each report."""
+    """A watcher that needs some time before it takes each report."""
 
     def __init__(self, need):
         self.need = need
@@ -140,7 +140,7 @@ class Slow(Counting):
 
 
 class Silent(Counting):
-    """One that says nothing until the connection ends."""
+    """A watcher that says nothing until the connection ends."""
 
     def talk(self, connected):
         while connected.recv(4096):
@@ -148,7 +148,7 @@ class Silent(Counting):
 
 
 class Mute(Counting):
-    """One that takes the association and no report."""
+    """A watcher that accepts the association and answers no report."""
 
     def talk(self, connected):
         incoming = Incoming(connected)
@@ -169,7 +169,7 @@ class Mute(Counting):
 
 
 class Refusing(Counting):
-    """One that accepts the association and refuses its context."""
+    """A watcher that accepts the association and refuses its presentation context."""
 
     def talk(self, connected):
         incoming = Incoming(connected)

@@ -1,4 +1,4 @@
-"""What scripts ask of this machine: the checkout, programs, packages, ports, and what a process takes."""
+"""What scripts need of this machine: the checkout, programs, packages, ports, and what a process takes."""
 
 from __future__ import annotations
 
@@ -17,7 +17,7 @@ SHELLS = ("sh", "bash", "dash", "env", "strace", "nice", "time")
 
 
 def arguments(about, *numbers):
-    """The program that the command line names, and its numbers, each given here with its default and what it is."""
+    """Returns the program and the numbers of the command line; each number is given here by name, default and meaning."""
     parser = argparse.ArgumentParser(description=about, formatter_class=argparse.RawDescriptionHelpFormatter)
     built = "crates/upsd/out/upsd"
     parser.add_argument("program", nargs="?", default=built, help=f"the program ({built}, which `rt run` builds)")
@@ -27,7 +27,7 @@ def arguments(about, *numbers):
 
 
 def install(packages: dict[str, str]) -> None:
-    """Has pydicom there, and these commands, each from the Debian package that is named with it."""
+    """Installs pydicom and these commands if they are missing, each from the Debian package that is named with it."""
     own = importlib.util.find_spec("pydicom")
     missing = sorted({package for command, package in packages.items() if not shutil.which(command)})
     if not own and subprocess.run([PYTHON, "-c", "import pydicom"], stderr=subprocess.DEVNULL).returncode:
@@ -40,7 +40,7 @@ def install(packages: dict[str, str]) -> None:
 
 
 def holds(what, seconds):
-    """Whether it comes to hold in so many seconds."""
+    """Waits until `what` holds; returns False if it does not in that many seconds."""
     deadline = time.monotonic() + seconds
     while not what():
         if time.monotonic() > deadline:
@@ -50,13 +50,13 @@ def holds(what, seconds):
 
 
 def free_port() -> int:
-    """A port of this machine that is free."""
+    """Returns a free port of this machine."""
     with socket.create_server(("127.0.0.1", 0)) as listener:
         return listener.getsockname()[1]
 
 
 def listens(port: int) -> bool:
-    """Whether somebody listens on a port of this machine."""
+    """Returns whether anything listens on a port of this machine."""
     try:
         socket.create_connection(("127.0.0.1", port), 1).close()
         return True
@@ -65,12 +65,12 @@ def listens(port: int) -> bool:
 
 
 def processor(pid):
-    """The processor seconds of a process and all of its threads, by the clock that the system keeps for it."""
+    """Returns the processor seconds of a process and all of its threads, by the clock that the system keeps for it."""
     return time.clock_gettime(~pid << 3 | 2)
 
 
 def used_by(pid, task):
-    """The nanoseconds that a thread has run; 0 where it has ended."""
+    """Returns the nanoseconds that a thread has run; 0 if it has ended."""
     try:
         with open(f"/proc/{pid}/task/{task}/schedstat", encoding="ascii") as it:
             return int(it.read().split()[0])
@@ -84,7 +84,7 @@ def resident(pid):
 
 
 def pid_of(started: subprocess.Popen) -> int:
-    """The process that a program is, which a script or strace may have begun."""
+    """Returns the process ID of a program, which a script or strace may have started."""
     pid = started.pid
     for _ in range(500):
         try:

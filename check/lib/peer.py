@@ -1,4 +1,4 @@
-"""An association with a server, and the requests that scripts ask on it."""
+"""An association with a server, and the requests that scripts send on it."""
 
 import socket
 import struct
@@ -6,8 +6,8 @@ import struct
 from dicom import EXPLICIT, PULL, PUSH, RELEASE, VERIFICATION, WATCH, act, associate, data, even, items, set_attributes, step
 
 CONTEXTS = [(PUSH, EXPLICIT), (PULL, EXPLICIT), (VERIFICATION, EXPLICIT)]
-PUSH_ON, PULL_ON, ECHO_ON = 1, 3, 5  # the contexts that a Peer has
-WATCH_ON = 5  # in the place of ECHO_ON, that of an Asker
+PUSH_ON, PULL_ON, ECHO_ON = 1, 3, 5  # the presentation contexts of a Peer
+WATCH_ON = 5  # in place of ECHO_ON, for an Asker
 FOLLOWS = 0xFF00
 GLOBAL = b"1.2.840.10008.5.1.4.34.5"
 FILTERED = b"1.2.840.10008.5.1.4.34.5.1"
@@ -22,11 +22,11 @@ class Peer:
         self.associate(contexts, title)
 
     def use(self, connected):
-        """Talks over a connection of which nothing was read yet."""
+        """Uses a connection from which nothing has been read yet."""
         self.socket, self.left = connected, b""
 
     def associate(self, contexts, title=b"BENCH"):
-        """Asks for an association, which is to be accepted."""
+        """Requests an association, which must be accepted."""
         self.socket.sendall(associate(contexts, title))
         assert self.pdu()[0] == 2, "the association is not accepted"
 
@@ -44,7 +44,7 @@ class Peer:
         return head[0], self.take(struct.unpack(">I", head[2:])[0])
 
     def fragments(self, of_command):
-        """The bytes of a command set or of a data set."""
+        """Reads the PDVs of a command set or a data set, and returns its bytes."""
         found = b""
         while True:
             kind, body = self.pdu()
@@ -57,7 +57,7 @@ class Peer:
                     return found
 
     def answer(self):
-        """The status of a response, whose data set is read too."""
+        """Reads a response with its data set, and returns its status."""
         elements, command = {}, self.fragments(True)
         while command:
             number, length = struct.unpack("<xxHI", command[:8])
@@ -80,7 +80,7 @@ class Peer:
 
 
 def told(group, number, vr, value):
-    """An element of a data set, padded."""
+    """Returns an element of a data set, padded."""
     return data(True, group, number, vr, even(value, b"\0" if vr == b"UI" else b" "))
 
 
@@ -105,20 +105,20 @@ def progress(number, instance, transaction):
 
 
 class Asker(Peer):
-    """An association with a context for watching too."""
+    """An association that has a presentation context for watching too."""
 
     def __init__(self, port):
         self.accepted = 0
         super().__init__(port, [(PUSH, EXPLICIT), (PULL, EXPLICIT), (WATCH, EXPLICIT)])
 
     def do(self, request):
-        """Asks for what is to be accepted."""
+        """Sends a request that must be accepted."""
         status = self.ask(request)
         assert status in (0, 1), f"{status:04X}"
         self.accepted += 1
 
     def count(self, request):
-        """How many answers a query has before its last."""
+        """Sends a query, and returns how many answers it has before the last."""
         self.socket.sendall(request)
         answers = 0
         while self.answer() == FOLLOWS:

@@ -7,14 +7,14 @@ from typing import NoReturn, Optional
 
 
 class Results:
-    """How much passed and how much failed so far."""
+    """How many checks passed and failed so far."""
 
     def __init__(self, tells_passed: bool = True) -> None:
         self.passed = self.failed = 0
         self.tells_passed = tells_passed
 
     def tell(self, name: str, fault: Optional[str]) -> None:
-        """Counts what passed, or what failed and why, and prints it."""
+        """Counts a check that passed, or that failed with a fault, and prints it."""
         self.passed += fault is None
         self.failed += fault is not None
         if fault is not None:
@@ -23,6 +23,6 @@ class Results:
             print(f"passed: {name}", flush=True)
 
     def end(self, more: str = "") -> NoReturn:
-        """Prints the sums, and more, and ends the program: with 1 where something failed."""
+        """Prints the sums and `more`, and ends the program, with status 1 if a check failed."""
         print(f"{self.passed} passed, {self.failed} failed{more and f': {more}'}", flush=True)
         sys.exit(1 if self.failed else 0)

@@ -1,4 +1,4 @@
-"""Runs a program whose input, output or memory gives out, or whose calls a signal interrupts; and its server."""
+"""Runs a program whose input, output or memory runs out, or whose calls a signal interrupts; and runs it as a server."""
 
 import contextlib
 import dataclasses
@@ -19,14 +19,14 @@ from subprocess import TimeoutExpired
 from server import Server
 
 SECONDS = 30  # for one run
-ACTIONS = "Change", "Cancel", "Subscribe", "Unsubscribe", "Suspend"  # how a line names an N-ACTION that was refused
+ACTIONS = "Change", "Cancel", "Subscribe", "Unsubscribe", "Suspend"  # how a line of the log names an N-ACTION that was refused
 LIMIT = struct.pack("ll", SECONDS, 0)
 PAUSE = 0.0001
 
 
 @dataclasses.dataclass
 class Ran:
-    """What a run came to: its exit status, its output, and what it said on standard error."""
+    """The outcome of a run: its exit status, its output, and what it said on standard error."""
 
     status: int
     output: bytes
@@ -34,8 +34,8 @@ class Ran:
 
 
 def run(words, given=b"", *, source=None, room=None, memory=None):
-    """Runs a program on an input: these bytes, or what a source gives. Its output takes so many bytes as there is room, and
-    its data so many kilobytes of memory."""
+    """Runs a program on an input: the bytes `given`, or those of a source. If these are given, its output has room for `room`
+    bytes, and its data for `memory` kilobytes."""
     more = {"input": given} if source is None else {"stdin": source}
     if memory is not None:
         more["preexec_fn"] = lambda: resource.setrlimit(resource.RLIMIT_DATA, (memory * 1024, memory * 1024))
@@ -46,7 +46,7 @@ def run(words, given=b"", *, source=None, room=None, memory=None):
 
 
 def run_typed(words, lines):
-    """Runs a program that is given each line once the reply to the line before has come."""
+    """Runs a program that is given each line after the reply to the one before has come."""
     with subprocess.Popen(words, stdin=subprocess.PIPE, stdout=subprocess.PIPE, stderr=subprocess.PIPE) as child:
         guard = threading.Timer(SECONDS, child.kill)
         guard.start()
@@ -62,8 +62,8 @@ def run_typed(words, lines):
 
 @contextlib.contextmanager
 def files_of(room):
-    """Lets programs that begin meanwhile write files of so many bytes. Behind them a write fails: the signal for that is one
-    that Python, and so the program, ignores."""
+    """Lets programs that start within write files of `room` bytes. After these a write fails: Python, and so the program,
+    ignores the signal for that."""
     soft, hard = resource.getrlimit(resource.RLIMIT_FSIZE)
     resource.setrlimit(resource.RLIMIT_FSIZE, (soft if room is None else room, hard))
     try:
@@ -74,7 +74,7 @@ def files_of(room):
 
 @contextlib.contextmanager
 def broken(given):
-    """A source of these bytes behind which a read fails: a socket is reset where the other end leaves something unread."""
+    """Yields a source of these bytes, after which a read fails: a socket is reset if the other end leaves something unread."""
     source, peer = socket.socketpair()
     with source:
         with peer:
@@ -85,7 +85,7 @@ def broken(given):
 
 @contextlib.contextmanager
 def lasting(given):
-    """A source of these bytes that has no end as long as it is read."""
+    """Yields a source of these bytes that does not end as long as it is read."""
     source, peer = socket.socketpair()
     with source, peer:
         peer.sendall(given)
@@ -93,8 +93,8 @@ def lasting(given):
 
 
 def run_shaken(words, given):
-    """Runs a program that is given its input byte by byte, and has room for what it is rid of, byte by byte. A signal
-    interrupts each call that waits for that."""
+    """Runs a program that gets its input byte by byte, and room for its output byte by byte. A signal interrupts each call
+    that waits for either."""
     source, giver = timed_pair(socket.SO_RCVTIMEO)
     sink, taker = timed_pair(socket.SO_SNDTIMEO)
     taker.settimeout(SECONDS)
@@ -109,14 +109,14 @@ def run_shaken(words, given):
 
 
 def timed_pair(what):
-    """A socket with a time limit, and its peer. Only where there is one does a call fail that a signal interrupts."""
+    """Returns a socket with a time limit, and its peer. A call that a signal interrupts fails only if there is a limit."""
     one, other = socket.socketpair()
     one.setsockopt(socket.SOL_SOCKET, what, LIMIT)
     return one, other
 
 
 def fill(sink):
-    """Leaves no room in a socket, and gives how many bytes that took."""
+    """Fills a socket so that it has no room, and returns how many bytes that took."""
     sink.setsockopt(socket.SOL_SOCKET, socket.SO_SNDBUF, 1)
     sink.setblocking(False)
     count = 0
@@ -128,8 +128,8 @@ def fill(sink):
 
 
 def shake(child, given, source, giver, taker):
-    """Stops a program each time that it waits, and lets it go on when it was given a byte, or the end; or rid of one, where it
-    has not read the last one yet, and so waits for room."""
+    """Stops a program each time that it waits, and lets it go on after giving it a byte, or the end; or after taking one from
+    it, if it has not read the last one yet, and so waits for room. Returns its output."""
     output, place = b"", 0
     while stops(child):
         if place <= len(given) and not unread(source):
@@ -142,12 +142,12 @@ def shake(child, given, source, giver, taker):
 
 
 def unread(source):
-    """How many bytes wait to be read."""
+    """Returns how many bytes wait to be read."""
     return struct.unpack("i", fcntl.ioctl(source, termios.FIONREAD, bytes(4)))[0]
 
 
 def stops(child):
-    """Waits until a program waits, and stops it then; False where it has ended."""
+    """Waits until a program waits, and then stops it; returns False if it has ended."""
     end = time.monotonic() + SECONDS
     while state_of(child.pid) not in "SZ":
         if time.monotonic() > end:
@@ -160,13 +160,13 @@ def stops(child):
 
 
 def state_of(pid):
-    """The state of a process, as the letter that /proc tells: S where it waits, Z where it has ended."""
+    """Returns the state of a process, as the letter in /proc: S if it waits, Z if it has ended."""
     with open(f"/proc/{pid}/stat", encoding="utf-8") as told:
         return told.read().rpartition(") ")[2][0]
 
 
 def rest_of(connection):
-    """All that comes over a connection until it is closed."""
+    """Returns all that comes over a connection until it is closed."""
     found = b""
     with contextlib.suppress(ConnectionResetError):
         while more := connection.recv(65536):
@@ -176,7 +176,7 @@ def rest_of(connection):
 
 @contextlib.contextmanager
 def serving(program, peers=()):
-    """A new server with these peers, which ends within SECONDS, and its log."""
+    """Yields the log of a new server with these peers, and the server, which ends within SECONDS."""
     with logging(program, peers) as (log, server):
         guard = threading.Timer(SECONDS, server.process.kill)
         guard.start()
@@ -188,21 +188,21 @@ def serving(program, peers=()):
 
 @contextlib.contextmanager
 def logging(program, words=()):
-    """A new server with these words more, and its log, which goes to a file."""
+    """Yields the log of a new server, which goes to a file, and the server, which also gets these words."""
     with tempfile.NamedTemporaryFile() as log, open(log.name, "rb") as told, Server([program], *words, error=log) as server:
         yield told, server
 
 
 def serve(program, given, lasts=False):
-    """What a new server answers to these bytes, and how its log tells that the association ended. The input ends with them,
+    """Returns what a new server answers to these bytes, and how the association ended, by its log. The input ends after them,
     or lasts."""
     with serving(program) as (log, server), connected(server.port) as connection:
         return exchange(connection, given, lasts), end_in(log, server, "serve")
 
 
 def deliver(program, peers, host, asked, given):
-    """What a watcher hears that listens at a host, on the port whose number PORT stands for in the words that name peers;
-    and how the log tells that its association ended. A new server is asked these bytes before, and given those then."""
+    """Returns what a watcher hears, and how its association ended, by the log. It listens at a host, on the port that PORT
+    stands for in the words that name peers. A new server is first sent `asked`, and then `given` by the watcher."""
     with socket.create_server((host, 0)) as listener:
         listener.settimeout(SECONDS)
         place = str(listener.getsockname()[1])
@@ -214,13 +214,13 @@ def deliver(program, peers, host, asked, given):
 
 
 def connected(port):
-    """A connection with a port of this machine."""
+    """Returns a connection with a port of this machine."""
     return socket.create_connection(("127.0.0.1", port), SECONDS)
 
 
 def exchange(connection, given, lasts=False):
-    """Says these bytes over a connection: what is said there until it is closed."""
-    with contextlib.suppress(OSError):  # the other side may hang up before all is said
+    """Sends these bytes over a connection, and returns what comes until it is closed."""
+    with contextlib.suppress(OSError):  # the other side may hang up before all is sent
         connection.sendall(given)
         if not lasts:
             connection.shutdown(socket.SHUT_WR)
@@ -228,8 +228,8 @@ def exchange(connection, given, lasts=False):
 
 
 def end_in(log, server, who):
-    """How the first association of this kind ended that the log of a server tells of, as soon as it does. The lines of requests
-    that were refused are none."""
+    """Waits until the log of a server says how an association of this kind ended, and returns how the first did. Lines of
+    refused requests do not count."""
     while True:
         is_over = server.process.poll() is not None
         log.seek(0)

@@ -1,4 +1,4 @@
-"""Starts the program as a server of this machine."""
+"""Starts the program as a server on this machine."""
 
 from __future__ import annotations
 
@@ -15,9 +15,9 @@ Sink = Union[int, IO[bytes]]  # where standard error goes
 
 
 class Server:
-    """`upsd serve` on a free port, or on one that is told: it prints the port, and has a log."""
+    """`upsd serve` on a free port, which it prints, or on a given one; it has a log."""
 
-    limit: Optional[float] = None  # the seconds in which it has to print its port
+    limit: Optional[float] = None  # the seconds within which it has to print its port
 
     def __init__(self, program: list[str], *options: str, port: int = 0, error: Sink = subprocess.PIPE,
                  prepare: Optional[Callable[[], None]] = None, **variables: str) -> None:
@@ -30,7 +30,7 @@ class Server:
 
     def begin(self, words: list[str], error: Sink = subprocess.PIPE, prepare: Optional[Callable[[], None]] = None,
               is_group: bool = False, **variables: str) -> None:
-        """Begins a process, in which something is done before, and which may be a group of its own. What it says on standard
+        """Starts a process, in which `prepare` is called first, and which may be a group of its own. What it says on standard
         error is the log, unless that goes elsewhere."""
         self.began = time.monotonic()
         self.process = subprocess.Popen(words, stdin=subprocess.DEVNULL, stdout=subprocess.PIPE, stderr=error, text=True,
@@ -46,7 +46,7 @@ class Server:
             self.log.append(line.rstrip())
 
     def printed(self) -> int:
-        """The port that it prints."""
+        """Returns the port that it prints."""
         line = ""
         if select.select([self.process.stdout], [], [], self.limit)[0]:
             line = self.process.stdout.readline()
@@ -54,7 +54,7 @@ class Server:
         return int(line) if re.fullmatch(r"\d+\s*", line) else self.without_port(line)
 
     def without_port(self, line: str) -> int:
-        """Ends the script, as the server prints no port."""
+        """Ends the script, since the server prints no port."""
         sys.exit(f"the server printed {line!r} for a port: {' '.join(self.log)}")
 
     def stop(self) -> None:

@@ -1,7 +1,7 @@
-"""Services: what one service answers in an association or a script, how that ends, and what is told of the service then.
+"""Services: what one service answers in an association or a script, how that ends, and what is then reported of the service.
 
-The program `refusals` runs them: with devices that fail, a history that is full, and moments that are given. It tells the calls
-of the gate, what the history holds, which events are pending, what the plain programs list, and how large a step is.
+The program `refusals` runs them, with failing devices, a full history and given moments. It reports the calls of the gate, what
+the history holds, which events are pending, what the plain programs list, and how large a step is.
 """
 
 import copy
@@ -14,14 +14,14 @@ OPTIONS = {"fails": "fails", "reads": "reads", "writes": "writes", "in full": "f
 LIMITS = {"turns": ",turns={}", "room": ",room={}"}
 SETTINGS = {"history": ",history={}", "offset": ",offset={}"}
 STEPS = ("1.2.3.1", "1.2.3.2", "1.2.3.3")
-# the attributes that are shown of each step, but for long values, and the lines that tell all of three steps
+# the attributes that are shown of each step, except long values, and the lines that report all of three steps
 SHOWN = "00080018 00100010 00404005 00404041 00741000 00741002 00741200 00741202 00741204 00741216"
 LISTS = "0 P1 held\n0 W1 watches\n0 W2 watches\n"
 ALL = "".join(f"0 P1 get {it} {SHOWN}\n0 P1 holder {it}\n" for it in STEPS) + LISTS + "0 W1 pending 99\n0 W2 pending 99\n"
 
 
 class Heading:
-    """What stands in brackets in a heading: what is said before, the kind of its rows, its settings, and the options of a part."""
+    """The brackets of a heading: what is asked before, the kind of its rows, its settings, and the options of a part."""
 
     def __init__(self, text, befores):
         self.before, self.kind, self.settings, self.options = [], "serve", "", ""
@@ -42,12 +42,12 @@ class Heading:
 
 
 def word_of(kind, given):
-    """The word of a part."""
+    """Returns the word of a part."""
     return f"{kind}:{given.hex()}"
 
 
 def told(program, lines):
-    """What the program tells of lines: of each part what is written, and what stands behind that."""
+    """Returns what the program reports of lines: for each part what is written, and what follows that."""
     ran = runs.run([program], "".join(f"{it}\n" for it in lines).encode())
     if ran.status or ran.said:
         raise ValueError(f"it ends with status {ran.status}, saying {ran.said.decode(errors='replace')!r}")
@@ -55,14 +55,14 @@ def told(program, lines):
 
 
 def part_of(text):
-    """What is written in a part, and what stands behind that."""
+    """Returns what is written in a part, and what follows that."""
     digits, _, rest = text.partition(" ")
     return bytes.fromhex(digits), rest
 
 
 class Service:
-    """An association or a script in bytes: what is given and written, and what is told behind that. It is tried for each number
-    of what is short: the input ends or breaks off behind so many bytes, or the output has room for so many."""
+    """An association or a script in bytes: what is given and written, and what is reported after that. It is tried for each
+    number of what is short: the input ends or breaks off after that many bytes, or the output has room for that many."""
 
     program = "refusals"
 
@@ -79,13 +79,13 @@ class Service:
         self.before = [word_of("serve,timed", dicom.bytes_of(names, it)) for it in heading.before]
 
     def spoiled(self):
-        """The same with another answer, and with something else that is told behind it."""
+        """Returns the same with another answer, and with another report after it."""
         answer, end = copy.copy(self), copy.copy(self)
         answer.answered, end.ended = b"X" + self.answered, f"{self.ended}X"
         return [answer, end]
 
     def line(self, number):
-        """The line that asks for the row at a number."""
+        """Returns the line that asks for the row at a number."""
         more = {"break": ",fails", "room": f",room={number}"}.get(self.what, "")
         more += "" if self.heading.kind == "script" else ",timed"
         more += ",pending" if self.heading.kind == "deliver" else ""
@@ -94,7 +94,7 @@ class Service:
         return " ".join([f"0{self.heading.settings}", *self.before, last])
 
     def difference(self, program):
-        """How what the program tells differs from the row, at the first number where it does; None where it never does."""
+        """Returns how the program's report differs from the row, at the first number for which it does; None if there is none."""
         numbers = range(self.first, self.last + 1)
         for number, (*before, last) in zip(numbers, told(program, [self.line(it) for it in numbers]), strict=True):
             if not all(rest.startswith("Released ") for _, rest in before):
@@ -106,8 +106,8 @@ class Service:
 
 
 class Lines:
-    """Lines of a script, and what is asked of the service, each with its answer. A line that enters no request leaves the
-    replies to some others as they were, and the plain programs list what the service lists."""
+    """Lines of a script, and questions about the service, each with its answer. A line that enters no request has to leave the
+    replies to some others as they were, and the plain programs have to list what the service lists."""
 
     program = "refusals"
 
@@ -116,20 +116,20 @@ class Lines:
         self.rows = [spelled(row).split(" -> ") for row in rows]
 
     def spoiled(self):
-        """The same with another last reply, and with another list than those that are compared."""
+        """Returns the same with another last reply, and with one more list than the plain programs give."""
         answer, lists = copy.deepcopy(self), copy.copy(self)
         answer.rows[-1][1] += "X"
         lists.lists += "0 P1 held\n"
         return [answer, lists]
 
     def line(self):
-        """The line that asks for the rows: before and behind each one all is told, and behind the last the lists."""
+        """Returns the line that asks for the rows: before and after each one all is reported, and after the last the lists."""
         every = word_of("script", ALL.encode())
         parts = [it for line, _ in self.rows for it in (every, part_for(line))]
         return " ".join([f"0{self.heading.settings}", *parts, every, word_of("script", self.lists.encode()), "plain:"])
 
     def difference(self, program):
-        """How what the program tells differs from the rows; None where it doesn't."""
+        """Returns how the program's report differs from the rows; None if it doesn't."""
         *parts, lists, plain = told(program, [self.line()])[0]
         for place, (line, answer) in enumerate(self.rows):
             before, found, behind = parts[2 * place:2 * place + 3]
@@ -141,7 +141,7 @@ class Lines:
 
 
 def part_for(line):
-    """The part that a line of a row asks for. How many requests are entered is told of each."""
+    """Returns the part that a line of a row asks for. Each part reports how many requests are entered."""
     verb, _, rest = line.partition(" ")
     if verb in ("due", "size"):
         return word_of(verb, rest.encode())
@@ -149,7 +149,7 @@ def part_for(line):
 
 
 def unlike(line, answer, found):
-    """How what is told of a line differs from its answer; None where it doesn't."""
+    """Returns how the report of a line differs from its answer; None if it doesn't."""
     written, ended = found
     end, _, entries = ended.partition(" ")
     told_of = entries if line == "entries" else written.decode(errors="replace").removesuffix("\n")
@@ -159,7 +159,7 @@ def unlike(line, answer, found):
 
 
 def rows_of(names, befores, heading, rows, spelled):
-    """What is to be run of a section."""
+    """Yields what is to be run of a section."""
     options = Heading(heading, befores)
     if options.kind == "line by line":
         yield Lines(heading, options, rows, spelled)

@@ -1,4 +1,4 @@
-"""Servers on a store, what is asked of them in an association, who is told of events, and what a store has."""
+"""Servers on a store, requests to them in an association, watchers that hear of events, and the content of a store."""
 
 from __future__ import annotations
 
@@ -24,7 +24,7 @@ from machine import pid_of
 from peer import FOLLOWS, PULL_ON, PUSH_ON, Peer, subscribe, told, unsubscribe
 from server import Server
 
-SECONDS = 60.0  # for one answer, and for a start: a machine that is busy takes its time
+SECONDS = 60.0  # for one answer, and for a start: a busy machine may need that long
 FAULTS = (Fault, OSError, EOFError, AssertionError, KeyError, IndexError, struct.error)
 ECHO_ON = 7
 READY, WAITING = b"READY", b"UNAVAILABLE"
@@ -33,7 +33,7 @@ STATE_REPORT = b"\1\0"
 
 
 class Stored(Server):
-    """`upsd serve` on a store, with what comes before the program's words. It may be told not to wait for its port."""
+    """`upsd serve` on a store, by a program that may follow another command. It may be told not to wait for its port."""
 
     def __init__(self, program: list[str], file: str, *options: str, seconds: float = SECONDS, waits: bool = True) -> None:
         self.begin([*program, "serve", "--ae", "UPSD", "--port", "0", "--store", file, *options], is_group=True)
@@ -53,7 +53,7 @@ class Stored(Server):
         raise Fault(f"the server does not start: it printed {line!r} for a port, and ended with {self.process.returncode}: {self.log[-5:]}")
 
     def kill(self) -> None:
-        """Ends all that it is at once."""
+        """Kills all of its processes at once."""
         with contextlib.suppress(ProcessLookupError):
             os.killpg(self.process.pid, signal.SIGKILL)
         self.process.wait()
@@ -64,12 +64,12 @@ class Stored(Server):
         self.process.stdout.close()
 
     def lines(self, words: str) -> list[str]:
-        """The lines of the log in which these words are found."""
+        """Returns the lines of the log in which these words are found."""
         return [line for line in list(self.log) if re.search(words, line)]
 
 
 class Client(Association):
-    """An association with a context for watching too, in which each request has a Message ID of its own."""
+    """An association with presentation contexts for watching and verification too; each request has its own Message ID."""
 
     def __init__(self, port: int, title: bytes = b"BENCH", seconds: float = SECONDS) -> None:
         self.number = 0
@@ -80,7 +80,7 @@ class Client(Association):
         return self.number
 
     def status_of(self, spelled: bytes) -> int:
-        """The status that a request is answered with, which has one answer."""
+        """Sends a request that has one answer, and returns its status."""
         self.socket.sendall(spelled)
         reply = self.reply()
         number = struct.unpack("<H", reply.elements[0x0120])[0]
@@ -99,7 +99,7 @@ class Client(Association):
         return self.status_of(set_attributes(PULL_ON, self.next(), uid, holder + data_set))
 
     def cancel(self, uid: bytes) -> int:
-        """A request to cancel."""
+        """Sends a request to cancel."""
         return self.status_of(act(PUSH_ON, self.next(), uid, 2, told(0x0074, 0x1238, b"LT", b"ILL")))
 
     def subscribe(self, place: bytes, title: bytes, lock: bytes, keys: bytes = b"") -> int:
@@ -112,7 +112,7 @@ class Client(Association):
         return self.status_of(echo(self.next(), ECHO_ON))
 
     def got(self, uid: bytes) -> Optional[Attributes]:
-        """What an N-GET of all attributes tells of a step, or None where it is unknown."""
+        """Returns all attributes of a step, by an N-GET, or None if it is unknown."""
         self.socket.sendall(get(PUSH_ON, self.next(), uid))
         reply = self.reply()
         if reply.status == 0xC307:
@@ -122,13 +122,13 @@ class Client(Association):
         return read(True, reply.data_set)
 
     def found(self, *keys: tuple[tuple[int, int], bytes]) -> list[Attributes]:
-        """What a C-FIND tells by these keys, of the UIDs, the states and the labels."""
+        """Returns the matches of a C-FIND by these keys, with UIDs, states and labels."""
         asked = {SOP_INSTANCE: b"", STATE: b"", LABEL: b""} | dict(keys)
         self.socket.sendall(find(PULL_ON, self.next(), b"".join(told(*tag, VRS[tag], value) for tag, value in sorted(asked.items()))))
         return self.matches()
 
     def matches(self) -> list[Attributes]:
-        """The data sets of the answers to a C-FIND."""
+        """Returns the data sets of the answers to a C-FIND."""
         replies: list[Reply] = [self.reply()]
         while replies[-1].status == FOLLOWS:
             replies.append(self.reply())
@@ -138,14 +138,14 @@ class Client(Association):
 
 
 def renumbered(spelled: bytes, number: int) -> bytes:
-    """A request, which has the Message ID 1, with another one."""
+    """Returns a request that has the Message ID 1 with another one."""
     one = struct.pack("<HHI", 0, 0x0110, 2) + b"\1\0"
     assert spelled.count(one) == 1
     return spelled.replace(one, one[:-2] + struct.pack("<H", number))
 
 
 def a_step_of(patient: bytes) -> bytes:
-    """The attributes of a step that is accepted, of a patient."""
+    """Returns the attributes of a step that is accepted, of a patient."""
     return step(True, {(0x0010, 0x0020): (b"LO", even(patient, b" "))})
 
 
@@ -157,7 +157,7 @@ MOMENT = b"20240229120000"
 
 
 def performed(number: int) -> bytes:
-    """What a workstation sets of a step for the time with a number: what each final state needs, and the number twice."""
+    """Returns what a workstation sets of a step the `number`-th time: what each final state needs, and the number twice."""
     canceled = data(True, *CANCELLATION_TIME, b"DT", MOMENT) + data(True, 0x0074, 0x1004, b"DS", even(b"%d" % (number % 100000), b" "))
     done = data(True, 0x0040, 0x4050, b"DT", MOMENT) + data(True, 0x0040, 0x4051, b"DT", MOMENT)
     return (data(True, *PROGRESS, b"SQ", items([canceled])) + told(*LABEL, b"LO", b"READ %d" % number)
@@ -166,20 +166,20 @@ def performed(number: int) -> bytes:
 
 @dataclasses.dataclass(frozen=True)
 class Report:
-    """An event that a watcher was told of."""
+    """An event that was reported to a watcher."""
 
     uid: bytes
     event: int
     information: bytes
 
     def shown(self) -> tuple[bytes, bytes]:
-        """The state and the readiness that it tells."""
+        """Returns the state and the readiness that it reports."""
         told_of = read(True, self.information)
         return text_in(told_of, STATE), text_in(told_of, READINESS)
 
 
 class Hearing(Counting):
-    """A watcher that answers each report at once, and keeps them. It may be deaf: it hangs up then."""
+    """A watcher that answers each report at once, and keeps them. If it is deaf, it hangs up instead."""
 
     def __init__(self) -> None:
         self.reports: list[Report] = []
@@ -201,12 +201,12 @@ class Hearing(Counting):
 # the files of a store
 
 def files_of(file: str) -> list[str]:
-    """The files of a store that are there."""
+    """Returns the files of a store that exist."""
     return [it for it in (file, file + "-wal") if os.path.exists(it)]
 
 
 def copy_of(file: str, folder: str, name: str = "copy") -> str:
-    """A copy of a store, in a folder."""
+    """Copies a store to a folder, and returns the copy."""
     target = os.path.join(folder, name)
     for it in (target, target + "-wal", target + "-shm"):
         with contextlib.suppress(FileNotFoundError):
@@ -217,7 +217,7 @@ def copy_of(file: str, folder: str, name: str = "copy") -> str:
 
 
 def bytes_in(file: str) -> dict[str, bytes]:
-    """What the files of a store hold."""
+    """Returns the bytes of the files of a store."""
     found = {}
     for it in files_of(file):
         with open(it, "rb") as opened:
@@ -230,7 +230,8 @@ COLUMNS = ("number", "moment", "title", "operation", "instance", "transaction_ui
 
 
 def rows_at(file: str) -> list[Row]:
-    """The requests of a store that nobody has open, in order, by sqlite3: it may change the files. None of a store that was not made yet."""
+    """Returns the requests of a store that nobody has open, in order, by sqlite3, which may change the files. A store that was
+    not made yet has none."""
     with contextlib.closing(sqlite3.connect(file, isolation_level=None)) as opened:
         try:
             return opened.execute(f"SELECT {', '.join(COLUMNS)} FROM request ORDER BY number").fetchall()
@@ -241,20 +242,20 @@ def rows_at(file: str) -> list[Row]:
 
 
 def rows_of(file: str) -> list[Row]:
-    """The requests of a store, by a copy of it, in order."""
+    """Returns the requests of a store, by a copy of it, in order."""
     with tempfile.TemporaryDirectory() as folder:
         return rows_at(copy_of(file, folder))
 
 
 def runs_of(file: str) -> list[Row]:
-    """The runs that a store tells of, by a copy of it."""
+    """Returns the runs that a store has recorded, by a copy of it."""
     with tempfile.TemporaryDirectory() as folder, contextlib.closing(sqlite3.connect(copy_of(file, folder))) as opened:
         return opened.execute("SELECT number, moment, version, settings, requests FROM run ORDER BY number").fetchall()
 
 
 @dataclasses.dataclass
 class Ended:
-    """How a run of the program ended that is to end by itself."""
+    """How a run of the program ended that should end by itself."""
 
     status: Optional[int]
     output: str
@@ -262,7 +263,7 @@ class Ended:
 
 
 def ended(words: list[str], seconds: float = SECONDS) -> Ended:
-    """Runs the program; the status is None where it does not end in time."""
+    """Runs the program; the status is None if it does not end in time."""
     with subprocess.Popen(words, stdout=subprocess.PIPE, stderr=subprocess.PIPE, text=True, start_new_session=True) as ran:
         try:
             output, said = ran.communicate(timeout=seconds)
@@ -274,17 +275,17 @@ def ended(words: list[str], seconds: float = SECONDS) -> Ended:
 
 
 def started_on(program: list[str], file: str, *options: str, seconds: float = SECONDS) -> Ended:
-    """What comes of a start that is to be refused."""
+    """Returns the outcome of a start that should be refused."""
     return ended([*program, "serve", "--ae", "UPSD", "--port", "0", "--store", file, *options], seconds)
 
 
 def compacted(program: list[str], file: str, *options: str, seconds: float = SECONDS) -> Ended:
-    """What comes of a compaction."""
+    """Returns the outcome of a compaction."""
     return ended([*program, "compact", file, *options], seconds)
 
 
 def tried(trial: Callable[..., Optional[str]], *more: object) -> Optional[str]:
-    """What is wrong with a trial, or why it doesn't come to its end; or None."""
+    """Runs a trial, and returns what is wrong, or why it doesn't come to its end; or None."""
     try:
         return trial(*more)
     except FAULTS as fault:
@@ -293,7 +294,7 @@ def tried(trial: Callable[..., Optional[str]], *more: object) -> Optional[str]:
 
 @contextlib.contextmanager
 def folder_for(kept: Optional[str]) -> Iterator[str]:
-    """A folder for stores: a temporary one, or one that is told and stays."""
+    """Yields a folder for stores: a temporary one, or a given one, which stays."""
     if kept:
         os.makedirs(kept, exist_ok=True)
         yield kept

@@ -1,10 +1,10 @@
 #!/usr/bin/env python3
-"""Draws the plots of docs/work/benchmarks.md as SVG, from the figures that were measured.
+"""Draws the plots of docs/work/benchmarks.md as SVG, from the measured figures.
 
     docs/work/pictures/plots.py [--figures figures.tsv] [--folder .]      (default: beside this script)
 
-A line of the figures is plot, series, x and y, with tabs between; one that begins with # is left out. Each series has its own
-marker and dashes, and its name stands at its end, so a plot can be read without colour.
+A line of the figures is plot, series, x and y, separated by tabs; one that begins with # is skipped. Each series has its own
+marker and dashes, and its name at its end, so a plot can be read without colour.
 """
 
 from __future__ import annotations
@@ -16,7 +16,7 @@ import os
 
 HERE = os.path.dirname(os.path.abspath(__file__))
 WIDTH, HEIGHT = 760, 430
-LEFT, RIGHT, TOP, BOTTOM = 78, 178, 46, 62  # room round the field of the plot
+LEFT, RIGHT, TOP, BOTTOM = 78, 178, 46, 62  # room around the field of the plot
 APART = 17  # pixels between the names of two series, at least
 DASHES = ("none", "7 3", "2 3", "9 3 2 3", "5 5", "12 4", "1 4")
 Points = list[tuple[float, float]]
@@ -32,7 +32,7 @@ class Axis:
     is_log: bool
 
     def share(self, value: float) -> float:
-        """How far along the axis a value is, from 0 to 1."""
+        """Returns how far along the axis a value is, from 0 to 1."""
         of = math.log10 if self.is_log else float
         return (of(value) - of(self.low)) / (of(self.high) - of(self.low))
 
@@ -45,7 +45,7 @@ class Plot:
     y: Axis
 
     def at(self, x: float, y: float) -> tuple[float, float]:
-        """The pixels of a point."""
+        """Returns the pixels of a point."""
         return (LEFT + self.x.share(x) * (WIDTH - LEFT - RIGHT), HEIGHT - BOTTOM - self.y.share(y) * (HEIGHT - TOP - BOTTOM))
 
 
@@ -60,7 +60,7 @@ PLOTS = (
 
 
 def read(path: str) -> dict[str, dict[str, Points]]:
-    """The points of each series, by plot."""
+    """Reads the points of each series, by plot."""
     plots: dict[str, dict[str, Points]] = {}
     with open(path, encoding="utf-8") as lines:
         for line in lines:
@@ -79,7 +79,7 @@ def line(x1: float, y1: float, x2: float, y2: float, colour: str) -> str:
 
 
 def marker(kind: int, x: float, y: float) -> str:
-    """The marker of a series: a circle, a square, a triangle or a diamond, filled for the first four and then open."""
+    """Returns the marker of a series: a circle, a square, a triangle or a diamond, filled for the first four and then open."""
     shapes = (
         f'<circle cx="{x:.1f}" cy="{y:.1f}" r="4.5"',
         f'<rect x="{x - 4:.1f}" y="{y - 4:.1f}" width="8" height="8"',
@@ -90,7 +90,7 @@ def marker(kind: int, x: float, y: float) -> str:
 
 
 def field(plot: Plot) -> list[str]:
-    """The frame, with its grid, ticks and labels."""
+    """Returns the frame, with its grid, ticks and labels."""
     right, bottom = WIDTH - RIGHT, HEIGHT - BOTTOM
     parts = [text(LEFT, 26, plot.title, "start", ' font-size="16" font-weight="bold"')]
     for tick in plot.x.ticks:
@@ -107,7 +107,7 @@ def field(plot: Plot) -> list[str]:
 
 
 def places(ends: list[float]) -> list[float]:
-    """Where the names of the series stand, from the heights of their last points: apart from each other, and near."""
+    """Returns the heights of the names of the series: near those of their last points, and apart from each other."""
     order = sorted(range(len(ends)), key=lambda at: ends[at])
     heights = [ends[at] for at in order]
     for _ in range(100):
@@ -122,7 +122,7 @@ def places(ends: list[float]) -> list[float]:
 
 
 def curves(plot: Plot, series: dict[str, Points]) -> list[str]:
-    """Each series with its markers, and its name behind its last point."""
+    """Returns each series with its markers, and its name to the right of its last point."""
     parts: list[str] = []
     drawn = [[plot.at(x, y) for x, y in points] for points in series.values()]
     names = places([points[-1][1] for points in drawn])
@@ -139,7 +139,7 @@ def curves(plot: Plot, series: dict[str, Points]) -> list[str]:
 
 
 def svg(plot: Plot, series: dict[str, Points]) -> str:
-    """The whole picture."""
+    """Returns the whole picture."""
     size = f'viewBox="0 0 {WIDTH} {HEIGHT}" width="{WIDTH}" height="{HEIGHT}"'
     head = f'<svg xmlns="http://www.w3.org/2000/svg" {size} role="img" font-family="Helvetica, Arial, sans-serif" font-size="13">'
     body = [f"<title>{plot.title}</title>", f'<rect width="{WIDTH}" height="{HEIGHT}" fill="white"/>']
