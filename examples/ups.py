@@ -79,11 +79,11 @@ EXPLICIT = "1.2.840.10008.1.2.1"
 IMPLICIT = "1.2.840.10008.1.2"
 APPLICATION_CONTEXT = "1.2.840.10008.3.1.1.1"
 IMPLEMENTATION = "2.25.7002"
-LONGEST = 16_384  # bytes of a P-DATA-TF that this side receives
+LONGEST = 16_384  # bytes of the longest P-DATA-TF that this side receives or sends
 UTF_8 = "ISO_IR 192"
 NUMBERS = {"SL", "SS", "UL", "US"}
 CHARACTER_SET = 0x0008_0005  # the tag of Specific Character Set
-TEXTS = {"LO", "LT", "PN", "SH", "ST", "UC", "UT"}  # what may have other characters than ASCII (PS3.5 section 6.1.2.2)
+TEXTS = {"LO", "LT", "PN", "SH", "ST", "UC", "UT"}  # these may have other characters than ASCII (PS3.5 section 6.1.2.2)
 
 PENDING = (0xFF00, 0xFF01)
 STATES = ("SCHEDULED", "IN PROGRESS", "COMPLETED", "CANCELED")
@@ -91,10 +91,10 @@ STATES = ("SCHEDULED", "IN PROGRESS", "COMPLETED", "CANCELED")
 # PDU types (PS3.8 section 9.3.1)
 ASSOCIATE_RQ, ASSOCIATE_AC, ASSOCIATE_RJ, P_DATA_TF, RELEASE_RQ, RELEASE_RP, ABORT = range(1, 8)
 
-# what an Event Type ID stands for (PS3.4 table CC.2.4-1)
+# the name of each Event Type ID (PS3.4 table CC.2.4-1)
 EVENTS = {1: "state", 2: "cancel requested", 3: "progress", 4: "server status", 5: "assigned"}
 
-# statuses that say more than their number (PS3.4 annex CC)
+# the meaning of each status (PS3.4 annex CC)
 STATUSES = {
     0x0000: "success", 0x0001: "success, but listed attributes are not there", 0x0106: "an attribute may not have this value",
     0x0110: "the data set can't be read", 0x0111: "a step was created under this UID before",
@@ -114,7 +114,7 @@ STATUSES = {
 
 
 class Refused(Exception):
-    """The peer does not go on: a line that says why."""
+    """A failure of the peer or of the given data, with a line that says why."""
 
 
 def item(kind: int, content: bytes) -> bytes:
@@ -131,7 +131,7 @@ def is_ascii(element: DataElement) -> bool:
 
 
 def say_characters(given: Dataset) -> None:
-    """Has a data set say that its texts are UTF-8 where one isn't ASCII and no other character set is given."""
+    """Sets Specific Character Set to UTF-8 if a text isn't ASCII and no other character set is given."""
     for element in [it for it in given.iterall() if not is_ascii(it)]:
         if element.VR not in TEXTS:
             raise Refused(f"{element.value!r} can't be {element.keyword or element.tag}: that is ASCII alone")
@@ -140,7 +140,7 @@ def say_characters(given: Dataset) -> None:
 
 
 def spelled(given: Dataset, implicit: bool) -> bytes:
-    """A data set as bytes: in Implicit or in Explicit VR Little Endian."""
+    """Returns a data set as bytes, in Implicit or Explicit VR Little Endian."""
     out = DicomBytesIO()
     out.is_little_endian, out.is_implicit_VR = True, implicit
     say_characters(given)
@@ -148,19 +148,19 @@ def spelled(given: Dataset, implicit: bool) -> bytes:
         warnings.filterwarnings("error", "Failed to encode|Unknown encoding")
         try:
             write_dataset(out, given)
-        except Exception as fault:  # pydicom's faults are of many classes
+        except Exception as fault:  # pydicom raises exceptions of many classes
             why = str(fault).split("\n")[0].split(" - using ")[0]
             raise Refused(f"the data set can't be written: {why}") from None
     return out.getvalue()
 
 
 def read(found: bytes, implicit: bool) -> Dataset:
-    """A data set by its bytes. Where it says no character set, as no event report does, its texts are read as UTF-8."""
+    """Reads a data set, with texts in UTF-8 if it names no character set. (An event report never names one.)"""
     return read_dataset(DicomBytesIO(found), implicit, True, parent_encoding="utf8")
 
 
 def command_set(elements: dict[str, Any]) -> bytes:
-    """A command set (PS3.7 section 6.3.1), whose elements are UIDs and numbers of two bytes, by keyword."""
+    """Returns a command set (PS3.7 section 6.3.1) of these elements by keyword: UIDs and numbers of two bytes."""
     spelled_out = b""
     for tag, value in sorted((tag_for_keyword(keyword) or 0, value) for keyword, value in elements.items()):
         content = struct.pack("<H", value) if isinstance(value, int) else (value + "\0" * (len(value) % 2)).encode()
@@ -170,7 +170,7 @@ def command_set(elements: dict[str, Any]) -> bytes:
 
 @functools.lru_cache(maxsize=64)
 def command_of(found: bytes) -> Dataset:
-    """A command set by its bytes: those of the responses to a query are all the same, but for the last."""
+    """Reads a command set. The result is cached, as all responses to a query but the last are the same."""
     return read(found, True)
 
 
@@ -178,7 +178,7 @@ EVENT_ROLE = item(0x54, struct.pack(">H", len(EVENT)) + EVENT.encode() + bytes([
 
 
 def made(attributes: dict[str, Any]) -> Dataset:
-    """A data set by keywords; a sequence is a list of such."""
+    """Makes a data set from values by keyword; a sequence is a list of such dictionaries."""
     found = Dataset()
     for keyword, value in attributes.items():
         setattr(found, keyword, [made(each) for each in value] if isinstance(value, list) and keyword.endswith("Sequence")
@@ -187,7 +187,7 @@ def made(attributes: dict[str, Any]) -> Dataset:
 
 
 class Association:
-    """One association, of either side (PS3.8): messages go over it as command sets and data sets (PS3.7)."""
+    """An association, as requestor or acceptor (PS3.8). Its messages are command sets and data sets (PS3.7)."""
 
     def __init__(self, connection: socket.socket, implicit: bool = False) -> None:
         self.connection = connection
@@ -195,6 +195,7 @@ class Association:
         self.syntax = IMPLICIT if implicit else EXPLICIT
         self.received, self.at = b"", 0
         self.contexts: dict[str, int] = {}
+        self.longest = LONGEST
         self.fragments: Iterator[tuple[int, int, bytes]] = iter(())
         self.numbers = itertools.count(1)
 
@@ -208,16 +209,18 @@ class Association:
         return self.received[self.at - count : self.at]
 
     def pdu(self) -> tuple[int, bytes]:
-        kind, _, length = struct.unpack(">BBI", self.take(6))
+        kind, _, length = unpacked(">BBI", self.take(6))
         if length > 1 << 20:
             raise Refused(f"a PDU of {length:,} bytes")
         body = self.take(length)
+        if kind in (ABORT, ASSOCIATE_RJ) and length != 4:
+            raise Refused(f"a PDU of type {kind:02X} with {length} bytes")
         if kind == ABORT:
             raise Refused(f"the association was aborted (source {body[2]}, reason {body[3]})")
         return kind, body
 
     def propose(self, called: str, calling: str, classes: list[str], syntaxes: tuple[str, ...] = (), roles: bytes = b"") -> None:
-        """Asks for an association, with these transfer syntaxes (that of this side) and role selections."""
+        """Requests an association, with these transfer syntaxes (default: that of this side) and role selections."""
         body = struct.pack(">HH", 1, 0) + called.encode().ljust(16) + calling.encode().ljust(16) + bytes(32)
         body += item(0x10, APPLICATION_CONTEXT.encode())
         offered = b"".join(item(0x40, each.encode()) for each in syntaxes or (self.syntax,))
@@ -231,6 +234,7 @@ class Association:
             raise Refused(f"the association was rejected (result {answer[1]}, source {answer[2]}, reason {answer[3]})")
         if kind != ASSOCIATE_AC:
             raise Refused(f"the association was answered with a PDU of type {kind:02X}")
+        self.longest = longest_of(answer)
         results = {content[0]: content for number, content in items(answer[68:]) if number == 0x21}
         for each, context in self.contexts.items():
             if context not in results or results[context][2]:
@@ -238,7 +242,8 @@ class Association:
             self.implicit = dict(items(results[context][4:])).get(0x40, b"").rstrip(b"\0") == IMPLICIT.encode()
 
     def accept(self, asked: bytes) -> None:
-        """Accepts each context of UPS Event in this side's transfer syntax, and no other; this side is its SCU."""
+        """Accepts each presentation context of UPS Event in this side's transfer syntax, as its SCU, and no other."""
+        self.longest = longest_of(asked)
         answers = b""
         for number, content in items(asked[68:]):
             if number == 0x20:
@@ -256,14 +261,14 @@ class Association:
 
     def send_part(self, context: int, control: int, part: bytes) -> None:
         """Sends a command set or a data set in fragments."""
-        size = LONGEST - 6
+        size = (self.longest - 6) // 2 * 2
         pieces = [part[at : at + size] for at in range(0, len(part), size)] or [b""]
         for place, piece in enumerate(pieces):
             last = 2 if place == len(pieces) - 1 else 0
             self.connection.sendall(pdu(P_DATA_TF, struct.pack(">IBB", len(piece) + 2, context, control | last) + piece))
 
     def part(self) -> Optional[tuple[int, bytes]]:
-        """The context and the bytes of a command set or of a data set; None where the peer releases."""
+        """Receives a command set or a data set: the presentation context ID and the bytes; None if the peer releases."""
         whole, context = b"", 0
         while True:
             for context, control, piece in self.fragments:
@@ -279,7 +284,7 @@ class Association:
             self.fragments = fragments(body)
 
     def message(self) -> Optional[tuple[int, Dataset, Optional[bytes]]]:
-        """The context of a message, its command set, and the bytes of its data set, if any; None where the peer releases."""
+        """Receives a message: the presentation context ID, the command set and the data set, if any; None if the peer releases."""
         found = self.part()
         if found is None:
             return None
@@ -293,7 +298,7 @@ class Association:
 
     def answers(self, context: str, elements: dict[str, Any],
                 given: Optional[Dataset] = None) -> Iterator[tuple[Dataset, Optional[bytes]]]:
-        """The responses to a request, one by one: a command set, and the bytes of a data set."""
+        """Sends a request, and yields its responses: the command set, and the bytes of the data set, if any."""
         self.send(self.contexts[context], {**elements, "MessageID": next(self.numbers)}, given)
         while True:
             answer = self.message()
@@ -305,7 +310,7 @@ class Association:
 
     def ask(self, context: str, elements: dict[str, Any],
             given: Optional[Dataset] = None) -> list[tuple[Dataset, Optional[Dataset]]]:
-        """The responses to a request."""
+        """Sends a request, and returns its responses."""
         answers = self.answers(context, elements, given)
         return [(command, None if data is None else read(data, self.implicit)) for command, data in answers]
 
@@ -316,7 +321,7 @@ class Association:
 
 @contextlib.contextmanager
 def associated(asked: argparse.Namespace, classes: list[str]) -> Iterator[Association]:
-    """An association with the server, which is released in the end."""
+    """Yields an association with the server, and releases it at the end."""
     with socket.create_connection((asked.host, asked.port), asked.timeout) as connection:
         connection.setsockopt(socket.IPPROTO_TCP, socket.TCP_NODELAY, 1)
         association = Association(connection, asked.implicit)
@@ -325,18 +330,35 @@ def associated(asked: argparse.Namespace, classes: list[str]) -> Iterator[Associ
         association.release()
 
 
+def unpacked(form: str, text: bytes) -> tuple[Any, ...]:
+    """Unpacks numbers of a PDU. Raises Refused if there are too few bytes for them."""
+    try:
+        return struct.unpack(form, text)
+    except struct.error:
+        raise Refused("a PDU whose lengths do not fit its bytes") from None
+
+
+def longest_of(associate: bytes) -> int:
+    """Returns the number of bytes of the longest P-DATA-TF to send to the sender of an associate PDU (PS3.8 annex D.1)."""
+    user = dict(items(associate[68:])).get(0x50, b"")
+    most = unpacked(">I", dict(items(user)).get(0x51, bytes(4)))[0] or LONGEST  # 0 stands for no limit
+    if most < 8:
+        raise Refused(f"the peer takes PDUs of {most} bytes at most")
+    return min(most, LONGEST)
+
+
 def items(text: bytes) -> Iterator[tuple[int, bytes]]:
-    """The items of an associate PDU, or those in one of them: the type and the content of each."""
+    """Yields the type and the content of each item of an associate PDU, or of one of its items."""
     while text:
-        kind, _, length = struct.unpack(">BBH", text[:4])
+        kind, _, length = unpacked(">BBH", text[:4])
         yield kind, text[4 : 4 + length]
         text = text[4 + length :]
 
 
 def fragments(body: bytes) -> Iterator[tuple[int, int, bytes]]:
-    """The PDVs of a P-DATA-TF: context, message control header, fragment."""
+    """Yields the PDVs of a P-DATA-TF: presentation context ID, message control header, fragment."""
     while body:
-        length, context, control = struct.unpack(">IBB", body[:6])
+        length, context, control = unpacked(">IBB", body[:6])
         yield context, control, body[6 : 4 + length]
         body = body[4 + length :]
 
@@ -346,12 +368,12 @@ def now() -> str:
 
 
 def tag_of(name: str) -> int:
-    """The tag that a keyword names, or that is written in hex digits, as (0010,0020) or 00100020."""
+    """Returns the tag of a keyword, or of hex digits such as (0010,0020) or 00100020."""
     return name and tag_for_keyword(name) or int(re.sub(r"^\(?([0-9A-Fa-f]{4}),([0-9A-Fa-f]{4})\)?$", r"\1\2", name), 16)
 
 
 def item_of(given: Dataset, part: str) -> Dataset:
-    """The item that a part of a path names, as `(0040,4025)[0]`; it is added where it is the next of its sequence."""
+    """Returns the item that a part of a path names, as `(0040,4025)[0]`; adds it if it is the next of its sequence."""
     name, _, place = part.removesuffix("]").partition("[")
     tag, number = tag_of(name), int(place)
     if dictionary_VR(tag) != "SQ" or not part.endswith("]"):
@@ -365,7 +387,7 @@ def item_of(given: Dataset, part: str) -> Dataset:
 
 
 def give(given: Dataset, word: str) -> None:
-    """Adds what a word says to a data set: the path of an attribute, `=` and a value. A sequence is given without value."""
+    """Adds the attribute of a word to a data set: the word is a path, `=` and a value. A sequence has no value."""
     path, _, value = word.partition("=")
     *outer, last = path.split(".")
     for part in outer:
@@ -383,7 +405,7 @@ def give(given: Dataset, word: str) -> None:
 
 
 def attributes_of(words: list[str], given: Optional[Dataset] = None) -> Dataset:
-    """A data set, a new one if none is given, with what words say."""
+    """Adds the attributes of words to a data set, a new one by default, and returns it."""
     found = Dataset() if given is None else given
     for word in words:
         try:
@@ -403,7 +425,7 @@ def is_done(status: int) -> bool:
     return status == 0 or status == 1 or status >> 12 == 0xB
 
 
-# the commands: each takes an association and what was asked, and returns the status
+# the commands: each takes an association and the arguments, and returns the status
 
 def echo(association: Association, _: argparse.Namespace) -> int:
     answer, _data = association.ask(VERIFICATION, {"AffectedSOPClassUID": VERIFICATION, "CommandField": 0x0030})[0]
@@ -425,22 +447,22 @@ def create(association: Association, asked: argparse.Namespace) -> int:
 
 
 def shown(element: DataElement) -> str:
-    """The value of an element; of a sequence the values of its items, in braces."""
+    """Returns the value of an element as text; for a sequence the values of its items, in braces."""
     if element.VR != "SQ":
         return str(element.value) or "-"
     return "{" + ", ".join(" ".join(shown(each) for each in one) for one in element.value) + "}" if element.value else "-"
 
 
 def as_json(found: Iterable[Dataset]) -> str:
-    """Data sets as an array of DICOM JSON, each in a line."""
+    """Returns data sets as an array of DICOM JSON, each on a line."""
     try:
         return "[" + ",\n".join(json.dumps(each.to_json_dict(), ensure_ascii=False) for each in found) + "]"
-    except Exception as fault:  # pydicom's faults are of many classes
+    except Exception as fault:  # pydicom raises exceptions of many classes
         raise Refused(f"this can't be written as JSON: {fault}") from None
 
 
 def keys_of(asked: argparse.Namespace, station: Optional[str]) -> Dataset:
-    """The identifier of a query, for one station or for none."""
+    """Returns the identifier of a query, for a station if one is given."""
     keys = made({"SpecificCharacterSet": "", "SOPInstanceUID": "", "ProcedureStepState": asked.state,
                  "ProcedureStepLabel": asked.label,
                  "PatientID": asked.patient_id, "PatientName": "", "ScheduledProcedureStepPriority": "",
@@ -451,13 +473,13 @@ def keys_of(asked: argparse.Namespace, station: Optional[str]) -> Dataset:
 
 
 def query(association: Association, keys: Dataset) -> tuple[list[Dataset], int]:
-    """The matches of a C-FIND, and the status behind the last."""
+    """Returns the matches of a C-FIND and its last status."""
     answers = association.ask(PULL, {"AffectedSOPClassUID": PULL, "CommandField": 0x0020, "Priority": 0}, keys)
     return [found for _command, found in answers[:-1] if found is not None], answers[-1][0].Status
 
 
 def find(association: Association, asked: argparse.Namespace) -> int:
-    """One query, or one for each station: a sequence as a key has one item, and a code value one value (PS3.4 C.2.2.2)."""
+    """Prints the matches of a query, or of one for each station: a sequence key has one item, a code one value (PS3.4 C.2.2.2)."""
     steps: dict[str, Dataset] = {}
     status = 0
     for station in asked.station or [None]:
@@ -475,7 +497,7 @@ def find(association: Association, asked: argparse.Namespace) -> int:
 
 
 def get_step(association: Association, step: str) -> tuple[int, Optional[Dataset]]:
-    """An N-GET of all attributes."""
+    """Returns the status and the data set of an N-GET of all attributes."""
     elements = {"RequestedSOPClassUID": PUSH, "CommandField": 0x0110, "RequestedSOPInstanceUID": step}
     answer, found = association.ask(PULL, elements)[0]
     return answer.Status, found
@@ -489,7 +511,7 @@ def get(association: Association, asked: argparse.Namespace) -> int:
 
 
 def act(association: Association, context: str, kind: int, instance: str, information: Dataset) -> int:
-    """An N-ACTION of a type (PS3.4 table CC.2.1-1 and its like)."""
+    """Sends an N-ACTION of a type (PS3.4 table CC.2.1-1 and similar ones)."""
     elements = {"RequestedSOPClassUID": PUSH, "CommandField": 0x0130, "RequestedSOPInstanceUID": instance, "ActionTypeID": kind}
     return association.ask(context, elements, information)[0][0].Status
 
@@ -503,7 +525,7 @@ def claim(association: Association, asked: argparse.Namespace) -> int:
 
 
 def update(association: Association, asked: argparse.Namespace, given: Dataset) -> int:
-    """An N-SET."""
+    """Sends an N-SET."""
     if asked.transaction:
         given.TransactionUID = asked.transaction
     elements = {"RequestedSOPClassUID": PUSH, "CommandField": 0x0120, "RequestedSOPInstanceUID": asked.step}
@@ -515,7 +537,7 @@ def set_attributes(association: Association, asked: argparse.Namespace) -> int:
 
 
 def finish(association: Association, asked: argparse.Namespace) -> int:
-    """Sets what a final state needs (PS3.4 table CC.2.5-3), and changes the step to it."""
+    """Sets the attributes that a final state needs (PS3.4 table CC.2.5-3), and changes the step to that state."""
     if asked.canceled:
         needed = {"ProcedureStepProgressInformationSequence": [{"ProcedureStepCancellationDateTime": now()}]}
     else:
@@ -547,15 +569,15 @@ def suspend(association: Association, asked: argparse.Namespace) -> int:
     return act(association, WATCH, 5, GLOBAL, made({"ReceivingAE": asked.receiver or asked.ae}))
 
 
-# data sets as bytes: what a board and a monitor take of many steps, and what a check looks at
+# data sets as bytes, for the board and the monitor, which read many steps, and for `check`
 
 LONG = {b"OB", b"OD", b"OF", b"OL", b"OV", b"OW", b"SQ", b"SV", b"UC", b"UN", b"UR", b"UT", b"UV"}  # PS3.5 section 7.1.2
 PLAIN = (b"", b"ISO_IR 6", UTF_8.encode())  # character sets whose bytes are UTF-8
 
 
 def elements_of(found: bytes) -> dict[int, tuple[bytes, bytes]]:
-    """The value representation and the value of each element, by tag: of a data set in Explicit VR Little Endian, whose sequences
-    have a given length."""
+    """Returns the value representation and the value of each element, by tag, of a data set in Explicit VR Little Endian whose
+    sequences have explicit lengths."""
     elements, at = {}, 0
     while at < len(found):
         group, number, vr, length = struct.unpack_from("<HH2sH", found, at)
@@ -569,12 +591,12 @@ def elements_of(found: bytes) -> dict[int, tuple[bytes, bytes]]:
 
 
 def first_item(sequence: bytes) -> bytes:
-    """The first item of a sequence of a given length; empty where it has none."""
+    """Returns the content of the first item of a sequence of explicit length; empty if it has none."""
     return sequence[8 : 8 + struct.unpack_from("<I", sequence, 4)[0]] if sequence else b""
 
 
 def value_at(found: bytes, *path: int) -> str:
-    """The text at the end of a path of tags, through the first item of each sequence; empty where there is none."""
+    """Returns the text at the end of a path of tags, through the first item of each sequence; empty if there is none."""
     *outer, last = path
     for tag in outer:
         found = first_item(elements_of(found).get(tag, (b"", b""))[1])
@@ -582,13 +604,13 @@ def value_at(found: bytes, *path: int) -> str:
 
 
 def character_set_of(found: bytes) -> bytes:
-    """The Specific Character Set of a data set in Explicit VR Little Endian, if it is the first element; else nothing."""
+    """Returns Specific Character Set of a data set in Explicit VR Little Endian; empty if it is not the first element."""
     group, number, vr, length = struct.unpack_from("<HH2sH", found) if found else (0, 0, b"", 0)
     return found[8 : 8 + length].strip() if group << 16 | number == CHARACTER_SET and vr == b"CS" else b""
 
 
 def plain(found: bytes, implicit: bool) -> bytes:
-    """A data set in Explicit VR Little Endian, its sequences of a given length and its texts in UTF-8, whatever it was."""
+    """Converts a data set to Explicit VR Little Endian, with sequences of explicit length and texts in UTF-8."""
     if not implicit and b"\xff\xff\xff\xff" not in found and character_set_of(found) in PLAIN:
         return found
     given = read(found, implicit)
@@ -598,7 +620,7 @@ def plain(found: bytes, implicit: bool) -> bytes:
 
 
 def with_lengths(given: Dataset) -> Dataset:
-    """A data set whose sequences and items are written with their lengths."""
+    """Has the sequences and items of a data set written with explicit lengths, and returns it."""
     for element in given.iterall():
         if element.VR == "SQ":
             element.is_undefined_length = False
@@ -611,7 +633,7 @@ DT = re.compile(r"(\d{4})(?:(\d\d)(?:(\d\d)(?:(\d\d)(?:(\d\d)(?:(\d\d)(\.\d{1,6}
 
 
 def offset_of(sign: str, is_whole: bool) -> int:
-    """The minutes east of UTC that a suffix says: to -1200 behind whole seconds alone, and to +1400."""
+    """Returns the minutes east of UTC of a suffix, up to +1400 or, after seconds only, down to -1200."""
     hours, minutes = int(sign[1:3]), int(sign[3:])
     most = 840 if sign[0] == "+" else 720 if is_whole else -1
     if minutes > 59 or 60 * hours + minutes > most:
@@ -620,7 +642,7 @@ def offset_of(sign: str, is_whole: bool) -> int:
 
 
 def dt_of(text: str) -> Optional[tuple[datetime.datetime, Optional[int]]]:
-    """The first moment that a date and time names (PS3.5 section 6.2, DT), and its offset in minutes; None where it is none."""
+    """Returns the first moment of a date and time (PS3.5 section 6.2, DT), to the second, and its offset in minutes; or None."""
     found = DT.fullmatch(text)
     if not found:
         return None
@@ -636,7 +658,7 @@ def dt_of(text: str) -> Optional[tuple[datetime.datetime, Optional[int]]]:
 
 
 def moment_of(text: str, offset: Optional[int]) -> Optional[float]:
-    """The first moment of a date and time, in seconds since 1970; one without an offset is in the local time of `offset`."""
+    """Returns the first moment of a DT in seconds since 1970. Without its own offset it has `offset`, or else this machine's."""
     found = dt_of(text)
     if found is None:
         return None
@@ -656,7 +678,7 @@ AGES = {"start": START, "modification": MODIFIED}
 
 
 class Health:
-    """What `status` found: steps by state, the moment and the text of the oldest, and how long it took."""
+    """The result of `status`: steps by state, the moment and the text of the oldest, and how long it took."""
 
     def __init__(self) -> None:
         self.counts = dict.fromkeys(STATES, 0)
@@ -674,12 +696,12 @@ class Health:
                 self.oldest[state, what] = min(self.oldest.get((state, what), (math.inf, text)), (moment, text))
 
     def age(self, state: str, what: str = "start") -> Optional[float]:
-        """How many seconds ago the oldest was, 0 where that is yet to come."""
+        """Returns how many seconds ago the oldest was: 0 if it is yet to come, None if there is none."""
         return max(0.0, time.time() - self.oldest[state, what][0]) if (state, what) in self.oldest else None
 
 
 def measured(association: Association, asked: argparse.Namespace) -> tuple[Health, int]:
-    """Looks for a step that is none, which is one look-up in the server's index, and then for all. The last status."""
+    """Queries a UID of no step, which is one look-up in the server's index, and then all steps; also returns the last status."""
     health, elements = Health(), {"AffectedSOPClassUID": PULL, "CommandField": 0x0020, "Priority": 0}
     nobody = made({"SOPInstanceUID": f"2.25.{uuid.uuid4().int}", "ProcedureStepState": ""})
     begun = time.monotonic()
@@ -697,7 +719,7 @@ def measured(association: Association, asked: argparse.Namespace) -> tuple[Healt
 
 
 def in_words(health: Health) -> str:
-    """For people, a line for each state."""
+    """Returns lines for people: one for each state, and the times."""
     lines = []
     for state, count in health.counts.items():
         oldest = [f"oldest {what} {health.oldest[state, what][1]}, {health.age(state, what):,.0f} s ago"
@@ -707,7 +729,7 @@ def in_words(health: Health) -> str:
 
 
 def level_of(value: Optional[float], asked: argparse.Namespace, place: int) -> int:
-    """0, 1 or 2, as a value is below its limits, above that of a warning, or above the critical one."""
+    """Returns 2 if a value is above its critical limit, 1 if it is above that of a warning, and 0 otherwise."""
     if value is None:
         return 0
     return 2 if value > asked.critical[place] else 1 if value > asked.warning[place] else 0
@@ -722,7 +744,7 @@ def word_of(state: str) -> str:
 
 
 def by_nagios(health: Health, asked: argparse.Namespace) -> int:
-    """A line with performance data, and the exit status of a monitoring plugin: 0 OK, 1 WARNING, 2 CRITICAL."""
+    """Prints a line with performance data, and returns the exit status of a plugin: 0 OK, 1 WARNING, 2 CRITICAL."""
     ages = {state: health.age(state) for state in STATES[:2]}
     level = max(level_of(health.look_up, asked, 0), *(level_of(age, asked, 1) for age in ages.values()))
     words = [f"{count} {state}" for state, count in health.counts.items()]
@@ -738,7 +760,7 @@ def by_nagios(health: Health, asked: argparse.Namespace) -> int:
 
 
 def by_prometheus(health: Optional[Health]) -> str:
-    """The text format of Prometheus, for a textfile collector; without a measurement only that there was no answer."""
+    """Returns the result in the text format of Prometheus, for a textfile collector; without one only that a query failed."""
     def metric(name: str, what: str, values: Iterable[tuple[str, Any]]) -> str:
         rows = [f"{name}{labels} {value}" for labels, value in values]
         return "\n".join([f"# HELP {name} {what}", f"# TYPE {name} gauge", *rows, ""])
@@ -758,7 +780,7 @@ def by_prometheus(health: Optional[Health]) -> str:
 
 
 def write_whole(path: str, text: str) -> None:
-    """Writes a file so that a reader sees the old one or the new one: readable by all, as a textfile collector needs."""
+    """Writes a file so that a reader sees the old one or the new one. All may read it, as a textfile collector needs."""
     with tempfile.NamedTemporaryFile("w", dir=os.path.dirname(os.path.abspath(path)), prefix=".ups.", suffix=".tmp",
                                      delete=False) as made_file:
         try:
@@ -790,7 +812,7 @@ def server_status(association: Association, asked: argparse.Namespace) -> int:
 
 
 def ended_by_nagios(asked: argparse.Namespace, status: Optional[int], fault: Optional[Exception]) -> int:
-    """The line of a plugin and its exit status: CRITICAL also where the server does not answer, or not with success."""
+    """Prints the line of a plugin, and returns its exit status, CRITICAL also if the server doesn't answer with success."""
     if status is not None and asked.health:
         return by_nagios(asked.health, asked)
     print(f"UPS CRITICAL - {fault if status is None else told(status)}")
@@ -798,7 +820,7 @@ def ended_by_nagios(asked: argparse.Namespace, status: Optional[int], fault: Opt
 
 
 def limits(word: str) -> tuple[float, float]:
-    """Seconds for the look-up, and after a comma seconds for the oldest step; what isn't given has no limit."""
+    """Reads a limit in seconds for the look-up, and after a comma one for the oldest step; a missing one is infinite."""
     look_up, _, oldest = word.partition(",")
     try:
         found = float(look_up or "inf"), float(oldest or "inf")
@@ -809,20 +831,20 @@ def limits(word: str) -> tuple[float, float]:
     return found
 
 
-# what the server would answer to a data set, judged without it
+# what the server would answer to a data set, judged without a server
 
 MOST = 1_048_576  # bytes of a message, and of a step's attributes
-DEEPEST = 8  # items in one another
+DEEPEST = 8  # levels of nested items
 ANY = ()
-# the checked attributes of an N-CREATE (PS3.4 table CC.2.5-3), and what their text may be: a DT, one of some words, or any that
-# isn't empty
+# the checked attributes of an N-CREATE (PS3.4 table CC.2.5-3), and their allowed texts: a DT (None), one of these words, or any
+# that isn't empty (ANY)
 CHECKED: dict[int, Optional[tuple[str, ...]]] = {
     START: None, READINESS: ("INCOMPLETE", "UNAVAILABLE", "READY"), 0x0074_1200: ("HIGH", "MEDIUM", "LOW"), 0x0074_1204: ANY}
-# what a final state needs: one item of a sequence, in which each of these has a text
+# what a final state needs: a sequence with one item, in which each of these attributes has a text
 NEEDED = {"COMPLETED": (0x0074_1216, (0x0040_4050, 0x0040_4051)), "CANCELED": (0x0074_1002, (0x0040_4052,))}
 SOP_CLASS, SOP_INSTANCE, TRANSACTION = 0x0008_0016, 0x0008_0018, 0x0008_1195
 Elements = dict[int, tuple[bytes, bytes]]
-Reason = tuple[Optional[int], str]  # no status where the association ends without an answer
+Reason = tuple[Optional[int], str]  # no status if the association ends without an answer
 
 
 def called(tag: int) -> str:
@@ -830,18 +852,18 @@ def called(tag: int) -> str:
 
 
 def text_in(elements: Elements, tag: int) -> Optional[str]:
-    """The text of an attribute without padding; None where it is absent, or a sequence."""
+    """Returns the text of an attribute without padding; None if it is absent or a sequence."""
     vr, value = elements.get(tag, (b"SQ", b""))
     return None if vr == b"SQ" else value.rstrip(b"\0 ").decode("utf8", "replace")
 
 
 def is_uid(text: str) -> bool:
-    """PS3.5 section 9.1: components of digits, of which none but 0 begins with a zero."""
+    """Returns whether a text is a UID (PS3.5 section 9.1): components of digits, of which none but 0 begins with a zero."""
     return len(text) <= 64 and re.fullmatch(r"(0|[1-9][0-9]*)(\.(0|[1-9][0-9]*))*", text, re.ASCII) is not None
 
 
 def value_reason(elements: Elements, tag: int) -> Optional[Reason]:
-    """Why the value of a checked attribute that is there would be refused."""
+    """Returns why the value of a checked attribute that is present would be refused, or None."""
     text, allowed = text_in(elements, tag), CHECKED[tag]
     if text is None:
         return 0x0106, f"{called(tag)} is a sequence"
@@ -855,7 +877,7 @@ def value_reason(elements: Elements, tag: int) -> Optional[Reason]:
 
 
 def create_reasons(elements: Elements) -> Iterator[Reason]:
-    """Why an N-CREATE would be refused, in the order in which it is judged."""
+    """Yields why an N-CREATE would be refused, in the order of the server's checks."""
     instance = text_in(elements, SOP_INSTANCE)
     if SOP_INSTANCE in elements and (instance in (GLOBAL, FILTERED) or not is_uid(instance or "")):
         yield 0x0117, f"{called(SOP_INSTANCE)} is {instance!r}, which can't be that of a step"
@@ -870,7 +892,7 @@ def create_reasons(elements: Elements) -> Iterator[Reason]:
 
 
 def set_reasons(elements: Elements) -> Iterator[Reason]:
-    """Why an N-SET would be refused, whatever the state of the step."""
+    """Yields why an N-SET would be refused, whatever the state of the step."""
     for tag in (SOP_CLASS, SOP_INSTANCE, STATE):
         if tag in elements:
             yield 0x0106, f"{called(tag)} is set by the server alone"
@@ -881,7 +903,7 @@ def set_reasons(elements: Elements) -> Iterator[Reason]:
 
 
 def final_reasons(elements: Elements, state: str) -> Iterator[Reason]:
-    """What a step lacks for a final state."""
+    """Yields what a step lacks for a final state."""
     sequence, tags = NEEDED[state]
     vr, value = elements.get(sequence, (b"SQ", b""))
     item_content = first_item(value) if vr == b"SQ" else b""
@@ -895,14 +917,14 @@ def final_reasons(elements: Elements, state: str) -> Iterator[Reason]:
 
 
 def depth(given: Dataset) -> int:
-    """How deep items lie in one another."""
+    """Returns how deeply items are nested."""
     return max((1 + depth(one) for element in given if element.VR == "SQ" for one in element.value), default=0)
 
 
 def reasons(given: Dataset, asked: argparse.Namespace) -> list[Reason]:
-    """Why a data set would be refused, as far as it alone tells: the status is that of the first."""
+    """Returns why a data set would be refused, as far as it alone shows; the status is that of the first reason."""
     found = spelled(with_lengths(given), False)
-    size = len(found if not asked.implicit else spelled(given, True)) + 200  # with a command set, which has no more
+    size = len(found if not asked.implicit else spelled(given, True)) + 200  # with a command set, which takes no more
     why: list[Reason] = []
     if size > MOST:
         why.append((None, f"a message of some {size:,} bytes, and not {MOST:,} at most"))
@@ -918,20 +940,20 @@ def reasons(given: Dataset, asked: argparse.Namespace) -> list[Reason]:
 
 
 def data_sets(path: str) -> list[Dataset]:
-    """The data sets of a file: one of DICOM (PS3.10, or a data set alone), or those of JSON (PS3.18 annex F), an array or one."""
+    """Reads the data sets of a file: one in DICOM (PS3.10, or a data set alone), or one or an array in JSON (PS3.18 annex F)."""
     found = sys.stdin.buffer.read() if path == "-" else open(path, "rb").read()
     try:
         if found.lstrip()[:1] in (b"[", b"{"):
             sets = json.loads(found)
             return [Dataset.from_json(each) for each in (sets if isinstance(sets, list) else [sets])]
         return [dcmread(DicomBytesIO(found), force=True)]
-    except Exception as fault:  # pydicom's faults are of many classes
+    except Exception as fault:  # pydicom raises exceptions of many classes
         raise Refused(f"{path} can't be read: {fault}") from None
 
 
 def check(asked: argparse.Namespace) -> int:
-    """Tells of each data set what the server would answer, and why; 1 where one would be refused."""
-    warnings.simplefilter("ignore")  # pydicom warns of values that are told of here
+    """Prints what the server would answer to each data set, and why; returns 1 if one would be refused."""
+    warnings.simplefilter("ignore")  # pydicom warns of values that are reported here
     refused, sets = 0, data_sets(asked.file)
     for number, given in enumerate(sets, 1):
         why = reasons(given, asked)
@@ -948,10 +970,10 @@ CLASSES = {echo: VERIFICATION, create: PUSH, find: PULL, get: PULL, claim: PULL,
            subscribe: WATCH, unsubscribe: WATCH, suspend: WATCH, server_status: PULL}
 
 
-# event reports, of a watcher and to one
+# event reports, received as a watcher and sent to one
 
 def report_line(command: Dataset, information: Optional[Dataset]) -> str:
-    """What an N-EVENT-REPORT tells, in a line."""
+    """Returns what an N-EVENT-REPORT says, in a line."""
     shown = "" if information is None else "  ".join(f"{it.keyword or it.tag}={'..' if it.VR == 'SQ' else it.value}"
                                                      for it in information)
     return f"{now()} {command.AffectedSOPInstanceUID} {EVENTS.get(command.EventTypeID, command.EventTypeID)}: {shown}"
@@ -959,7 +981,7 @@ def report_line(command: Dataset, information: Optional[Dataset]) -> str:
 
 def take_reports(association: Association, tell: Callable[[Dataset, Optional[bytes]], None], status: int = 0,
                  delay: float = 0) -> None:
-    """Takes the reports of one association that the server has asked for, and tells each before it answers."""
+    """Takes the reports of an association that the server requests, and calls `tell` with each before it answers."""
     kind, asked = association.pdu()
     if kind != ASSOCIATE_RQ:
         raise Refused(f"a PDU of type {kind:02X} instead of an association request")
@@ -974,7 +996,7 @@ def take_reports(association: Association, tell: Callable[[Dataset, Optional[byt
 
 
 def watch(asked: argparse.Namespace) -> int:
-    """Listens where the server delivers the reports of a watcher, until it is interrupted."""
+    """Prints the reports to a watcher, until it is interrupted, or over as many associations as `--associations` says."""
     def tell(command: Dataset, data: Optional[bytes]) -> None:
         print(report_line(command, None if data is None else read(data, asked.implicit)), flush=True)
 
@@ -1009,7 +1031,7 @@ def announce_to(asked: argparse.Namespace, watcher: tuple[str, str, int]) -> int
 
 
 def announce(asked: argparse.Namespace) -> int:
-    """Tells each watcher in turn, in the server's title; the worst that came of it is the exit status."""
+    """Tells each watcher in turn, under the server's title, and returns the worst exit status."""
     worst = 0
     for watcher in asked.watchers:
         try:
@@ -1022,12 +1044,12 @@ def announce(asked: argparse.Namespace) -> int:
     return worst
 
 
-# the board: the worklist, and beside it what event reports alone tell
+# the board: the worklist, next to what the event reports alone say
 
 FINAL = STATES[2:]
-SHOWN = 200  # steps of each state that the page draws
-LIFE = 100  # reports of a step that are kept
-SETTLES = 3  # seconds that a report may take before a difference is told
+SHOWN = 200  # steps of each state on the page
+LIFE = 100  # kept reports of a step
+SETTLES = 3  # seconds that a report may take before a difference is shown
 LABEL, PATIENT, PATIENT_ID, PRIORITY, WORKLIST = 0x0074_1204, 0x0010_0010, 0x0010_0020, 0x0074_1200, 0x0074_1202
 STATION, PERFORMED, PERFORMED_AT, PERFORMERS, PERFORMER = 0x0040_4025, 0x0074_1216, 0x0040_4028, 0x0040_4035, 0x0040_4037
 CODE, MEANING = 0x0008_0100, 0x0008_0104
@@ -1037,12 +1059,12 @@ SEARCHED = ("uid", "label", "patient", "id", "station", "worklist", "holder")
 
 
 def code_at(found: bytes, *path: int) -> str:
-    """A code by its value, or by its meaning where it has none."""
+    """Returns the Code Value at a path, or the Code Meaning if it is empty."""
     return value_at(found, *path, CODE) or value_at(found, *path, MEANING)
 
 
 def row_of(uid: str, found: bytes) -> dict[str, Any]:
-    """What the page draws of a step: texts, by the words of the page."""
+    """Returns what the page shows of a step: texts, by the names that the page uses."""
     elements = elements_of(found)
     row: dict[str, Any] = {"uid": uid, **{word: text_in(elements, tag) or "" for word, tag in ROW.items()}}
     row["station"] = code_at(found, STATION)
@@ -1051,18 +1073,18 @@ def row_of(uid: str, found: bytes) -> dict[str, Any]:
 
 
 class Fold:
-    """What event reports alone tell of a step."""
+    """A step as the event reports alone describe it."""
 
     def __init__(self) -> None:
         self.state = self.readiness = ""
-        self.since: Optional[float] = None  # when the report of its state came; None where it was in that state before the board
+        self.since: Optional[float] = None  # when the report of its state came; None if it had that state before the board
         self.held: Optional[float] = None
         self.came = 0.0
         self.life: collections.deque[dict[str, Any]] = collections.deque(maxlen=LIFE)
 
 
 def event_text(kind: int, data: bytes) -> str:
-    """What a report says, in a line."""
+    """Returns what a report says, in a line."""
     if kind == 1:
         return ", ".join(filter(None, [value_at(data, STATE), value_at(data, READINESS), value_at(data, 0x0074_1238)]))
     if kind == 2:
@@ -1074,7 +1096,7 @@ def event_text(kind: int, data: bytes) -> str:
 
 
 class Worklist:
-    """Two tellings of the same steps: what queries answered, and what reports told. Each change makes a new version."""
+    """The same steps by two sources: answers to queries, and event reports. Each change makes a new version."""
 
     def __init__(self) -> None:
         self.changed = threading.Condition()
@@ -1082,7 +1104,7 @@ class Worklist:
         self.rows: dict[str, dict[str, Any]] = {}
         self.found: dict[str, bytes] = {}
         self.folds: dict[str, Fold] = {}
-        self.before: dict[str, Fold] = {}  # those of the subscription before this one
+        self.before: dict[str, Fold] = {}  # those of the previous subscription
         self.differing: dict[str, float] = {}
         self.first: Optional[set[str]] = None  # the steps that the board found when it began
         self.trouble, self.notice = "The server has not answered yet.", ""
@@ -1090,7 +1112,7 @@ class Worklist:
         self.moves = itertools.count(1)
 
     def judge(self, uid: str) -> None:
-        """Notes whether the two agree on a step."""
+        """Notes whether the two sources agree on a step."""
         row, fold = self.rows.get(uid), self.folds.get(uid)
         same = row and fold and (row["state"], row["readiness"]) == (fold.state, fold.readiness)
         if same or not (row or fold):
@@ -1107,7 +1129,7 @@ class Worklist:
                 self.changed.notify_all()
 
     def enter(self, found: dict[str, bytes]) -> None:
-        """Takes the answers of a query for these steps; what is as it was costs nothing."""
+        """Enters the answers of a query for these steps, and skips unchanged ones."""
         fresh = {uid: row_of(uid, data) for uid, data in found.items() if self.found.get(uid) != data}
         with self.changed:
             for uid, row in fresh.items():
@@ -1117,7 +1139,7 @@ class Worklist:
                 self.judge(uid)
 
     def leave(self, gone: Iterable[str], began: float) -> None:
-        """Forgets steps that a query did not find. Reports tell no removal: of a final step it is what has to come (CC.2.4)."""
+        """Forgets steps that a query did not find, and the reports of a final one: no report tells of a removal (CC.2.4)."""
         with self.changed:
             for uid in list(gone):
                 self.rows.pop(uid, None)
@@ -1128,7 +1150,7 @@ class Worklist:
                 self.judge(uid)
 
     def fold(self, uid: str, kind: int, data: bytes) -> bool:
-        """Takes a report, and tells whether the step has to be asked for."""
+        """Takes a report, and returns whether the step has to be queried."""
         moment = time.time()
         with self.changed:
             self.reported = moment
@@ -1151,21 +1173,21 @@ class Worklist:
             fold.held = fold.since
 
     def begin(self) -> None:
-        """A new subscription tells each step held again: what was told before stands for nothing until then."""
+        """Begins a new subscription, which reports each step held again: until then its earlier reports don't count."""
         with self.changed:
             self.folds, self.before, self.first = {}, self.folds, None
             self.differing = dict.fromkeys(self.rows, time.time())
             self.version += 1
 
     def mark(self, uid: str) -> str:
-        """Whether the two agree on a step; they differ at rest alone: longer than a report takes, and while none is coming."""
+        """Returns whether the sources agree on a step; `differ` only after SETTLES seconds, and a second after the last report."""
         if uid not in self.differing:
             return "agree"
         return "differ" if time.time() - max(self.differing[uid] + SETTLES, self.reported + 1) > 0 else "waiting"
 
 
 def drawn(worklist: Worklist, row: dict[str, Any]) -> dict[str, Any]:
-    """A step as the page draws it, with what the reports tell of it."""
+    """Returns a step as the page shows it, with what the reports say of it."""
     fold = worklist.folds.get(row["uid"])
     return {**row, "since": fold and fold.since, "mark": worklist.mark(row["uid"])}
 
@@ -1175,7 +1197,7 @@ def matches(row: dict[str, Any], text: str) -> bool:
 
 
 def snapshot(worklist: Worklist, text: str) -> dict[str, Any]:
-    """What the page shows: counts, and of each state the newest steps that have the text."""
+    """Returns what the page shows: counts, and the newest steps of each state that contain the text."""
     with worklist.changed:
         by_state: dict[str, list[dict[str, Any]]] = {state: [] for state in STATES}
         for row in worklist.rows.values():
@@ -1193,7 +1215,7 @@ def snapshot(worklist: Worklist, text: str) -> dict[str, Any]:
 
 
 def attributes_shown(found: Dataset, deep: int = 0) -> Iterator[dict[str, Any]]:
-    """The attributes of a data set, and below a sequence those of its items."""
+    """Yields the attributes of a data set, and after each sequence those of its items."""
     for element in found:
         tag = f"({element.tag.group:04X},{element.tag.elem:04X})"
         row = {"deep": deep, "tag": tag, "name": element.name, "value": "" if element.VR == "SQ" else str(element.value)}
@@ -1204,7 +1226,7 @@ def attributes_shown(found: Dataset, deep: int = 0) -> Iterator[dict[str, Any]]:
 
 
 class Watching:
-    """The board as a watcher: it subscribes, takes reports, and asks for the worklist."""
+    """The board as a watcher: it subscribes, takes reports, and queries the worklist."""
 
     def __init__(self, asked: argparse.Namespace, listener: socket.socket) -> None:
         self.asked, self.listener, self.worklist = asked, listener, Worklist()
@@ -1213,7 +1235,7 @@ class Watching:
         self.newest, self.due, self.one, self.subscribed = 0, 0.0, 0.0, 0
 
     def listen(self) -> None:
-        """Takes each association that the server asks for."""
+        """Takes each association that the server requests."""
         for number in itertools.count(1):
             connection, _ = self.listener.accept()
             threading.Thread(target=self.take, args=(number, connection), daemon=True).start()
@@ -1224,7 +1246,7 @@ class Watching:
             take_reports(Association(connection, self.asked.implicit), functools.partial(self.report, number))
 
     def report(self, number: int, command: Dataset, data: Optional[bytes]) -> None:
-        """Folds a report. One of an older association than the newest came again over that, and may be out of its order."""
+        """Folds in a report. One of an older association is skipped: the newest brings it again, and its order may be wrong."""
         if number < self.newest:
             return
         self.newest, kind = number, command.EventTypeID
@@ -1237,13 +1259,13 @@ class Watching:
             self.question(str(command.AffectedSOPInstanceUID))
 
     def question(self, uid: str) -> None:
-        """Has a step asked for, once; none stands for a new subscription."""
+        """Queues a query for a step, once; an empty UID stands for a new subscription."""
         if uid not in self.queued:
             self.queued.add(uid)
             self.questions.put(uid)
 
     def query(self, association: Association, uid: str) -> dict[str, bytes]:
-        """The rows of one step, or of all."""
+        """Queries a step, or all if the UID is empty; returns the data sets by UID."""
         keys = made({"SpecificCharacterSet": "", "SOPInstanceUID": uid,
                      **{str(keyword_for_tag(tag)): "" for tag in ROW.values()}})
         keys.ScheduledStationNameCodeSequence = []
@@ -1267,7 +1289,7 @@ class Watching:
             self.worklist.leave([uid], began)
 
     def ask_for_all(self, association: Association) -> None:
-        """The whole worklist, and then no more for some seconds: ten times as long as it took, at least."""
+        """Queries the whole worklist; the next time in `every` seconds, or in ten times as long as it took, if that is longer."""
         began, clock = time.time(), time.monotonic()
         found = self.query(association, "")
         self.worklist.enter(found)
@@ -1285,7 +1307,7 @@ class Watching:
                           else f"No reports come: the subscription was answered {told(self.subscribed)}.")
 
     def named(self, seconds: float) -> list[str]:
-        """The steps that reports have named, as soon as there is one; none after so many seconds."""
+        """Returns the steps that reports have named as soon as there is one, or none after `seconds`."""
         found: list[str] = []
         with contextlib.suppress(queue.Empty):
             found.append(self.questions.get(timeout=seconds))
@@ -1295,7 +1317,7 @@ class Watching:
         return found
 
     def work(self, association: Association) -> None:
-        """Subscribes, and asks for steps as reports name them; for all when none comes, or where that takes less time."""
+        """Subscribes, and queries steps as reports name them; or all, if that takes less time, or is due and none is named."""
         self.worklist.begin()
         self.ask_for_all(association)
         self.subscribed = act(association, WATCH, 3, GLOBAL, made({"ReceivingAE": self.asked.ae, "DeletionLock": "FALSE"}))
@@ -1312,7 +1334,7 @@ class Watching:
                     self.ask_for_one(association, uid)
 
     def ask(self) -> None:
-        """Keeps an association with the server; after one that ended, all is asked and told anew."""
+        """Keeps an association with the server; after it ends, a new one queries all steps and subscribes again."""
         while True:
             try:
                 with associated(self.asked, [WATCH, PULL]) as association:
@@ -1322,7 +1344,7 @@ class Watching:
                 time.sleep(1)
 
     def step(self, uid: str) -> dict[str, Any]:
-        """All of one step: its attributes by an N-GET, and its life by its reports."""
+        """Returns all of one step: its attributes by an N-GET, and its life by its reports."""
         with associated(self.asked, [PULL]) as association:
             status, found = get_step(association, uid)
         with self.worklist.changed:
@@ -1341,13 +1363,13 @@ class Watching:
 
 
 class Pages(http.server.BaseHTTPRequestHandler):
-    """The page, and what it asks for: /state, held back until something is new, and /step."""
+    """The handler of the page and its requests: /state, which waits up to two seconds for a change, and /step."""
 
     protocol_version = "HTTP/1.1"
     watching: Watching
 
     def log_message(self, *_: Any) -> None:
-        """Says nothing of a request."""
+        """Logs nothing."""
 
     def put(self, kind: str, text: str, policy: str = "default-src 'none'", status: int = 200) -> None:
         content = text.encode()
@@ -1380,7 +1402,7 @@ class Pages(http.server.BaseHTTPRequestHandler):
             self.put("application/json", json.dumps({"status": f"the server does not answer: {fault}"}))
 
     def do_GET(self) -> None:
-        """Answers this machine alone, under its own name: a page from elsewhere can't ask for patients."""
+        """Answers only requests to this machine's own name, so that no page from elsewhere can ask for patients."""
         port = self.server.server_address[1]
         if self.headers.get("Host") not in (f"127.0.0.1:{port}", f"localhost:{port}"):
             self.put("text/plain", "the board is for 127.0.0.1 alone\n", status=403)
@@ -1737,14 +1759,14 @@ poll();
 
 
 def title(word: str) -> str:
-    """An application entity title."""
+    """Reads an application entity title."""
     if not (word.isascii() and word.isprintable() and 1 <= len(word) <= 16):
         raise argparse.ArgumentTypeError(f"{word!r} is no title: that is 1 to 16 characters of ASCII")
     return word
 
 
 def status_word(word: str) -> int:
-    """A status in four hex digits."""
+    """Reads a status in four hex digits."""
     if not re.fullmatch("[0-9A-Fa-f]{4}", word):
         raise argparse.ArgumentTypeError(f"{word!r} is no status: that is four hex digits, as 0110")
     return int(word, 16)
@@ -1757,7 +1779,7 @@ def seconds(word: str) -> float:
 
 
 def peer(word: str) -> tuple[str, str, int]:
-    """A watcher as the server's command line names it: its title, host and port."""
+    """Reads a watcher as the server's command line names it: its title, host and port."""
     called_title, _, address = word.partition("=")
     host, _, port = address.removesuffix(",lock").rpartition(":")
     if not host or not re.fullmatch("[0-9]{1,5}", port) or not 1 <= int(port) <= 65535:
@@ -1766,7 +1788,7 @@ def peer(word: str) -> tuple[str, str, int]:
 
 
 def common(of_a_board: bool = False) -> argparse.ArgumentParser:
-    """What each command takes. The port of a board is that of its page."""
+    """Returns a parser of the options of every command. `--port` of a board is that of its page."""
     found = argparse.ArgumentParser(add_help=False)
     found.add_argument("--host", default="127.0.0.1", help="where the server is (127.0.0.1)")
     found.add_argument("--server-port" if of_a_board else "--port", dest="port", type=int, default=11112,
@@ -1822,7 +1844,7 @@ def add_listening(of: argparse.ArgumentParser, port: int) -> None:
 
 
 def add_questions(to: Commands) -> None:
-    """The commands that change nothing."""
+    """Adds the commands that change nothing."""
     to.add("echo", echo, "asks whether the server is there (C-ECHO)", "echo --port 11112")
     it = to.add("find", find, "lists the steps that match (C-FIND)", "find --state SCHEDULED --label 'CT*'")
     it.add_argument("--state", default="", help="Procedure Step State")
@@ -1859,7 +1881,7 @@ def add_status(to: Commands) -> None:
 
 
 def add_changes(to: Commands) -> None:
-    """The commands that change steps."""
+    """Adds the commands that change steps."""
     it = add_step(to.add("create", create, "creates a step (N-CREATE)", 'create 1.2.3.1 --label "CT READ" --patient-id P1'))
     it.add_argument("--label", default="READ", help="Procedure Step Label (READ)")
     it.add_argument("--priority", default="MEDIUM", choices=["HIGH", "MEDIUM", "LOW"],
@@ -1884,7 +1906,7 @@ def add_changes(to: Commands) -> None:
 
 
 def add_watching(to: Commands) -> None:
-    """The commands for subscriptions, and for who takes or sends reports."""
+    """Adds the commands for subscriptions, and those that take or send reports."""
     it = to.add("subscribe", subscribe, "subscribes a watcher (N-ACTION): to a step, to all, or by a filter",
                 "subscribe --receiver WATCH1 --lock")
     add_receiver(it).add_argument("--lock", action="store_true", help="asks for a deletion lock")
@@ -1926,7 +1948,7 @@ def parser() -> argparse.ArgumentParser:
 
 
 def read_words() -> argparse.Namespace:
-    """What the command line asks for. A monitoring plugin that is called with wrong words ends with 3, UNKNOWN."""
+    """Parses the command line. With `--nagios` invalid arguments end the program with 3, UNKNOWN."""
     try:
         asked = parser().parse_args()
     except SystemExit as ended:
@@ -1937,7 +1959,7 @@ def read_words() -> argparse.Namespace:
 
 
 def asked_of_server(asked: argparse.Namespace) -> int:
-    """Runs a command over an association of its own, and tells its status."""
+    """Runs a command over its own association, prints its status, and returns the exit status."""
     status, fault = None, None
     try:
         with associated(asked, [CLASSES[asked.run]]) as association:
@@ -1957,7 +1979,7 @@ def asked_of_server(asked: argparse.Namespace) -> int:
 
 def main() -> int:
     for stream in (sys.stdout, sys.stderr):
-        stream.reconfigure(errors="backslashreplace")  # a terminal may not have each character
+        stream.reconfigure(errors="backslashreplace")  # a terminal may lack a character
     asked = read_words()
     try:
         return asked.run(asked) if asked.run in (watch, announce, check, board) else asked_of_server(asked)

@@ -408,7 +408,7 @@ def try_announce(results: Results) -> None:
             (stock.IMPLICIT, ["--subscriptions", "WARM START"],
              {"SCPStatus": "RESTARTED", "SubscriptionListStatus": "WARM START", "UnifiedProcedureStepListStatus": "COLD START"}),
             (stock.IMPLICIT, ["--status", "GOING DOWN", "--implicit"], {"SCPStatus": "GOING DOWN"})):
-        watcher = Watcher(syntax)
+        watcher = Watcher(syntax, 64)  # so each report takes several PDUs
         peers = [watcher.peer, watcher.peer + ",lock"]
         ran = run("announce", *peers, *words)
         fault = wrong(ran, DONE) or (None if ran.out.count("WATCHER: 0000 success") == 2 else ran.out)

@@ -213,6 +213,13 @@ class Wire(Peer):
     def __init__(self, connection, syntax):
         self.use(connection)
         self.syntax, self.number = syntax, 0
+        self.longest = 0  # bytes of the longest P-DATA-TF that came
+
+    def pdu(self):
+        kind, body = super().pdu()
+        if kind == 4:
+            self.longest = max(self.longest, len(body))
+        return kind, body
 
     def ahead(self):
         """Returns the type of the next PDU, which is left to be read."""
@@ -386,8 +393,8 @@ def wrong(responses, asked, number, status, answers):
 class Watcher:
     """A peer that listens, takes one association after the other, and keeps the reports and what is wrong with them."""
 
-    def __init__(self, syntax):
-        self.syntax, self.reports, self.faults, self.released = syntax, [], [], 0
+    def __init__(self, syntax, longest=16384):
+        self.syntax, self.longest, self.reports, self.faults, self.released = syntax, longest, [], [], 0
         self.listener = socket.create_server(("127.0.0.1", 0))
         self.peer = f"WATCHER=127.0.0.1:{self.listener.getsockname()[1]}"
         threading.Thread(target=self.listen, daemon=True).start()
@@ -402,6 +409,8 @@ class Watcher:
                     self.take(wire)
                 wire.pdu()
                 wire.socket.sendall(pdu(6, bytes(4)))
+                if wire.longest > self.longest:
+                    self.faults.append(f"a P-DATA-TF has {wire.longest} bytes")
                 self.released += 1
             except Exception as fault:
                 self.faults.append(f"an association was not released: {fault!r}")
@@ -425,7 +434,7 @@ class Watcher:
         role = struct.pack(">H", len(EVENT)) + EVENT + bytes([0, 1])
         self.expect("the role selection", roles, [role])
         wire.syntax = self.syntax if self.syntax in offered else offered[0]
-        user = item(0x51, struct.pack(">I", 16384)) + item(0x52, b"1.2.3") + item(0x54, role)
+        user = item(0x51, struct.pack(">I", self.longest)) + item(0x52, b"1.2.3") + item(0x54, role)
         context = item(0x21, bytes([contexts[0][0], 0, 0, 0]) + item(0x40, wire.syntax))
         wire.socket.sendall(pdu(2, body[:68] + item(0x10, b"1.2.840.10008.3.1.1.1") + context + item(0x50, user)))
 
