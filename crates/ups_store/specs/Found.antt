@@ -15,9 +15,13 @@ use Rattle.sqlite_store.specs.Listing.{file_trees}
 use Rattle.sqlite_store.specs.Db.{rows_at, IsFile}
 use Rattle.sqlite_pool.specs.File.{in_use}
 
--- a page of 4096 bytes without its checksum
+-- the bytes of a page of the file
+abbrev pub whole_page : ℕ
+whole_page = 1024
+
+-- a page without its checksum
 abbrev pub used_page : ℕ
-used_page = 4088
+used_page = 1016
 
 -- a table with this name and this SQL text
 abbrev pub table_of : List ℕ → List ℕ → Wanted

@@ -12,7 +12,7 @@ use Rattle.sqlite_store.specs.declared.store.open.Unopened.{Unopened}
 use Rattle.sqlite_store.specs.Unopened.{files_of, IsFullFile, StopsCreating}
 use Rattle.sqlite_wal.specs.Files.{IsHuge}
 use Rattle.sqlite_wal.specs.Recovery.{IsLogFor}
-use Rattle.ups_store.specs.Found.{image_of, HoldsNone}
+use Rattle.ups_store.specs.Found.{whole_page, image_of, HoldsNone}
 use Rattle.ups_store.specs.declared.fault.OpenFault.{OpenFault}
 use Rattle.ups_store.specs.declared.fault.OpenFault.TheVariants.{Memory, Busy, Unopened as NoFile, Disk, Full, AtLimit, Damaged, NotStore, OtherFormat}
 
@@ -36,9 +36,9 @@ IsUnusable g files = ¬ (IsTrue (g.is_usable files.log) × IsTrue (g.is_usable f
 abbrev pub HasFailed : {D : Type 0} → disk.Ghosts D → Files D → Files D → Type 0
 HasFailed g old new = MoreFaults (faults_in g old) (faults_in g new) ⊎ IsUnusable g new
 
--- a log for pages of 4096 bytes; 32 bits do not number its frames or the pages of the database
+-- a log for pages of this size; 32 bits do not number its frames or the pages of the database
 abbrev pub IsLongLog : {D : Type 0} → disk.Ghosts D → Files D → Type 0
-IsLongLog g files = IsLogFor 4096 (g.seen files.log) × IsHuge 4096 (image_of g files)
+IsLongLog g files = IsLogFor whole_page (g.seen files.log) × IsHuge whole_page (image_of g files)
 
 -- a limit of the file format was met
 abbrev pub MeetsLimit : {D : Type 0} (g : disk.Ghosts D) → Files D → Type 0

@@ -31,8 +31,8 @@ use sqlite_wal::PageSize;
 use std::alloc::Global;
 use std::hash::{BuildHasher, RandomState};
 
-/// The page size of the file, in bytes.
-const PAGE: usize = 4096;
+/// The page size of the file, in bytes: most records fit in one page, and a commit writes at least two.
+const PAGE: usize = 1024;
 
 const REQUEST: &str = "request";
 
