@@ -1,4 +1,4 @@
-use fixtures::{bytes_of, described, set_of};
+use fixtures::{bytes_of, described, set_of, words};
 use std::alloc::Allocator;
 use std::test::*;
 use ups_dataset::dictionary::*;
@@ -147,17 +147,9 @@ fn has_even_tags<A: Allocator + Copy>(set: &DataSet<A>) -> bool {
 
 #[test]
 fn each_tag_is_found_and_none_between(rt: HostRuntime) -> Result<(), Fail> {
-    let set = set_of(
+    let set = words::set_of(
         rt.alloc(),
-        &[
-            (tag_at(10), "TEXT"),
-            (tag_at(2), "TEXT"),
-            (tag_at(8), "TEXT"),
-            (tag_at(14), "TEXT"),
-            (tag_at(4), "TEXT"),
-            (tag_at(12), "TEXT"),
-            (tag_at(6), "TEXT"),
-        ],
+        "0040000a=TEXT 00400002=TEXT 00400008=TEXT 0040000e=TEXT 00400004=TEXT 0040000c=TEXT 00400006=TEXT",
     )?;
     assert!(rt; has_even_tags(&set));
     Ok(())
@@ -253,9 +245,8 @@ fn check_removed<A: Allocator + Copy>(
     check_described(rt, &rest, wanted)
 }
 
-/// Fails if a set without a tag still has it, or if its text is not `wanted`, or that of a set from which it is
-/// removed.
-fn check_without<A: Allocator + Copy>(
+/// Fails if a set without a tag still has it, or if its text is not `wanted`.
+fn check_others<A: Allocator + Copy>(
     rt: &impl AllocGlobal,
     set: &DataSet<A>,
     tag: Tag,
@@ -265,37 +256,64 @@ fn check_without<A: Allocator + Copy>(
     if others.get(tag).is_some() {
         return Err("the tag is kept".into());
     }
-    check_removed(rt, set, tag, wanted)?;
     check_described(rt, &others, wanted)
+}
+
+/// The same, and fails too if the text of a set from which the tag is removed is not `wanted`.
+fn check_without<A: Allocator + Copy>(
+    rt: &impl AllocGlobal,
+    set: &DataSet<A>,
+    tag: Tag,
+    wanted: &str,
+) -> Result<(), Fail> {
+    check_others(rt, set, tag, wanted)?;
+    check_removed(rt, set, tag, wanted)
+}
+
+/// Fails if the set of `STEP` without a tag has not the others in order.
+fn check_each_without<A: Allocator + Copy>(
+    rt: &impl AllocGlobal,
+    set: &DataSet<A>,
+) -> Result<(), Fail> {
+    check_without(
+        rt,
+        set,
+        SCHEDULED_PROCEDURE_STEP_START_DATE_TIME,
+        "00404041=READY_ 00741000=SCHEDULED_ 00741200=MEDIUM 00741204=CT_READ_ ",
+    )?;
+    check_without(
+        rt,
+        set,
+        PROCEDURE_STEP_STATE,
+        "00404005=20240229120000 00404041=READY_ 00741200=MEDIUM 00741204=CT_READ_ ",
+    )?;
+    check_without(
+        rt,
+        set,
+        PROCEDURE_STEP_LABEL,
+        "00404005=20240229120000 00404041=READY_ 00741000=SCHEDULED_ 00741200=MEDIUM ",
+    )?;
+    check_without(
+        rt,
+        set,
+        TRANSACTION_UID,
+        "00404005=20240229120000 00404041=READY_ 00741000=SCHEDULED_ 00741200=MEDIUM 00741204=CT_READ_ ",
+    )
+}
+
+/// Fails if a set without a tag that it does not have is not encoded as `STEP`.
+fn check_unchanged<A: Allocator + Copy>(
+    rt: &impl AllocGlobal,
+    alloc: A,
+    set: &DataSet<A>,
+) -> Result<(), Fail> {
+    let unchanged = set.without(TRANSACTION_UID)?;
+    check_written(rt, alloc, TransferSyntax::Implicit, &unchanged, STEP)
 }
 
 #[test]
 fn a_set_without_a_tag_keeps_the_others_in_order(rt: HostRuntime) -> Result<(), Fail> {
     let set = set_read(&rt, rt.alloc(), TransferSyntax::Implicit, STEP)?;
-    check_without(
-        &rt,
-        &set,
-        SCHEDULED_PROCEDURE_STEP_START_DATE_TIME,
-        "00404041=READY_ 00741000=SCHEDULED_ 00741200=MEDIUM 00741204=CT_READ_ ",
-    )?;
-    check_without(
-        &rt,
-        &set,
-        PROCEDURE_STEP_STATE,
-        "00404005=20240229120000 00404041=READY_ 00741200=MEDIUM 00741204=CT_READ_ ",
-    )?;
-    check_without(
-        &rt,
-        &set,
-        PROCEDURE_STEP_LABEL,
-        "00404005=20240229120000 00404041=READY_ 00741000=SCHEDULED_ 00741200=MEDIUM ",
-    )?;
-    check_without(
-        &rt,
-        &set,
-        TRANSACTION_UID,
-        "00404005=20240229120000 00404041=READY_ 00741000=SCHEDULED_ 00741200=MEDIUM 00741204=CT_READ_ ",
-    )?;
-    let unchanged = set.without(TRANSACTION_UID)?;
-    check_written(&rt, rt.alloc(), TransferSyntax::Implicit, &unchanged, STEP)
+    check_each_without(&rt, &set)?;
+    check_unchanged(&rt, rt.alloc(), &set)
 }

@@ -12,11 +12,10 @@ fn taken<A: Allocator + Copy>(alloc: A, bytes: &[u8]) -> Result<usize, PduFault>
 }
 
 /// Reads with each growth refused in turn, and returns their number.
-fn growths_of_reading(rt: &impl AllocGlobal, bytes: &[u8]) -> Result<u64, Fail> {
-    let heap = Refusing::new(rt.alloc());
+fn growths_of_reading(heap: &Refusing<Global>, bytes: &[u8]) -> Result<u64, Fail> {
     for growth in 1..100 {
         heap.refuse(growth);
-        match taken(&heap, bytes) {
+        match taken(heap, bytes) {
             Err(PduFault::Memory) => {}
             Ok(len) if len == bytes.len() => return Ok(growth - 1),
             _ => return Err("neither the PDU nor lack of memory".into()),
@@ -54,16 +53,27 @@ fn growths_of_writing<A: Allocator + Copy>(
 }
 
 /// Reads, then writes with each growth refused in turn, and returns their number.
-fn growths_of_writing_again(rt: &impl AllocGlobal, bytes: &[u8]) -> Result<u64, Fail> {
-    let heap = Refusing::new(rt.alloc());
-    let pdu = read_short(&heap, bytes)?;
-    growths_of_writing(&heap, &heap, &pdu, bytes)
+fn growths_of_writing_again<A: Allocator + Copy>(
+    heap: &Refusing<Global>,
+    alloc: A,
+    bytes: &[u8],
+) -> Result<u64, Fail> {
+    let pdu = read_short(alloc, bytes)?;
+    growths_of_writing(heap, alloc, &pdu, bytes)
+}
+
+/// Returns whether the PDU of these bytes takes memory, to read and to write.
+fn takes_memory(heap: &Refusing<Global>, bytes: &[u8]) -> Result<bool, Fail> {
+    let reading = growths_of_reading(heap, bytes)?;
+    heap.refuse(0);
+    Ok(reading > 0 && growths_of_writing_again(heap, heap, bytes)? > 0)
 }
 
 /// Fails if the PDU of a text takes no memory to read, or none to write.
 fn check_growths(rt: &impl AllocGlobal, text: &str) -> Result<(), Fail> {
     let bytes = bytes_of(rt, text)?;
-    if growths_of_reading(rt, &bytes)? == 0 || growths_of_writing_again(rt, &bytes)? == 0 {
+    let heap = Refusing::new(rt.alloc());
+    if !takes_memory(&heap, &bytes)? {
         return Err(text.into());
     }
     Ok(())

@@ -47,25 +47,43 @@ fn forgets_what_an_earlier_call_asked_for(rt: HostRuntime) {
     assert!(rt; !is_armed && values.push(7u64).is_ok());
 }
 
-/// Returns whether a block that grows, and one that shrinks, counts as a growth.
-fn are_changes_counted(heap: &Refusing<Global>) -> bool {
-    let mut values: Vec<u64, &Refusing<Global>> = Vec::new(heap);
-    let is_put = values.reserve_exact(1).is_ok() && values.push(7).is_ok();
+/// Returns whether a block that grows counts as a growth.
+fn is_growing_counted<A: Allocator + Copy>(
+    heap: &Refusing<Global>,
+    values: &mut Vec<u64, A>,
+) -> bool {
     heap.refuse(1);
     let is_refused = values.reserve_exact(9).is_err();
-    let is_grown = values.reserve_exact(9).is_ok();
+    is_refused && values.reserve_exact(9).is_ok()
+}
+
+/// Returns whether a block that shrinks counts as a growth.
+fn is_shrinking_counted<A: Allocator + Copy>(
+    heap: &Refusing<Global>,
+    values: &mut Vec<u64, A>,
+) -> bool {
     heap.refuse(1);
     values.shrink_to_fit();
     let is_over = !heap.is_armed() && values.capacity() >= 10;
     values.shrink_to_fit();
-    let is_whole = values.capacity() == 1 && values.as_slice() == [7].as_slice();
-    is_put && is_refused && is_grown && is_over && is_whole
+    is_over && values.capacity() == 1
+}
+
+/// Returns whether a block that grows, and one that shrinks, counts as a growth.
+fn are_changes_counted<A: Allocator + Copy>(
+    heap: &Refusing<Global>,
+    values: &mut Vec<u64, A>,
+) -> bool {
+    let is_put = values.reserve_exact(1).is_ok() && values.push(7).is_ok();
+    let is_counted = is_growing_counted(heap, values) && is_shrinking_counted(heap, values);
+    is_put && is_counted && values.as_slice() == [7].as_slice()
 }
 
 #[test]
 fn counts_a_block_that_changes_its_size(rt: HostRuntime) {
     let heap = Refusing::new(rt.alloc());
-    assert!(rt; are_changes_counted(&heap));
+    let mut values = Vec::new(&heap);
+    assert!(rt; are_changes_counted(&heap, &mut values));
 }
 
 // Grows two lists, so that either may be the one that is refused.

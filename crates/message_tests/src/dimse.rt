@@ -69,12 +69,17 @@ fn write_in_turn<'a>(
 
 /// Returns how many growths are refused until bytes are read as a command, and until that is written; and whether the
 /// same bytes are written.
+fn refused_on(heap: Heap<'_>, bytes: &[u8]) -> Result<(u64, u64, bool), Fail> {
+    let (command, reading) = read_in_turn(heap, bytes)?;
+    let (same, writing) = write_in_turn(heap, &command, bytes)?;
+    Ok((reading, writing, same))
+}
+
+/// The same for the bytes of a text.
 fn refused_growths(rt: &impl AllocGlobal, digits: &str) -> Result<(u64, u64, bool), Fail> {
     let bytes = bytes_of(rt, digits)?;
     let heap = Refusing::new(rt.alloc());
-    let (command, reading) = read_in_turn(&heap, &bytes)?;
-    let (same, writing) = write_in_turn(&heap, &command, &bytes)?;
-    Ok((reading, writing, same))
+    refused_on(&heap, &bytes)
 }
 
 /// Returns whether a row says how many growths reading its command set takes. Writing it takes one: room for all of it.

@@ -1,7 +1,9 @@
 //! Reads a PDU from its bytes, and prints what it is.
 #![tactic(auto)]
 
-use ups_pdu::{Pdu, read_pdu, without_padding};
+use std::alloc::Global;
+use std::io;
+use ups_pdu::{AssociateRq, Pdu, ProposedContext, read_pdu, without_padding};
 
 /// An A-ASSOCIATE-RQ (PS3.8 section 9.3.2): SCHED1 asks UPSD for Verification in Implicit VR Little Endian.
 const REQUEST: &[u8] = b"\x01\0\0\0\0\x9b\0\x01\0\0UPSD            SCHED1          \
@@ -15,19 +17,40 @@ const REQUEST: &[u8] = b"\x01\0\0\0\0\x9b\0\x01\0\0UPSD            SCHED1       
     \x50\0\0\x08\x51\0\0\x04\0\0\x40\0";
 
 fn main(rt: HostRuntime) -> anyhow::Result<()> {
-    let (pdu, taken) = read_pdu(rt.alloc(), REQUEST)?;
-    println!(rt; "{:?} of {taken} bytes", pdu.kind())?;
-    if let Pdu::AssociateRq(request) = &pdu {
-        let calling = without_padding(&request.calling).escape_ascii();
-        let called = without_padding(&request.called).escape_ascii();
-        println!(rt; "{calling} calls {called}")?;
-        for context in request.contexts.as_slice() {
-            let class = context.abstract_syntax.as_bytes().escape_ascii();
-            println!(rt; "context {} for {class}", context.id)?;
-        }
+    print_pdu(&rt, REQUEST)?;
+    print!(rt; "without the last byte: ")?;
+    print_pdu(&rt, &REQUEST[..160])?;
+    Ok(())
+}
+
+/// Prints what the PDU at the front of bytes is, or why there is none.
+fn print_pdu<R: Print + AllocGlobal>(rt: &R, bytes: &[u8]) -> io::Result<()> {
+    match read_pdu(rt.alloc(), bytes) {
+        Ok((pdu, taken)) => describe(rt, &pdu, taken),
+        Err(fault) => println!(rt; "{fault}"),
     }
-    if let Err(fault) = read_pdu(rt.alloc(), &REQUEST[..160]) {
-        println!(rt; "without the last byte: {fault}")?;
+}
+
+fn describe<R: Print>(rt: &R, pdu: &Pdu<Global>, taken: usize) -> io::Result<()> {
+    println!(rt; "{:?} of {taken} bytes", pdu.kind())?;
+    match pdu {
+        Pdu::AssociateRq(request) => print_request(rt, request),
+        _ => Ok(()),
+    }
+}
+
+/// Prints who asks whom, and for what.
+fn print_request<R: Print>(rt: &R, request: &AssociateRq<Global>) -> io::Result<()> {
+    let calling = without_padding(&request.calling).escape_ascii();
+    let called = without_padding(&request.called).escape_ascii();
+    println!(rt; "{calling} calls {called}")?;
+    for context in request.contexts.as_slice() {
+        print_context(rt, context)?;
     }
     Ok(())
+}
+
+fn print_context<R: Print>(rt: &R, context: &ProposedContext<Global>) -> io::Result<()> {
+    let class = context.abstract_syntax.as_bytes().escape_ascii();
+    println!(rt; "context {} for {class}", context.id)
 }

@@ -76,13 +76,17 @@ fn tell<R: Print + AllocGlobal>(rt: &R, line: &str) -> io::Result<()> {
     println!(rt; "{text}")
 }
 
+/// Describes the bytes of a line that was read, or fails as the read did.
+fn tell_read<R: Print + AllocGlobal>(rt: &R, line: io::Result<String>) -> io::Result<()> {
+    tell(rt, line?.as_str())
+}
+
 /// Describes the bytes of each line of standard input.
 ///
 /// Errors: those of a line, and of the reader.
 fn tell_all<R: Input + Print + AllocGlobal>(rt: &R) -> io::Result<()> {
     for line in BufReader::new(rt.alloc(), rt.reader())?.lines(rt.alloc()) {
-        let line = line?;
-        tell(rt, line.as_str())?;
+        tell_read(rt, line)?;
     }
     Ok(())
 }

@@ -1,5 +1,7 @@
 //! PDUs: what they say, and how they are written again.
 
+ghost use Rattle.ups_pdu.specs.Fits.{Fits};
+
 use crate::lines::{line_of, no_row, out_of_memory};
 use fixtures::{add_bytes, read_short};
 use std::alloc::{AllocError, Global};
@@ -45,19 +47,31 @@ pub(crate) fn pdu_line(alloc: Global, bytes: &[u8]) -> io::Result<String> {
 
 /// Returns what the PDU at the front of bytes says, and the PDU written again. One too long for that counts as TooLong.
 fn told_and_written(alloc: Global, bytes: &[u8]) -> Result<(String, Vec<u8>), PduFault> {
-    let (pdu, taken) = read_pdu(alloc, bytes)?;
-    let told = described(alloc, &pdu, taken)?;
+    let told = told_of(alloc, bytes)?;
     Ok((told, written(alloc, bytes)?))
+}
+
+/// Returns what the PDU at the front of bytes says.
+fn told_of(alloc: Global, bytes: &[u8]) -> Result<String, PduFault> {
+    let (pdu, taken) = read_pdu(alloc, bytes)?;
+    described(alloc, &pdu, taken)
 }
 
 /// Writes again the PDU at the front of bytes.
 fn written(alloc: Global, bytes: &[u8]) -> Result<Vec<u8>, PduFault> {
     let pdu = read_short(alloc, bytes)?;
-    Ok(write_pdu(alloc, &pdu)?)
+    encoded(alloc, &pdu)
+}
+
+/// Returns an encoded PDU.
+pub(crate) fn encoded(alloc: Global, pdu: &Pdu<Global>) -> Result<Vec<u8>, PduFault>
+    requires { Fits pdu.now }
+{
+    Ok(write_pdu(alloc, pdu)?)
 }
 
 /// Returns what a PDU says and the number of bytes it takes, as a text.
-fn described(alloc: Global, pdu: &Pdu<Global>, taken: usize) -> Result<String, AllocError> {
+fn described(alloc: Global, pdu: &Pdu<Global>, taken: usize) -> Result<String, PduFault> {
     let kind = pdu.kind();
     let mut text = format!(in alloc; "{kind:?} of {taken} bytes:")?;
     add_body(alloc, &mut text, pdu)?;
@@ -113,11 +127,16 @@ fn add_answer(text: &mut String, answer: &AssociateAc<Global>) -> Result<(), All
 /// Adds the proposed presentation contexts: the abstract syntax and the transfer syntaxes of each.
 fn add_proposed(text: &mut String, contexts: &[ProposedContext<Global>]) -> Result<(), AllocError> {
     for context in contexts {
-        write!(text, " context {}", context.id)?;
-        add_word(text, " ", context.abstract_syntax.as_bytes())?;
-        add_syntaxes(text, context.transfer_syntaxes.as_slice())?;
+        add_context(text, context)?;
     }
     Ok(())
+}
+
+/// Adds a proposed presentation context.
+fn add_context(text: &mut String, context: &ProposedContext<Global>) -> Result<(), AllocError> {
+    write!(text, " context {}", context.id)?;
+    add_word(text, " ", context.abstract_syntax.as_bytes())?;
+    add_syntaxes(text, context.transfer_syntaxes.as_slice())
 }
 
 /// Adds transfer syntaxes.

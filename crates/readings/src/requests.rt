@@ -1,12 +1,18 @@
 //! Association requests and the answers to them.
 
+ghost use Rattle.std.specs.Prelude.{List, ℕ, IfOk};
+ghost use Rattle.ups_pdu.specs.declared.pdu.Pdu.TheVariants.{AssociateRq as RequestPdu};
+ghost use Rattle.ups_pdu.specs.Fits.{Fits};
+ghost use Rattle.ups_pdu.specs.Spelling.{SpellsPdu};
+ghost use Rattle.ups_assoc.specs.Negotiation.{IsWritable};
+
 use crate::lines::line_of;
-use crate::pdus::fault_line;
+use crate::pdus::{encoded, fault_line};
 use fixtures::add_bytes;
 use std::alloc::{AllocError, Global};
 use std::io;
 use ups_assoc::{Config, Outcome, negotiate};
-use ups_pdu::{Ae, Pdu, PduFault, read_pdu, write_pdu};
+use ups_pdu::{Ae, AssociateRq, Pdu, PduFault, read_pdu};
 
 /// Returns the outcome of an association request to the application entity UPSD, and the answer.
 ///
@@ -20,8 +26,42 @@ pub(crate) fn request_line(alloc: Global, bytes: &[u8]) -> io::Result<String> {
 
 /// Returns the outcome of an association request as a text, and the answer. Any other PDU counts as BadItem.
 fn outcome_and_answer(alloc: Global, bytes: &[u8]) -> Result<(String, Vec<u8>), PduFault> {
-    let told = outcome_of(alloc, bytes)?;
+    let told = told_of(alloc, bytes)?;
     Ok((told, answer_to(alloc, bytes)?))
+}
+
+/// Returns the outcome of the encoded association request, as a text.
+fn told_of(alloc: Global, bytes: &[u8]) -> Result<String, PduFault> {
+    let outcome = outcome_of(alloc, bytes)?;
+    Ok(described(alloc, &outcome)?)
+}
+
+/// Returns the encoded answer to the encoded association request.
+fn answer_to(alloc: Global, bytes: &[u8]) -> Result<Vec<u8>, PduFault> {
+    let answer = answer_of(outcome_of(alloc, bytes)?);
+    encoded(alloc, &answer)
+}
+
+/// Returns the outcome of the encoded association request.
+fn outcome_of(alloc: Global, bytes: &[u8]) -> Result<Outcome<Global>, PduFault>
+    ensures { IfOk result IsWritable }
+{
+    let (pdu, _) = read_pdu(alloc, bytes)?;
+    match pdu {
+        Pdu::AssociateRq(request) => outcome_for(alloc, &request),
+        _ => Err(PduFault::BadItem),
+    }
+}
+
+/// Returns the outcome of an association request.
+fn outcome_for(alloc: Global, request: &AssociateRq<Global>) -> Result<Outcome<Global>, PduFault>
+    ensures { (bytes : List ℕ) → SpellsPdu bytes (RequestPdu request.now) → IfOk result IsWritable }
+{
+    let config = this_server()?;
+    match negotiate(alloc, &config, request) {
+        Ok(outcome) => Ok(outcome),
+        Err(_) => Err(PduFault::Memory),
+    }
 }
 
 /// Returns the configuration of the application entity UPSD, in UTC.
@@ -29,18 +69,6 @@ fn this_server() -> Result<Config, PduFault> {
     match Ae::of(b"UPSD") {
         Some(ae) => Ok(Config { ae, offset: 0 }),
         None => Err(PduFault::BadItem),
-    }
-}
-
-/// Returns the outcome of the encoded association request, as a text.
-fn outcome_of(alloc: Global, bytes: &[u8]) -> Result<String, PduFault> {
-    let (pdu, _) = read_pdu(alloc, bytes)?;
-    let Pdu::AssociateRq(request) = pdu else {
-        return Err(PduFault::BadItem);
-    };
-    match negotiate(alloc, &this_server()?, &request) {
-        Ok(outcome) => Ok(described(alloc, &outcome)?),
-        Err(_) => Err(PduFault::Memory),
     }
 }
 
@@ -57,22 +85,17 @@ fn described(alloc: Global, outcome: &Outcome<Global>) -> Result<String, AllocEr
     }
 }
 
-/// Returns the encoded answer to the encoded association request.
-fn answer_to(alloc: Global, bytes: &[u8]) -> Result<Vec<u8>, PduFault> {
-    let (pdu, _) = read_pdu(alloc, bytes)?;
-    let Pdu::AssociateRq(request) = pdu else {
-        return Err(PduFault::BadItem);
-    };
-    let Ok(outcome) = negotiate(alloc, &this_server()?, &request) else {
-        return Err(PduFault::Memory);
-    };
-    let answer = match outcome {
+/// Returns the answer with an outcome.
+fn answer_of(outcome: Outcome<Global>) -> Pdu<Global>
+    requires { IsWritable outcome }
+    ensures { Fits result }
+{
+    match outcome {
         Outcome::Accept(acceptance) => Pdu::AssociateAc(acceptance.ac),
         Outcome::Reject(rejection) => Pdu::AssociateRj {
             result: rejection.result(),
             source: rejection.source(),
             reason: rejection.reason(),
         },
-    };
-    Ok(write_pdu(alloc, &answer)?)
+    }
 }

@@ -1,5 +1,5 @@
-use fixtures::rows::check_same;
-use fixtures::{Refusing, add_bytes, title, uid};
+use fixtures::rows::{check, check_same, cut};
+use fixtures::{Refusing, add_bytes, described, title, uid};
 use std::alloc::{Allocator, Global};
 use std::test::Fail;
 use ups_cycle::Status;
@@ -90,27 +90,61 @@ ActionNotAppropriate C314
 Pending FF00
 ";
 
+/// Adds the name and the number of a status.
+fn add_status(text: &mut String, status: Status) -> Result<(), Fail> {
+    Ok(write!(text, "{status:?} {:04X}\n", status.code())?)
+}
+
+/// Returns the names and the numbers of the statuses.
+fn numbers_text(rt: &impl AllocGlobal) -> Result<String, Fail> {
+    let mut text = String::new(rt.alloc());
+    for status in STATUSES {
+        add_status(&mut text, status)?;
+    }
+    Ok(text)
+}
+
 #[test]
 fn each_status_has_its_number(rt: HostRuntime) -> Result<(), Fail> {
-    let mut numbers = String::new(rt.alloc());
-    for status in STATUSES {
-        let line = format!(in rt.alloc(); "{status:?} {:04X}\n", status.code())?;
-        numbers.push_str(line.as_str())?;
-    }
-    assert_eq!(rt; numbers.as_str(), NUMBERS);
-    Ok(())
+    check_same("numbers", numbers_text(&rt)?.as_str(), NUMBERS)
+}
+
+/// Adds a data set as text.
+fn add_set<A: Allocator + Copy>(
+    rt: &impl AllocGlobal,
+    text: &mut String,
+    set: &DataSet<A>,
+) -> Result<(), Fail> {
+    Ok(text.push_str(described(set, rt)?.as_str())?)
+}
+
+/// Returns a peer with this title.
+fn peer(ae: &str, lock: bool) -> Result<Peer, Fail> {
+    Ok(Peer {
+        ae: title(ae)?,
+        lock,
+    })
 }
 
 /// Returns a configuration with two peers, of which the first may lock steps.
 fn configured(alloc: Global) -> Result<Configuration<Global>, Fail> {
     let mut peers = Vec::new(alloc);
-    for (ae, lock) in [("WATCH1", true), ("WATCH2", false)] {
-        peers.push(Peer {
-            ae: title(ae)?,
-            lock,
-        })?;
-    }
+    peers.push(peer("WATCH1", true)?)?;
+    peers.push(peer("WATCH2", false)?)?;
     Ok(Configuration::new(peers, 60, -300, 1_000_000))
+}
+
+/// Adds a peer, and whether it may lock steps.
+fn add_peer(text: &mut String, peer: &Peer) -> Result<(), Fail> {
+    add_bytes(text, peer.ae.as_bytes())?;
+    Ok(text.push_str(if peer.lock { " locks " } else { " " })?)
+}
+
+/// Adds the numbers of a configuration.
+fn add_numbers(text: &mut String, configuration: &Configuration<Global>) -> Result<(), Fail> {
+    let (keep, offset) = (configuration.keep(), configuration.offset());
+    write!(text, "keep {keep} offset {offset}")?;
+    Ok(write!(text, " limit {}", configuration.limit())?)
 }
 
 /// Returns a configuration as text.
@@ -120,15 +154,9 @@ fn configured_text(
 ) -> Result<String, Fail> {
     let mut text = String::new(rt.alloc());
     for peer in configuration.peers() {
-        add_bytes(&mut text, peer.ae.as_bytes())?;
-        text.push_str(if peer.lock { " locks " } else { " " })?;
+        add_peer(&mut text, peer)?;
     }
-    let (keep, offset, limit) = (
-        configuration.keep(),
-        configuration.offset(),
-        configuration.limit(),
-    );
-    write!(text, "keep {keep} offset {offset} limit {limit}")?;
+    add_numbers(&mut text, configuration)?;
     Ok(text)
 }
 
@@ -142,26 +170,39 @@ fn a_configuration_has_what_it_was_given(rt: HostRuntime) -> Result<(), Fail> {
     )
 }
 
+/// Returns whether the UID of a step is this one, and not another.
+fn is_only(step: StepUid, uid: Uid) -> Result<bool, Fail> {
+    let other = Uid::of(b"1.2.3.2").ok_or("a UID")?;
+    Ok(step.uid() == uid && StepUid::of(uid) == Some(step) && StepUid::of(other) != Some(step))
+}
+
 /// Returns whether a UID is that of a step, and not that of another step.
 fn is_step(text: &str) -> Result<bool, Fail> {
     let uid = uid(text)?;
-    let Some(step) = StepUid::of(uid) else {
-        return Ok(false);
-    };
-    Ok(
-        step.as_bytes() == text.as_bytes()
-            && step.uid() == uid
-            && StepUid::of(uid) == Some(step)
-            && StepUid::of(Uid::of(b"1.2.3.2").ok_or("a UID")?) != Some(step),
-    )
+    match StepUid::of(uid) {
+        Some(step) => Ok(step.as_bytes() == text.as_bytes() && is_only(step, uid)?),
+        None => Ok(false),
+    }
+}
+
+/// UIDs, and whether each is that of a step.
+const UIDS: &str = "\
+1.2.3.1 -> yes
+1.2.840.10008.5.1.4.34.5 -> no
+1.2.840.10008.5.1.4.34.5.1 -> no
+1.2.840.10008.5.1.4.34.5.2 -> yes";
+
+/// Returns whether a row says if its UID is that of a step.
+fn is_step_so(row: &str) -> Result<bool, Fail> {
+    let (uid, wanted) = cut(row, " -> ")?;
+    Ok(wanted == if is_step(uid)? { "yes" } else { "no" })
 }
 
 #[test]
-fn a_step_has_a_uid_of_its_own(rt: HostRuntime) -> Result<(), Fail> {
-    assert!(rt; is_step("1.2.3.1")?);
-    assert!(rt; !is_step("1.2.840.10008.5.1.4.34.5")?);
-    assert!(rt; !is_step("1.2.840.10008.5.1.4.34.5.1")?);
-    assert!(rt; is_step("1.2.840.10008.5.1.4.34.5.2")?);
+fn a_step_has_a_uid_of_its_own() -> Result<(), Fail> {
+    for row in UIDS.lines() {
+        check(row, is_step_so(row)?)?;
+    }
     Ok(())
 }
 

@@ -3,7 +3,7 @@ mod likeness;
 mod uids;
 
 use fixtures::bytes_of;
-use fixtures::rows::{cut_twice, number};
+use fixtures::rows::{check, cut_twice, number};
 use std::test::Fail;
 use ups_match::{read_dt, write_dt};
 
@@ -203,20 +203,21 @@ const WRITTEN: &str = "\
 1 -59 19691231230101-0059
 1735689600 0 20250101000000+0000";
 
-/// Reads the first or the last moment that a text stands for, and returns it as a number, or `none`.
-fn told(rt: &impl AllocGlobal, text: &[u8], offset: i16, is_last: bool) -> Result<String, Fail> {
-    Ok(match read_dt(text, offset, is_last) {
-        Some(moment) => format!(in rt.alloc(); "{moment}")?,
-        None => format!(in rt.alloc(); "none")?,
-    })
+/// Adds the first or the last moment that a text stands for, or `none`.
+fn add_moment(row: &mut String, text: &str, offset: i16, is_last: bool) -> Result<(), Fail> {
+    match read_dt(text.as_bytes(), offset, is_last) {
+        Some(moment) => Ok(write!(row, " {moment}")?),
+        None => Ok(row.push_str(" none")?),
+    }
 }
 
 /// Returns the row of a text: the text, the offset, and both moments as they are read.
 fn row_of(rt: &impl AllocGlobal, text: &str, offset: &str) -> Result<String, Fail> {
     let minutes = offset.parse::<i16>()?;
-    let first = told(rt, text.as_bytes(), minutes, false)?;
-    let last = told(rt, text.as_bytes(), minutes, true)?;
-    Ok(format!(in rt.alloc(); "{text} {offset} {first} {last}")?)
+    let mut row = format!(in rt.alloc(); "{text} {offset}")?;
+    add_moment(&mut row, text, minutes, false)?;
+    add_moment(&mut row, text, minutes, true)?;
+    Ok(row)
 }
 
 /// Returns whether a row says what is read.
@@ -228,7 +229,7 @@ fn is_read_so(rt: &impl AllocGlobal, row: &str) -> Result<bool, Fail> {
 #[test]
 fn each_text_stands_for_its_first_and_its_last_moment(rt: HostRuntime) -> Result<(), Fail> {
     for row in MOMENTS.lines() {
-        assert!(rt; row.starts_with("# ") || is_read_so(&rt, row)?, "{row}");
+        check(row, row.starts_with("# ") || is_read_so(&rt, row)?)?;
     }
     Ok(())
 }
@@ -242,7 +243,7 @@ fn is_none(rt: &impl AllocGlobal, text: &str) -> Result<bool, Fail> {
 #[test]
 fn other_texts_stand_for_no_moment(rt: HostRuntime) -> Result<(), Fail> {
     for row in NO_MOMENTS.lines() {
-        assert!(rt; row.starts_with("# ") || is_none(&rt, row)?, "{row}");
+        check(row, row.starts_with("# ") || is_none(&rt, row)?)?;
     }
     Ok(())
 }
@@ -258,9 +259,9 @@ fn is_written_so(row: &str) -> Result<bool, Fail> {
 }
 
 #[test]
-fn moments_are_written_in_local_time(rt: HostRuntime) -> Result<(), Fail> {
+fn moments_are_written_in_local_time() -> Result<(), Fail> {
     for row in WRITTEN.lines() {
-        assert!(rt; is_written_so(row)?, "{row}");
+        check(row, is_written_so(row)?)?;
     }
     Ok(())
 }

@@ -76,7 +76,27 @@ fn is_done<A: Allocator + Copy>(
     }
 }
 
-/// Does a job with each growth refused in turn, and returns their number. The set must not change.
+/// Does a job while a growth may be refused, and returns whether none was. The set must not change.
+fn is_done_on<A: Allocator + Copy>(
+    rt: &impl AllocGlobal,
+    heap: &Refusing<Global>,
+    job: Job,
+    set: &DataSet<A>,
+    keys: &DataSet<A>,
+    wanted: &str,
+) -> Result<bool, Fail> {
+    let done = is_done(rt, job, set, keys, wanted)?;
+    if !is_described(rt, set, DESCRIBED)? {
+        return Err("the set is another".into());
+    }
+    match (heap.is_armed(), done) {
+        (true, Some(true)) => Ok(true),
+        (false, None) => Ok(false),
+        _ => Err("an answer where a growth is refused, or a wrong one".into()),
+    }
+}
+
+/// Does a job with each growth refused in turn, and returns their number.
 fn growths_of<A: Allocator + Copy>(
     rt: &impl AllocGlobal,
     heap: &Refusing<Global>,
@@ -87,14 +107,8 @@ fn growths_of<A: Allocator + Copy>(
 ) -> Result<u64, Fail> {
     for number in 1..GROWTHS {
         heap.refuse(number);
-        let done = is_done(rt, job, set, keys, wanted)?;
-        if !is_described(rt, set, DESCRIBED)? {
-            return Err("the set is another".into());
-        }
-        match (heap.is_armed(), done) {
-            (true, Some(true)) => return Ok(number - 1),
-            (false, None) => {}
-            _ => return Err("an answer where a growth is refused, or a wrong one".into()),
+        if is_done_on(rt, heap, job, set, keys, wanted)? {
+            return Ok(number - 1);
         }
     }
     Err("no end of growths".into())
@@ -184,6 +198,37 @@ fn is_put<A: Allocator + Copy>(
     Ok(set.replace(Element::of_bytes(tag, Vr::Lo, value)).is_ok())
 }
 
+/// Returns whether a set, whose text was `before`, is unchanged if a growth is refused, and otherwise has the tag.
+fn is_right<A: Allocator + Copy>(
+    rt: &impl AllocGlobal,
+    set: &DataSet<A>,
+    tag: Tag,
+    is_refused: bool,
+    before: &str,
+) -> Result<bool, Fail> {
+    if is_refused {
+        return is_described(rt, set, before);
+    }
+    Ok(set.get(tag).is_some())
+}
+
+/// Inserts an element into a set whose text is `before`, and returns whether a growth is refused.
+fn is_refused_after<A: Allocator + Copy>(
+    rt: &impl AllocGlobal,
+    heap: &Refusing<Global>,
+    alloc: A,
+    set: &mut DataSet<A>,
+    tag: Tag,
+    before: &str,
+) -> Result<bool, Fail> {
+    let is_put = is_put(heap, alloc, set, tag)?;
+    let is_refused = !heap.is_armed();
+    if is_put == is_refused || !is_right(rt, set, tag, is_refused, before)? {
+        return Err("put where a growth is refused, or not put where none is".into());
+    }
+    Ok(is_refused)
+}
+
 /// Returns whether a growth is refused when an element is inserted: if so, the set must be unchanged.
 fn is_refused<A: Allocator + Copy>(
     rt: &impl AllocGlobal,
@@ -193,13 +238,7 @@ fn is_refused<A: Allocator + Copy>(
     tag: Tag,
 ) -> Result<bool, Fail> {
     let before = described(set, rt)?;
-    let is_put = is_put(heap, alloc, set, tag)?;
-    let is_refused = !heap.is_armed();
-    let is_same = is_described(rt, set, before.as_str())?;
-    if is_put == is_refused || is_refused && !is_same || is_put && set.get(tag).is_none() {
-        return Err("put where a growth is refused, or not put where none is".into());
-    }
-    Ok(is_refused)
+    is_refused_after(rt, heap, alloc, set, tag, before.as_str())
 }
 
 /// Returns whether a growth is refused when one of six elements is inserted into an empty set.

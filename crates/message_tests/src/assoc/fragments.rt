@@ -51,6 +51,20 @@ fn fragment(rt: &impl AllocGlobal, text: &str) -> Result<Pdv<Global>, Fail> {
     )
 }
 
+/// Returns whether these are the bytes of a text.
+pub(crate) fn are_bytes(rt: &impl AllocGlobal, found: &[u8], text: &str) -> Result<bool, Fail> {
+    let bytes = bytes_of(rt, text)?;
+    Ok(bytes.as_slice() == found)
+}
+
+/// Returns whether a message has the data set of a text, or none if that is `-`.
+fn has_body(rt: &impl AllocGlobal, message: &RawMessage<Global>, text: &str) -> Result<bool, Fail> {
+    match &message.body {
+        Some(found) => Ok(text != "-" && are_bytes(rt, found.as_slice(), text)?),
+        None => Ok(text == "-"),
+    }
+}
+
 /// Returns whether a message is that of a text: its context, its command, and its data set or `-`.
 fn is_message(
     rt: &impl AllocGlobal,
@@ -58,31 +72,46 @@ fn is_message(
     text: &str,
 ) -> Result<bool, Fail> {
     let (id, command, body) = cut_twice(text, "|", "|")?;
-    let command = bytes_of(rt, named(command))?;
-    if message.context != id.parse::<u8>()? || message.command.as_slice() != command.as_slice() {
+    if message.context != id.parse::<u8>()? {
         return Ok(false);
     }
-    match &message.body {
-        Some(found) => Ok(body != "-" && found.as_slice() == bytes_of(rt, body)?.as_slice()),
-        None => Ok(body == "-"),
+    Ok(are_bytes(rt, message.command.as_slice(), named(command))? && has_body(rt, message, body)?)
+}
+
+/// Returns whether what a fragment completes is as a text says: `more` for nothing, or a message.
+fn is_completed(
+    rt: &impl AllocGlobal,
+    found: &Option<RawMessage<Global>>,
+    expected: &str,
+) -> Result<bool, Fail> {
+    match found {
+        Some(message) => is_message(rt, message, expected),
+        None => Ok(expected == "more"),
+    }
+}
+
+/// Returns the name of a fault.
+fn name_of(fault: AssocFault) -> &'static str {
+    match fault {
+        AssocFault::UnknownContext => "UnknownContext",
+        AssocFault::MixedContext => "MixedContext",
+        AssocFault::DataWithoutCommand => "DataWithoutCommand",
+        AssocFault::TooLong => "TooLong",
+        AssocFault::Memory => "Memory",
+        AssocFault::Failed => "Failed",
     }
 }
 
 /// Returns whether a fragment is answered as a text says: with `more`, a message or a fault.
-fn is_answered(
+pub(crate) fn is_answered(
     rt: &impl AllocGlobal,
     assembler: &mut Assembler<Global>,
     fragment: Pdv<Global>,
     expected: &str,
 ) -> Result<bool, Fail> {
     match assembler.feed(fragment) {
-        Ok(None) => Ok(expected == "more"),
-        Ok(Some(message)) => is_message(rt, &message, expected),
-        Err(AssocFault::UnknownContext) => Ok(expected == "UnknownContext"),
-        Err(AssocFault::MixedContext) => Ok(expected == "MixedContext"),
-        Err(AssocFault::DataWithoutCommand) => Ok(expected == "DataWithoutCommand"),
-        Err(AssocFault::Failed) => Ok(expected == "Failed"),
-        Err(_) => Ok(false),
+        Ok(found) => is_completed(rt, &found, expected),
+        Err(fault) => Ok(name_of(fault) == expected),
     }
 }
 
@@ -96,21 +125,35 @@ fn is_step(
     is_answered(rt, assembler, fragment(rt, text)?, expected)
 }
 
+/// Returns an assembler with one accepted context, which has this id.
+pub(crate) fn assembler_on<A: Allocator + Copy>(alloc: A, id: u8) -> Result<Assembler<A>, Fail> {
+    Ok(Assembler::new(alloc, &context(id))?)
+}
+
 /// Returns an assembler with the contexts 1 and 5 accepted.
 fn an_assembler(alloc: Global) -> Result<Assembler<Global>, Fail> {
     let ([one], [five]) = (context(1), context(5));
     Ok(Assembler::new(alloc, &[one, five])?)
 }
 
-/// Returns whether each fragment of a row is answered as the row says, with the contexts 1 and 5 accepted.
-fn are_answered(rt: &impl AllocGlobal, row: &str) -> Result<bool, Fail> {
-    let mut assembler = an_assembler(rt.alloc())?;
+/// Returns whether each fragment of a row is answered as the row says.
+fn are_steps(
+    rt: &impl AllocGlobal,
+    assembler: &mut Assembler<Global>,
+    row: &str,
+) -> Result<bool, Fail> {
     for step in row.split(", ") {
-        if !is_step(rt, &mut assembler, step)? {
+        if !is_step(rt, assembler, step)? {
             return Ok(false);
         }
     }
     Ok(true)
+}
+
+/// The same for a new assembler with the contexts 1 and 5 accepted.
+fn are_answered(rt: &impl AllocGlobal, row: &str) -> Result<bool, Fail> {
+    let mut assembler = an_assembler(rt.alloc())?;
+    are_steps(rt, &mut assembler, row)
 }
 
 /// Rows of fragments and their answers: an unknown presentation context; another context inside a message, or a command
@@ -178,41 +221,55 @@ fn feed_each(
 fn is_whole_of_bytes(
     rt: &impl AllocGlobal,
     assembler: &mut Assembler<Global>,
-    command: &[u8],
 ) -> Result<bool, Fail> {
-    feed_each(rt, assembler, command, 1, 3)?;
+    let command = bytes_of(rt, CREATE)?;
+    feed_each(rt, assembler, &command, 1, 3)?;
     feed_each(rt, assembler, b"abcdef", 0, 0)?;
     is_step(rt, assembler, "255 2 =255|CREATE|\"abcdef\"")
 }
 
 #[test]
 fn fragments_of_one_byte_give_the_message(rt: HostRuntime) -> Result<(), Fail> {
-    let mut assembler = Assembler::new(rt.alloc(), &context(255))?;
-    let command = bytes_of(&rt, CREATE)?;
-    assert!(rt; is_whole_of_bytes(&rt, &mut assembler, &command)?);
+    let mut assembler = assembler_on(rt.alloc(), 255)?;
+    assert!(rt; is_whole_of_bytes(&rt, &mut assembler)?);
     Ok(())
 }
 
-/// Returns the fault at the last fragment of a message with `more` bytes of data after 63 fragments of 16,384 bytes;
-/// there must be none before it.
-fn fault_at_the_end(rt: &impl AllocGlobal, more: usize) -> Result<Option<AssocFault>, Fail> {
-    let zeros = [0; 16_384];
-    let mut assembler = Assembler::new(rt.alloc(), &context(1))?;
-    let is_begun = is_step(rt, &mut assembler, "1 3 CREATE=more")?;
+/// Returns whether neither a command set nor 63 fragments of 16,384 bytes of data after it complete a message.
+fn is_begun(rt: &impl AllocGlobal, assembler: &mut Assembler<Global>) -> Result<bool, Fail> {
+    let mut is_more = is_step(rt, assembler, "1 3 CREATE=more")?;
     for _ in 0..63 {
-        let fragment = pdv(rt.alloc(), 1, 0, &zeros)?;
-        if !is_begun || assembler.feed(fragment)?.is_some() {
-            return Err("a message before its end".into());
-        }
+        is_more = is_more && is_step(rt, assembler, "1 0 00*16384=more")?;
     }
-    let last = pdv(rt.alloc(), 1, 2, zeros.get(..more).ok_or("a part")?)?;
-    Ok(assembler.feed(last).err())
+    Ok(is_more)
+}
+
+/// Returns the fault at the last fragment of a message, after 63 fragments of 16,384 bytes of data; there must be none
+/// before it.
+fn fault_at_last(
+    rt: &impl AllocGlobal,
+    assembler: &mut Assembler<Global>,
+    last: &str,
+) -> Result<Option<AssocFault>, Fail> {
+    if !is_begun(rt, assembler)? {
+        return Err("a message before its end".into());
+    }
+    Ok(assembler.feed(fragment(rt, last)?).err())
+}
+
+/// The same for a new assembler.
+fn fault_at_the_end(rt: &impl AllocGlobal, last: &str) -> Result<Option<AssocFault>, Fail> {
+    let mut assembler = assembler_on(rt.alloc(), 1)?;
+    fault_at_last(rt, &mut assembler, last)
 }
 
 #[test]
 fn a_message_has_at_most_1048576_bytes(rt: HostRuntime) -> Result<(), Fail> {
     // The command has 92 bytes: 63 fragments of 16,384 bytes and one of 16,292 fill the message.
-    assert_eq!(rt; fault_at_the_end(&rt, 16_292)?, None);
-    assert_eq!(rt; fault_at_the_end(&rt, 16_293)?, Some(AssocFault::TooLong));
+    assert_eq!(rt; fault_at_the_end(&rt, "1 2 00*16292")?, None);
+    assert_eq!(rt;
+        fault_at_the_end(&rt, "1 2 00*16293")?,
+        Some(AssocFault::TooLong)
+    );
     Ok(())
 }

@@ -5,9 +5,9 @@
 
 use super::words::{request_of, row_of};
 use super::*;
-use fixtures::described;
-use fixtures::rows::{check, cut, cut_twice, number};
+use fixtures::rows::{cut_twice, number};
 use fixtures::words::{set_of, tags_of};
+use std::alloc::AllocError;
 use ups_dataset::Tag;
 
 /// What is held of a step, or `none`; a request two minutes after 1970 began; and what is held after it: the state, the
@@ -45,39 +45,35 @@ const CHANGED: &str = "\
 2: B 00080016=1.2.840.10008.5.1.4.34.6.1 00080018=1.2.3.1 | show 00741000 00081195 -> 0001 00741000=SCHEDULED_
 0: B 00080016=1.2.840.10008.5.1.4.34.6.1 00080018=1.2.3.1 | show 00081195 -> 0001";
 
-/// Returns the number of growths that a change of a step takes, and its outcome.
-fn change_in_turn<'a>(
-    heap: &'a Refusing<Global>,
-    before: Option<&Row<&'a Refusing<Global>>>,
-    request: &Request<&'a Refusing<Global>>,
-) -> Result<(u64, Result<Row<&'a Refusing<Global>>, ChangeFault>), Fail> {
-    for growths in 0..GROWTHS {
-        heap.refuse(growths + 1);
-        let found = change(heap, before, request, 120, 0);
-        if heap.is_armed() {
-            return Ok((growths, found));
-        }
-        if found.err() != Some(ChangeFault::Memory) {
-            return Err("a growth was refused, and the change is made".into());
-        }
+/// Adds the Transaction UID of a claim, or `none`.
+fn add_claim(text: &mut String, transaction: &Option<Uid>) -> Result<(), Fail> {
+    match transaction {
+        Some(uid) => Ok(add_bytes(text, uid.as_bytes())?),
+        None => Ok(text.push_str("none")?),
     }
-    Err("there are more growths".into())
+}
+
+/// Adds when a state became final, or `never`.
+fn add_end(text: &mut String, final_at: Option<u64>) -> Result<(), Fail> {
+    match final_at {
+        Some(moment) => Ok(write!(text, " {moment} ")?),
+        None => Ok(text.push_str(" never ")?),
+    }
+}
+
+/// Adds what is held of a step beside its attributes.
+fn add_held<A: Allocator + Copy>(text: &mut String, row: &Row<A>) -> Result<(), Fail> {
+    add_bytes(text, row.state.text())?;
+    text.push(' ')?;
+    add_claim(text, &row.transaction)?;
+    add_end(text, row.final_at)
 }
 
 /// Returns what is held of a step as text.
 fn held_text<A: Allocator + Copy>(rt: &impl AllocGlobal, row: &Row<A>) -> Result<String, Fail> {
     let mut text = String::new(rt.alloc());
-    add_bytes(&mut text, row.state.text())?;
-    text.push(' ')?;
-    match row.transaction {
-        Some(uid) => add_bytes(&mut text, uid.as_bytes())?,
-        None => text.push_str("none")?,
-    }
-    match row.final_at {
-        Some(moment) => write!(text, " {moment} ")?,
-        None => text.push_str(" never ")?,
-    }
-    text.push_str(described(&row.attributes, rt)?.as_str())?;
+    add_held(&mut text, row)?;
+    add_set(rt, &mut text, &row.attributes)?;
     Ok(text)
 }
 
@@ -93,6 +89,34 @@ fn made_text<A: Allocator + Copy>(
     }
 }
 
+/// Returns the outcome of a change, which takes `growths` growths, as text, or None if one more was refused.
+fn made_or_refused<A: Allocator + Copy>(
+    rt: &impl AllocGlobal,
+    growths: u64,
+    is_refused: bool,
+    made: &Result<Row<A>, ChangeFault>,
+) -> Result<Option<String>, Fail> {
+    if !is_refused {
+        return Ok(Some(made_text(rt, growths, made)?));
+    }
+    match made {
+        Err(ChangeFault::Memory) => Ok(None),
+        _ => Err("a growth was refused, and the change is made".into()),
+    }
+}
+
+/// Returns the outcome of a request on a step, which takes `growths` growths, as text, or None if one more is refused.
+fn changed_or_refused<'a>(
+    rt: &impl AllocGlobal,
+    heap: &'a Refusing<Global>,
+    before: Option<&Row<&'a Refusing<Global>>>,
+    request: &Request<&'a Refusing<Global>>,
+    growths: u64,
+) -> Result<Option<String>, Fail> {
+    let made = change(heap, before, request, 120, 0);
+    made_or_refused(rt, growths, !heap.is_armed(), &made)
+}
+
 /// Returns the number of growths that a request on a step takes, and its outcome as text.
 fn changed_text<'a>(
     rt: &impl AllocGlobal,
@@ -100,11 +124,27 @@ fn changed_text<'a>(
     before: Option<&Row<&'a Refusing<Global>>>,
     request: &Request<&'a Refusing<Global>>,
 ) -> Result<(u64, String), Fail> {
-    let (growths, made) = change_in_turn(heap, before, request)?;
-    Ok((growths, made_text(rt, growths, &made)?))
+    for growths in 0..GROWTHS {
+        heap.refuse(growths + 1);
+        if let Some(text) = changed_or_refused(rt, heap, before, request, growths)? {
+            return Ok((growths, text));
+        }
+    }
+    Err("there are more growths".into())
 }
 
-/// Returns the number of growths that a change of a step takes, and its outcome as text.
+/// Returns the number of growths that the change of a step by a message takes, and its outcome as text.
+fn changed_by<'a>(
+    rt: &impl AllocGlobal,
+    heap: &'a Refusing<Global>,
+    before: Option<&Row<&'a Refusing<Global>>>,
+    message: &str,
+) -> Result<(u64, String), Fail> {
+    let request = request_of(heap, message)?;
+    changed_text(rt, heap, before, &request)
+}
+
+/// Returns the number of growths that a change of what is held of a step takes, and its outcome as text.
 fn changed(
     rt: &impl AllocGlobal,
     heap: &Refusing<Global>,
@@ -113,28 +153,18 @@ fn changed(
 ) -> Result<(u64, String), Fail> {
     heap.refuse(0);
     let before = row_of(heap, held)?;
-    let request = request_of(heap, message)?;
-    changed_text(rt, heap, before.as_ref(), &request)
+    changed_by(rt, heap, before.as_ref(), message)
 }
 
-/// Returns the number of growths that showing attributes takes, and the reply.
-fn show_in_turn<'a>(
-    heap: &'a Refusing<Global>,
-    held: &DataSet<&'a Refusing<Global>>,
-    listed: &[Tag],
-) -> Result<(u64, Reply<&'a Refusing<Global>>), Fail> {
-    for growths in 0..GROWTHS {
-        heap.refuse(growths + 1);
-        let found = shown(held, listed);
-        let is_refused = !heap.is_armed();
-        if let Ok(reply) = found {
-            if is_refused {
-                return Err("a growth was refused, and the reply is made".into());
-            }
-            return Ok((growths, reply));
-        }
-    }
-    Err("there are more growths".into())
+/// Returns a status and attributes as text.
+fn set_text<A: Allocator + Copy>(
+    rt: &impl AllocGlobal,
+    status: Status,
+    set: &DataSet<A>,
+) -> Result<String, Fail> {
+    let mut text = format!(in rt.alloc(); "{:04X} ", status.code())?;
+    add_set(rt, &mut text, set)?;
+    Ok(text)
 }
 
 /// Returns a reply as text: its status, and the attributes that it shows.
@@ -142,12 +172,34 @@ fn reply_text<A: Allocator + Copy>(
     rt: &impl AllocGlobal,
     reply: &Reply<A>,
 ) -> Result<String, Fail> {
-    let Reply::Set(status, set) = reply else {
-        return Err("a reply without attributes".into());
-    };
-    let mut text = format!(in rt.alloc(); "{:04X} ", status.code())?;
-    text.push_str(described(set, rt)?.as_str())?;
-    Ok(text)
+    match reply {
+        Reply::Set(status, set) => set_text(rt, *status, set),
+        _ => Err("a reply without attributes".into()),
+    }
+}
+
+/// Returns a reply as text, or None if it is missing because a growth was refused.
+fn reply_or_refused<A: Allocator + Copy>(
+    rt: &impl AllocGlobal,
+    is_refused: bool,
+    reply: &Result<Reply<A>, AllocError>,
+) -> Result<Option<String>, Fail> {
+    match reply {
+        Ok(reply) if !is_refused => Ok(Some(reply_text(rt, reply)?)),
+        Err(_) if is_refused => Ok(None),
+        _ => Err("no lack of memory where a growth is refused".into()),
+    }
+}
+
+/// Returns the reply that shows attributes as text, or None if a growth is refused for it.
+fn shown_or_refused<'a>(
+    rt: &impl AllocGlobal,
+    heap: &'a Refusing<Global>,
+    held: &DataSet<&'a Refusing<Global>>,
+    listed: &[Tag],
+) -> Result<Option<String>, Fail> {
+    let reply = shown(held, listed);
+    reply_or_refused(rt, !heap.is_armed(), &reply)
 }
 
 /// Returns the number of growths that showing attributes takes, and the reply as text.
@@ -157,8 +209,13 @@ fn shown_text<'a>(
     held: &DataSet<&'a Refusing<Global>>,
     listed: &[Tag],
 ) -> Result<(u64, String), Fail> {
-    let (growths, reply) = show_in_turn(heap, held, listed)?;
-    Ok((growths, reply_text(rt, &reply)?))
+    for growths in 0..GROWTHS {
+        heap.refuse(growths + 1);
+        if let Some(text) = shown_or_refused(rt, heap, held, listed)? {
+            return Ok((growths, text));
+        }
+    }
+    Err("there are more growths".into())
 }
 
 /// Returns the number of growths that showing the attributes of a row takes, and the reply as text.
@@ -203,6 +260,5 @@ fn steps_are_changed_and_shown_as_their_rows_say(rt: HostRuntime) -> Result<(), 
 #[test]
 fn lack_of_memory_is_told(rt: HostRuntime) -> Result<(), Fail> {
     let memory = format!(in rt.alloc(); "{}", ChangeFault::Memory)?;
-    assert_eq!(rt; memory.as_str(), "out of memory");
-    Ok(())
+    check_same("memory", memory.as_str(), "out of memory")
 }

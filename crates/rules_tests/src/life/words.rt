@@ -23,14 +23,22 @@ pub(super) fn read<'a>(
     Ok(read_request(heap, &operation, set, OFFSET))
 }
 
+/// Returns the request that is asked for.
+fn request_in<A: Allocator + Copy>(ask: Ask<A>) -> Result<Request<A>, Fail> {
+    match ask {
+        Ask::Do(request) => Ok(request),
+        _ => Err("no request".into()),
+    }
+}
+
 /// Returns the request that a message asks for.
 pub(super) fn request_of<'a>(
     heap: &'a Refusing<Global>,
     message: &str,
 ) -> Result<Request<&'a Refusing<Global>>, Fail> {
     match read(heap, message, 0)? {
-        Ok(Ask::Do(request)) => Ok(request),
-        _ => Err("no request".into()),
+        Ok(ask) => request_in(ask),
+        Err(_) => Err("a status".into()),
     }
 }
 
@@ -45,19 +53,24 @@ fn state_of(word: &str) -> Option<StepState> {
     }
 }
 
-/// Returns what is held of a step: its state, the Transaction UID of its claim, and its attributes. A claim that is not
-/// a UID counts as none, and a word that is not a state as no step. A final state is so since a minute after 1970
-/// began.
-pub(super) fn row_of<A: Allocator + Copy>(alloc: A, text: &str) -> Result<Option<Row<A>>, Fail> {
-    let (state, rest) = text.split_once(' ').unwrap_or((text, ""));
-    let (claim, attributes) = rest.split_once(' ').unwrap_or((rest, ""));
-    let Some(state) = state_of(state) else {
-        return Ok(None);
-    };
-    Ok(Some(Row {
+/// Returns what is held of a step in a state: the Transaction UID of its claim, and its attributes. A claim that is not
+/// a UID counts as none. A final state is so since a minute after 1970 began.
+fn held_in<A: Allocator + Copy>(alloc: A, state: StepState, text: &str) -> Result<Row<A>, Fail> {
+    let (claim, attributes) = text.split_once(' ').unwrap_or((text, ""));
+    Ok(Row {
         attributes: set_of(alloc, attributes)?,
         state,
         transaction: Uid::of(claim.as_bytes()),
         final_at: if state.is_final() { Some(60) } else { None },
-    }))
+    })
+}
+
+/// Returns what is held of a step: its state, the Transaction UID of its claim, and its attributes. A word that is not a
+/// state counts as no step.
+pub(super) fn row_of<A: Allocator + Copy>(alloc: A, text: &str) -> Result<Option<Row<A>>, Fail> {
+    let (state, rest) = text.split_once(' ').unwrap_or((text, ""));
+    match state_of(state) {
+        Some(state) => Ok(Some(held_in(alloc, state, rest)?)),
+        None => Ok(None),
+    }
 }

@@ -1,10 +1,10 @@
-use fixtures::rows::cut_twice;
+use fixtures::rows::{check, check_same, cut, cut_twice};
 use fixtures::{Refusing, bytes_of, put_item, put_text, tag_of, words};
 use std::alloc::{Allocator, Global};
 use std::test::Fail;
 use ups_dataset::dictionary::*;
 use ups_dataset::{DataSet, Tag};
-use ups_match::{Keys, Matcher, Probe};
+use ups_match::{KeyFault, Keys, Matcher, Probe};
 
 /// Returns a set with one value, padded to an even length.
 pub(super) fn set_of<A: Allocator + Copy>(
@@ -24,6 +24,29 @@ fn asked<A: Allocator + Copy>(keys: DataSet<A>, row: &DataSet<A>) -> Result<bool
     Ok(probe.matches(&keys, row))
 }
 
+/// Returns whether a key matches what is stored under the same tag.
+fn matched<A: Allocator + Copy>(
+    alloc: A,
+    tag: Tag,
+    key: &[u8],
+    stored: &[u8],
+) -> Result<bool, Fail> {
+    let row = set_of(alloc, tag, stored)?;
+    asked(set_of(alloc, tag, key)?, &row)
+}
+
+/// Returns whether a key that is not prepared, for lack of memory, matches a set.
+fn asked_unprepared<'a, A: Allocator + Copy>(
+    heap: &'a Refusing<A>,
+    tag: Tag,
+    key: &[u8],
+    row: &DataSet<&'a Refusing<A>>,
+) -> Result<bool, Fail> {
+    let keys = set_of(heap, tag, key)?;
+    heap.refuse(1);
+    asked(keys, row)
+}
+
 /// Returns whether a key that is not prepared, for lack of memory, matches what is stored under the same tag.
 fn matched_unprepared<A: Allocator + Copy>(
     alloc: A,
@@ -33,9 +56,7 @@ fn matched_unprepared<A: Allocator + Copy>(
 ) -> Result<bool, Fail> {
     let heap = Refusing::new(alloc);
     let row = set_of(&heap, tag, stored)?;
-    let keys = set_of(&heap, tag, key)?;
-    heap.refuse(1);
-    asked(keys, &row)
+    asked_unprepared(&heap, tag, key, &row)
 }
 
 /// Returns whether a key says the same about what is stored under the same tag, prepared and not.
@@ -45,8 +66,7 @@ pub(super) fn says_the_same<A: Allocator + Copy>(
     key: &[u8],
     stored: &[u8],
 ) -> Result<bool, Fail> {
-    let found = asked(set_of(alloc, tag, key)?, &set_of(alloc, tag, stored)?)?;
-    Ok(matched_unprepared(alloc, tag, key, stored)? == found)
+    Ok(matched(alloc, tag, key, stored)? == matched_unprepared(alloc, tag, key, stored)?)
 }
 
 /// A tag for each rule of PS3.4 section C.2.2.2, values of keys, and stored values. `rows/matching.rows` says which of
@@ -124,22 +144,26 @@ fn keys_say_the_same(rt: &impl AllocGlobal, line: &str) -> Result<bool, Fail> {
 #[test]
 fn a_key_says_the_same_prepared_and_not(rt: HostRuntime) -> Result<(), Fail> {
     for line in VALUES.lines() {
-        assert!(rt;
+        check(
+            line,
             line.starts_with("# ") || keys_say_the_same(&rt, line)?,
-            "{line}"
-        );
+        )?;
     }
     Ok(())
 }
 
+/// Returns a set with an item in a sequence.
+fn holding<A: Allocator + Copy>(alloc: A, tag: Tag, item: DataSet<A>) -> Result<DataSet<A>, Fail> {
+    let mut set = DataSet::new(alloc);
+    put_item(alloc, &mut set, tag, item)?;
+    Ok(set)
+}
+
 /// Returns a set with a code in a sequence in a sequence.
 fn nested<A: Allocator + Copy>(alloc: A, code: &[u8]) -> Result<DataSet<A>, Fail> {
-    let mut inner = DataSet::new(alloc);
     let item = set_of(alloc, CODE_VALUE, code)?;
-    put_item(alloc, &mut inner, HUMAN_PERFORMER_CODE_SEQUENCE, item)?;
-    let mut set = DataSet::new(alloc);
-    put_item(alloc, &mut set, SCHEDULED_HUMAN_PERFORMERS_SEQUENCE, inner)?;
-    Ok(set)
+    let performer = holding(alloc, HUMAN_PERFORMER_CODE_SEQUENCE, item)?;
+    holding(alloc, SCHEDULED_HUMAN_PERFORMERS_SEQUENCE, performer)
 }
 
 /// The values of a key in a sequence in a sequence.
@@ -170,7 +194,7 @@ fn nested_says_the_same(alloc: Global, key: &[u8]) -> Result<bool, Fail> {
 #[test]
 fn a_nested_key_says_the_same_prepared_and_not(rt: HostRuntime) -> Result<(), Fail> {
     for key in NESTED.split('|') {
-        assert!(rt; nested_says_the_same(rt.alloc(), key.as_bytes())?, "{key}");
+        check(key, nested_says_the_same(rt.alloc(), key.as_bytes())?)?;
     }
     Ok(())
 }
@@ -193,19 +217,29 @@ const FAULTS: &str = r"00404005=- -> BadRange
 00404025=[00080100=CT1][00080100=-] 00404050=- -> TwoItems
 00404025=[00080100=CT1][00080100=-] 00404050=- 00404005=- -> BadRange";
 
+/// Returns the fault of keys, or None if they can be read.
+fn fault_of(alloc: Global, keys: &str) -> Result<Option<KeyFault>, Fail> {
+    Ok(Keys::of(words::set_of(alloc, keys)?, 0).err())
+}
+
 /// Returns keys with the fault that they have.
 fn fault_row(rt: &impl AllocGlobal, keys: &str) -> Result<String, Fail> {
-    Ok(match Keys::of(words::set_of(rt.alloc(), keys)?, 0) {
-        Ok(_) => format!(in rt.alloc(); "{keys} -> none")?,
-        Err(fault) => format!(in rt.alloc(); "{keys} -> {fault:?}")?,
+    Ok(match fault_of(rt.alloc(), keys)? {
+        Some(fault) => format!(in rt.alloc(); "{keys} -> {fault:?}")?,
+        None => format!(in rt.alloc(); "{keys} -> none")?,
     })
+}
+
+/// Fails if a row does not say the fault of its keys.
+fn check_fault(rt: &impl AllocGlobal, row: &str) -> Result<(), Fail> {
+    let (keys, _) = cut(row, " -> ")?;
+    check_same(row, fault_row(rt, keys)?.as_str(), row)
 }
 
 #[test]
 fn the_first_fault_is_told(rt: HostRuntime) -> Result<(), Fail> {
     for row in FAULTS.lines() {
-        let (keys, _) = row.split_once(" -> ").ok_or("keys")?;
-        assert_eq!(rt; fault_row(&rt, keys)?.as_str(), row);
+        check_fault(&rt, row)?;
     }
     Ok(())
 }
@@ -239,20 +273,16 @@ fn is_copied<A: Allocator + Copy>(keys: &Keys<A>) -> Result<bool, Fail> {
     Ok(probe.matches(&copy, keys.attributes()))
 }
 
-/// Returns whether a copy of these keys is made, and none if its first growth is refused.
-fn are_copied_or_refused<'a>(
-    heap: &'a Refusing<Global>,
-    keys: &Keys<&'a Refusing<Global>>,
-) -> Result<bool, Fail> {
-    let is_copied = is_copied(keys)?;
+/// Returns whether a copy of these keys is refused if its first growth is.
+fn is_refused<'a>(heap: &'a Refusing<Global>, keys: &Keys<&'a Refusing<Global>>) -> bool {
     heap.refuse(1);
-    Ok(is_copied && keys.copy().is_err())
+    keys.copy().is_err()
 }
 
-/// Returns whether this is so for keys in a sequence in a sequence.
+/// Returns whether keys in a sequence in a sequence are copied, and are not if the first growth of the copy is refused.
 fn is_copied_or_refused(heap: &Refusing<Global>) -> Result<bool, Fail> {
     let keys = Keys::of(nested(heap, b"P1")?, 0)?;
-    are_copied_or_refused(heap, &keys)
+    Ok(is_copied(&keys)? && is_refused(heap, &keys))
 }
 
 #[test]

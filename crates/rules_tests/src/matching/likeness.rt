@@ -1,5 +1,5 @@
 use fixtures::bytes_of;
-use fixtures::rows::cut_twice;
+use fixtures::rows::{check, cut_twice};
 use std::alloc::{AllocError, Global};
 use std::test::Fail;
 use ups_match::likes;
@@ -23,7 +23,7 @@ fn row_is_alike(rt: &impl AllocGlobal, row: &str) -> Result<&'static str, Fail> 
 #[test]
 fn wild_cards_stand_for_any_letters(rt: HostRuntime) -> Result<(), Fail> {
     for row in ROWS.lines() {
-        assert!(rt; row.ends_with(row_is_alike(&rt, row)?), "{row}");
+        check(row, row.ends_with(row_is_alike(&rt, row)?))?;
     }
     Ok(())
 }
