@@ -52,7 +52,7 @@ def find_rows(few):
             more = {(0x0010, 0x0020): (b"LO", b"P%05d" % i), (0x0074, 0x1204): (b"LO", b"CT %d READ" % (i % 10) + b" ")}
             made += dicom.create(1, i + 1, b"1.2.3.%d" % (i + 1), dicom.step(True, more))
         for name, answers, texts, queries in (
-            ("patient ID", 1, {(0x0010, 0x0020): (b"LO", b"P00042")}, 20 if few else 1_000),
+            ("patient ID", 1, {(0x0010, 0x0020): (b"LO", b"P00042")}, 400 if few else 1_000),
             ("wild card", count // 10, {(0x0074, 0x1204): (b"LO", b"C?*7*READ ")}, 20 if few else 300),
         ):
             asked = b"".join(dicom.find(3, i + 1, pipe.keys(texts)) for i in range(queries))
