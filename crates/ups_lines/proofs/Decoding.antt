@@ -1,11 +1,11 @@
 -- A text has one way to be read.
-use Rattle.std.proofs.Common.{◌||◌, eqb, ◌≡◌, ◌≢◌, ℕ, ◌+◌, ◌*◌, ◌<◌, inl, inr, Bool, true, false, cond, List, [], ◌∷◌, ◌++◌, length, refl, sym, ap, ◌∙◌, arith, append_assoc, append-nil}
+use Rattle.std.proofs.Common.{◌||◌, eqb, ◌≡◌, ◌≢◌, ℕ, ◌+◌, ◌*◌, ◌<◌, inl, inr, Bool, true, false, cond, List, [], ◌∷◌, ◌++◌, length, get_or, refl, sym, ap, subst, ◌∙◌, arith, append_assoc, append-nil}
 use Rattle.std.specs.Char.{digit_value}
 use Rattle.std.specs.List.{count_by, list_any}
 use Rattle.std.proofs.lemmas.Bool.{ne_eqb}
 use Rattle.std.proofs.lemmas.List.Sums.{sum_by-cons}
 use Rattle.ups_pdu.proofs.Sequence.{IsOneWay, splits, ends, each_one}
-use Rattle.ups_lines.specs.Escapes.{StandsFirst, StandsFor, IsText, is_percent}
+use Rattle.ups_lines.specs.Escapes.{SpellsByte, StandsFirst, StandsFor, IsText, is_percent}
 
 one_front : (text : List ℕ) (x y : ℕ) (r s : List ℕ) → StandsFirst text x r → StandsFirst text y s → (x ≡ y) × (r ≡ s)
 one_front text x y r s (inl (n, e)) (inl (m, f)) = (cc, cc)
@@ -107,3 +107,13 @@ stuck rest none some (bytes, is) = let e = (ends StandsFirst rest none bytes is)
 -- a text stands for one value
 pub one_meaning : (text one other : List ℕ) → StandsFor text one → StandsFor text other → one ≡ other
 one_meaning text one other a b = each_one StandsFirst one_way text one other a b
+
+-- no byte stands first where no two hex digits stand behind a `%`
+pub no_escape : (text : List ℕ) → get_or text 0 0 ≡ 37 → ((byte : ℕ) → SpellsByte (get_or text 1 0) (get_or text 2 0) byte → ⊥) → (byte : ℕ) → (rest : List ℕ) → StandsFirst text byte rest → ⊥
+no_escape text percent none byte rest (inl (n, e)) = n (sym (ap (λ (l : List ℕ). get_or l 0 0) e) ∙ percent)
+no_escape text percent none byte rest (inr e) = none byte (subst (λ (l : List ℕ). SpellsByte (get_or l 1 0) (get_or l 2 0) byte) (sym e.parts) e.spells)
+
+-- nor where the text ends before them
+pub too_short : (text : List ℕ) → length text < 3 → (0 < length text → get_or text 0 0 ≡ 37) → (byte : ℕ) → (rest : List ℕ) → StandsFirst text byte rest → ⊥
+too_short text short percent byte rest (inl (n, e)) = n (sym (ap (λ (l : List ℕ). get_or l 0 0) e) ∙ percent (omega (arith, ap length e)))
+too_short text short percent byte rest (inr e) = absurd (omega (arith, short, ap length e.parts))

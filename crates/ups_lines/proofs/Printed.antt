@@ -2,15 +2,16 @@
 use Rattle.std.proofs.Common.{◌≡◌, ℕ, zero, suc, ◌+◌, ◌<◌, ◌≤◌, Bool, true, false, List, [], ◌∷◌, ◌++◌, length, take, get_or, map, refl, sym, ap, subst, ◌∙◌, arith, Option, append_assoc, append-nil, length-take}
 use Rattle.std.specs.Io.KnownBytes.{Appends}
 use Rattle.std.specs.List.{flat_map}
+use Rattle.std.specs.Prelude.{if◌then◌else◌}
 use Rattle.std.proofs.KnownBytes.{Appends-trans}
 use Rattle.std.proofs.lemmas.List.{take_all, take_more}
 use Rattle.std.proofs.lemmas.List.Folds.{flat_map-map}
 use Rattle.std.proofs.lemmas.Grind.{flat_map-append}
 use Rattle.ups_dataset.specs.declared.tag.Tag.{Tag}
 use Rattle.ups_dataset.specs.declared.set.Element.{Element}
-use Rattle.ups_dataset.specs.Data.{Data, El, items, items_of}
+use Rattle.ups_dataset.specs.Data.{Data, El, bytes, items, items_of}
 use Rattle.ups_dataset.specs.View.{element_view}
-use Rattle.ups_lines.specs.Printing.{words_data, words_items, words, way_into, spaced, follows_after}
+use Rattle.ups_lines.specs.Printing.{hex_tag, printed, word, words_data, words_items, words, way_into, spaced, follows_after}
 
 next : {X : Type 0} (xs : List X) (i : ℕ) (x : X) → i < length xs → x ≡ get_or xs i x → take (i + 1) xs ≡ take i xs ++ x ∷ []
 next xs i x low is = take_more xs i x low ∙ ap (λ y. take i xs ++ y ∷ []) (sym is)
@@ -51,10 +52,10 @@ follows_append follows (x ∷ xs) [] = refl
 follows_append follows (x ∷ xs) (y ∷ ys) = refl
 
 -- words are written behind others
-pub says_more : (follows : Bool) (old here all : List (List ℕ)) (now then : Bool) (a b c : Option (List ℕ)) → all ≡ old ++ here
-    → Appends a b (spaced follows old) × (now ≡ follows_after follows old) → Appends b c (spaced now here) → then ≡ follows_after now here
-    → Appends a c (spaced follows all) × (then ≡ follows_after follows all)
-says_more follows old here all now then a b c is (before, was) said after = (
+pub says_more : (follows : Bool) (old here all : List (List ℕ)) (now later : Bool) (a b c : Option (List ℕ)) → all ≡ old ++ here
+    → Appends a b (spaced follows old) × (now ≡ follows_after follows old) → Appends b c (spaced now here) → later ≡ follows_after now here
+    → Appends a c (spaced follows all) × (later ≡ follows_after follows all)
+says_more follows old here all now later a b c is (before, was) said after = (
   subst (Appends a c) (sym (ap (spaced follows) is ∙ spaced_append follows old here ∙ ap (λ b. spaced follows old ++ spaced b here) (sym was))) (Appends-trans a b c _ _ before said),
   after ∙ ap (λ b. follows_after b here) was ∙ sym (ap (follows_after follows) is ∙ follows_append follows old here),
 )
@@ -106,3 +107,26 @@ pub items_whole : (way : List ℕ) (tag : Tag) (ss shown : List (List El)) (i : 
     → words_items way tag 1 (items_of (take i shown)) ≡ words_data way tag v
 items_whole way tag ss shown i v is same within whole some =
     ap (λ l. words_items way tag 1 (items_of l)) (take_all i shown whole ∙ same) ∙ sym (words_some way tag ss some) ∙ ap (λ d. words_data way tag d) (sym is)
+
+-- a value that is bytes is one word
+pub bytes_words : (way : List ℕ) (tag : Tag) (v : Data) (b shown : List ℕ) → v ≡ bytes b → shown ≡ b → word way tag shown ∷ [] ≡ words_data way tag v
+bytes_words way tag v b shown is same = ap (λ l. word way tag l ∷ []) same ∙ sym (ap (λ d. words_data way tag d) is)
+
+-- a sequence without items too
+pub empty_words : (way : List ℕ) (tag : Tag) (v : Data) (ss : List (List El)) → v ≡ items (items_of ss) → length ss ≡ 0 → word way tag [] ∷ [] ≡ words_data way tag v
+empty_words way tag v [] is none = sym (ap (λ d. words_data way tag d) is)
+empty_words way tag v (s ∷ ss) is none = absurd (omega (arith, none))
+
+-- all elements of a set
+pub set_whole : {A : Type 0} (es : List (Element A)) (set : List El) (i : ℕ) → map element_view es ≡ set → length es ≤ i → take i set ≡ set
+set_whole es set i view whole = take_all i set (omega (arith, ap length view, counted es, whole))
+
+-- an attribute is written: its way, its tag, an equals sign and its value
+word_from : (way : List ℕ) (tag : Tag) (value : List ℕ) (b c d e f : Option (List ℕ)) → Appends b c way → Appends c d (hex_tag tag) → Appends d e (61 ∷ []) → Appends e f (printed value) → Appends b f (word way tag value)
+word_from way tag value b c d e f q r s t = Appends-trans b d f _ _ (Appends-trans b c d _ _ q r) (Appends-trans d e f _ _ s t)
+
+-- and behind a space if it follows something
+pub word_put : (follows : Bool) (way : List ℕ) (tag : Tag) (value : List ℕ) (a b c d e f : Option (List ℕ)) → Appends a b (if follows then 32 ∷ [] else []) → Appends b c way → Appends c d (hex_tag tag)
+    → Appends d e (61 ∷ []) → Appends e f (printed value) → Appends a f (spaced follows (word way tag value ∷ []))
+word_put true way tag value a b c d e f p q r s t = subst (Appends a f) (sym (append-nil (32 ∷ word way tag value))) (Appends-trans a b f _ _ p (word_from way tag value b c d e f q r s t))
+word_put false way tag value a b c d e f p q r s t = subst (Appends a f) (sym (append-nil (word way tag value))) (Appends-trans a b f _ _ p (word_from way tag value b c d e f q r s t))

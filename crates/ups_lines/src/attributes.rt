@@ -89,6 +89,50 @@ fn mark_above(sorted: &mut [Attribute<'_>]) {
     }
 }
 
+/// Appends the attributes of arguments.
+fn push_arguments<'a, A: Allocator + Copy>(
+    attributes: &mut Vec<Attribute<'a>, A>,
+    arguments: &[Option<Attribute<'a>>],
+) -> Result<(), AllocError> {
+    for argument in arguments.iter().flatten() {
+        attributes.push(*argument)?;
+    }
+    Ok(())
+}
+
+/// Appends the attribute that a word is.
+///
+/// Errors: EmptyWord, Attribute or Escape if the word is not an attribute; lack of memory.
+fn push_word<'a, A: Allocator + Copy>(
+    attributes: &mut Vec<Attribute<'a>, A>,
+    word: &'a [u8],
+) -> Result<(), LineFault> {
+    let mut attribute = Attribute::of(filled(word)?)?;
+    attribute.place = u32::try_from(attributes.len()).unwrap_or(u32::MAX);
+    attributes.push(attribute)?;
+    Ok(())
+}
+
+/// Appends the attributes of words.
+///
+/// Errors: those of `push_word`.
+fn push_words<'a, A: Allocator + Copy>(
+    attributes: &mut Vec<Attribute<'a>, A>,
+    words: Words<'a>,
+) -> Result<(), LineFault> {
+    for word in words {
+        push_word(attributes, word)?;
+    }
+    Ok(())
+}
+
+/// Sorts attributes into the order of a data set, those of one element into the order of the line.
+fn sort(attributes: &mut [Attribute<'_>]) {
+    attributes.sort_unstable_by(|one, two| {
+        one.path.cmp(two.path).then(one.place.cmp(&two.place))
+    });
+}
+
 /// Returns the attributes of arguments and of the words after them, in the order of a data set. Of two for one element
 /// the later one counts, also if one is a value and the other is in an item.
 ///
@@ -100,17 +144,9 @@ pub fn attributes_of<'a, A: Allocator + Copy>(
 ) -> Result<Vec<Attribute<'a>, A>, LineFault> {
     let count = arguments.len().saturating_add(words.count());
     let mut attributes = Vec::with_capacity(alloc, count)?;
-    for argument in arguments.iter().flatten() {
-        attributes.push(*argument)?;
-    }
-    for word in words {
-        let mut attribute = Attribute::of(filled(word)?)?;
-        attribute.place = u32::try_from(attributes.len()).unwrap_or(u32::MAX);
-        attributes.push(attribute)?;
-    }
-    attributes.sort_unstable_by(|one, two| {
-        one.path.cmp(two.path).then(one.place.cmp(&two.place))
-    });
+    push_arguments(&mut attributes, arguments)?;
+    push_words(&mut attributes, words)?;
+    sort(attributes.as_mut_slice());
     mark_below(alloc, attributes.as_mut_slice())?;
     mark_above(attributes.as_mut_slice());
     Ok(attributes)

@@ -13,6 +13,7 @@ use crate::limits::MAX_ITEMS;
 use crate::paths::{Part, Path};
 use crate::text::Text;
 use std::alloc::{AllocError, Allocator};
+use std::iter::Skip;
 use ups_dataset::{
     ITEM, ITEM_DELIMITATION, MAX_SHORT_LENGTH, SEQUENCE_DELIMITATION, Tag, UNDEFINED_LENGTH, Vr,
     vr_of,
@@ -168,26 +169,38 @@ impl<'a, A: Allocator + Copy> Spelling<'a, A> {
         }
     }
 
+    /// Ends the sequences of parts that a path leaves.
+    fn leave(&mut self, left: Skip<Path<'a>>) -> Result<(), LineFault> {
+        for part in left {
+            if part.item.is_some() {
+                self.end_sequence()?;
+            }
+        }
+        Ok(())
+    }
+
+    /// Enters the elements of parts, one in the other.
+    fn enter_all(&mut self, parts: Skip<Path<'a>>, value: Text<'_>) -> Result<(), LineFault> {
+        for part in parts {
+            self.enter(part, value)?;
+        }
+        Ok(())
+    }
+
     /// Encodes an attribute that comes after the last one in the order of a data set.
     fn put(&mut self, attribute: &Attribute<'a>) -> Result<(), LineFault> {
         let shared = self.path.shared(attribute.path);
         let mut left = self.path.skip(shared);
         let mut next = attribute.path.skip(shared);
         let from = left.next();
-        for part in left {
-            if part.item.is_some() {
-                self.end_sequence()?;
-            }
-        }
+        self.leave(left)?;
         if let Some(to) = next.next() {
             match from {
                 Some(from) => self.go(from, to, attribute.value)?,
                 None => self.enter(to, attribute.value)?,
             }
         }
-        for part in next {
-            self.enter(part, attribute.value)?;
-        }
+        self.enter_all(next, attribute.value)?;
         self.path = attribute.path;
         Ok(())
     }
@@ -195,11 +208,7 @@ impl<'a, A: Allocator + Copy> Spelling<'a, A> {
     /// Returns the bytes, with all delimiters.
     fn whole(mut self) -> Result<Vec<u8, A>, LineFault> {
         let path = self.path;
-        for part in path {
-            if part.item.is_some() {
-                self.end_sequence()?;
-            }
-        }
+        self.leave(path.skip(0))?;
         let Spelling { out, .. } = self;
         Ok(out)
     }

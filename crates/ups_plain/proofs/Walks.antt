@@ -1,5 +1,5 @@
 -- Walks over a history: what holds of the entries that a loop has gone through.
-use Rattle.std.proofs.Common.{◌≡◌, ℕ, ◌<◌, ◌≤◌, ◌+◌, Bool, true, false, ◌&&◌, ◌||◌, List, [], ◌∷◌, ◌++◌, length, filter, take, drop, get_or, refl, sym, ap, ◌∙◌}
+use Rattle.std.proofs.Common.{◌≡◌, ℕ, ◌<◌, ◌≤◌, ◌+◌, Bool, true, false, ◌&&◌, ◌||◌, List, [], ◌∷◌, ◌++◌, length, filter, take, drop, get_or, refl, sym, ap, ◌∙◌, arith}
 use Rattle.std.specs.Prelude.{if◌then◌else◌, Option}
 use Rattle.std.specs.Option.{option_or}
 use Rattle.std.specs.List.{list_any, filter_map}
@@ -9,6 +9,22 @@ use Rattle.ups_life.specs.declared.entry.Entry.{Entry}
 use Rattle.ups_cycle.specs.declared.state.StepState.{StepState}
 use Rattle.ups_life.specs.Steps.{past, is_on, state, state_then, finished, final_at}
 use Rattle.ups_life.proofs.Rows.{past_more}
+
+-- PLACES
+
+pub at_most : (a b : ℕ) → a < b → a ≤ b
+at_most a b h = omega arith
+
+pub next : (a b : ℕ) → a < b → a + 1 ≤ b
+next a b h = omega arith
+
+pub later : (a b : ℕ) → a ≤ b → a ≤ b + 1
+later a b h = omega arith
+
+pub below : (a b c : ℕ) → a < b → b ≤ c → a < c
+below a b c h k = omega arith
+
+-- ENTRIES
 
 -- one more entry
 pub walk_step : {A X : Type 0} (f : List (Entry A) → X) (history : List (Entry A)) (i : ℕ) (e : Entry A) (x : X) → i < length history → e ≡ get_or history i e → x ≡ f (e ∷ past (take i history)) → x ≡ f (past (take (i + 1) history))

@@ -1,11 +1,12 @@
-use Rattle.std.proofs.Common.{ℕ, ◌+◌, ◌<◌, List, length, take, ap, subst, ◌∙◌, arith, rules}
+use Rattle.std.proofs.Common.{◌≡◌, ℕ, ◌+◌, ◌<◌, List, length, take, ap, subst, arith, rules}
+use Rattle.std.specs.Prelude.{OnOk}
 use Rattle.std.specs.Io.KnownBytes.{Appends}
-use Rattle.ups_dataset.specs.Data.{items_of, weight_data}
+use Rattle.ups_dataset.specs.Data.{El, items_of, weight_data}
 use Rattle.ups_dataset.specs.View.{value_view, element_view}
 use Rattle.ups_lines.specs.Printing.{words, words_data, words_items, way_into, spaced, follows_after}
 use Rattle.ups_lines.specs.Ways.{way_text}
 use Rattle.ups_lines.proofs.Falling.{element_weight, item_weight}
-use Rattle.ups_lines.proofs.Printed.{says_more, words_next, items_next, items_whole}
+use Rattle.ups_lines.proofs.Printed.{bytes_words, empty_words, set_whole, says_more, words_next, items_next, items_whole}
 use Rattle.ups_lines.proofs.printing.+printing.Goals as goal
 
 pub put_element-put_set-requires : goal.put_element-put_set-requires
@@ -35,10 +36,9 @@ put_element-returns-after-loop-place-clause-text g t c =
 pub put_element-returns-after-loop-place-clause-follows : goal.put_element-returns-after-loop-place-clause-follows
 put_element-returns-after-loop-place-clause-follows g t c =
     let some : 0 < length c.in-Items-2.sets.items = search rules in
-    let (said, follows) = c.loop-place.invariant in
-    follows ∙ ap (follows_after c.args.follows.now)
+    subst (λ (ws : List (List ℕ)). c.loop-place.follows ≡ follows_after c.args.follows.now ws)
     (items_whole (way_text c.args.way.now) c.args.element.now.tag c.in-Items-2.sets.items c.deref-set-items.result.now c.loop-place.place (value_view c.args.element.now.value)
-    (ap (λ v. value_view v) c.in-Items-2.is) c.deref-set-items.ensures.value c.loop-place.auto.place-end c.loop-place-test.false some)
+    (ap (λ v. value_view v) c.in-Items-2.is) c.deref-set-items.ensures.value c.loop-place.auto.place-end c.loop-place-test.false some) c.loop-place.invariant.1
 
 pub put_set-loop-element-preserved : goal.put_set-loop-element-preserved
 put_set-loop-element-preserved g t c =
@@ -49,3 +49,39 @@ put_set-loop-element-preserved g t c =
     says_more c.args.follows.now (words way (take i set)) (words_data way (element_view e).tag (element_view e).value) (words way (take (i + 1) set))
     c.loop-element.follows c.put_element.new.follows _ _ _ (words_next way c.elements-element-items.result.now set i e c.elements-element-items.ensures c.loop-element-test.true c.element-item.is)
     c.loop-element.invariant c.in_ok-put_element.ensures.text c.in_ok-put_element.ensures.follows
+
+pub put_element-returns-in-Bytes-clause-text : goal.put_element-returns-in-Bytes-clause-text
+put_element-returns-in-Bytes-clause-text g t c =
+    subst (λ (ws : List (List ℕ)). OnOk c.put_attribute.result (Appends (g.W.Write.contents c.args.writer.now) (g.W.Write.contents c.put_attribute.new.writer) (spaced c.args.follows.now ws)))
+    (bytes_words (way_text c.args.way.now) c.args.element.now.tag (value_view c.args.element.now.value) c.in-Bytes.bytes c.as_slice.result.now (ap (λ v. value_view v) c.in-Bytes.is) c.as_slice.ensures)
+    c.put_attribute.ensures.text
+
+pub put_element-returns-in-Bytes-clause-follows : goal.put_element-returns-in-Bytes-clause-follows
+put_element-returns-in-Bytes-clause-follows g t c =
+    subst (λ (ws : List (List ℕ)). OnOk c.put_attribute.result (c.put_attribute.new.follows ≡ follows_after c.args.follows.now ws))
+    (bytes_words (way_text c.args.way.now) c.args.element.now.tag (value_view c.args.element.now.value) c.in-Bytes.bytes c.as_slice.result.now (ap (λ v. value_view v) c.in-Bytes.is) c.as_slice.ensures)
+    c.put_attribute.ensures.follows
+
+pub put_element-returns-in-Items-clause-text : goal.put_element-returns-in-Items-clause-text
+put_element-returns-in-Items-clause-text g t c =
+    let none : length c.in-Items.sets.items ≡ 0 = search rules in
+    subst (λ (ws : List (List ℕ)). OnOk c.put_attribute-in-Items.result (Appends (g.W.Write.contents c.args.writer.now) (g.W.Write.contents c.put_attribute-in-Items.new.writer) (spaced c.args.follows.now ws)))
+    (empty_words (way_text c.args.way.now) c.args.element.now.tag (value_view c.args.element.now.value) c.in-Items.sets.items (ap (λ v. value_view v) c.in-Items.is) none)
+    c.put_attribute-in-Items.ensures.text
+
+pub put_element-returns-in-Items-clause-follows : goal.put_element-returns-in-Items-clause-follows
+put_element-returns-in-Items-clause-follows g t c =
+    let none : length c.in-Items.sets.items ≡ 0 = search rules in
+    subst (λ (ws : List (List ℕ)). OnOk c.put_attribute-in-Items.result (c.put_attribute-in-Items.new.follows ≡ follows_after c.args.follows.now ws))
+    (empty_words (way_text c.args.way.now) c.args.element.now.tag (value_view c.args.element.now.value) c.in-Items.sets.items (ap (λ v. value_view v) c.in-Items.is) none)
+    c.put_attribute-in-Items.ensures.follows
+
+pub put_set-returns-clause-text : goal.put_set-returns-clause-text
+put_set-returns-clause-text g t c =
+    subst (λ (s : List El). Appends (g.W.Write.contents c.args.writer.now) (g.W.Write.contents c.loop-element.writer) (spaced c.args.follows.now (words (way_text c.args.way.now) s)))
+    (set_whole c.elements-element-items.result.now c.args.set.now c.loop-element.element-index c.elements-element-items.ensures c.loop-element-test.false) c.loop-element.invariant.0
+
+pub put_set-returns-clause-follows : goal.put_set-returns-clause-follows
+put_set-returns-clause-follows g t c =
+    subst (λ (s : List El). c.loop-element.follows ≡ follows_after c.args.follows.now (words (way_text c.args.way.now) s))
+    (set_whole c.elements-element-items.result.now c.args.set.now c.loop-element.element-index c.elements-element-items.ensures c.loop-element-test.false) c.loop-element.invariant.1

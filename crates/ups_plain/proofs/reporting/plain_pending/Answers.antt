@@ -15,3 +15,9 @@ returns g c =
     ∙ ap (λ n. after n c.as_slice-2.result.now) c.acked.ensures
     ∙ ap (after (acked (past c.args.entries.now) c.args.ae))
     (c.as_slice-2.ensures.value ∙ c.in_ok-current.ensures ∙ ap current (c.as_slice.ensures.value ∙ c.in_ok-events.ensures)))
+
+pub plain_events-requires-clause-moments : goal.plain_events-requires-clause-moments
+plain_events-requires-clause-moments g c = c.requires.moments
+
+pub plain_events-requires-clause-offset : goal.plain_events-requires-clause-offset
+plain_events-requires-clause-offset g c = c.requires.offset

@@ -51,3 +51,27 @@ pub returns-in_default : goal.returns-in_default
 returns-in_default g c =
     subst (λ (l : List Report). MatchResult c.told_if_watched.result (λ v. v.items ≡ l) (WalkFails c.args.configuration.now (past c.args.so_far.now)))
     (of_its_step c.args.configuration.now (past c.args.earlier.now) c.args.entry.now c.args.ae c.args.entry.now.request c.in_default.not-Create c.in_default.not-Subscribe) c.told_if_watched.ensures
+
+pub created-requires-clause-moments : goal.created-requires-clause-moments
+created-requires-clause-moments g c = c.requires.moments
+
+pub created-requires-clause-offset : goal.created-requires-clause-offset
+created-requires-clause-offset g c = c.requires.offset
+
+pub subscribed-requires-clause-moments : goal.subscribed-requires-clause-moments
+subscribed-requires-clause-moments g c = c.requires.earlier
+
+pub subscribed-requires-clause-offset : goal.subscribed-requires-clause-offset
+subscribed-requires-clause-offset g c = c.requires.offset
+
+pub told_if_watched-requires-clause-so_far : goal.told_if_watched-requires-clause-so_far
+told_if_watched-requires-clause-so_far g c = c.requires.so_far
+
+pub told_if_watched-requires-clause-moments : goal.told_if_watched-requires-clause-moments
+told_if_watched-requires-clause-moments g c = c.requires.moments
+
+pub told_if_watched-requires-clause-earlier : goal.told_if_watched-requires-clause-earlier
+told_if_watched-requires-clause-earlier g c = c.requires.earlier
+
+pub told_if_watched-requires-clause-offset : goal.told_if_watched-requires-clause-offset
+told_if_watched-requires-clause-offset g c = c.requires.offset

@@ -18,3 +18,15 @@ returns g c =
     let s = c.args.configuration.now in
     let es = past c.args.entries.now in
     c.loop-step.invariant ∙ ap (λ (us : List (List ℕ)). map (as_it_is s es) (filter (λ u. takes_in c.args.target.now u (row s es u)) us)) (take_all c.loop-step.step-index c.args.steps.now c.loop-step-test.false)
+
+pub is_taken_in-requires-clause-moments : goal.is_taken_in-requires-clause-moments
+is_taken_in-requires-clause-moments g c = c.requires.moments
+
+pub is_taken_in-requires-clause-offset : goal.is_taken_in-requires-clause-offset
+is_taken_in-requires-clause-offset g c = c.requires.offset
+
+pub as_it_is-requires-clause-moments : goal.as_it_is-requires-clause-moments
+as_it_is-requires-clause-moments g c = c.requires.moments
+
+pub as_it_is-requires-clause-offset : goal.as_it_is-requires-clause-offset
+as_it_is-requires-clause-offset g c = c.requires.offset

@@ -34,3 +34,27 @@ returns-else-is_some g c =
     subst (λ (l : List Report). MatchResult c.told_newly.result (λ v. v.items ≡ l) (WalkFails s so_far))
     (told ∙ begun_is s es so_far e c.args.ae (step_of e.request) c.in-Some.step (λ u. told_of s es e u e.request) (sym c.in-Some.ensures) (ap is_some (sym before) ∙ sym c.is_some.ensures ∙ c.if-is_some.false) c.requires.so_far)
     c.told_newly.ensures
+
+pub watch_last-requires-clause-moments : goal.watch_last-requires-clause-moments
+watch_last-requires-clause-moments g c = c.requires.moments
+
+pub watch_last-requires-clause-offset : goal.watch_last-requires-clause-offset
+watch_last-requires-clause-offset g c = c.requires.offset
+
+pub told_newly-requires-clause-moments : goal.told_newly-requires-clause-moments
+told_newly-requires-clause-moments g c = c.requires.moments
+
+pub told_newly-requires-clause-offset : goal.told_newly-requires-clause-offset
+told_newly-requires-clause-offset g c = c.requires.offset
+
+pub told_of-requires-clause-so_far : goal.told_of-requires-clause-so_far
+told_of-requires-clause-so_far g c = c.requires.so_far
+
+pub told_of-requires-clause-moments : goal.told_of-requires-clause-moments
+told_of-requires-clause-moments g c = c.requires.moments
+
+pub told_of-requires-clause-earlier : goal.told_of-requires-clause-earlier
+told_of-requires-clause-earlier g c = c.requires.earlier
+
+pub told_of-requires-clause-offset : goal.told_of-requires-clause-offset
+told_of-requires-clause-offset g c = c.requires.offset

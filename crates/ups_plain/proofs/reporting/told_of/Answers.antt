@@ -37,3 +37,36 @@ pub returns-in_err-before-in-Set : goal.returns-in_err-before-in-Set
 returns-in_err-before-in-Set g c =
     let p = err_from_is_err_and c.from_residual-in_err-before-in-Set.result c.from_residual-in_err-before-in-Set.ensures.1 in
     rw (p.1, p.2) (fails_after c.args.configuration.now c.args.entry.now (past c.args.earlier.now) (past c.args.so_far.now) c.in_err-before-in-Set.field-0.0 c.requires.so_far c.in_err-before-in-Set.ensures)
+
+pub as_it_is-requires-clause-moments : goal.as_it_is-requires-clause-moments
+as_it_is-requires-clause-moments g c = c.requires.moments
+
+pub as_it_is-requires-clause-offset : goal.as_it_is-requires-clause-offset
+as_it_is-requires-clause-offset g c = c.requires.offset
+
+pub readiness-requires-clause-moments : goal.readiness-requires-clause-moments
+readiness-requires-clause-moments g c = c.requires.moments
+
+pub readiness-requires-clause-offset : goal.readiness-requires-clause-offset
+readiness-requires-clause-offset g c = c.requires.offset
+
+pub readiness-requires-in-Set-clause-moments : goal.readiness-requires-in-Set-clause-moments
+readiness-requires-in-Set-clause-moments g c = c.requires.earlier
+
+pub readiness-requires-in-Set-clause-offset : goal.readiness-requires-in-Set-clause-offset
+readiness-requires-in-Set-clause-offset g c = c.requires.offset
+
+pub readiness-requires-in-Set-2-clause-moments : goal.readiness-requires-in-Set-2-clause-moments
+readiness-requires-in-Set-2-clause-moments g c = c.requires.moments
+
+pub readiness-requires-in-Set-2-clause-offset : goal.readiness-requires-in-Set-2-clause-offset
+readiness-requires-in-Set-2-clause-offset g c = c.requires.offset
+
+pub returns-in_err-report-in-Change : goal.returns-in_err-report-in-Change
+returns-in_err-report-in-Change g c = let p = err_from_is_err_and c.from_residual.result c.from_residual.ensures.1 in rw (p.1, p.2) c.in_err-report-in-Change.ensures
+
+pub returns-in_err-readiness-in-AskCancel : goal.returns-in_err-readiness-in-AskCancel
+returns-in_err-readiness-in-AskCancel g c = let p = err_from_is_err_and c.from_residual-in_err-readiness-in-AskCancel.result c.from_residual-in_err-readiness-in-AskCancel.ensures.1 in rw (p.1, p.2) c.in_err-readiness-in-AskCancel.ensures
+
+pub returns-in_err-after-in-Set : goal.returns-in_err-after-in-Set
+returns-in_err-after-in-Set g c = let p = err_from_is_err_and c.from_residual-in_err-after-in-Set.result c.from_residual-in_err-after-in-Set.ensures.1 in rw (p.1, p.2) c.in_err-after-in-Set.ensures

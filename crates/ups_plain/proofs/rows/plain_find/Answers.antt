@@ -15,3 +15,15 @@ pub returns : goal.returns
 returns g c =
     answers_end c.args.configuration.now (past c.args.entries.now) c.args.keys.now c.deref-step-items.result.now c.loop-step.step-index c.loop-step.sets c.loop-step-test.false c.loop-step.invariant
     (c.deref-step-items.ensures.value ∙ c.in_ok-steps.ensures)
+
+pub plain_held-requires-clause-moments : goal.plain_held-requires-clause-moments
+plain_held-requires-clause-moments g c = c.requires.moments
+
+pub plain_held-requires-clause-offset : goal.plain_held-requires-clause-offset
+plain_held-requires-clause-offset g c = c.requires.offset
+
+pub row-requires-clause-moments : goal.row-requires-clause-moments
+row-requires-clause-moments g c = c.requires.moments
+
+pub row-requires-clause-offset : goal.row-requires-clause-offset
+row-requires-clause-offset g c = c.requires.offset

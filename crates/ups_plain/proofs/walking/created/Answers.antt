@@ -16,3 +16,9 @@ returns-in_ok-row-clause-watching g c =
 
 pub returns-else-same_step-clause-watching : goal.returns-else-same_step-clause-watching
 returns-else-same_step-clause-watching g c = if_not (bytes_eq c.args.new c.args.step) _ c.args.before (sym c.same_step.ensures ∙ c.if-same_step.false)
+
+pub row-requires-clause-moments : goal.row-requires-clause-moments
+row-requires-clause-moments g c = c.requires.moments
+
+pub row-requires-clause-offset : goal.row-requires-clause-offset
+row-requires-clause-offset g c = c.requires.offset

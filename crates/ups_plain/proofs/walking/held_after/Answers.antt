@@ -27,3 +27,9 @@ returns-in-Sweep g c = rw c.in-Sweep.is (rw c.as_slice.ensures.value at c.left.e
 
 pub returns-in_default : goal.returns-in_default
 returns-in_default g c = same c.args.configuration.now (past c.args.earlier.now) c.args.entry.now.moment c.args.steps.items c.args.entry.now.request c.in_default.not-Create c.in_default.not-Sweep
+
+pub left-requires-clause-moments : goal.left-requires-clause-moments
+left-requires-clause-moments g c = c.requires.moments
+
+pub left-requires-clause-offset : goal.left-requires-clause-offset
+left-requires-clause-offset g c = c.requires.offset

@@ -21,3 +21,9 @@ pub returns : goal.returns
 returns g c =
     let keeps = λ (p : Peer). is_locked (watch c.args.configuration.now (past c.args.entries.now) p.ae c.args.step) in
     any_none keeps c.peers-peers.result.now c.loop-peer.peer-index c.loop-peer-test.false c.loop-peer.invariant ∙ ap (list_any keeps) c.peers-peers.ensures
+
+pub watch-requires-clause-moments : goal.watch-requires-clause-moments
+watch-requires-clause-moments g c = c.requires.moments
+
+pub watch-requires-clause-offset : goal.watch-requires-clause-offset
+watch-requires-clause-offset g c = c.requires.offset

@@ -13,3 +13,9 @@ loop-step-preserved g c =
 
 pub returns : goal.returns
 returns g c = c.loop-step.invariant ∙ ap (filter (λ (u : List ℕ). not (is_due c.args.configuration.now (past c.args.entries.now) c.args.moment u))) (take_all c.loop-step.step-index c.args.steps.now c.loop-step-test.false)
+
+pub is_due-requires-clause-moments : goal.is_due-requires-clause-moments
+is_due-requires-clause-moments g c = c.requires.moments
+
+pub is_due-requires-clause-offset : goal.is_due-requires-clause-offset
+is_due-requires-clause-offset g c = c.requires.offset

@@ -50,3 +50,18 @@ returns-in_default-before-2-clause-after g c =
     let es = past (take c.args.place c.args.entries.now) in
     let now = cond (is_some (cover s.peers es c.args.ae (row s es c.args.step))) None (cover s.peers es c.args.ae (row s (past (take (c.args.place + 1) c.args.entries.now)) c.args.step)) in
     still (is_step c.args.step c.args.named) c.args.before now c.in_default-before.field-0 c.in_default-before.is
+
+pub newly_covered-requires-clause-row : goal.newly_covered-requires-clause-row
+newly_covered-requires-clause-row g c = c.requires.row
+
+pub newly_covered-requires-clause-earlier : goal.newly_covered-requires-clause-earlier
+newly_covered-requires-clause-earlier g c = c.requires.earlier
+
+pub newly_covered-requires-clause-within : goal.newly_covered-requires-clause-within
+newly_covered-requires-clause-within g c = c.requires.within
+
+pub newly_covered-requires-clause-moments : goal.newly_covered-requires-clause-moments
+newly_covered-requires-clause-moments g c = c.requires.moments
+
+pub newly_covered-requires-clause-offset : goal.newly_covered-requires-clause-offset
+newly_covered-requires-clause-offset g c = c.requires.offset

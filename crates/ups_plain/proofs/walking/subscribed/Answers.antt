@@ -19,3 +19,9 @@ returns-in_ok-row-clause-watching g c =
 
 pub returns-else-same_ae-clause-watching : goal.returns-else-same_ae-clause-watching
 returns-else-same_ae-clause-watching g c = if_neither (bytes_eq c.args.receiver c.args.ae) _ _ c.args.before (sym c.same_ae.ensures ∙ c.if-same_ae.false)
+
+pub row-requires-clause-moments : goal.row-requires-clause-moments
+row-requires-clause-moments g c = c.requires.moments
+
+pub row-requires-clause-offset : goal.row-requires-clause-offset
+row-requires-clause-offset g c = c.requires.offset

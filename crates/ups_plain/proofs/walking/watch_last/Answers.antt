@@ -32,3 +32,21 @@ returns-clause-after g c = walk_end (λ es. watch c.args.configuration.now es c.
 
 pub watch_after-requires-clause-entry : goal.watch_after-requires-clause-entry
 watch_after-requires-clause-entry g c = past_more c.args.entries.now c.loop-place.place c.index-entries-place.result c.loop-place-test.true c.index-entries-place.is
+
+pub watch_after-requires-clause-filter : goal.watch_after-requires-clause-filter
+watch_after-requires-clause-filter g c = c.loop-place.invariant.filter
+
+pub watch_after-requires-clause-row : goal.watch_after-requires-clause-row
+watch_after-requires-clause-row g c = c.loop-place.invariant.row
+
+pub watch_after-requires-clause-earlier : goal.watch_after-requires-clause-earlier
+watch_after-requires-clause-earlier g c = c.loop-place.invariant.earlier
+
+pub watch_after-requires-clause-within : goal.watch_after-requires-clause-within
+watch_after-requires-clause-within g c = c.loop-place-test.true
+
+pub watch_after-requires-clause-moments : goal.watch_after-requires-clause-moments
+watch_after-requires-clause-moments g c = c.requires.moments
+
+pub watch_after-requires-clause-offset : goal.watch_after-requires-clause-offset
+watch_after-requires-clause-offset g c = c.requires.offset

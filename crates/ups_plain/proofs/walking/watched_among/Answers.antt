@@ -16,3 +16,9 @@ loop-step-preserved g c =
 pub returns : goal.returns
 returns g c =
     c.loop-step.invariant ∙ ap (filter_map (λ (u : List ℕ). watched_step u (watch c.args.configuration.now (past c.args.entries.now) c.args.ae u))) (take_all c.loop-step.step-index c.args.steps.now c.loop-step-test.false)
+
+pub watch-requires-clause-moments : goal.watch-requires-clause-moments
+watch-requires-clause-moments g c = c.requires.moments
+
+pub watch-requires-clause-offset : goal.watch-requires-clause-offset
+watch-requires-clause-offset g c = c.requires.offset

@@ -1,8 +1,10 @@
-use Rattle.std.proofs.Common.{◌≡◌, ◌<◌, ◌^◌, ◌++◌, ◌∷◌, [], arith, length, ap, ◌∙◌}
+use Rattle.std.proofs.Common.{◌≡◌, ℕ, ◌+◌, ◌<◌, ◌≤◌, ◌^◌, ◌++◌, ◌∷◌, [], arith, length, sym, subst, ap, ◌∙◌}
+use Rattle.std.specs.Prelude.{vec_len, vec_capacity}
 use Rattle.ups_index.specs.Indexed.{Contents, has_step}
 use Rattle.ups_index.specs.Kept.{seen_slots}
 use Rattle.ups_index.specs.Numbers.{step_number}
 use Rattle.ups_index.proofs.Changed.{held, same_slots, add_keeps, not_there, moved, texts_moved, start_moved, seen_push}
+use Rattle.ups_index.proofs.Room.{slot_room, step_room, text_room, start_room, room_left, viewed_len}
 use Rattle.ups_index.proofs.index.Index.add.Goals as goal
 
 pub invariant_of-self : goal.invariant_of-self
@@ -21,3 +23,27 @@ invariant_of-self g c =
 pub returns-clause-steps : goal.returns-clause-steps
 returns-clause-steps g c =
     ap seen_slots c.push_reserved.ensures.items ∙ seen_push c.self.inside.slots.items c.args.step c.args.values ∙ ap (λ (s : Contents). s.steps ++ (c.args.step, c.args.values) ∷ []) c.self.view_is
+
+pub put-requires : goal.put-requires
+put-requires g c = step_room (vec_capacity c.self.inside.slots) (vec_len c.self.inside.slots) (2 ^ 32) c.self.inside.steps.room c.self.inside.texts.room c.self.inside.starts.room c.args.self.now.spare (ap (λ (s : Contents). s.spare) c.self.view_is) (length c.args.values.texts) c.requires.room
+
+pub put_texts-requires : goal.put_texts-requires
+put_texts-requires g c =
+    subst (λ (n : ℕ). n ≤ c.self.inside.texts.room) (sym (viewed_len c.texts.result.now c.args.values.texts c.texts.ensures))
+    (text_room (vec_capacity c.self.inside.slots) (vec_len c.self.inside.slots) (2 ^ 32) c.self.inside.steps.room c.self.inside.texts.room c.self.inside.starts.room c.args.self.now.spare (ap (λ (s : Contents). s.spare) c.self.view_is) (length c.args.values.texts) c.requires.room)
+
+pub put_start-requires : goal.put_start-requires
+put_start-requires g c = start_room (vec_capacity c.self.inside.slots) (vec_len c.self.inside.slots) (2 ^ 32) c.self.inside.steps.room c.self.inside.texts.room c.self.inside.starts.room c.args.self.now.spare (ap (λ (s : Contents). s.spare) c.self.view_is) (length c.args.values.texts) c.requires.room
+
+pub push_reserved-requires : goal.push_reserved-requires
+push_reserved-requires g c = slot_room (vec_capacity c.self.inside.slots) (vec_len c.self.inside.slots) (2 ^ 32) c.self.inside.steps.room c.self.inside.texts.room c.self.inside.starts.room c.args.self.now.spare (ap (λ (s : Contents). s.spare) c.self.view_is) (length c.args.values.texts) c.requires.room
+
+pub returns-clause-offset : goal.returns-clause-offset
+returns-clause-offset g c = ap (λ (s : Contents). s.offset) c.self.view_is
+
+pub returns-clause-spare : goal.returns-clause-spare
+returns-clause-spare g c =
+    let texts = subst (λ (n : ℕ). c.self.inside.texts.room ≤ c.put_texts.new.table.room + n) (viewed_len c.texts.result.now c.args.values.texts c.texts.ensures) c.put_texts.ensures.room in
+    room_left (vec_capacity c.self.inside.slots) (vec_len c.self.inside.slots) (2 ^ 32) c.self.inside.steps.room c.self.inside.texts.room c.self.inside.starts.room c.args.self.now.spare (ap (λ (s : Contents). s.spare) c.self.view_is) (length c.args.values.texts)
+    (vec_capacity c.push_reserved.new.self) (vec_len c.push_reserved.new.self) c.put.new.self.room c.put_texts.new.table.room c.put_start.new.table.room
+    c.push_reserved.ensures.len c.push_reserved.ensures.capacity c.put.ensures.room texts c.put_start.ensures.room

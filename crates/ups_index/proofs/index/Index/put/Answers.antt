@@ -1,4 +1,5 @@
-use Rattle.std.proofs.Common.{rules, ◌≡◌, get_or, List, Option, IfSome, ◌++◌, ◌∷◌, [], sym, subst, ap, ◌∙◌}
+use Rattle.std.proofs.Common.{◌^◌, List, Option, IfSome, IsSome, refl, ◌++◌, ◌∷◌, [], sym, subst, ap, ◌∙◌}
+use Rattle.std.specs.Prelude.{vec_len, vec_capacity, length}
 use Rattle.ups_index.specs.declared.slots.Slot.{Slot}
 use Rattle.ups_index.specs.Indexed.{Contents, has_step, put_values}
 use Rattle.ups_index.specs.Kept.{IsSlot, StepsPosted}
@@ -6,6 +7,7 @@ use Rattle.ups_index.specs.Posts.{HasTexts, HasStart}
 use Rattle.ups_index.specs.Stored.{RowValues}
 use Rattle.ups_index.proofs.Changed.{Absent, alter_keeps, altered_slots, absent_has, put_there, put_behind}
 use Rattle.ups_index.proofs.Exchanged.{start_has, has_start}
+use Rattle.ups_index.proofs.Room.{text_room, start_room}
 use Rattle.ups_index.proofs.Runs.{same_live}
 use Rattle.ups_index.proofs.index.Index.put.Goals as goal
 
@@ -45,15 +47,35 @@ pub exchange_values-requires-clause-texts : goal.exchange_values-requires-clause
 exchange_values-requires-clause-texts g c =
     let (old, r) = c.in-Some.ensures in
     let is = subst (λ (slots : List (Slot _)). IsSlot slots c.in-Some.at c.args.step old) c.deref.ensures.value r in
-    let here : c.index.result.now ≡ get_or c.self.inside.slots.items c.in-Some.at c.index.result.now = search rules in
-    let held = ap (λ (s : Slot _). s.values) (here ∙ is.1 c.index.result.now) in
+    let held = ap (λ (s : Slot _). s.values) (c.index.ensures ∙ is.1 c.index.result.now) in
     subst (λ (o : Option RowValues). IfSome o (λ v. HasTexts v.texts c.in-Some.at c.self.inside.texts.posts)) (sym held) (c.self.invariant.texts_posted c.in-Some.at c.args.step old is)
 
 pub exchange_values-requires-clause-starts : goal.exchange_values-requires-clause-starts
 exchange_values-requires-clause-starts g c =
     let (old, r) = c.in-Some.ensures in
     let is = subst (λ (slots : List (Slot _)). IsSlot slots c.in-Some.at c.args.step old) c.deref.ensures.value r in
-    let here : c.index.result.now ≡ get_or c.self.inside.slots.items c.in-Some.at c.index.result.now = search rules in
-    let held = ap (λ (s : Slot _). s.values) (here ∙ is.1 c.index.result.now) in
+    let held = ap (λ (s : Slot _). s.values) (c.index.ensures ∙ is.1 c.index.result.now) in
     subst (λ (o : Option RowValues). IfSome o (λ v. HasStart v.start c.in-Some.at c.self.inside.starts.posts)) (sym held)
     (has_start old.start c.in-Some.at c.self.inside.starts.posts (c.self.invariant.starts_posted c.in-Some.at c.args.step old is))
+
+pub exchange_values-requires-clause-held : goal.exchange_values-requires-clause-held
+exchange_values-requires-clause-held g c =
+    let (old, r) = c.in-Some.ensures in
+    let is = subst (λ (slots : List (Slot _)). IsSlot slots c.in-Some.at c.args.step old) c.deref.ensures.value r in
+    let held = ap (λ (s : Slot _). s.values) (c.index.ensures ∙ is.1 c.index.result.now) in
+    subst (λ (o : Option RowValues). IsSome o) (sym held) refl
+
+pub exchange_values-requires-clause-text_room : goal.exchange_values-requires-clause-text_room
+exchange_values-requires-clause-text_room g c = text_room (vec_capacity c.self.inside.slots) (vec_len c.self.inside.slots) (2 ^ 32) c.self.inside.steps.room c.self.inside.texts.room c.self.inside.starts.room c.args.self.now.spare (ap (λ (s : Contents). s.spare) c.self.view_is) (length c.args.values.texts) c.requires
+
+pub exchange_values-requires-clause-start_room : goal.exchange_values-requires-clause-start_room
+exchange_values-requires-clause-start_room g c = start_room (vec_capacity c.self.inside.slots) (vec_len c.self.inside.slots) (2 ^ 32) c.self.inside.steps.room c.self.inside.texts.room c.self.inside.starts.room c.args.self.now.spare (ap (λ (s : Contents). s.spare) c.self.view_is) (length c.args.values.texts) c.requires
+
+pub add-requires-clause-room : goal.add-requires-clause-room
+add-requires-clause-room g c = c.requires
+
+pub returns-in_default-clause-offset : goal.returns-in_default-clause-offset
+returns-in_default-clause-offset g c = c.add.ensures.offset
+
+pub returns-clause-offset : goal.returns-clause-offset
+returns-clause-offset g c = ap (λ (s : Contents). s.offset) c.self.view_is
