@@ -1,5 +1,6 @@
 mod Answering
 mod Failing
 mod Lasting
+mod Naming
 mod Taking
 mod Unread

@@ -49,7 +49,6 @@ pub(crate) enum Question<A: Allocator + Copy> {
 }
 
 /// A request, with its time and who makes it.
-#[derive(Drop)]
 pub(crate) struct Asked<A: Allocator + Copy> {
     /// In seconds since 1970-01-01 UTC.
     pub moment: u64,
@@ -57,6 +56,16 @@ pub(crate) struct Asked<A: Allocator + Copy> {
     pub ae: Ae,
     pub question: Question<A>,
     ghost in_range: { IsMoment moment },
+}
+
+impl<A: Allocator + Copy> Drop for Asked<A> {
+    fn drop(self) {
+        let Asked {
+            moment: _,
+            ae: _,
+            question: _,
+        } = self;
+    }
 }
 
 /// Returns the instance that a word names, or None if that is not a valid UID.
@@ -125,6 +134,18 @@ fn tags_of<A: Allocator + Copy>(alloc: A, words: Words<'_>) -> Result<Tags<A>, L
     Ok(Tags::from_vec(tags))
 }
 
+/// Returns the data set with the attributes of arguments and of the remaining words.
+///
+/// Errors: EmptyWord, Attribute or Escape if a word is not an attribute; TooManyItems; lack of memory.
+fn data_set_of<'a, A: Allocator + Copy>(
+    alloc: A,
+    arguments: &[Option<Attribute<'a>>],
+    words: Words<'a>,
+) -> Result<Vec<u8, A>, LineFault> {
+    let attributes = attributes_of(alloc, arguments, words)?;
+    spelled(alloc, &attributes)
+}
+
 /// Returns the message with this operation, and with the attributes of its arguments and the remaining words.
 ///
 /// Errors: EmptyWord, Attribute or Escape if a word is not an attribute; TooManyItems; lack of memory.
@@ -136,8 +157,7 @@ fn message<'a, A: Allocator + Copy>(
 ) -> Result<Question<A>, LineFault>
     ensures { IfOk result (IsMessageOf (λ asked. asked ≡ operation)) }
 {
-    let attributes = attributes_of(alloc, arguments, words)?;
-    let data_set = spelled(alloc, &attributes)?;
+    let data_set = data_set_of(alloc, arguments, words)?;
     Ok(Question::Message(operation, data_set))
 }
 
@@ -173,13 +193,14 @@ fn setting<A: Allocator + Copy>(alloc: A, mut words: Words<'_>) -> Result<Questi
 fn changing<A: Allocator + Copy>(alloc: A, mut words: Words<'_>) -> Result<Question<A>, LineFault>
     ensures { IfOk result (IsOf Verb.Change (words_left (option_copied words.entry.rest))) }
 {
-    let operation = Operation::Action {
-        instance: instance_of(alloc, &mut words)?,
-        action: CHANGE_STATE,
-    };
+    let instance = instance_of(alloc, &mut words)?;
     let state = argument_of(STATE, &mut words)?;
     let arguments = [Some(state), transaction_of(&mut words)?];
     words.end()?;
+    let operation = Operation::Action {
+        instance,
+        action: CHANGE_STATE,
+    };
     message(alloc, operation, &arguments, words)
 }
 
@@ -201,12 +222,13 @@ fn subscribing<A: Allocator + Copy>(
 ) -> Result<Question<A>, LineFault>
     ensures { IfOk result (IsOf Verb.Subscribe (words_left (option_copied words.entry.rest))) }
 {
-    let operation = Operation::Action {
-        instance: instance_of(alloc, &mut words)?,
-        action: SUBSCRIBE,
-    };
+    let instance = instance_of(alloc, &mut words)?;
     let receiver = argument_of(RECEIVER, &mut words)?;
     let arguments = [Some(receiver), Some(argument_of(LOCK, &mut words)?)];
+    let operation = Operation::Action {
+        instance,
+        action: SUBSCRIBE,
+    };
     message(alloc, operation, &arguments, words)
 }
 
@@ -219,13 +241,15 @@ fn ending<A: Allocator + Copy>(
     ensures action { IfOk result (IsMessageOf (IsAction action (words_left (option_copied words.entry.rest)))) }
     ensures two { OnOk result (length (words_left (option_copied words.entry.rest)) ≡ 2) }
 {
-    let operation = Operation::Action {
-        instance: instance_of(alloc, &mut words)?,
-        action,
-    };
+    let instance = instance_of(alloc, &mut words)?;
     let arguments = [Some(argument_of(RECEIVER, &mut words)?)];
     words.end()?;
-    message(alloc, operation, &arguments, words)
+    message(
+        alloc,
+        Operation::Action { instance, action },
+        &arguments,
+        words,
+    )
 }
 
 /// Parses `holder UID`.

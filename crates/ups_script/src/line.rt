@@ -46,32 +46,59 @@ pub(crate) enum Verb {
     Holder,
 }
 
+/// Each verb once.
+const VERBS: [Verb; 15] = [
+    Verb::Create,
+    Verb::Get,
+    Verb::Set,
+    Verb::Change,
+    Verb::Cancel,
+    Verb::Subscribe,
+    Verb::Unsubscribe,
+    Verb::Suspend,
+    Verb::Find,
+    Verb::Pending,
+    Verb::Ack,
+    Verb::Watches,
+    Verb::Sweep,
+    Verb::Held,
+    Verb::Holder,
+];
+
 impl Verb {
+    /// Returns the word of the verb.
+    fn word(self) -> &'static [u8]
+        ensures { result.now ≡ verb_word self }
+    {
+        match self {
+            Verb::Create => b"create",
+            Verb::Get => b"get",
+            Verb::Set => b"set",
+            Verb::Change => b"change",
+            Verb::Cancel => b"cancel",
+            Verb::Subscribe => b"subscribe",
+            Verb::Unsubscribe => b"unsubscribe",
+            Verb::Suspend => b"suspend",
+            Verb::Find => b"find",
+            Verb::Pending => b"pending",
+            Verb::Ack => b"ack",
+            Verb::Watches => b"watches",
+            Verb::Sweep => b"sweep",
+            Verb::Held => b"held",
+            Verb::Holder => b"holder",
+        }
+    }
+
     /// Returns the verb for a word, or None if there is none.
     fn of(word: &[u8]) -> Option<Verb>
         ensures { MatchOption result ((verb : Verb) → verb_word verb ≡ word.now → ⊥) (λ verb. verb_word verb ≡ word.now) }
     {
-        // the prover follows a match byte by byte, and gives up on a word of this length
-        if word == b"unsubscribe".as_slice() {
-            return Some(Verb::Unsubscribe);
+        for verb in VERBS {
+            if verb.word() == word {
+                return Some(verb);
+            }
         }
-        match word {
-            b"create" => Some(Verb::Create),
-            b"get" => Some(Verb::Get),
-            b"set" => Some(Verb::Set),
-            b"change" => Some(Verb::Change),
-            b"cancel" => Some(Verb::Cancel),
-            b"subscribe" => Some(Verb::Subscribe),
-            b"suspend" => Some(Verb::Suspend),
-            b"find" => Some(Verb::Find),
-            b"pending" => Some(Verb::Pending),
-            b"ack" => Some(Verb::Ack),
-            b"watches" => Some(Verb::Watches),
-            b"sweep" => Some(Verb::Sweep),
-            b"held" => Some(Verb::Held),
-            b"holder" => Some(Verb::Holder),
-            _ => None,
-        }
+        None
     }
 }
 
