@@ -1,6 +1,7 @@
 -- What a fragment and a message make of a delivery.
-use Rattle.std.proofs.Common.{◌≡◌, true, false, cond, Bool, List, [], ◌∷◌, length, ap, sym, ◌∙◌, subst, refl, inr, Option, Some, None, Result, IfOk}
+use Rattle.std.proofs.Common.{◌≡◌, ◌<◌, arith, true, false, cond, Bool, List, [], ◌∷◌, length, ap, sym, ◌∙◌, subst, refl, inr, Option, Some, None, Result, IfOk}
 use Rattle.std.specs.Prelude.{ℕ, ◌≢◌, ◌==◌}
+use Rattle.std.proofs.lemmas.Bool.Decides.{nat_tests}
 use Rattle.ups_ulstate.specs.declared.state.UlState.{UlState}
 use Rattle.ups_ulstate.specs.declared.state.UlEvent.TheVariants as events
 use Rattle.ups_ulstate.specs.declared.state.UlAction.{UlAction}
@@ -33,7 +34,8 @@ use Rattle.ups_session.specs.Delivery.{DeliveryView}
 use Rattle.ups_session.specs.Deliveries.{IsSendableDelivery}
 use Rattle.ups_session.specs.Party.{CanSend}
 use Rattle.ups_session.specs.Sides.{transition, on_action, unexpected, aborting}
-use Rattle.ups_session.specs.Requestor.{DeliveryReaction, saying, with_association, along, releasing, reporting, reporting_next, most_messages, proceeding, with_ahead, on_pendings, on_acknowledged, Understands, Assembles, OnFragment, on_answer}
+use Rattle.ups_session.specs.Requestor.{DeliveryReaction, saying, awaiting, with_association, along, releasing, reporting, reporting_next, most_messages, proceeding, with_ahead, on_pendings, on_acknowledged, Understands, Assembles, Receives, OnFragment, on_agreement, on_answer}
+use Rattle.ups_session.specs.Proposing.{agreement}
 use Rattle.ups_session.specs.Reports.{route_of}
 use Rattle.ups_session.proofs.Parts.{if_ok}
 use Rattle.ups_session.proofs.Receiving.{after, after_is, fed_on, fed_not}
@@ -97,6 +99,32 @@ not_received {A} d pdv cell action state mid reaction is unlike never same e =
     subst (λ (o : Option (UlAction × UlState)). OnFragment d pdv o reaction) (sym is)
     (other_action d pdv action state reaction unlike never (e ∙ ap (λ (a : AssociationView A). along d (on_action true unexpected a action)) same))
 
+-- a fragment in a state in which messages are received
+pub received : {A : Type 0} (d : DeliveryView A) (pdv : Pdv A) (cell : Option (UlAction × UlState)) (action : UlAction) (state : UlState) (mid : AssociationView A) (reaction : DeliveryReaction A) → cell ≡ Some (action, state) → action ≡ Dt2
+    → mid ≡ transition d.association events.Data action state → Receives (with_association d mid) mid.established false pdv reaction → OnFragment d pdv cell reaction
+received {A} d pdv cell action state mid reaction is moves same r =
+    let cell_is : cell ≡ Some (Dt2, state) = subst (λ (a : UlAction). cell ≡ Some (a, state)) moves is in
+    let mid_is : mid ≡ transition d.association events.Data Dt2 state = subst (λ (a : UlAction). mid ≡ transition d.association events.Data a state) moves same in
+    subst (λ (o : Option (UlAction × UlState)). OnFragment d pdv o reaction) (sym cell_is)
+    (subst (λ (m : AssociationView A). Receives (with_association d m) m.established false pdv reaction) mid_is r)
+
+-- the same, once the release was requested
+pub received_late : {A : Type 0} (d : DeliveryView A) (pdv : Pdv A) (cell : Option (UlAction × UlState)) (action : UlAction) (state : UlState) (mid : AssociationView A) (reaction : DeliveryReaction A) → cell ≡ Some (action, state) → action ≡ Ar6
+    → mid ≡ transition d.association events.Data action state → Receives (with_association d mid) mid.established true pdv reaction → OnFragment d pdv cell reaction
+received_late {A} d pdv cell action state mid reaction is moves same r =
+    let cell_is : cell ≡ Some (Ar6, state) = subst (λ (a : UlAction). cell ≡ Some (a, state)) moves is in
+    let mid_is : mid ≡ transition d.association events.Data Ar6 state = subst (λ (a : UlAction). mid ≡ transition d.association events.Data a state) moves same in
+    subst (λ (o : Option (UlAction × UlState)). OnFragment d pdv o reaction) (sym cell_is)
+    (subst (λ (m : AssociationView A). Receives (with_association d m) m.established true pdv reaction) mid_is r)
+
+-- an answer in the state in which one is awaited
+pub accepted : {A : Type 0} (ae : List ℕ) (d : DeliveryView A) (ac : AssociateAc A) (cell : Option (UlAction × UlState)) (action : UlAction) (state : UlState) (mid : AssociationView A) (reaction : DeliveryReaction A) → cell ≡ Some (action, state) → action ≡ Ae3
+    → mid ≡ transition d.association events.AssociateAc action state → reaction ≡ on_agreement ae (with_association d mid) ac (agreement ac) → reaction ≡ on_answer ae d ac cell
+accepted {A} ae d ac cell action state mid reaction is moves same e =
+    let cell_is : cell ≡ Some (Ae3, state) = subst (λ (a : UlAction). cell ≡ Some (a, state)) moves is in
+    let mid_is : mid ≡ transition d.association events.AssociateAc Ae3 state = subst (λ (a : UlAction). mid ≡ transition d.association events.AssociateAc a state) moves same in
+    e ∙ ap (λ (m : AssociationView A). on_agreement ae (with_association d m) ac (agreement ac)) mid_is ∙ ap (on_answer ae d ac) (sym cell_is)
+
 other_answer : {A : Type 0} (ae : List ℕ) (d : DeliveryView A) (ac : AssociateAc A) (action : UlAction) (state : UlState) (reaction : DeliveryReaction A) → action ≢ Ae3
     → reaction ≡ along d (on_action true unexpected (transition d.association events.AssociateAc action state) action) → reaction ≡ on_answer ae d ac (Some (action, state))
 other_answer ae d ac Ae3 state reaction unlike e = absurd (unlike refl)
@@ -107,6 +135,30 @@ pub not_accepted : {A : Type 0} (ae : List ℕ) (d : DeliveryView A) (ac : Assoc
     → mid ≡ transition d.association events.AssociateAc action state → reaction ≡ along d (on_action true unexpected mid action) → reaction ≡ on_answer ae d ac cell
 not_accepted {A} ae d ac cell action state mid reaction is unlike same e =
     other_answer ae d ac action state reaction unlike (e ∙ ap (λ (a : AssociationView A). along d (on_action true unexpected a action)) same) ∙ ap (on_answer ae d ac) (sym is)
+
+-- how a delivery goes on
+
+not_most : (n : ℕ) → n < 65535 → (n == most_messages) ≡ false
+not_most n few = grind (arith, nat_tests)
+
+if_true : {X : Type 0} (b : Bool) (x y : X) → b ≡ true → cond b x y ≡ x
+if_true true x y e = refl
+if_true false x y e = absurd cc
+
+if_false : {X : Type 0} (b : Bool) (x y : X) → b ≡ false → cond b x y ≡ y
+if_false true x y e = absurd cc
+if_false false x y e = refl
+
+-- no more messages may be sent
+pub stops : {A : Type 0} (d : DeliveryView A) → d.sent ≡ 65535 → proceeding d ≡ releasing d
+stops d most = if_true (d.sent == most_messages) (releasing d) (reporting_next d d.ahead) (ap (λ (n : ℕ). n == most_messages) most)
+
+pub goes_on : {A : Type 0} (d : DeliveryView A) → d.sent < 65535 → proceeding d ≡ reporting_next d d.ahead
+goes_on d few = if_false (d.sent == most_messages) (releasing d) (reporting_next d d.ahead) (not_most d.sent few)
+
+-- all reports were sent
+pub asks_again : {A : Type 0} (d : DeliveryView A) → d.sent < 65535 → d.ahead ≡ [] → proceeding d ≡ awaiting d Pendings
+asks_again d few none = goes_on d few ∙ ap (reporting_next d) none
 
 -- what is asked for behind a report
 

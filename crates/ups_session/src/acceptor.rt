@@ -16,7 +16,7 @@ use crate::driver::drive;
 use crate::effect::{AwaitedRequest, Effect};
 use crate::fault::{End, SessionFault};
 use crate::gate::Gate;
-use crate::indication::UlIndication;
+use crate::indication::{UlIndication, take_pdv};
 use crate::party::Party;
 use crate::response::send_reply;
 use crate::watched_io::{WatchedReader, WatchedWriter};
@@ -108,20 +108,23 @@ impl<'a, A: Allocator + Copy> Party<A> for Acceptor<'a, A> {
         indication: &mut UlIndication<A>,
     ) -> Result<Effect<A, AwaitedRequest<A>>, SessionFault> {
         let association = &mut self.association;
-        match indication.take() {
+        match indication {
             UlIndication::AssociateRq(request) => Ok(Effect::Send(association.on_associate_request(
                 alloc,
                 self.config,
-                &request,
+                request,
             )?)),
-            UlIndication::Pdv(pdv) => association.on_fragment(alloc, self.config, pdv),
+            UlIndication::Pdv(pdv) => {
+                let pdv = take_pdv(alloc, pdv);
+                association.on_fragment(alloc, self.config, pdv)
+            }
             UlIndication::Event(event) => Ok(Effect::Send(association.on_event(
-                alloc, ACCEPTOR, UNEXPECTED, event,
+                alloc, ACCEPTOR, UNEXPECTED, *event,
             )?)),
             UlIndication::InvalidPdu(fault) => Ok(Effect::Send(association.on_event(
                 alloc,
                 ACCEPTOR,
-                reason_of(fault),
+                reason_of(*fault),
                 UlEvent::Invalid,
             )?)),
             UlIndication::AssociateAc(_) => Ok(Effect::Send(association.on_event(

@@ -15,12 +15,13 @@ ghost use Rattle.ups_assoc.specs.declared.negotiating.Outcome.TheVariants.{Accep
 ghost use Rattle.ups_assoc.specs.Negotiation.{outcome};
 ghost use Rattle.ups_assoc.specs.declared.fault.AssocFault.{AssocFault};
 ghost use Rattle.ups_assoc.specs.Feeding.{fed, fault as faulty};
+ghost use Rattle.ups_assoc.specs.declared.assembling.Begun.TheVariants.{Nothing};
 ghost use Rattle.ups_session.specs.declared.fault.SessionFault.TheVariants.{Memory};
 ghost use Rattle.ups_session.specs.Association.{AssociationView};
 ghost use Rattle.ups_session.specs.Acceptor.{is_acceptable, rejecting, answers, requested, on_message_effect, Continues, Received, Indicated, opened};
-ghost use Rattle.ups_session.specs.Sides.{sending, end_after, on_local_event, releases, on_action, on_event, reason_of, aborting};
+ghost use Rattle.ups_session.specs.Sides.{sending, end_after, on_local_event, releases, on_action, on_event, reason_of, aborting, ids};
 ghost use Rattle.ups_session.specs.Fold.{IsOpen};
-ghost use Rattle.ups_session.specs.Effects.{established_view, association_view, reaction_of, message_effect, IsSendable, AreSendable, IsRoomy, IsAccepting};
+ghost use Rattle.ups_session.specs.Effects.{parameters_view, established_view, association_view, reaction_of, message_effect, IsSendable, AreSendable, IsRoomy, IsAccepting};
 
 use crate::dispatch::on_message;
 use crate::effect::{AwaitedRequest, Effect};
@@ -58,6 +59,26 @@ pub(crate) struct Established<A: Allocator + Copy> {
     pub assembler: Assembler<A>,
 }
 
+/// Returns what is established with these parameters, before any fragment.
+///
+/// Errors: out of memory.
+pub(crate) fn established_with<A: Allocator + Copy>(
+    alloc: A,
+    parameters: Parameters<A>,
+) -> Result<Established<A>, SessionFault>
+    ensures established { IfOk result (λ e. established_view e ≡ record { parameters = parameters_view parameters; assembler = record { ids = ids parameters.contexts; begun = Nothing } }) }
+    ensures max { IfOk result (λ e. e.parameters.max ≡ parameters.max) }
+    ensures memory { IfErr result (λ e. e ≡ Memory) }
+{
+    let Ok(assembler) = Assembler::new(alloc, parameters.contexts.as_slice()) else {
+        return Err(SessionFault::Memory);
+    };
+    Ok(Established {
+        parameters,
+        assembler,
+    })
+}
+
 /// Returns an error for a lack of memory alone: for any other fault in a fragment, the association is aborted.
 ///
 /// Errors: out of memory.
@@ -90,7 +111,7 @@ fn on_pdv<A: Allocator + Copy>(
 {
     match established.assembler.feed(pdv) {
         Ok(None) => Ok(Some(Effect::Send(Vec::new(alloc)))),
-        Ok(Some(message)) => on_message(alloc, config, &established.parameters, message),
+        Ok(Some(message)) => on_message(alloc, config, &established.parameters, &message),
         Err(fault) => {
             unless_memory(fault)?;
             Ok(None)
@@ -99,7 +120,6 @@ fn on_pdv<A: Allocator + Copy>(
 }
 
 /// The state of an association.
-#[derive(Drop)]
 pub(crate) struct Association<A: Allocator + Copy> {
     /// The state of the state machine (PS3.8 section 9.2).
     pub state: UlState,
@@ -107,6 +127,16 @@ pub(crate) struct Association<A: Allocator + Copy> {
     pub established: Option<Established<A>>,
     /// How the association ends, as far as is known: it is closed unless something else has ended it.
     pub ending: End,
+}
+
+impl<A: Allocator + Copy> Drop for Association<A> {
+    fn drop(self) {
+        let Association {
+            state: _,
+            established: _,
+            ending: _,
+        } = self;
+    }
 }
 
 /// Returns how an action ends the association, if it does (PS3.8 tables 9-6 to 9-9).
@@ -306,15 +336,9 @@ impl<A: Allocator + Copy> Association<A> {
             contexts,
             max,
         } = acceptance;
-        let Ok(assembler) = Assembler::new(alloc, contexts.as_slice()) else {
-            return Err(SessionFault::Memory);
-        };
+        let established = established_with(alloc, Parameters { ae, contexts, max })?;
         self.on_local_event(ACCEPTOR, UlEvent::LocalAccept);
-        let parameters = Parameters { ae, contexts, max };
-        self.established = Some(Established {
-            parameters,
-            assembler,
-        });
+        self.established = Some(established);
         single(alloc, Pdu::AssociateAc(ac))
     }
 
@@ -360,6 +384,28 @@ impl<A: Allocator + Copy> Association<A> {
         }
     }
 
+    /// Processes an A-ASSOCIATE-RQ with the outcome of its negotiation.
+    ///
+    /// Errors: out of memory.
+    fn on_outcome(&mut self, alloc: A, outcome: Outcome<A>) -> Result<Vec<Pdu<A>, A>, SessionFault>
+        requires accepting { IsAccepting outcome }
+        ensures reaction { IfOk result (λ said. sending (association_view self.new) said.items ≡ requested false (association_view self.old) outcome) }
+        ensures writable { IfOk result (λ said. AllByRecursion (λ p. Fits p) said.items) }
+        ensures roomy { IsRoomy self.old.established → IsRoomy self.new.established }
+        ensures memory { IfErr result (λ e. e ≡ Memory) }
+    {
+        let acceptable = is_acceptable(&outcome);
+        let Some((action, state)) = next(self.state, UlEvent::AssociateRq, ACCEPTOR, acceptable)
+        else {
+            return Ok(Vec::new(alloc));
+        };
+        self.transition(UlEvent::AssociateRq, action, state);
+        match action {
+            UlAction::Ae6 => self.answer_request(alloc, outcome),
+            _ => self.on_action(alloc, ACCEPTOR, UNEXPECTED, action),
+        }
+    }
+
     /// Processes an A-ASSOCIATE-RQ.
     ///
     /// Errors: out of memory.
@@ -375,18 +421,9 @@ impl<A: Allocator + Copy> Association<A> {
         ensures roomy { IsRoomy self.old.established → IsRoomy self.new.established }
         ensures memory { IfErr result (λ e. e ≡ Memory) }
     {
-        let Ok(outcome) = negotiate(alloc, config, request) else {
-            return Err(SessionFault::Memory);
-        };
-        let acceptable = is_acceptable(&outcome);
-        let Some((action, state)) = next(self.state, UlEvent::AssociateRq, ACCEPTOR, acceptable)
-        else {
-            return Ok(Vec::new(alloc));
-        };
-        self.transition(UlEvent::AssociateRq, action, state);
-        match action {
-            UlAction::Ae6 => self.answer_request(alloc, outcome),
-            _ => self.on_action(alloc, ACCEPTOR, UNEXPECTED, action),
+        match negotiate(alloc, config, request) {
+            Ok(outcome) => self.on_outcome(alloc, outcome),
+            Err(_) => Err(SessionFault::Memory),
         }
     }
 

@@ -1,6 +1,6 @@
 //! A delivery: an association that this side requests, and the reports that it sends over it.
 
-ghost use Rattle.std.specs.Prelude.{◌≡◌, ◌≢◌, ◌≤◌, [], true, false, Option, None, Some, IfOk, IfErr, IfSome, OnOk, OnErr, ◌<◌};
+ghost use Rattle.std.specs.Prelude.{◌≡◌, ◌≢◌, ◌≤◌, [], true, false, Option, None, Some, IfOk, IfErr, IfSome, MatchOption, OnOk, OnErr, ◌<◌, length};
 ghost use Rattle.std.specs.Option.{option_map};
 ghost use Rattle.std.specs.List.{AllByRecursion};
 ghost use Rattle.ups_ulstate.specs.Table.{next_of};
@@ -13,10 +13,13 @@ ghost use Rattle.ups_session.specs.Effects.{established_view, association_view, 
 ghost use Rattle.ups_session.specs.Sides.{aborting, on_action, on_event, unexpected};
 ghost use Rattle.ups_session.specs.Reports.{route_of};
 ghost use Rattle.ups_session.specs.Proposing.{agreement};
+ghost use Rattle.ups_session.specs.Delivery.{DeliveryView};
 ghost use Rattle.ups_session.specs.Deliveries.{delivery_view, delivery_reaction_of, IsSendableDelivery};
-ghost use Rattle.ups_session.specs.Requestor.{unconnected, proposed, saying, with_association, along, releasing, reporting, reporting_next, proceeding, on_pendings, on_acknowledged, event_answered, on_response, refusing, on_command, Understands, Assembles, Receives, OnFragment, established_by, on_agreement, on_answer};
+ghost use Rattle.ups_session.specs.Requestor.{unconnected, proposed, saying, with_association, along, releasing, reporting, reporting_next, proceeding, with_ahead, on_pendings, on_acknowledged, event_answered, on_response, refusing, on_command, Understands, Assembles, Receives, OnFragment, established_by, on_agreement, on_answer};
 
-use crate::association::{Association, Established, Parameters, UNEXPECTED, unless_memory};
+use crate::association::{
+    Association, Established, Parameters, UNEXPECTED, established_with, unless_memory,
+};
 use crate::dispatch::context_at;
 use crate::effect::Effect;
 use crate::fault::{End, SessionFault};
@@ -24,7 +27,7 @@ use crate::proposing::{PROPOSED_ID, agreement, counted};
 use crate::reports::report_pdus;
 use crate::response::bare_response;
 use std::alloc::Allocator;
-use ups_assoc::{AcceptedContext, AcceptedContexts, Assembler, RawMessage, SopClass};
+use ups_assoc::{AcceptedContext, AcceptedContexts, RawMessage, SopClass};
 use ups_cycle::Status;
 use ups_dimse::{
     Command, DimseFault, OperationResult, RequestCommand, ResponseCommand, read_command,
@@ -64,7 +67,6 @@ pub(crate) struct Route {
 }
 
 /// The state of a delivery.
-#[derive(Drop)]
 pub(crate) struct Delivery<A: Allocator + Copy> {
     /// The association with the peer.
     pub association: Association<A>,
@@ -76,6 +78,18 @@ pub(crate) struct Delivery<A: Allocator + Copy> {
     pub in_flight: Option<ReportInFlight>,
     /// The number of reports sent in all.
     pub sent: u16,
+}
+
+impl<A: Allocator + Copy> Drop for Delivery<A> {
+    fn drop(self) {
+        let Delivery {
+            association: _,
+            reports: _,
+            taken: _,
+            in_flight: _,
+            sent: _,
+        } = self;
+    }
 }
 
 /// Returns an error for a lack of memory alone: for any other fault in a command set, the association is aborted.
@@ -104,6 +118,20 @@ fn event_answered(in_flight: Option<ReportInFlight>, response: &ResponseCommand)
     }
 }
 
+/// Returns the reports of a reply, if there are any.
+fn reports_of<A: Allocator + Copy>(reply: Reply<A>) -> Option<EventReports<A>>
+    ensures told { (d : DeliveryView A) → MatchOption result (on_pendings d reply ≡ releasing d) (λ reports. on_pendings d reply ≡ proceeding (with_ahead d reports)) }
+    ensures some { IfSome result (λ reports. 0 < length reports) }
+{
+    let Reply::Reports(reports) = reply else {
+        return None;
+    };
+    if reports.as_slice().is_empty() {
+        return None;
+    }
+    Some(reports)
+}
+
 /// Returns what an answer establishes: an association with this peer, over the proposed presentation context.
 ///
 /// Errors: out of memory.
@@ -123,13 +151,7 @@ fn established_by<A: Allocator + Copy>(
         transfer_syntax: syntax,
     };
     let contexts = AcceptedContexts::of(alloc, context)?;
-    let Ok(assembler) = Assembler::new(alloc, contexts.as_slice()) else {
-        return Err(SessionFault::Memory);
-    };
-    Ok(Established {
-        parameters: Parameters { ae, contexts, max },
-        assembler,
-    })
+    established_with(alloc, Parameters { ae, contexts, max })
 }
 
 impl<A: Allocator + Copy> Delivery<A> {
@@ -232,23 +254,24 @@ impl<A: Allocator + Copy> Delivery<A> {
         self.on_event(alloc, UNEXPECTED, UlEvent::ReleaseRequest)
     }
 
-    /// Sends the next report of those that the service returned, or asks again for those that are pending.
+    /// Sends the next report of those that the service returned. Without a route it releases the association.
     ///
     /// Errors: out of memory.
-    fn report(&mut self, alloc: A) -> Result<Effect<A, DeliveryCall>, SessionFault>
+    fn report(&mut self, alloc: A) -> Result<Vec<Pdu<A>, A>, SessionFault>
         requires roomy { IsRoomy self.old.association.established }
         requires more { self.old.sent < 65535 }
-        ensures reaction { IfOk result (λ found. delivery_reaction_of (delivery_view self.new) found ≡ reporting_next (delivery_view self.old) (delivery_view self.old).ahead) }
-        ensures writable { IfOk result IsSendableDelivery }
+        requires ahead { self.old.taken < length self.old.reports }
+        ensures reaction { IfOk result (λ said. saying (delivery_view self.new) said.items ≡ reporting_next (delivery_view self.old) (delivery_view self.old).ahead) }
+        ensures writable { IfOk result (λ said. AllByRecursion (λ p. Fits p) said.items) }
         ensures established { self.new.association.established ≡ self.old.association.established }
         ensures memory { IfErr result (λ e. e ≡ Memory) }
         ensures lost { OnErr result ((reporting_next (delivery_view self.old) (delivery_view self.old).ahead).waiting ≡ None) }
     {
         let Some(report) = self.reports.as_slice().get(self.taken) else {
-            return Ok(Effect::Call(DeliveryCall::Pendings));
+            unreachable!()
         };
         let Some(route) = self.route() else {
-            return Ok(Effect::Send(self.release(alloc)?));
+            return self.release(alloc);
         };
         let message = self.sent + 1;
         let event = report.event.number;
@@ -256,7 +279,24 @@ impl<A: Allocator + Copy> Delivery<A> {
         self.taken += 1;
         self.in_flight = Some(ReportInFlight { message, event });
         self.sent = message;
-        Ok(Effect::Send(said))
+        Ok(said)
+    }
+
+    /// Sends the first of the reports that the service returned; after 65,535 reports it releases the association.
+    ///
+    /// Errors: out of memory.
+    fn report_first(&mut self, alloc: A) -> Result<Vec<Pdu<A>, A>, SessionFault>
+        requires roomy { IsRoomy self.old.association.established }
+        requires ahead { self.old.taken < length self.old.reports }
+        ensures reaction { IfOk result (λ said. saying (delivery_view self.new) said.items ≡ proceeding (delivery_view self.old)) }
+        ensures writable { IfOk result (λ said. AllByRecursion (λ p. Fits p) said.items) }
+        ensures established { self.new.association.established ≡ self.old.association.established }
+        ensures memory { IfErr result (λ e. e ≡ Memory) }
+    {
+        if self.sent < u16::MAX {
+            return self.report(alloc);
+        }
+        self.release(alloc)
     }
 
     /// Goes on with the next report, or asks again for those that are pending; after 65,535 reports it releases the
@@ -274,7 +314,10 @@ impl<A: Allocator + Copy> Delivery<A> {
         if self.sent == u16::MAX {
             return Ok(Effect::Send(self.release(alloc)?));
         }
-        self.report(alloc)
+        if self.taken >= self.reports.as_slice().len() {
+            return Ok(Effect::Call(DeliveryCall::Pendings));
+        }
+        Ok(Effect::Send(self.report(alloc)?))
     }
 
     /// Processes the reply of the service about the pending events.
@@ -288,18 +331,13 @@ impl<A: Allocator + Copy> Delivery<A> {
         ensures memory { IfErr result (λ e. e ≡ Memory) }
         ensures silent { (on_pendings (delivery_view self.old) reply).waiting ≡ None }
     {
-        let Reply::Reports(reports) = reply else {
-            return self.release(alloc);
-        };
-        if reports.as_slice().is_empty() {
-            return self.release(alloc);
-        }
-        self.reports = reports;
-        self.taken = 0;
-        match self.go_on(alloc)? {
-            Effect::Send(said) => Ok(said),
-            Effect::Respond(_) => unreachable!(),
-            Effect::Call(_) => unreachable!(),
+        match reports_of(reply) {
+            Some(reports) => {
+                self.reports = reports;
+                self.taken = 0;
+                self.report_first(alloc)
+            }
+            None => self.release(alloc),
         }
     }
 

@@ -273,13 +273,13 @@ pub(crate) fn on_message<A: Allocator + Copy>(
     alloc: A,
     config: &Config,
     parameters: &Parameters<A>,
-    message: RawMessage<A>,
+    message: &RawMessage<A>,
 ) -> Result<Option<Effect<A, AwaitedRequest<A>>>, SessionFault>
     requires { 8 ≤ parameters.now.max }
-    ensures effect { IfOk result (λ found. OnMessage config.now.offset (parameters_view parameters.now) message (message_effect found)) }
+    ensures effect { IfOk result (λ found. OnMessage config.now.offset (parameters_view parameters.now) message.now (message_effect found)) }
     ensures writable { IfOk result AreSendable }
     ensures memory { IfErr result (λ e. e ≡ Memory) }
-    ensures readable { OnErr result ((command : Command A) × SpellsCommand message.command command) }
+    ensures readable { OnErr result ((command : Command A) × SpellsCommand message.now.command command) }
 {
     match read_command(alloc, message.command.as_slice()) {
         Ok(Command::Request(command)) => {

@@ -1,6 +1,6 @@
 //! The driver of a session, for either party: it reads PDUs from a reader, and writes what the party sends to a writer.
 
-ghost use Rattle.std.specs.Prelude.{◌≡◌, [], ◌∷◌, ℕ, List, OnOk, map};
+ghost use Rattle.std.specs.Prelude.{◌≡◌, [], ◌∷◌, ℕ, List, IfOk, MatchResult, OnOk, map};
 ghost use Rattle.std.specs.Io.KnownBytes.{Consumes};
 ghost use Rattle.ups_pdu.specs.Spelling.{SpellsPdu};
 ghost use Rattle.ups_session.specs.Fold.{presentation_data, indications, Happens};
@@ -44,9 +44,9 @@ fn perform<A: Allocator + Copy, W: Write, S: Service<A>, G: Gate, P: Party<A>>(
     ensures setup { P.setup party.new ≡ P.setup party.old }
 {
     let alloc = *buffer.allocator();
-    match party.react(alloc, indication)? {
-        Effect::Send(said) => send_pdus(alloc, writer, gate, said.as_slice()),
-        Effect::Respond(response) => send_command(
+    match party.react(alloc, indication) {
+        Ok(Effect::Send(said)) => send_pdus(alloc, writer, gate, said.as_slice()),
+        Ok(Effect::Respond(response)) => send_command(
             writer,
             gate,
             buffer,
@@ -54,7 +54,8 @@ fn perform<A: Allocator + Copy, W: Write, S: Service<A>, G: Gate, P: Party<A>>(
             response.context,
             response.command.as_slice(),
         ),
-        Effect::Call(call) => party.settle(writer, service, gate, buffer, call),
+        Ok(Effect::Call(call)) => party.settle(writer, service, gate, buffer, call),
+        Err(fault) => Err(fault),
     }
 }
 
@@ -67,7 +68,7 @@ fn process<A: Allocator + Copy, W: Write, S: Service<A>, G: Gate, P: Party<A>>(
     service: &mut S,
     gate: &mut G,
     buffer: &mut Vec<u8, A>,
-    indication: UlIndication<A>,
+    mut indication: UlIndication<A>,
 ) -> Result<(), SessionFault>
     requires ready { P.is_ready party.old }
     requires comes { Comes (indication_of indication) }
@@ -77,7 +78,6 @@ fn process<A: Allocator + Copy, W: Write, S: Service<A>, G: Gate, P: Party<A>>(
     ensures ready { OnOk result (P.is_ready party.new) }
     ensures setup { P.setup party.new ≡ P.setup party.old }
 {
-    let mut indication = indication;
     perform(party, writer, service, gate, buffer, &mut indication)
 }
 
@@ -106,6 +106,25 @@ fn process_fragments<A: Allocator + Copy, W: Write, S: Service<A>, G: Gate, P: P
     Ok(())
 }
 
+/// Returns the indication of a PDU.
+///
+/// Errors: the PDVs of a P-DATA-TF, of which each is an indication.
+fn indication_by<A: Allocator + Copy>(pdu: Pdu<A>) -> Result<UlIndication<A>, Pdvs<A>>
+    requires spelled { (bytes : List ℕ) × SpellsPdu bytes pdu }
+    ensures indications { MatchResult result (λ i. indications pdu ≡ indication_of i ∷ []) (λ pdvs. indications pdu ≡ map presentation_data pdvs) }
+    ensures comes { IfOk result (λ i. Comes (indication_of i)) }
+{
+    match pdu {
+        Pdu::Data(pdvs) => Err(pdvs),
+        Pdu::AssociateRq(request) => Ok(UlIndication::AssociateRq(request)),
+        Pdu::AssociateAc(accept) => Ok(UlIndication::AssociateAc(accept)),
+        Pdu::AssociateRj { .. } => Ok(UlIndication::Event(UlEvent::AssociateRj)),
+        Pdu::ReleaseRq => Ok(UlIndication::Event(UlEvent::ReleaseRq)),
+        Pdu::ReleaseRp => Ok(UlIndication::Event(UlEvent::ReleaseRp)),
+        Pdu::Abort { .. } => Ok(UlIndication::Event(UlEvent::Abort)),
+    }
+}
+
 /// Processes a PDU.
 ///
 /// Errors: a failed write; out of memory.
@@ -125,25 +144,10 @@ fn process_pdu<A: Allocator + Copy, W: Write, S: Service<A>, G: Gate, P: Party<A
     ensures ready { OnOk result (P.is_ready party.new) }
     ensures setup { P.setup party.new ≡ P.setup party.old }
 {
-    let event = match pdu {
-        Pdu::Data(pdvs) => {
-            return process_fragments(party, writer, service, gate, buffer, pdvs);
-        }
-        Pdu::AssociateRq(request) => {
-            let indication = UlIndication::AssociateRq(request);
-            return process(party, writer, service, gate, buffer, indication);
-        }
-        Pdu::AssociateAc(accept) => {
-            let indication = UlIndication::AssociateAc(accept);
-            return process(party, writer, service, gate, buffer, indication);
-        }
-        Pdu::AssociateRj { .. } => UlEvent::AssociateRj,
-        Pdu::ReleaseRq => UlEvent::ReleaseRq,
-        Pdu::ReleaseRp => UlEvent::ReleaseRp,
-        Pdu::Abort { .. } => UlEvent::Abort,
-    };
-    let indication = UlIndication::Event(event);
-    process(party, writer, service, gate, buffer, indication)
+    match indication_by(pdu) {
+        Ok(indication) => process(party, writer, service, gate, buffer, indication),
+        Err(pdvs) => process_fragments(party, writer, service, gate, buffer, pdvs),
+    }
 }
 
 /// Reads the next PDU, or the end of the input, and processes it.
@@ -165,17 +169,18 @@ fn process_next<A: Allocator + Copy, R: Read, W: Write, S: Service<A>, G: Gate, 
     ensures ready { OnOk result (P.is_ready party.new) }
     ensures setup { P.setup party.new ≡ P.setup party.old }
 {
-    match read_one(reader, buffer)? {
-        PduRead::Pdu(pdu) => process_pdu(party, writer, service, gate, buffer, pdu),
-        PduRead::Bad(fault) => {
+    match read_one(reader, buffer) {
+        Ok(PduRead::Pdu(pdu)) => process_pdu(party, writer, service, gate, buffer, pdu),
+        Ok(PduRead::Bad(fault)) => {
             let indication = UlIndication::InvalidPdu(fault);
             process(party, writer, service, gate, buffer, indication)
         }
-        PduRead::Closed => {
+        Ok(PduRead::Closed) => {
             let indication = UlIndication::Event(UlEvent::TransportClosed);
             process(party, writer, service, gate, buffer, indication)
         }
-        PduRead::Cut | PduRead::Failed => Err(SessionFault::Read),
+        Ok(PduRead::Cut | PduRead::Failed) => Err(SessionFault::Read),
+        Err(fault) => Err(fault),
     }
 }
 

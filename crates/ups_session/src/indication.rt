@@ -4,7 +4,7 @@ ghost use Rattle.std.specs.Prelude.{◌≡◌};
 
 use std::alloc::Allocator;
 use std::mem;
-use ups_pdu::{AssociateAc, AssociateRq, PduFault, Pdv};
+use ups_pdu::{AssociateAc, AssociateRq, Bytes, PduFault, Pdv};
 use ups_ulstate::UlEvent;
 
 /// An event of the state transition table (PS3.8 section 9.2), with the data that it carries.
@@ -22,11 +22,15 @@ pub(crate) enum UlIndication<A: Allocator + Copy> {
     Pdv(Pdv<A>),
 }
 
-impl<A: Allocator + Copy> UlIndication<A> {
-    /// Takes the indication, and leaves an event in its place.
-    pub fn take(&mut self) -> UlIndication<A>
-        ensures { result ≡ self.old }
-    {
-        mem::replace(self, UlIndication::Event(UlEvent::Data))
-    }
+/// Takes a PDV, and leaves an empty one in its place.
+pub(crate) fn take_pdv<A: Allocator + Copy>(alloc: A, pdv: &mut Pdv<A>) -> Pdv<A>
+    ensures { result ≡ pdv.old }
+{
+    let empty = Pdv {
+        context: 0,
+        command: false,
+        last: false,
+        bytes: Bytes::from_vec(Vec::new(alloc)),
+    };
+    mem::replace(pdv, empty)
 }

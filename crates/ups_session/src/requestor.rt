@@ -21,7 +21,7 @@ use crate::driver::drive;
 use crate::effect::Effect;
 use crate::fault::{End, SessionFault};
 use crate::gate::Gate;
-use crate::indication::UlIndication;
+use crate::indication::{UlIndication, take_pdv};
 use crate::party::Party;
 use crate::pdu_io::{send_pdu, send_pdus};
 use crate::proposing::association_request;
@@ -171,15 +171,15 @@ impl<'a, A: Allocator + Copy> Party<A> for Requestor<'a, A> {
         indication: &mut UlIndication<A>,
     ) -> Result<Effect<A, DeliveryCall>, SessionFault> {
         let delivery = &mut self.delivery;
-        match indication.take() {
-            UlIndication::AssociateAc(answer) => delivery.on_answer(alloc, self.ae, &answer),
-            UlIndication::Pdv(pdv) => delivery.on_fragment(alloc, pdv),
+        match indication {
+            UlIndication::AssociateAc(answer) => delivery.on_answer(alloc, self.ae, answer),
+            UlIndication::Pdv(pdv) => delivery.on_fragment(alloc, take_pdv(alloc, pdv)),
             UlIndication::Event(event) => {
-                Ok(Effect::Send(delivery.on_event(alloc, UNEXPECTED, event)?))
+                Ok(Effect::Send(delivery.on_event(alloc, UNEXPECTED, *event)?))
             }
             UlIndication::InvalidPdu(fault) => Ok(Effect::Send(delivery.on_event(
                 alloc,
-                reason_of(fault),
+                reason_of(*fault),
                 UlEvent::Invalid,
             )?)),
             UlIndication::AssociateRq(_) => Ok(Effect::Send(delivery.on_event(

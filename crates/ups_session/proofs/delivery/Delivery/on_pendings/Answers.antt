@@ -1,18 +1,17 @@
-use Rattle.std.proofs.Common.{◌∙◌, sym, ap, subst}
-use Rattle.ups_session.specs.declared.delivery.DeliveryCall.{DeliveryCall}
-use Rattle.ups_session.specs.declared.effect.Effect.{Effect}
-use Rattle.ups_session.specs.Deliveries.{delivery_view, delivery_reaction_of, IsSendableDelivery}
-use Rattle.ups_session.specs.Requestor.{saying}
-use Rattle.ups_session.proofs.Delivered.{events_told, pendings_silent}
+use Rattle.std.proofs.Common.{◌∙◌, sym}
+use Rattle.ups_session.specs.Deliveries.{delivery_view}
+use Rattle.ups_session.proofs.Delivered.{pendings_silent}
+use Rattle.ups_session.proofs.Parts.{if_ok}
 use Rattle.ups_session.proofs.delivery.Delivery.on_pendings.Goals as goal
 
-pub unreachable-requires : goal.unreachable-requires
-unreachable-requires g c = subst (λ (m : Effect g.row.A.Denot DeliveryCall). IsSendableDelivery m) c.in-Respond.is c.in_ok-said.ensures.writable
+pub returns-in-Some-clause-reaction : goal.returns-in-Some-clause-reaction
+returns-in-Some-clause-reaction g c = if_ok c.report_first.result _ _ (λ said e. e ∙ sym (c.in-Some.ensures.told (delivery_view c.args.self.now))) c.report_first.ensures.reaction
 
-pub returns-clause-reaction : goal.returns-clause-reaction
-returns-clause-reaction g c =
-    events_told (delivery_view c.args.self.now) c.args.reply c.in-Reports.reports c.as_slice.result.now c.is_empty.result (saying (delivery_view c.go_on.new.self) c.in-Send.said.items) c.in-Reports.is c.as_slice.ensures c.is_empty.ensures c.if-is_empty.false
-    (sym (ap (delivery_reaction_of (delivery_view c.go_on.new.self)) c.in-Send.is) ∙ c.in_ok-said.ensures.reaction)
+pub returns-in-Some-clause-silent : goal.returns-in-Some-clause-silent
+returns-in-Some-clause-silent g c = pendings_silent (delivery_view c.args.self.now) c.args.reply
 
-pub returns-clause-silent : goal.returns-clause-silent
-returns-clause-silent g c = pendings_silent (delivery_view c.args.self.now) c.args.reply
+pub returns-in-None-clause-reaction : goal.returns-in-None-clause-reaction
+returns-in-None-clause-reaction g c = if_ok c.release.result _ _ (λ said e. e ∙ sym (c.in-None.ensures.told (delivery_view c.args.self.now))) c.release.ensures.reaction
+
+pub returns-in-None-clause-silent : goal.returns-in-None-clause-silent
+returns-in-None-clause-silent g c = pendings_silent (delivery_view c.args.self.now) c.args.reply
