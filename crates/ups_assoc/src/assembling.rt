@@ -222,11 +222,20 @@ fn ids_of<A: Allocator + Copy>(
 
 /// An assembler of messages from fragments. Contracts see it as the ids of the accepted presentation contexts and the
 /// part of the next message that has arrived.
-#[derive(Drop)]
 pub struct Assembler<A: Allocator + Copy> {
     alloc: A,
     ids: Vec<u8, A>,
     begun: Begun<A>,
+}
+
+impl<A: Allocator + Copy> Drop for Assembler<A> {
+    fn drop(self) {
+        let Assembler {
+            alloc: _,
+            ids: _,
+            begun: _,
+        } = self;
+    }
 }
 
 impl<A: Allocator + Copy> Model for Assembler<A> {

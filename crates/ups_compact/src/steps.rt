@@ -13,10 +13,15 @@ use ups_life::{Entry, Event, EventReport, Request, StepUid};
 
 /// The steps that a compact history keeps, with their UIDs in order, so that one is found without going through all of
 /// them. A contract sees the list of the steps.
-#[derive(Drop)]
 pub struct KeptSteps<A: Allocator + Copy> {
     steps: Vec<StepUid, A>,
     uids: BTreeSet<Vec<u8, A>, A>,
+}
+
+impl<A: Allocator + Copy> Drop for KeptSteps<A> {
+    fn drop(self) {
+        let KeptSteps { steps: _, uids: _ } = self;
+    }
 }
 
 impl<A: Allocator + Copy> Model for KeptSteps<A> {

@@ -36,10 +36,16 @@ pub struct Element<A: Allocator + Copy> {
 
 /// A data set (PS3.5 section 7): elements in strictly ascending order of tags. Contracts see it as the list of its
 /// elements, which always form a data set.
-#[derive(Drop)]
 #[cycle(set)]
 pub struct DataSet<A: Allocator + Copy> {
     pub(crate) elements: Vec<Element<A>, A>,
+}
+
+impl<A: Allocator + Copy> Drop for DataSet<A> {
+    #[cycle(set)]
+    fn drop(self) {
+        let DataSet { elements: _ } = self;
+    }
 }
 
 impl<A: Allocator + Copy> Model for DataSet<A> {

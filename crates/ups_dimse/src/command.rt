@@ -19,7 +19,6 @@ pub enum Command<A: Allocator + Copy> {
 }
 
 /// The command of a request.
-#[derive(Drop)]
 pub struct RequestCommand<A: Allocator + Copy> {
     /// The Affected or Requested SOP Class UID, whichever the operation has; None if it is absent or malformed.
     pub sop_class: Option<Uid>,
@@ -29,6 +28,17 @@ pub struct RequestCommand<A: Allocator + Copy> {
     pub has_data_set: bool,
     /// The requested operation.
     pub operation: Operation<A>,
+}
+
+impl<A: Allocator + Copy> Drop for RequestCommand<A> {
+    fn drop(self) {
+        let RequestCommand {
+            sop_class: _,
+            message_id: _,
+            has_data_set: _,
+            operation: _,
+        } = self;
+    }
 }
 
 /// The operation that a request asks for, with its own elements of the command.

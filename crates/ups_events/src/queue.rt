@@ -15,7 +15,6 @@ use ups_life::{Event, Report};
 /// step supersedes (PS3.4 CC.2.4). They are numbered from 1, and are not renumbered when others leave. A contract sees
 /// the greatest number assigned, the greatest number acknowledged, the events, and the number of further events for
 /// which there is room.
-#[derive(Drop)]
 pub struct Queue<A: Allocator + Copy> {
     alloc: A,
     made: u64,
@@ -24,6 +23,19 @@ pub struct Queue<A: Allocator + Copy> {
     index: ReportNumbers<A>,
     /// An upper bound of the number of spent slots.
     spent: usize,
+}
+
+impl<A: Allocator + Copy> Drop for Queue<A> {
+    fn drop(self) {
+        let Queue {
+            alloc: _,
+            made: _,
+            acked: _,
+            slots: _,
+            index: _,
+            spent: _,
+        } = self;
+    }
 }
 
 impl<A: Allocator + Copy> Model for Queue<A> {

@@ -28,7 +28,6 @@ const MAX_PLACES: usize = 0x1_0000_0000;
 /// A contract sees the offset by which starts are read, the steps in order of creation, each with its values, and for
 /// how many more values there is room. Only `reserve` makes room: other changes to the index take no memory, and cannot
 /// fail.
-#[derive(Drop)]
 pub struct Index<A: Allocator + Copy> {
     alloc: A,
     /// The offset of a start without one, in minutes east of UTC.
@@ -41,6 +40,19 @@ pub struct Index<A: Allocator + Copy> {
     texts: Posts<A>,
     /// The posts by the numbers of starts.
     starts: Posts<A>,
+}
+
+impl<A: Allocator + Copy> Drop for Index<A> {
+    fn drop(self) {
+        let Index {
+            alloc: _,
+            offset: _,
+            slots: _,
+            steps: _,
+            texts: _,
+            starts: _,
+        } = self;
+    }
 }
 
 impl<A: Allocator + Copy> Model for Index<A> {

@@ -51,10 +51,18 @@ fn run<A: Allocator + Copy>(
 
 /// Posts in order, most of them in a tree. The newest wait beside it until room is made for more, because the tree
 /// takes memory. A contract sees the posts of both, and how many more may wait.
-#[derive(Drop)]
 pub(crate) struct Posts<A: Allocator + Copy> {
     tree: BTreeSet<Post, A>,
     waiting: Vec<Post, A>,
+}
+
+impl<A: Allocator + Copy> Drop for Posts<A> {
+    fn drop(self) {
+        let Posts {
+            tree: _,
+            waiting: _,
+        } = self;
+    }
 }
 
 impl<A: Allocator + Copy> Model for Posts<A> {

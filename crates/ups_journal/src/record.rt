@@ -8,7 +8,6 @@ use ups_cycle::StepState;
 use ups_pdu::Bytes;
 
 /// A request, column by column. A column is None if the operation does not use it, or the request did not give it.
-#[derive(Drop)]
 pub struct Columns<A: Allocator + Copy> {
     /// The operation.
     pub operation: Operation,
@@ -30,8 +29,23 @@ pub struct Columns<A: Allocator + Copy> {
     pub attributes: Option<Bytes<A>>,
 }
 
+impl<A: Allocator + Copy> Drop for Columns<A> {
+    fn drop(self) {
+        let Columns {
+            operation: _,
+            instance: _,
+            transaction: _,
+            state: _,
+            receiver: _,
+            lock: _,
+            number: _,
+            offset: _,
+            attributes: _,
+        } = self;
+    }
+}
+
 /// An accepted request as plain data, for a store.
-#[derive(Drop)]
 pub struct Record<A: Allocator + Copy> {
     /// The number of the caller: which of several passes to the service made the call.
     pub caller: u32,
@@ -41,6 +55,17 @@ pub struct Record<A: Allocator + Copy> {
     pub moment: u64,
     /// The request.
     pub request: Columns<A>,
+}
+
+impl<A: Allocator + Copy> Drop for Record<A> {
+    fn drop(self) {
+        let Record {
+            caller: _,
+            title: _,
+            moment: _,
+            request: _,
+        } = self;
+    }
 }
 
 impl<A: Allocator + Copy> Columns<A> {

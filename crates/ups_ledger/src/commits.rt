@@ -7,7 +7,6 @@ use std::time::{Clock, Duration, Instant};
 /// The number of committed entries of a history, for which threads wait, and the number that the committing thread is
 /// asked for. No contract covers it: that `wait_for` returns true only once that many are committed has to be read from
 /// the code.
-#[derive(Drop)]
 pub struct Commits {
     count: AtomicU64,
     /// The highest number that was asked for.
@@ -16,6 +15,17 @@ pub struct Commits {
     waiting: AtomicU64,
     /// The number that has to be asked for to wake the committing thread; 0 if it is awake.
     alarm: AtomicU64,
+}
+
+impl Drop for Commits {
+    fn drop(self) {
+        let Commits {
+            count: _,
+            asked: _,
+            waiting: _,
+            alarm: _,
+        } = self;
+    }
 }
 
 /// The alarm while the committing thread is awake.

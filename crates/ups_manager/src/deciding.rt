@@ -41,11 +41,36 @@ pub(crate) enum Kind {
 }
 
 /// The reply to an accepted call, the plan of its effect on the tables, and its effect on the index.
-#[derive(Drop)]
 pub(crate) struct Decision<A: Allocator + Copy> {
     pub reply: Reply<A>,
     pub plan: Plan<A>,
     pub change: IndexChange<A>,
+}
+
+impl<A: Allocator + Copy> Drop for Decision<A> {
+    fn drop(self) {
+        let Decision {
+            reply: _,
+            plan: _,
+            change: _,
+        } = self;
+    }
+}
+
+impl<A: Allocator + Copy> Decision<A> {
+    /// Takes the decision apart.
+    pub(crate) fn into_parts(self) -> (Reply<A>, Plan<A>, IndexChange<A>)
+        ensures reply { result.0 ≡ self.reply }
+        ensures plan { result.1 ≡ self.plan }
+        ensures change { result.2 ≡ self.change }
+    {
+        let Decision {
+            reply,
+            plan,
+            change,
+        } = self;
+        (reply, plan, change)
+    }
 }
 
 /// Returns what a request is about.

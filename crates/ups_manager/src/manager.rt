@@ -42,7 +42,6 @@ use ups_tables::{Tables, begin, place_of};
 
 /// The manager: the history of accepted requests, tables of the state that they lead to, and an index of the held
 /// steps. A contract sees it as what was fixed at the start and the history, oldest entry first.
-#[derive(Drop)]
 pub struct Manager<A: Allocator + Copy> {
     alloc: A,
     configuration: Configuration<A>,
@@ -50,6 +49,19 @@ pub struct Manager<A: Allocator + Copy> {
     tables: Tables<A>,
     index: Index<A>,
     reserve: Reserve<A>,
+}
+
+impl<A: Allocator + Copy> Drop for Manager<A> {
+    fn drop(self) {
+        let Manager {
+            alloc: _,
+            configuration: _,
+            history: _,
+            tables: _,
+            index: _,
+            reserve: _,
+        } = self;
+    }
 }
 
 impl<A: Allocator + Copy> Model for Manager<A> {

@@ -13,11 +13,20 @@ use ups_dataset::DataSet;
 
 /// The keys of a query (PS3.4 section C.2.2.2), all readable, and the offset by which DTs without one are read in the
 /// keys and in the stored data sets, in minutes east of UTC. A contract sees the attributes and the offset.
-#[derive(Drop)]
 pub struct Keys<A: Allocator + Copy> {
     attributes: DataSet<A>,
     offset: i16,
     prepared: Option<Prepared<A>>,
+}
+
+impl<A: Allocator + Copy> Drop for Keys<A> {
+    fn drop(self) {
+        let Keys {
+            attributes: _,
+            offset: _,
+            prepared: _,
+        } = self;
+    }
 }
 
 impl<A: Allocator + Copy> Model for Keys<A> {

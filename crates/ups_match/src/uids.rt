@@ -15,10 +15,15 @@ use std::marker::Model;
 use ups_pdu::without_padding;
 
 /// A list of UIDs, with the UIDs in order. A contract sees the text of the list.
-#[derive(Drop)]
 pub(crate) struct UidList<A: Allocator + Copy> {
     text: Vec<u8, A>,
     uids: BTreeSet<Vec<u8, A>, A>,
+}
+
+impl<A: Allocator + Copy> Drop for UidList<A> {
+    fn drop(self) {
+        let UidList { text: _, uids: _ } = self;
+    }
 }
 
 impl<A: Allocator + Copy> Model for UidList<A> {

@@ -19,7 +19,6 @@ pub(crate) struct Digest {
 
 /// The deliveries to a watcher that were not logged yet. The deliverer that has the watcher adds to them, and the
 /// sweeper takes them. Only the log depends on them.
-#[derive(Drop)]
 pub(crate) struct Untold {
     associations: AtomicU64,
     reports: AtomicU64,
@@ -28,6 +27,19 @@ pub(crate) struct Untold {
     milliseconds: AtomicU64,
     /// When a delivery was last logged, in seconds since 1970-01-01 UTC.
     told: AtomicU64,
+}
+
+impl Drop for Untold {
+    fn drop(self) {
+        let Untold {
+            associations: _,
+            reports: _,
+            failures: _,
+            last: _,
+            milliseconds: _,
+            told: _,
+        } = self;
+    }
 }
 
 impl Untold {

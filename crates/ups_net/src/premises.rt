@@ -8,12 +8,22 @@ use ups_ledger::Commits;
 
 /// What the threads of a server share, besides its desk: the door, the roster of its watchers, the counts for its log,
 /// and the number of committed entries of its history.
-#[derive(Drop)]
 pub struct Premises {
     pub(crate) door: Door,
     pub(crate) roster: Roster,
     pub(crate) tally: Tally,
     pub(crate) commits: Commits,
+}
+
+impl Drop for Premises {
+    fn drop(self) {
+        let Premises {
+            door: _,
+            roster: _,
+            tally: _,
+            commits: _,
+        } = self;
+    }
 }
 
 impl Premises {

@@ -83,7 +83,6 @@ pub fn may_take(share: Share, is_quick: bool) -> bool
 
 /// Whether a watcher is away, by how its deliveries ended, and whether a deliverer has it. Only the deliverer that has
 /// it writes `pause`, `failed` and `slow`.
-#[derive(Drop)]
 pub(crate) struct Presence {
     /// Whether a deliverer has it.
     holder: AtomicU64,
@@ -97,6 +96,19 @@ pub(crate) struct Presence {
     waiting: AtomicU64,
     /// The deliveries to it that were not logged yet.
     pub(crate) untold: Untold,
+}
+
+impl Drop for Presence {
+    fn drop(self) {
+        let Presence {
+            holder: _,
+            pause: _,
+            failed: _,
+            slow: _,
+            waiting: _,
+            untold: _,
+        } = self;
+    }
 }
 
 impl Presence {
@@ -187,7 +199,6 @@ impl Presence {
 /// other watcher waiting while a deliverer is free. Half of the deliverers take only quick watchers: neither away, nor
 /// slow with their last reports. Before a deliverer connects to a watcher, it rings for another, which looks after the
 /// next ones. No contract covers that.
-#[derive(Drop)]
 pub struct Roster {
     presences: Vec<Presence>,
     /// The presence of a watcher that isn't among them.
@@ -200,6 +211,19 @@ pub struct Roster {
     all: Bell,
     /// When what waits for each watcher was last counted, in seconds since 1970-01-01 UTC.
     counted: AtomicU64,
+}
+
+impl Drop for Roster {
+    fn drop(self) {
+        let Roster {
+            presences: _,
+            other: _,
+            deliverers: _,
+            quick: _,
+            all: _,
+            counted: _,
+        } = self;
+    }
 }
 
 impl Roster {

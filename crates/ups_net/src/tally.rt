@@ -58,7 +58,6 @@ fn add_of(peers: &mut Vec<Refusals>, peer: String) -> Option<bool> {
 
 /// The counts of a server since its start: associations, answered requests, and refused ones. Only the log depends on
 /// them.
-#[derive(Drop)]
 pub struct Tally {
     associations: AtomicU64,
     requests: AtomicU64,
@@ -67,6 +66,18 @@ pub struct Tally {
     peers: Mutex<Vec<Refusals>>,
     /// The number of those without a line and of none of these peers.
     others: AtomicU64,
+}
+
+impl Drop for Tally {
+    fn drop(self) {
+        let Tally {
+            associations: _,
+            requests: _,
+            refusals: _,
+            peers: _,
+            others: _,
+        } = self;
+    }
 }
 
 impl Tally {

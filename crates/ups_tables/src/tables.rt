@@ -14,7 +14,6 @@ use ups_steps::Steps;
 use ups_watch::Watchers;
 
 /// What is known about a history of accepted requests. A peer is identified by its index in the list of peers.
-#[derive(Drop)]
 pub struct Tables<A: Allocator + Copy> {
     /// The held steps, in order of creation, keyed by UID.
     pub steps: Steps<A>,
@@ -26,6 +25,18 @@ pub struct Tables<A: Allocator + Copy> {
     pub queues: Queues<A>,
     /// The steps that await removal: they are final, and no peer has a deletion lock on them (PS3.4 CC.2.3).
     pub due: Due<A>,
+}
+
+impl<A: Allocator + Copy> Drop for Tables<A> {
+    fn drop(self) {
+        let Tables {
+            steps: _,
+            used: _,
+            watchers: _,
+            queues: _,
+            due: _,
+        } = self;
+    }
 }
 
 impl<A: Allocator + Copy> Tables<A> {

@@ -40,7 +40,6 @@ const MOST_CALLS: u64 = 1 << 40;
 
 /// A desk with one manager, which threads share. A contract sees it as its table, the number of its passes, and the
 /// manager that it opened with.
-#[derive(Drop)]
 pub struct Desk<M: SharedService<A>, A: Allocator + Copy> {
     table: Table<Option<Held<M, A>>, View<A>, Opening<M, A>, InTurn, A>,
     seats: u64,
@@ -49,6 +48,17 @@ pub struct Desk<M: SharedService<A>, A: Allocator + Copy> {
     ticket_lock: Mutex<()>,
     /// Whether somebody waits for further entries: 0 if nobody does. No contract depends on it.
     awaited: AtomicU64,
+}
+
+impl<M: SharedService<A>, A: Allocator + Copy> Drop for Desk<M, A> {
+    fn drop(self) {
+        let Desk {
+            table: _,
+            seats: _,
+            ticket_lock: _,
+            awaited: _,
+        } = self;
+    }
 }
 
 impl<M: SharedService<A>, A: Allocator + Copy> Model for Desk<M, A> {
@@ -358,7 +368,12 @@ impl<M: SharedService<A>, A: Allocator + Copy> Desk<M, A> {
         if passes.len() as u64 != self.seats {
             return Err((self, passes, CloseFault::Missing));
         }
-        let Desk { table, .. } = self;
+        let Desk {
+            table,
+            seats: _,
+            ticket_lock: _,
+            awaited: _,
+        } = self;
         let place = gather(&table.shared, passes);
         let mut closed = table.close_with(place);
         let slot = closed.take(0);

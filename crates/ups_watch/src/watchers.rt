@@ -19,12 +19,22 @@ use ups_life::{Place, StepUid, Subscription};
 /// The subscriptions of all peers (PS3.4 CC.2.3). A peer is identified by its index in the list of peers. A step is
 /// known from its creation to its removal. A contract sees the global subscription of each peer, the known steps with
 /// the subscription of each peer to them, and the number of further steps for which there is room.
-#[derive(Drop)]
 pub struct Watchers<A: Allocator + Copy> {
     alloc: A,
     covers: Vec<Option<Cover<A>>, A>,
     rows: Rows<A>,
     blanks: Vec<Row<A>, A>,
+}
+
+impl<A: Allocator + Copy> Drop for Watchers<A> {
+    fn drop(self) {
+        let Watchers {
+            alloc: _,
+            covers: _,
+            rows: _,
+            blanks: _,
+        } = self;
+    }
 }
 
 impl<A: Allocator + Copy> Model for Watchers<A> {

@@ -5,6 +5,7 @@ use Rattle.ups_life.specs.declared.entry.Entry.{Entry}
 use Rattle.ups_life.specs.Steps.{past}
 use Rattle.ups_life.specs.History.{legal}
 use Rattle.ups_life.proofs.Past.{past-push}
+use Rattle.ups_tables.specs.Planned.{removed_by}
 use Rattle.ups_manager.specs.Indexing.{after_change, indexed_steps, IsIndexed}
 use Rattle.ups_manager.proofs.entry.enter.Goals as goal
 
@@ -36,7 +37,8 @@ returns-clause-indexed g c =
     record {
       offset = c.change_index.ensures.offset ∙ c.make_index_room.ensures.offset ∙ c.requires.indexed.offset;
       steps = c.change_index.ensures.steps
-          ∙ ap (λ (xs : List Final). after_change change (steps_of xs) c.make_index_room.new.index.steps) c.removed.ensures
+          ∙ ap (λ ch. after_change ch (steps_of c.removed.result.now) c.make_index_room.new.index.steps) c.into_parts-reply.ensures.change
+          ∙ ap (λ (xs : List Final). after_change change (steps_of xs) c.make_index_room.new.index.steps) (c.removed.ensures ∙ ap removed_by c.into_parts-reply.ensures.plan)
           ∙ ap (after_change change _) (c.make_index_room.ensures.steps ∙ c.requires.indexed.steps)
           ∙ c.requires.decided.index
           ∙ sym (ap (indexed_steps s) (ap past after ∙ past-push before c.args.call));
