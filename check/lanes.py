@@ -24,10 +24,16 @@ def free():
     return min(found)
 
 
-def main():
+def count():
+    """Returns how many checks may run side by side."""
     processors, memory = len(os.sched_getaffinity(0)), free()
     lanes = max(1, min(processors, memory // EACH))
     print(f"lanes: {lanes} ({processors} processors, {memory / 1e9:.1f} GB free)", file=sys.stderr)
+    return lanes
+
+
+def main():
+    lanes = count()
     print(lanes if lanes > 1 else "")
 
 

@@ -2,8 +2,8 @@
 """Measures the cost of the gate: the processor seconds of each crate, by phase; prints a table, the costliest crate first.
 
 `rt ci` reports no times. This script runs its phases one after the other on a copy of the tree, each from nothing and with
-one job: the proof, the tests, the must-fail edits, and for a program its builds by both compilers with a run of each. It
-takes about as long as `rt ci` on one processor. Linux only.
+one job: the proof, the tests, and for a program its builds by both compilers with a run of each. It takes about as long as
+`rt ci` on one processor. Linux only.
 """
 
 import argparse
@@ -15,8 +15,7 @@ import sys
 import tempfile
 import time
 
-PHASES = ("proof", "tests", "edits", "run")
-TICK = os.sysconf("SC_CLK_TCK")
+PHASES = ("proof", "tests", "run")
 
 
 def crates_in(root):
@@ -59,22 +58,14 @@ def used():
     return usage.ru_utime + usage.ru_stime
 
 
-def seconds_of(folder, *words, stdin=None, look=None):
-    """Runs rt in a folder, and returns the processor seconds that it took. A failure ends the script.
-
-    Ten times a second `look` is called with the process ID.
-    """
+def seconds_of(folder, *words, stdin=None):
+    """Runs rt in a folder, and returns the processor seconds that it took. A failure ends the script."""
     before = used()
     given = open(stdin, "rb") if stdin and os.path.isfile(stdin) else subprocess.DEVNULL
-    with tempfile.TemporaryFile() as said:
-        running = subprocess.Popen(["rt", *words], cwd=folder, stdin=given, stdout=said, stderr=subprocess.STDOUT)
-        while look and running.poll() is None:
-            look(running.pid)
-            time.sleep(0.1)
-        if running.wait():
-            said.seek(0)
-            lines = said.read().decode(errors="replace").splitlines()
-            sys.exit("\n".join([f"rt {' '.join(words)} in {folder}: status {running.returncode}", *lines[-12:]]))
+    ran = subprocess.run(["rt", *words], cwd=folder, stdin=given, stdout=subprocess.PIPE, stderr=subprocess.STDOUT, check=False)
+    if ran.returncode:
+        lines = ran.stdout.decode(errors="replace").splitlines()
+        sys.exit("\n".join([f"rt {' '.join(words)} in {folder}: status {ran.returncode}", *lines[-12:]]))
     return used() - before
 
 
@@ -92,37 +83,11 @@ def has_tests(folder):
     return False
 
 
-def edits_of(folder):
-    names = os.listdir(f"{folder}/must-fail") if os.path.isdir(f"{folder}/must-fail") else []
-    return sorted(name for name in names if name.endswith(".edit"))
-
-
-def look_at_edits(seconds, parent):
-    """Records, by the folder of each edit's check, the processor seconds of the check that `parent` now runs."""
-    for process in filter(str.isdigit, os.listdir("/proc")):
-        try:
-            folder = os.readlink(f"/proc/{process}/cwd")
-            with open(f"/proc/{process}/stat") as text:
-                fields = text.read().rpartition(") ")[2].split()
-        except OSError:
-            continue
-        if int(fields[1]) == parent and os.path.basename(folder).startswith("rt-edit-"):
-            seconds[folder] = sum(map(int, fields[11:15])) / TICK
-
-
-def edits_apart(root, name):
-    """Returns the processor seconds of a crate's edits, in total and by name. They are tried in the order of their names."""
-    seconds = {}
-    took = seconds_of(root, "must-fail", name, look=lambda parent: look_at_edits(seconds, parent))
-    names = edits_of(f"{root}/crates/{name}")
-    return took, list(zip([*names, "(no edit)"], seconds.values()))
-
-
-def costs(root, name, phases, by_edit):
-    """Returns the processor seconds of a crate by phase, and by edit if asked to. The crate is then built for those above it."""
+def costs(root, name, phases):
+    """Returns the processor seconds of a crate by phase. The crate is then built for those above it."""
     folder = f"{root}/crates/{name}"
     is_program = os.path.isfile(f"{folder}/src/main.rt")
-    cost, edits = {"proof": seconds_of(folder, "check" if is_program else "lib", "--jobs", "1")}, []
+    cost = {"proof": seconds_of(folder, "check" if is_program else "lib", "--jobs", "1")}
     if "run" in phases and is_program:
         words = []
         if os.path.isfile(f"{folder}/args"):
@@ -132,9 +97,7 @@ def costs(root, name, phases, by_edit):
     if "tests" in phases and has_tests(folder):
         forget(folder)
         cost["tests"] = seconds_of(folder, "test", "--jobs", "1")
-    if "edits" in phases and edits_of(folder):
-        cost["edits"], edits = edits_apart(root, name)
-    return {it: took for it, took in cost.items() if it in phases}, edits if by_edit else []
+    return {it: took for it, took in cost.items() if it in phases}
 
 
 def row(name, cost):
@@ -147,30 +110,26 @@ def main():
     asked = argparse.ArgumentParser(description=about, epilog=more)
     asked.add_argument("crates", nargs="*", metavar="CRATE", help="the crates to measure (all of crates.txt)")
     asked.add_argument("--phases", default=",".join(PHASES), help="the phases to measure, with commas between them (%(default)s)")
-    asked.add_argument("--edits", action="store_true", help="also list the seconds of each must-fail edit")
     asked.add_argument("--tree", default=".", metavar="FOLDER", help="the top of the repository (the current folder)")
     given = asked.parse_args()
     crates, phases = crates_in(given.tree), given.phases.split(",")
     names = given.crates or [*crates]
     for word in [*(set(names) - set(crates)), *(set(phases) - set(PHASES))]:
         asked.error(f"there is no {word}")
-    began, costs_of, edits_by = time.perf_counter(), {}, {}
+    began, costs_of = time.perf_counter(), {}
     with tempfile.TemporaryDirectory(prefix="gate-") as root:
         copied(given.tree, root)
         for name in in_order(crates, names):
             is_named = name in names
-            cost, edits = costs(root, name, phases if is_named else (), given.edits)
+            cost = costs(root, name, phases if is_named else ())
             if is_named:
-                costs_of[name], edits_by[name] = cost, edits
+                costs_of[name] = cost
                 print(f"{name}: {sum(cost.values()):.0f} s", file=sys.stderr, flush=True)
     print("| crate | " + " | ".join(PHASES) + " | all, seconds | all, minutes |")
     print("|---" * (len(PHASES) + 3) + "|")
     for name in sorted(costs_of, key=lambda it: -sum(costs_of[it].values())):
         print(row(name, costs_of[name]))
     print(row("sum", {it: sum(cost.get(it, 0) for cost in costs_of.values()) for it in PHASES}))
-    for name, edits in edits_by.items():
-        for edit, took in sorted(edits, key=lambda it: -it[1]):
-            print(f"{took:8.1f} s  {name}/{edit}")
     print(f"({time.perf_counter() - began:,.0f} seconds by the clock)", file=sys.stderr)
 
 

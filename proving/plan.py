@@ -3,11 +3,10 @@
 
     proving/plan.py COSTS [--processors 2 4] [--tasks]
 
-COSTS is what `proving/watch_gate.py --costs` writes: in each line a crate, its lines of code, the seconds of a check if
-nothing changed, of its proof and of the proof with its tests (0 if it has none), how many edits it has, the seconds of each,
-and the crates below it. All seconds are of one processor. The schedule is that of rt with RT_JOBS: a task waits for the proofs
-of the crates below; proofs and tests come before edits, those with the most lines above them first; edits wait for the proof,
-the tests and the seed of their crate, which is a second proof.
+COSTS is what `proving/watch_gate.py --costs` writes: in each line a crate, its lines of code, the seconds of its proof, of the
+proof with its tests and of its edits (0 if it has none), and the crates below it. All seconds are of one processor. The
+schedule is that of rt with RT_JOBS: a task waits for the proofs of the crates below, and those with the most lines above them
+come first. `check/edits.py` tries the edits behind all of these, crate by crate.
 """
 
 import argparse
@@ -19,8 +18,8 @@ def read(file):
     with open(file, encoding="utf-8") as costs:
         for line in costs:
             if line.strip() and not line.startswith("#"):
-                name, lines, load, proof, tests, edits, each, *below = line.split()
-                crates.append((name, int(lines), float(load), float(proof), float(tests), int(edits), float(each), below))
+                name, lines, proof, tests, edits, *below = line.split()
+                crates.append((name, int(lines), float(proof), float(tests), float(edits), below))
     return crates
 
 
@@ -34,22 +33,17 @@ def below(name, direct):
 
 def tasks_of(crates):
     """Returns the tasks, each with what it waits for, its weight in lines, and its seconds. What it waits for precedes it."""
-    tasks, direct = {}, {it[0]: it[7] for it in crates}
-    for name, lines, load, proof, tests, edits, each, _ in sorted(crates, key=lambda it: len(below(it[0], direct))):
+    tasks, direct = {}, {it[0]: it[5] for it in crates}
+    in_order = sorted(crates, key=lambda it: len(below(it[0], direct)))
+    for name, lines, proof, tests, _, _ in in_order:
         waits = [(it, "proof") for it in below(name, direct)]
-        own = [(name, "proof")]
         tasks[name, "proof"] = (waits, lines, proof)
         if tests:
             tasks[name, "tests"] = (waits, lines, tests)
-            own.append((name, "tests"))
-        if edits > 1:
-            tasks[name, "seed"] = (waits, 0, proof)
-            tries = [(name, "edit", number) for number in range(edits)]
-            for key in tries:
-                tasks[key] = ([*own, (name, "seed")], lines, each)
-            tasks[name, "seed as it was"] = ([*tries, (name, "seed")], 0, load)
-        elif edits:
-            tasks[name, "edit", 0] = (own, lines, proof * 1.1)
+    before = [*tasks]
+    for name, _, _, _, edits, _ in in_order:
+        if edits:
+            tasks[name, "edits"] = (before, 0, edits)
     return tasks
 
 
@@ -67,7 +61,7 @@ def weights(tasks):
 def played(tasks, processors):
     """Returns the spans of the tasks, in the order in which they begin."""
     behind = weights(tasks)
-    left = sorted(tasks, key=lambda it: (it[1] not in ("proof", "tests"), -behind[it]))
+    left = sorted(tasks, key=lambda it: -behind[it])
     now, running, done, spans = 0.0, {}, set(), []
     while left or running:
         for key in [it for it in left if done.issuperset(tasks[it][0])][: processors - len(running)]:
@@ -87,7 +81,7 @@ def main():
     asked = argparse.ArgumentParser(description=about, epilog=more, formatter_class=argparse.RawDescriptionHelpFormatter)
     asked.add_argument("costs", help="the costs of the crates")
     asked.add_argument("--processors", type=int, nargs="+", default=[2, 4])
-    asked.add_argument("--tasks", action="store_true", help="list when each task but the edits runs")
+    asked.add_argument("--tasks", action="store_true", help="list when each task runs")
     given = asked.parse_args()
     tasks = tasks_of(read(given.costs))
     used = sum(seconds for _, _, seconds in tasks.values())
@@ -97,8 +91,7 @@ def main():
         print(f"{processors} processors: {clock / 60:.0f} minutes by the clock, {used / 60:.0f} processor minutes")
         if given.tasks:
             for begin, end, key in spans:
-                if key[1] != "edit":
-                    print(f"  {begin / 60:6.1f} to {end / 60:6.1f}  {' '.join(key)}")
+                print(f"  {begin / 60:6.1f} to {end / 60:6.1f}  {' '.join(key)}")
 
 
 if __name__ == "__main__":

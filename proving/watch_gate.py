@@ -4,9 +4,9 @@
     proving/watch_gate.py [--costs FILE] [COMMAND ..]
 
 The command is `.ci/run` unless one is given. A table shows what each crate takes, by phase: `proof`, `tests` (the crate
-proved with its tests), `seed` (the proof that is the base of the edits) and `edits`. Processor time is read from the
-processes once a second, so the table lacks what each did in its last second; the sum is what the system counts. What passed
-in an earlier run on this machine is not run again, so figures for the whole gate need a new machine.
+proved with its tests) and `edits`. Processor time is read from the processes once a second, so the table lacks what each did
+in its last second; the sum is what the system counts. What passed in an earlier run on this machine is not run again, except
+the edits, so figures for the whole gate need a new machine.
 
 With `--costs`, the table is written to FILE in the form that `proving/plan.py` reads.
 """
@@ -66,7 +66,7 @@ class Check:
     def __init__(self, words, folder, start, seconds):
         self.crate = words[words.index("--crate-name") + 1]
         self.folder, self.start, self.seconds = folder, int(start), seconds
-        # edits, and the seed that they are tried on, are checked in folders of their own
+        # edits are checked in folders of their own
         self.is_edit, self.is_tests = os.path.basename(folder).startswith("rt-edit-"), "--test" in words
 
 
@@ -81,20 +81,15 @@ def checks_of(seen):
 
 
 class Costs:
-    """The processor seconds of a crate: of its proof, its tests, the base of its edits (the seed), and each edit."""
+    """The processor seconds of a crate: of its proof, its tests, and its edits."""
 
     def __init__(self, checks):
         self.proof = sum(it.seconds for it in checks if not it.is_edit and not it.is_tests)
         self.tests = sum(it.seconds for it in checks if not it.is_edit and it.is_tests)
-        tried = [it for it in checks if it.is_edit]
-        over = [it for it in tried if it.folder == tried[0].folder]
-        self.seed = over[0].seconds if over else 0
-        # the seed is checked again after all edits, with nothing to prove
-        self.load = over[-1].seconds if len(over) > 1 else 0
-        self.edits = [it.seconds for it in tried if it not in over]
+        self.edits = sum(it.seconds for it in checks if it.is_edit)
 
     def all(self):
-        return self.proof + self.tests + self.seed + sum(self.edits)
+        return self.proof + self.tests + self.edits
 
 
 def lines_of(crate):
@@ -117,21 +112,18 @@ def uses():
 
 def told(costs):
     """Prints a table with a line for each crate."""
-    print(f"{'crate':16}{'proof':>8}{'tests':>8}{'seed':>8}{'edits':>8}{'number':>8}{'all':>8}   processor seconds")
+    print(f"{'crate':16}{'proof':>8}{'tests':>8}{'edits':>8}{'all':>8}   processor seconds")
     for name, it in costs.items():
-        numbers = [it.proof, it.tests, it.seed, sum(it.edits), len(it.edits), it.all()]
-        print(f"{name:16}" + "".join(f"{number:8.0f}" for number in numbers))
+        print(f"{name:16}" + "".join(f"{number:8.0f}" for number in (it.proof, it.tests, it.edits, it.all())))
 
 
 def written(costs, file):
     """Writes the costs as proving/plan.py reads them."""
     with open(file, "w", encoding="utf-8") as out:
-        print("# crate lines load proof tests edits each below..", file=out)
+        print("# crate lines proof tests edits below..", file=out)
         for name, used in uses().items():
             it = costs.get(name) or Costs([])
-            each = sum(it.edits) / len(it.edits) if it.edits else 0
-            row = [name, lines_of(name), f"{it.load:.1f}", f"{it.proof:.0f}", f"{it.tests:.0f}", len(it.edits), f"{each:.1f}", *used]
-            print(*row, file=out)
+            print(name, lines_of(name), f"{it.proof:.0f}", f"{it.tests:.0f}", f"{it.edits:.0f}", *used, file=out)
 
 
 def watched(command):
