@@ -22,17 +22,22 @@ import tempfile
 HEADING = re.compile(r"(?:(?:pub(?:\([a-z]+\))?|final|const|unsafe) +)*fn +(\w+)")
 OWNER = re.compile(r"(?:pub(?:\([a-z]+\))? +)?(?:unsafe +)?(?:impl|trait)\b(.*)")
 VERDICT = re.compile(r"fn \w+::(\S+): (.*)")
-BROKEN = re.compile(r"error\[[\w-]+\]")
+NO_FUNCTION = re.compile(r"has no function `([^`]+)`")
+SEVERAL = re.compile(r"several functions are named `([^`]+)`: help: write one of (.*)")
 
 
 @dataclasses.dataclass
 class Edit:
-    """An edit: its crate and name, the texts of the files that it changes, and the function that it breaks."""
+    """An edit: its crate and name, its changes, the function that it breaks, and the names to check for that function."""
 
     crate: str
     name: str
     pairs: list[tuple[str, str, str]]
     function: str
+    checked: list[str] = dataclasses.field(default_factory=list)
+
+    def names(self) -> list[str]:
+        return self.checked or [self.function]
 
     def __str__(self) -> str:
         return f"{self.crate}/{self.name}"
@@ -153,9 +158,12 @@ def verdicts(said: str) -> dict[str, str]:
 
 
 def verdict_of(edit: Edit, told: dict[str, str]) -> str:
-    """Returns what a check says of the function that an edit breaks, or nothing if it has no such function."""
-    found = [why for name, why in told.items() if f"::{name}".endswith(f"::{edit.function}")]
-    return found[0] if len(found) == 1 else ""
+    """Returns what a check says of the function that an edit breaks, or nothing if it has no such function.
+
+    Of several functions of that name it is the one that is not proved.
+    """
+    found = [why for name, why in told.items() if any(f"::{name}".endswith(f"::{it}") for it in edit.names())]
+    return next((it for it in found if it != "proved"), found[0] if found else "")
 
 
 class Trial:
@@ -167,14 +175,30 @@ class Trial:
     def check(self, edits: list[Edit], texts: dict[str, str], kept: str) -> dict[str, str]:
         """Checks the functions that these edits break, and returns what the check says of each function."""
         flags = ["--jobs", "1"]
-        for function in sorted({it.function for it in edits}):
+        for function in sorted({name for it in edits for name in it.names()}):
             flags += ["--only", function]
         ran = self.rt.checked(self.crate, texts, flags, kept)
         told = verdicts(ran.stdout)
         if not told:
-            lines = [it for it in ran.stdout.split("\n") if "error" in it or "rattle:" in it] or ran.stdout.split("\n")[-3:]
-            told[""] = f"the check ended with status {ran.returncode}: {' '.join(lines)[:300]}"
+            lines = [it for it in ran.stdout.split("\n") if ": error" in it] or ran.stdout.split("\n")[-3:]
+            told[""] = f"the check ended with status {ran.returncode}: {' '.join(lines)}"
         return told
+
+    def is_renamed(self, edits: list[Edit], told: dict[str, str]) -> bool:
+        """Returns whether the prover has no function of such a name, or several, and if so finds other names.
+
+        The name of an `impl` of a trait may have parts that its heading doesn't show.
+        """
+        none, several = NO_FUNCTION.search(told.get("", "")), SEVERAL.search(told.get("", ""))
+        renamed = False
+        for edit in edits:
+            if none and edit.names() == [none[1]] and "::" in none[1]:
+                edit.checked, renamed = [none[1].split("::")[-1]], True
+            elif several and edit.names() == [several[1]]:
+                found = re.findall(r"`\w+::([^`]+)`", several[2])
+                prefix = edit.function.rpartition("::")[0]
+                edit.checked, renamed = [it for it in found if it.startswith(prefix)] or found, True
+        return renamed
 
     def settle(self, edits: list[Edit], told: dict[str, str]) -> None:
         """Notes what the edits came to of which the check says something by itself."""
@@ -194,8 +218,10 @@ class Trial:
             alone = False
             while self.left:
                 made, texts = changed(self.crate.folder, self.left[:1] if alone else self.left)
-                before = len(self.results)
-                self.settle(made, self.check(made, texts, kept))
+                told, before = self.check(made, texts, kept), len(self.results)
+                if self.is_renamed(made, told):
+                    continue
+                self.settle(made, told)
                 alone = len(self.results) == before
                 self.left = [it for it in self.left if it.name not in self.results]
         return self.results
