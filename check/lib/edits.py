@@ -204,12 +204,11 @@ class Trial:
         """Notes what the edits came to of which the check says something by itself."""
         for edit in edits:
             why = verdict_of(edit, told)
-            is_alone = len(edits) == 1
             if why == "proved":
                 self.results[edit.name] = (False, "the function is still proved")
-            elif why.startswith(("not proved", "no proof")) and ("it calls" not in why or is_alone):
+            elif why.startswith(("not proved", "no proof")) and "it calls" not in why:
                 self.results[edit.name] = (True, why)
-            elif is_alone:
+            elif len(edits) == 1:
                 self.results[edit.name] = (False, why or told.get("") or f"the check has no function {edit.function}")
 
     def run(self) -> dict[str, tuple[bool, str]]:
