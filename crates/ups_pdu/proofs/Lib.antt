@@ -16,6 +16,7 @@ pub mod Sequence
 pub mod Sizes
 pub mod Trailing
 pub mod UidText
+pub mod UidWalk
 pub mod UserWays
 pub mod Waiting
 pub mod Whole

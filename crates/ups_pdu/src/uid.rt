@@ -2,7 +2,7 @@
 
 ghost use Rattle.std.specs.Prelude.{◌≡◌, ◌↔◌, ◌≤◌, ◌++◌, ◌-◌, List, ℕ, length, replicate, IsTrue, MatchOption};
 ghost use Rattle.std.specs.List.{list_all, slice_split};
-ghost use Rattle.ups_pdu.specs.Identifier.{is_digit, is_dot, is_component, IsUid, SpellsUid};
+ghost use Rattle.ups_pdu.specs.Identifier.{is_dot, is_component, IsUid, SpellsUid};
 
 use crate::text::without_padding;
 use std::hash::{Hash, Hasher};
@@ -32,22 +32,31 @@ impl Model for Uid {
     ghost inverse_ok = { λ a h. let e = array_again 64 a.bytes a.len h.0 h.1 h.2 in λ i. record { bytes = e.0 i; len = e.1 i } };
 }
 
-fn are_digits(text: &[u8]) -> bool
-    ensures { result ≡ list_all is_digit text.now }
-{
-    text.iter().all(|b| *b >= b'0' && *b <= b'9')
-}
-
-fn is_component(text: &[u8]) -> bool
-    ensures { result ≡ is_component text.now }
-{
-    !text.is_empty() && (text.len() == 1 || text[0] != b'0') && are_digits(text)
-}
-
+/// Returns whether the text is components, separated by dots (PS3.5 section 9.1).
 fn are_components(text: &[u8]) -> bool
     ensures { result ≡ list_all is_component (slice_split is_dot text.now) }
 {
-    text.split(|b| *b == b'.').all(|c| is_component(c))
+    // Whether a component begins here, and whether it has begun with a zero, which nothing may follow.
+    let mut begins = true;
+    let mut is_zero = false;
+    let mut rest = text;
+    while let Some((byte, after)) = rest.split_first() {
+        if *byte == b'.' {
+            if begins {
+                return false;
+            }
+            begins = true;
+            is_zero = false;
+        } else {
+            if is_zero || *byte < b'0' || *byte > b'9' {
+                return false;
+            }
+            is_zero = begins && *byte == b'0';
+            begins = false;
+        }
+        rest = after;
+    }
+    !begins
 }
 
 fn is_uid(text: &[u8]) -> bool
@@ -62,9 +71,7 @@ fn in_place(text: &[u8]) -> [u8; 64]
     ensures { result ≡ text.now ++ replicate (64 - length text.now) 0 }
 {
     let mut bytes = [0; 64];
-    for (i, b) in text.iter().enumerate() {
-        bytes[i] = *b;
-    }
+    bytes[..text.len()].copy_from_slice(text);
     bytes
 }
 
