@@ -48,8 +48,9 @@ fn put_us<A: Allocator + Copy>(
     ensures wrote { OnOk result (out.new.items ≡ out.old.items ++ written_command_element (us_element number value)) }
     ensures held { value < 2 ^ 16 }
 {
-    put_header(out, number, 2)?;
-    out.extend_from_slice(&value.to_le_bytes())?;
+    let [low, high] = number.to_le_bytes();
+    let [first, second] = value.to_le_bytes();
+    out.extend_from_slice(&[0, 0, low, high, 2, 0, 0, 0, first, second])?;
     Ok(())
 }
 
