@@ -7,6 +7,7 @@ mod Goods
 mod Growing
 pub mod Halves
 mod Heads
+pub mod Keeping
 pub mod Laying
 mod Letters
 mod Listings

@@ -1,4 +1,5 @@
 pub mod Building
+pub mod Bytes
 pub mod Code
 pub mod Data
 pub mod Dictionary

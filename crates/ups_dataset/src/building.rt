@@ -15,9 +15,10 @@ use crate::passing::{inside, opened, rest_behind};
 use crate::set::{DataSet, Element, Value};
 use crate::tag::{ITEM_DELIMITATION, SEQUENCE_DELIMITATION, Tag};
 use crate::trimming::trim;
+use crate::value_bytes::ValueBytes;
 use crate::vr::Vr;
 use std::alloc::Allocator;
-use ups_pdu::{Bytes, TransferSyntax};
+use ups_pdu::TransferSyntax;
 
 /// Reads the value that follows a header, and returns it with the VR to keep it under and the bytes that follow.
 #[cycle(building)]
@@ -36,11 +37,7 @@ fn value_of<A: Allocator + Copy>(
 {
     if !is_sequence(vr, len) {
         let (body, rest) = after.split_at(len as usize);
-        return Ok((
-            Value::Bytes(Bytes::from_vec(Vec::from_slice(alloc, body)?)),
-            vr,
-            rest,
-        ));
+        return Ok((Value::Bytes(ValueBytes::copy_of(alloc, body)?), vr, rest));
     }
     let (reach, inner, behind) = opened(len, after);
     let built = items_of(alloc, inside(syntax, vr), level, reach, inner)?;

@@ -17,6 +17,7 @@ mod reading;
 mod set;
 mod tag;
 mod trimming;
+mod value_bytes;
 mod vr;
 mod writing;
 
@@ -28,5 +29,6 @@ pub use set::{DataSet, Element, Value};
 pub use tag::{
     ITEM, ITEM_DELIMITATION, SEQUENCE_DELIMITATION, Tag, the_marks_are_those_of_the_standard,
 };
+pub use value_bytes::ValueBytes;
 pub use vr::Vr;
 pub use writing::write_set;

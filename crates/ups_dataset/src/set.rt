@@ -6,18 +6,19 @@ use crate::measuring::value_depth;
 use crate::merging::merged;
 use crate::putting::{place_of, put, stands_at};
 use crate::tag::Tag;
+use crate::value_bytes::ValueBytes;
 use crate::vr::Vr;
 use crate::writing::set_size;
 use std::alloc::{AllocError, Allocator};
 use std::marker::Model;
-use ups_pdu::{Bytes, TransferSyntax};
+use ups_pdu::TransferSyntax;
 
 /// The value of an element: bytes, or the items of a sequence (PS3.5 section 7.5).
 #[derive(Drop)]
 #[cycle(set)]
 pub enum Value<A: Allocator + Copy> {
     /// The bytes of a value, as they are encoded in a message.
-    Bytes(Bytes<A>),
+    Bytes(ValueBytes<A>),
     /// The items of a sequence.
     Items(Vec<DataSet<A>, A>),
 }
@@ -256,7 +257,7 @@ impl<A: Allocator + Copy> Element<A> {
     ghost use Rattle.ups_dataset.specs.View.{element_view, value_view};
 
     /// Returns an element that holds bytes.
-    pub fn of_bytes(tag: Tag, vr: Vr, value: Bytes<A>) -> Element<A>
+    pub fn of_bytes(tag: Tag, vr: Vr, value: ValueBytes<A>) -> Element<A>
         ensures { element_view result ≡ record { tag = tag; vr = vr; value = bytes value } }
     {
         Element {
@@ -282,7 +283,7 @@ impl<A: Allocator + Copy> Element<A> {
         ensures { element_view result ≡ record { tag = self.now.tag; vr = self.now.vr; value = without_value (value_view self.now.value) } }
     {
         let value = match &self.value {
-            Value::Bytes(_) => Value::Bytes(Bytes::from_vec(Vec::new(alloc))),
+            Value::Bytes(_) => Value::Bytes(ValueBytes::empty()),
             Value::Items(_) => Value::of_items(Vec::new(alloc)),
         };
         Element {

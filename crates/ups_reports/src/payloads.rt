@@ -17,9 +17,8 @@ use ups_dataset::dictionary::{
     PROCEDURE_STEP_PROGRESS_INFORMATION_SEQUENCE, PROCEDURE_STEP_STATE, REASON_FOR_CANCELLATION,
     REQUESTING_AE, SCHEDULED_HUMAN_PERFORMERS_SEQUENCE, SCHEDULED_STATION_NAME_CODE_SEQUENCE,
 };
-use ups_dataset::{DataSet, Element, Tag, Value, Vr};
+use ups_dataset::{DataSet, Element, Tag, Value, ValueBytes, Vr};
 use ups_life::{Entry, Event, EventKind, InputReadiness, Request};
-use ups_pdu::Bytes;
 
 /// The attributes for the reason of a cancel request: a code and a text (PS3.4 CC.2.2).
 const REASONS: [Tag; 2] = [
@@ -36,16 +35,15 @@ const CANCEL_ATTRIBUTES: [Tag; 4] = [
 ];
 
 /// Encodes a text as a value, with a space after it if its length is odd (PS3.5 section 6.2).
-fn padded<A: Allocator + Copy>(alloc: A, text: &[u8]) -> Result<Bytes<A>, AllocError>
+fn padded<A: Allocator + Copy>(alloc: A, text: &[u8]) -> Result<ValueBytes<A>, AllocError>
     ensures value { IfOk result (λ b. b ≡ text_value text.now) }
     ensures even { IfOk result (λ b. (length b % 2) ≡ 0) }
     ensures short { IfOk result (λ b. length b ≤ length text.now + 1) }
 {
-    let mut bytes = Vec::from_slice(alloc, text)?;
-    if text.len() % 2 != 0 {
-        bytes.push(b' ')?;
+    if text.len() % 2 == 0 {
+        return ValueBytes::copy_of(alloc, text);
     }
-    Ok(Bytes::from_vec(bytes))
+    ValueBytes::joined(alloc, text, b" ")
 }
 
 /// Inserts a text element, replacing the one with the same tag if there is one.
@@ -153,7 +151,7 @@ fn no_performer<A: Allocator + Copy>(alloc: A) -> Result<DataSet<A>, AllocError>
 {
     let mut set = DataSet::new(alloc);
     set.replace(Element::of_items(HUMAN_PERFORMER_CODE_SEQUENCE, Vec::new(alloc)))?;
-    let nothing = Bytes::from_vec(Vec::new(alloc));
+    let nothing = ValueBytes::empty();
     set.replace(Element::of_bytes(HUMAN_PERFORMER_ORGANIZATION, Vr::Lo, nothing))?;
     Ok(set)
 }

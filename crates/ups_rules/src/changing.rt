@@ -21,10 +21,10 @@ use ups_dataset::dictionary::{
     PROCEDURE_STEP_PROGRESS_INFORMATION_SEQUENCE, PROCEDURE_STEP_STATE, REASON_FOR_CANCELLATION,
     SOP_CLASS_UID, SOP_INSTANCE_UID, TRANSACTION_UID,
 };
-use ups_dataset::{DataSet, Element, MAX_DEPTH, Tag, Vr};
+use ups_dataset::{DataSet, Element, MAX_DEPTH, Tag, ValueBytes, Vr};
 use ups_life::{ChangeFault, Request, Row, StepUid, Transaction};
 use ups_match::write_dt;
-use ups_pdu::{Bytes, RegisteredUid, Uid};
+use ups_pdu::{RegisteredUid, Uid};
 
 /// The attributes kept of a cancel request: its reason, as a code and as a text (PS3.4 CC.2.2).
 const REASONS: [Tag; 2] = [
@@ -33,15 +33,14 @@ const REASONS: [Tag; 2] = [
 ];
 
 /// Returns a text as a value, followed by the padding `pad` if its length is odd (PS3.5 section 6.2).
-fn padded<A: Allocator + Copy>(alloc: A, pad: u8, text: &[u8]) -> Result<Bytes<A>, AllocError>
+fn padded<A: Allocator + Copy>(alloc: A, pad: u8, text: &[u8]) -> Result<ValueBytes<A>, AllocError>
     ensures value { IfOk result (λ b. b ≡ padded pad text.now) }
     ensures even { IfOk result (λ b. (length b % 2) ≡ 0) }
 {
-    let mut bytes = Vec::from_slice(alloc, text)?;
-    if text.len() % 2 != 0 {
-        bytes.push(pad)?;
+    if text.len() % 2 == 0 {
+        return ValueBytes::copy_of(alloc, text);
     }
-    Ok(Bytes::from_vec(bytes))
+    ValueBytes::joined(alloc, text, &[pad])
 }
 
 /// Returns an element that holds a UID.

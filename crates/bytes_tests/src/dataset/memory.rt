@@ -4,14 +4,15 @@ use std::alloc::{Allocator, Global};
 use std::test::*;
 use ups_dataset::dictionary::*;
 use ups_dataset::*;
-use ups_pdu::{Bytes, TransferSyntax};
+use ups_pdu::TransferSyntax;
 
-/// A set with bytes, a sequence with two items and a group length.
+/// A set with bytes, a sequence with two items and a group length. Its values are too long to be held in place.
 const MIXED: &str =
-    r#"10002000 "LO" 0200 "P1" 74000000 "UL" 0400 00000000 74001612 "SQ" 0000 ffffffff feff00e0 16000000 40005040 "DT" 0e00 "20240229120100" feff00e0 00000000 feffdde0 00000000"#;
+    r#"10002000 "LO" 2000 "P1 OF THE TEACHING HOSPITAL EAST" 74000000 "UL" 0400 00000000 74001612 "SQ" 0000 ffffffff feff00e0 28000000 08000401 "LO" 2000 "CHEST CT WITHOUT CONTRAST MEDIUM" feff00e0 00000000 feffdde0 00000000"#;
 
 /// The text of the set of `MIXED`.
-const DESCRIBED: &str = "00100020=P1 00741216=[00404050=20240229120100 ][] ";
+const DESCRIBED: &str =
+    "00100020=P1_OF_THE_TEACHING_HOSPITAL_EAST 00741216=[00080104=CHEST_CT_WITHOUT_CONTRAST_MEDIUM ][] ";
 
 /// Keys: two that the set of `MIXED` has, and three that it does not have, one of which is a sequence with an item.
 const KEYS: &str =
@@ -165,7 +166,7 @@ fn growths_of_writing<A: Allocator + Copy>(
 }
 
 /// The text of the elements of `MIXED` except for the patient's ID.
-const SEQUENCE: &str = "00741216=[00404050=20240229120100 ][] ";
+const SEQUENCE: &str = "00741216=[00080104=CHEST_CT_WITHOUT_CONTRAST_MEDIUM ][] ";
 
 /// Returns the number of growths of writing the set of `MIXED`.
 fn growths_of_writing_mixed(rt: &impl AllocGlobal) -> Result<u64, Fail> {
@@ -193,7 +194,7 @@ fn is_put<A: Allocator + Copy>(
         return Err("no element of a set".into());
     }
     heap.refuse(NONE);
-    let value = Bytes::copy_of(alloc, b"AB")?;
+    let value = ValueBytes::copy_of(alloc, b"AB")?;
     heap.refuse(1);
     Ok(set.replace(Element::of_bytes(tag, Vr::Lo, value)).is_ok())
 }
@@ -280,6 +281,40 @@ fn what_a_set_has_not_is_answered_without_a_value(rt: HostRuntime) -> Result<(),
         &rt,
         Job::Answer,
         3,
-        "00080018= 00100020=P1 00404005= 00404033= 00741216=[00404050=20240229120100 ][] ",
+        "00080018= 00100020=P1_OF_THE_TEACHING_HOSPITAL_EAST 00404005= 00404033= 00741216=[00080104=CHEST_CT_WITHOUT_CONTRAST_MEDIUM ][] ",
     )
+}
+
+/// Returns whether a value is held in place: it is these bytes, although each growth is refused.
+fn is_in_place<A: Allocator + Copy>(
+    heap: &Refusing<Global>,
+    alloc: A,
+    front: &[u8],
+    back: &[u8],
+) -> bool {
+    heap.refuse_above(0);
+    let value = ValueBytes::joined(alloc, front, back);
+    heap.refuse_above(usize::MAX);
+    match value {
+        Ok(value) => value.as_slice().starts_with(front) && value.as_slice().ends_with(back),
+        Err(_) => false,
+    }
+}
+
+/// A value of 30 bytes.
+const THIRTY: &[u8] = b"CHEST CT WITHOUT CONTRAST MEDI";
+
+#[test]
+fn thirty_bytes_take_no_memory_and_more_do(rt: HostRuntime) -> Result<(), Fail> {
+    let heap = Refusing::new(rt.alloc());
+    assert!(rt;
+        is_in_place(&heap, &heap, THIRTY, b"") && is_in_place(&heap, &heap, &THIRTY[1..], b"M")
+    );
+    assert!(rt;
+        !is_in_place(&heap, &heap, THIRTY, b"U")
+            && !is_in_place(&heap, &heap, b"", b"CHEST CT WITHOUT CONTRAST MEDIUM")
+    );
+    let copy = ValueBytes::copy_of(&heap, THIRTY)?;
+    assert!(rt; copy.len() == 30 && copy.as_slice() == THIRTY);
+    Ok(())
 }

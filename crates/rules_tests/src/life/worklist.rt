@@ -130,7 +130,7 @@ fn found_text<'a>(
     Ok(all_described(&sets, rt)?)
 }
 
-/// Returns whether keys find what a text says, with more than 20 growths, and nothing without entries.
+/// Returns whether keys find what a text says, with more than 5 growths, and nothing without entries.
 fn finds<'a>(
     rt: &impl AllocGlobal,
     heap: &'a Refusing<Global>,
@@ -139,7 +139,7 @@ fn finds<'a>(
     wanted: &str,
 ) -> Result<bool, Fail> {
     Ok(
-        growths_of_finding(heap, entries, keys)? > 20
+        growths_of_finding(heap, entries, keys)? > 5
             && found_text(rt, heap, &entries[..0], keys)?.is_empty()
             && found_text(rt, heap, entries, keys)?.as_str() == wanted,
     )

@@ -72,7 +72,7 @@ set_of-loop-end-preserved g t c = rw (c.from-from.ensures, c.number.ensures, c.i
 
 pub value_of-returns-then-not-is_sequence : goal.value_of-returns-then-not-is_sequence
 value_of-returns-then-not-is_sequence g t c =
-    let e : c.from_vec.result ≡ c.split_at.result.0.now = search rules in
+    let e : c.in_ok-copy_of.field-0 ≡ c.split_at.result.0.now = c.in_ok-copy_of.ensures in
     rw e (record { all = bytes c.split_at.result.0.now; spelled = bytes_data c.args.syntax c.args.level c.args.vr c.args.len c.args.after.now c.split_at.result.0.now c.split_at.result.1.now (search rules) (c.requires.bytes (search rules)) c.requires.fits (search rules) (search rules); is = refl })
 
 pub value_of-returns-in_err-built : goal.value_of-returns-in_err-built
