@@ -41,7 +41,7 @@ pub(crate) fn enter<A: Allocator + Copy>(
 {
     make_index_room(index, &decision.change)?;
     make_room(configuration, history, tables, &call, &decision.plan)?;
-    reserve.leave(&call.request)?;
+    reserve.leave(&call.request, history.len())?;
     let (reply, plan, change) = decision.into_parts();
     change_index(index, change, plan.removed());
     carry_out(configuration, history, tables, call, plan);

@@ -25,6 +25,18 @@ const SMALL: usize = 1_024;
 /// The number of such blocks that a creation leaves beside the large ones: the rest of the reserve.
 const SMALL_BLOCKS: usize = 2_048;
 
+/// The number of entries for which one look ahead serves.
+const ENTRIES: usize = 64;
+
+/// The size of a data set, in bytes, up to which an entry counts as one of them.
+const SMALL_SET: u64 = 16_384;
+
+/// What so many entries take at most, in bytes, beside what the tables grow by: 22 bytes for each of their data sets.
+const AHEAD: usize = 33_554_432;
+
+/// What the tables take for an entry at most, in bytes, if all of them grow at once.
+const GROWTH: usize = 4_096;
+
 /// Allocates `count` blocks of a size.
 ///
 /// Errors: if memory runs out.
@@ -50,7 +62,20 @@ fn probe_blocks<A: Allocator + Copy>(alloc: A) -> Result<(), AllocError> {
     Ok(())
 }
 
-/// The reserve: a block that grows to `SIZE` bytes at each creation, and shrinks again at once.
+/// Returns the size of the data set of a request, in bytes, or the greatest number for a subscription, whose keys are
+/// not measured.
+fn set_size<A: Allocator + Copy>(request: &Request<A>) -> u64 {
+    match request {
+        Request::Subscribe { .. } => u64::MAX,
+        Request::Create { attributes, .. } | Request::Set { attributes, .. } => attributes.size(),
+        Request::AskCancel { reasons, .. } => reasons.size(),
+        _ => 0,
+    }
+}
+
+/// The reserve: a block that grows to `SIZE` bytes at a creation, and shrinks again at once. If it can grow by all that
+/// the next entries may take beside that, it serves for these too, since to grow and to shrink takes two calls of the
+/// system, and threads that read messages wait for them.
 ///
 /// If a new block were allocated and freed each time, the C library would from then on take blocks up to that size from
 /// its own heap. It copies such a block when it grows, unlike one that the system has mapped: the largest tables would
@@ -59,6 +84,8 @@ fn probe_blocks<A: Allocator + Copy>(alloc: A) -> Result<(), AllocError> {
 pub(crate) struct Reserve<A: Allocator + Copy> {
     alloc: A,
     block: Vec<u8, A>,
+    /// The number of entries up to which the last look ahead serves.
+    until: usize,
 }
 
 impl<A: Allocator + Copy> Reserve<A> {
@@ -67,25 +94,52 @@ impl<A: Allocator + Copy> Reserve<A> {
         Reserve {
             alloc,
             block: Vec::new(alloc),
+            until: 0,
         }
+    }
+
+    // Returns whether so many bytes can be allocated as one block.
+    fn is_one_block(&mut self, size: usize) -> bool {
+        let is_one = self.block.reserve_exact(size).is_ok();
+        self.block.shrink_to(KEPT);
+        is_one
     }
 
     // Returns whether the reserve can be allocated: as one block, or else as 14 of 1 MiB and 2,048 of 1 KiB.
     fn is_there(&mut self) -> bool {
-        let is_whole = self.block.reserve_exact(SIZE).is_ok();
-        self.block.shrink_to(KEPT);
-        is_whole || probe_blocks(self.alloc).is_ok()
+        self.is_one_block(SIZE) || probe_blocks(self.alloc).is_ok()
     }
 
-    /// Checks that a request that creates a step leaves the reserve. Every other request may use the reserve, which is
-    /// for requests on the existing steps.
+    // Returns whether the reserve can be allocated beside what the next entries may take, of which `entries` were before.
+    fn is_far(&mut self, entries: usize) -> bool {
+        let growth = entries.saturating_mul(GROWTH);
+        self.is_one_block(growth.saturating_add(SIZE + AHEAD))
+    }
+
+    // Returns whether the reserve is left behind `entries` entries: by the last look ahead, another one, or as it is.
+    fn is_left(&mut self, entries: usize) -> bool {
+        if entries < self.until {
+            return true;
+        }
+        if self.is_far(entries) {
+            self.until = entries.saturating_add(ENTRIES);
+            return true;
+        }
+        self.is_there()
+    }
+
+    /// Checks that a request that creates a step leaves the reserve, after `entries` entries. Every other request may use
+    /// the reserve, which is for requests on the existing steps.
     ///
     /// Errors: if a request that creates a step does not leave it. Any other request succeeds.
-    pub(crate) fn leave(&mut self, request: &Request<A>) -> Result<(), AllocError>
+    pub(crate) fn leave(&mut self, request: &Request<A>, entries: usize) -> Result<(), AllocError>
         ensures request { OnErr result (is_create request.now ≡ true) }
     {
+        if set_size(request) > SMALL_SET {
+            self.until = 0;
+        }
         match request {
-            Request::Create { .. } if !self.is_there() => Err(AllocError),
+            Request::Create { .. } if !self.is_left(entries) => Err(AllocError),
             _ => Ok(()),
         }
     }
