@@ -25,7 +25,7 @@ pub(crate) const ROUND: u64 = 1_000;
 pub(crate) const REST: u64 = 100;
 
 /// The maximum number of microseconds to wait, after a commit, until as many entries are asked for as with it.
-const GATHERING: u64 = 200;
+const GATHERING: u64 = 1_000;
 
 /// The maximum number of entries to commit at once, which are recorded in one turn.
 const GROUP: usize = 256;
