@@ -34,6 +34,28 @@ const END_OF_COMMAND: u8 = 3;
 /// The status of a response that others to the same request follow (PS3.4 section C.4.1.1.4).
 const PENDING: u16 = 0xff00;
 
+/// The length of the header of an element of a command set, in bytes, and the element number of Status (0000,0900)
+/// (PS3.7 section 6.3.1).
+const HEADER_LENGTH: usize = 8;
+
+const STATUS: u16 = 0x0900;
+
+/// Returns the status in the command set of a response, or None if it has none. The rest is not read.
+fn status_in(command: &[u8]) -> Option<u16> {
+    let mut rest = command;
+    while rest.len() >= HEADER_LENGTH {
+        let (header, after) = rest.split_at(HEADER_LENGTH);
+        let number = u16::from_le_bytes([header[2], header[3]]);
+        let len = u16::from_le_bytes([header[4], header[5]]) as usize;
+        let value = after.get(..len)?;
+        if number == STATUS {
+            return Some(u16::from_le_bytes([*value.first()?, *value.get(1)?]));
+        }
+        rest = &after[len..];
+    }
+    None
+}
+
 /// Returns the called AE title from the beginning of an A-ASSOCIATE-RQ, or None if the bytes encode none (PS3.8 section
 /// 9.3.2).
 fn called_title(beginning: &[u8]) -> Option<Ae> {
@@ -204,17 +226,14 @@ impl<'a> Account<'a> {
         if pending.as_slice() == bytes {
             return;
         }
-        let Ok(command) = read_command(alloc, bytes) else {
+        let Some(status) = status_in(bytes) else {
             return;
         };
-        let Command::Response(response) = &command else {
-            return;
-        };
-        if response.status == PENDING {
+        if status == PENDING {
             pending.clear();
             let _ = pending.extend_from_slice(bytes);
         } else {
-            self.note_response(rt, alloc, response);
+            self.note_response(rt, alloc, status, bytes);
         }
     }
 
@@ -227,14 +246,24 @@ impl<'a> Account<'a> {
         }
     }
 
-    /// Counts a response that answers a request, and may log it.
-    fn note_response<R: Log>(&self, rt: &R, alloc: Global, response: &ResponseCommand) {
+    /// Counts a response that answers a request, and may log it: only then is all of it read.
+    fn note_response<R: Log>(&self, rt: &R, alloc: Global, status: u16, bytes: &[u8]) {
         self.requests.set(self.requests.get().saturating_add(1));
         self.tally.add_request();
-        let is_refused = is_failure(response.status);
+        let is_refused = is_failure(status);
         let is_told = is_refused && self.tally.add_refusal(self.peer(alloc));
         if self.is_verbose || is_told {
             let level = if is_refused { Level::Warn } else { Level::Info };
+            self.tell_command(rt, alloc, level, bytes);
+        }
+    }
+
+    /// Logs a request by the command set of its response.
+    fn tell_command<R: Log>(&self, rt: &R, alloc: Global, level: Level, bytes: &[u8]) {
+        let Ok(command) = read_command(alloc, bytes) else {
+            return;
+        };
+        if let Command::Response(response) = &command {
             self.tell_response(rt, level, response);
         }
     }
