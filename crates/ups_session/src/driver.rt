@@ -23,8 +23,8 @@ use ups_pdu::{Pdu, Pdvs};
 use ups_service::Service;
 use ups_ulstate::UlEvent;
 
-/// Processes an indication, and takes what it holds: the party reacts, and what it sends is written, or the call that it
-/// makes is settled. The buffer is for the bytes of one PDU after the other, as in all functions here.
+/// Processes an indication, and takes the PDV that it holds: the party reacts, and what it sends is written, or the call
+/// that it makes is settled. The buffer is for the bytes of one PDU after the other, as in all functions here.
 ///
 /// Errors: a failed write; out of memory.
 fn perform<A: Allocator + Copy, W: Write, S: Service<A>, G: Gate, P: Party<A>>(

@@ -75,7 +75,7 @@ pub(crate) trait Party<A: Allocator + Copy> {
         ensures ready { OnOk result (is_ready self.new) }
         ensures setup { setup self.new ≡ setup self.old };
 
-    /// Reacts to an indication, by the state transition table (PS3.8 section 9.2), and takes what the indication holds.
+    /// Reacts to an indication, by the state transition table (PS3.8 section 9.2), and takes the PDV that it holds.
     ///
     /// Errors: out of memory.
     fn react(
