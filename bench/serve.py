@@ -26,7 +26,7 @@ import tempfile
 import time
 
 sys.path.insert(0, os.path.join(os.path.dirname(os.path.dirname(os.path.abspath(__file__))), "check/lib"))
-from dicom import create, echo, find, get
+from dicom import create, echo, find, get, set_attributes
 from machine import free_port, holds, listens, processor
 from peer import ECHO_ON, PULL_ON, PUSH_ON, Peer, a_step, claim, finish, progress, told
 from server import Server
@@ -50,6 +50,10 @@ def one_find(peer, me, i):
 
 def one_find_of_all(peer, me, i):
     return peer.ask(find(PULL_ON, 1, told(0x0008, 0x0018, b"UI", b"") + told(0x0010, 0x0020, b"LO", b"")))
+
+
+def one_set(peer, me, i):
+    return peer.ask(set_attributes(PULL_ON, 1, b"1.2.0.%d" % (i % 10), told(0x0074, 0x1204, b"LO", b"MR READ ")))
 
 
 def one_create(peer, me, i):
@@ -216,6 +220,7 @@ def main():
         measure(lambda _: Storescp(), "C-ECHO, of DCMTK's storescp", 0, 10_000, one_echo, most=1)
     measure(start, "open, C-ECHO, release", 0, 1_000, one_echo, again=True)
     measure(start, "N-GET, 10 steps", 10, 5_000, one_get)
+    measure(start, "N-SET, 10 steps", 10, 2_000, one_set)
     measure(start, "N-CREATE", 0, 200, one_create)
     measure(start, "C-FIND by patient ID, 10 steps", 10, 2_000, one_find)
     measure(start, "C-FIND by patient ID, 1,000 steps", 1000, 500, one_find)

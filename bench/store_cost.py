@@ -91,10 +91,12 @@ KINDS = {
 
 @dataclasses.dataclass(frozen=True)
 class Cost:
-    """A server's processor time for each request, the system's part of it, and the requests a second."""
+    """A server's processor time for each request, the system's part of it, that of the thread that commits, and the requests a
+    second."""
 
     used: float
     of_system: float
+    of_commits: float
     rate: float
 
 
@@ -102,6 +104,12 @@ def of_system(pid: int) -> float:
     """Returns the processor seconds that the system has run for a process."""
     with open(f"/proc/{pid}/stat", encoding="utf-8") as it:
         return int(it.read().rpartition(") ")[2].split()[12]) / os.sysconf("SC_CLK_TCK")
+
+
+def of_commits(pid: int) -> float:
+    """Returns the processor seconds of a server's first thread, which sweeps, and commits if there is a store."""
+    with open(f"/proc/{pid}/task/{pid}/schedstat", encoding="utf-8") as it:
+        return int(it.read().split()[0]) / 1e9
 
 
 def measured(server: Server, pid: int, kind: str, count: int) -> Cost:
@@ -113,13 +121,14 @@ def measured(server: Server, pid: int, kind: str, count: int) -> Cost:
     for it in askers:
         it.start()
     barrier.wait(60)
-    before, before_of_system, began = processor(pid), of_system(pid), time.monotonic()
+    before, began = (processor(pid), of_system(pid), of_commits(pid)), time.monotonic()
     barrier.wait(600)
-    seconds, used, system = time.monotonic() - began, processor(pid) - before, of_system(pid) - before_of_system
+    seconds, after = time.monotonic() - began, (processor(pid), of_system(pid), of_commits(pid))
     for it in askers:
         it.join(60)
     requests = ASSOCIATIONS * count * each
-    return Cost(used / requests, system / requests, requests / seconds)
+    used, system, commits = ((now - then) / requests for now, then in zip(after, before))
+    return Cost(used, system, commits, requests / seconds)
 
 
 def slowed(program: list[str], slow: int) -> list[str]:
@@ -151,8 +160,9 @@ def run(program: list[str], given: argparse.Namespace, results: Results) -> None
         sync = sync_time(folder) + given.slow / 1e6
         wanted = least_rate(sync)
         print(f"a sync of 4 KiB takes {sync * 1000:.3f} ms in the median; load {os.getloadavg()[0]:.1f} on {os.cpu_count()} processors")
-        print(f"| {ASSOCIATIONS} associations | without a store, of the system | with one | times | a second without | with one |", flush=True)
-        print("|---|---|---|---|---|---|", flush=True)
+        print(f"| {ASSOCIATIONS} associations | without a store, of the system | with one | to commit | times | a second without | with one |",
+              flush=True)
+        print("|---|---|---|---|---|---|---|", flush=True)
         ratios, rates = {}, {}
         for kind in KINDS:
             without, stored = [], []
@@ -161,8 +171,8 @@ def run(program: list[str], given: argparse.Namespace, results: Results) -> None
                 stored.append(one_run(slowed(program, given.slow), folder, kind, given.requests))
             one, other = min(without, key=lambda it: it.used), min(stored, key=lambda it: it.used)
             rates[kind], ratios[kind] = max(it.rate for it in stored), other.used / one.used
-            print(f"| {kind} | {told_of(one)} | {told_of(other)} | {ratios[kind]:.2f} | {max(it.rate for it in without):,.0f} | "
-                  f"{rates[kind]:,.0f} |", flush=True)
+            print(f"| {kind} | {told_of(one)} | {told_of(other)} | {other.of_commits * 1e6:.1f} us | {ratios[kind]:.2f} | "
+                  f"{max(it.rate for it in without):,.0f} | {rates[kind]:,.0f} |", flush=True)
         after = sync_time(folder) + given.slow / 1e6
         print(f"a sync took {after * 1000:.3f} ms in the median behind it", flush=True)
     if not given.judge:
