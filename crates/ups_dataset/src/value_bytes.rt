@@ -39,7 +39,7 @@ impl FewBytes {
         }
     }
 
-    /// Copies bytes, and others behind them.
+    /// Copies bytes, followed by other bytes.
     fn joined(front: &[u8], back: &[u8]) -> FewBytes
         requires { length front.now + length back.now ≤ 30 }
         ensures { result ≡ front.now ++ back.now }
@@ -62,7 +62,7 @@ impl FewBytes {
     }
 }
 
-/// Copies bytes to the heap, and others behind them.
+/// Copies bytes to the heap, followed by other bytes.
 ///
 /// Errors: if memory runs out.
 fn joined_on_heap<A: Allocator + Copy>(
@@ -135,7 +135,7 @@ impl<A: Allocator + Copy> ValueBytes<A> {
         Ok(ValueBytes { held })
     }
 
-    /// Copies bytes, and others behind them.
+    /// Copies bytes, followed by other bytes.
     ///
     /// # Errors
     ///

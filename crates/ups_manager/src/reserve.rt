@@ -31,7 +31,7 @@ const ENTRIES: usize = 64;
 /// The size of a data set, in bytes, up to which an entry counts as one of them.
 const SMALL_SET: u64 = 16_384;
 
-/// What so many entries take at most, in bytes, beside what the tables grow by: 22 bytes for each of their data sets.
+/// What so many entries take at most, in bytes, beside what the tables grow by: 22 for each byte of their data sets.
 const AHEAD: usize = 33_554_432;
 
 /// What the tables take for an entry at most, in bytes, if all of them grow at once.
@@ -110,13 +110,13 @@ impl<A: Allocator + Copy> Reserve<A> {
         self.is_one_block(SIZE) || probe_blocks(self.alloc).is_ok()
     }
 
-    // Returns whether the reserve can be allocated beside what the next entries may take, of which `entries` were before.
+    // Returns whether the reserve can be allocated beside what the next entries may take, after `entries` entries.
     fn is_far(&mut self, entries: usize) -> bool {
         let growth = entries.saturating_mul(GROWTH);
         self.is_one_block(growth.saturating_add(SIZE + AHEAD))
     }
 
-    // Returns whether the reserve is left behind `entries` entries: by the last look ahead, another one, or as it is.
+    // Returns whether the reserve is left after `entries` entries: by the last look ahead, another one, or as it is.
     fn is_left(&mut self, entries: usize) -> bool {
         if entries < self.until {
             return true;
