@@ -85,3 +85,37 @@ fn each_refused_growth_is_memory(rt: HostRuntime) -> Result<(), Fail> {
     check_growths(&rt, ACCEPTED)?;
     check_growths(&rt, CREATE)
 }
+
+/// Returns the number of PDVs and of bytes that are read of a P-DATA-TF, or None of another PDU.
+fn read_as_data<A: Allocator + Copy>(
+    alloc: A,
+    bytes: &[u8],
+) -> Result<Option<(usize, usize)>, PduFault> {
+    match read_data(alloc, bytes)? {
+        Some((pdvs, len)) => Ok(Some((pdvs.as_slice().len(), len))),
+        None => Ok(None),
+    }
+}
+
+/// Returns what is read of the PDU of a text as a P-DATA-TF.
+fn as_data(rt: &impl AllocGlobal, text: &str) -> Result<Option<(usize, usize)>, Fail> {
+    let bytes = bytes_of(rt, text)?;
+    Ok(read_as_data(rt.alloc(), &bytes)?)
+}
+
+#[test]
+fn only_a_p_data_tf_is_read_as_data(rt: HostRuntime) -> Result<(), Fail> {
+    assert_eq!(rt; as_data(&rt, CREATE)?, Some((1, 104)));
+    assert_eq!(rt; as_data(&rt, REQUEST)?, None);
+    assert_eq!(rt; as_data(&rt, "05 00 00000004 00000000")?, None);
+    Ok(())
+}
+
+#[test]
+fn a_refused_growth_of_data_is_memory(rt: HostRuntime) -> Result<(), Fail> {
+    let bytes = bytes_of(&rt, CREATE)?;
+    let heap = Refusing::new(rt.alloc());
+    heap.refuse(1);
+    assert_eq!(rt; read_as_data(&heap, &bytes), Err(PduFault::Memory));
+    Ok(())
+}

@@ -42,7 +42,7 @@ pub use lists::{AnsweredContexts, ProposedContexts, Roles, Uids};
 pub use number::{be_u16_at, be_u32_at, le_u16_at, le_u32_at};
 pub use pdu::Pdu;
 pub use pdv::{Pdv, Pdvs};
-pub use reading::read_pdu;
+pub use reading::{read_data, read_pdu};
 pub use registered::RegisteredUid;
 pub use syntax::TransferSyntax;
 pub use text::{is_padding, without_padding};

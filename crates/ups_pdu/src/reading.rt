@@ -1,7 +1,9 @@
 //! Reading a PDU (PS3.8 section 9.3).
 
-ghost use Rattle.std.specs.Prelude.{◌≡◌, ◌≤◌, ℕ, MatchResult, IfOk, IfErr, length, take};
+ghost use Rattle.std.specs.Prelude.{◌≡◌, ◌≤◌, ℕ, List, MatchOption, MatchResult, IfOk, IfErr, length, take};
 ghost use Rattle.ups_pdu.specs.declared.pdu.Pdu.{Pdu};
+ghost use Rattle.ups_pdu.specs.declared.pdu.Pdu.TheVariants.{Data};
+ghost use Rattle.ups_pdu.specs.declared.pdv.Pdv.{Pdv};
 ghost use Rattle.ups_pdu.specs.declared.fault.PduFault.TheVariants.{Memory};
 ghost use Rattle.ups_pdu.specs.Lengths.{LengthsFill};
 ghost use Rattle.ups_pdu.specs.Spelling.{Gives, SpellsData, IsBody, IsFront, SpellsPdu, IsFault};
@@ -83,4 +85,28 @@ pub fn read_pdu<A: Allocator + Copy>(alloc: A, bytes: &[u8]) -> Result<(Pdu<A>, 
     ensures fault { IfErr result (IsFault A bytes.now) }
 {
     front_of(alloc, bytes)
+}
+
+/// Reads the P-DATA-TF at the front of the bytes (PS3.8 section 9.3.5), and returns its PDVs with the number of its
+/// bytes, or None if the PDU at the front has another type. It takes less time than `read_pdu`, since PDVs take less
+/// room than the largest PDU.
+///
+/// # Errors
+///
+/// Those of `read_pdu`. A PDU of another type is not read beyond its header.
+pub fn read_data<A: Allocator + Copy>(
+    alloc: A,
+    bytes: &[u8],
+) -> Result<Option<(Pdvs<A>, usize)>, PduFault>
+    ensures { MatchResult result (λ found. MatchOption found ((pdvs : List (Pdv A)) → (n : ℕ) → IsFront bytes.now (Data pdvs) n → ⊥) (λ x. IsFront bytes.now (Data x.0) x.1)) (IsFault A bytes.now) }
+{
+    let (kind, body, _) = split_pdu(bytes)?;
+    let PduKind::Data = kind else {
+        return Ok(None);
+    };
+    if !lengths_fill(kind, body) {
+        return Err(PduFault::BadLength);
+    }
+    let pdvs = data_of(alloc, body)?;
+    Ok(Some((pdvs, 6 + body.len())))
 }

@@ -1,8 +1,8 @@
 //! Unique identifiers.
 
-ghost use Rattle.std.specs.Prelude.{◌≡◌, ◌↔◌, ◌≤◌, ◌++◌, ◌-◌, List, ℕ, length, replicate, IsTrue, MatchOption};
-ghost use Rattle.std.specs.List.{list_all, slice_split};
-ghost use Rattle.ups_pdu.specs.Identifier.{is_dot, is_component, IsUid, SpellsUid};
+ghost use Rattle.std.specs.Prelude.{◌≡◌, ◌↔◌, ◌≤◌, ◌++◌, ◌-◌, ◌&&◌, ◌==◌, nat_lt, slice_index, List, ℕ, length, replicate, IsTrue, MatchOption};
+ghost use Rattle.std.specs.List.{list_all, prefix_len, slice_split};
+ghost use Rattle.ups_pdu.specs.Identifier.{is_digit, is_dot, is_component, IsUid, SpellsUid};
 
 use crate::text::without_padding;
 use std::hash::{Hash, Hasher};
@@ -32,31 +32,41 @@ impl Model for Uid {
     ghost inverse_ok = { λ a h. let e = array_again 64 a.bytes a.len h.0 h.1 h.2 in λ i. record { bytes = e.0 i; len = e.1 i } };
 }
 
+/// Returns the number of digits at the front of a text.
+fn digits_len(text: &[u8]) -> usize
+    ensures len { result ≡ prefix_len is_digit text.now }
+    ensures bound { result ≤ length text.now }
+{
+    text.iter()
+        .take_while(|byte| b'0' <= **byte && **byte <= b'9')
+        .count()
+}
+
+/// Returns whether more digits follow a zero, which a component does not begin with (PS3.5 section 9.1).
+fn has_leading_zero(digits: &[u8]) -> bool
+    ensures { result ≡ (nat_lt 1 (length digits.now) && (slice_index digits.now 0 == 48)) }
+{
+    digits.len() > 1 && digits[0] == b'0'
+}
+
 /// Returns whether the text is components, separated by dots (PS3.5 section 9.1).
 fn are_components(text: &[u8]) -> bool
     ensures { result ≡ list_all is_component (slice_split is_dot text.now) }
 {
-    // Whether a component begins here, and whether it has begun with a zero, which nothing may follow.
-    let mut begins = true;
-    let mut is_zero = false;
     let mut rest = text;
-    while let Some((byte, after)) = rest.split_first() {
-        if *byte == b'.' {
-            if begins {
-                return false;
-            }
-            begins = true;
-            is_zero = false;
-        } else {
-            if is_zero || *byte < b'0' || *byte > b'9' {
-                return false;
-            }
-            is_zero = begins && *byte == b'0';
-            begins = false;
+    loop {
+        let (digits, behind) = rest.split_at(digits_len(rest));
+        if digits.is_empty() || has_leading_zero(digits) {
+            return false;
+        }
+        let Some((byte, after)) = behind.split_first() else {
+            return true;
+        };
+        if *byte != b'.' {
+            return false;
         }
         rest = after;
     }
-    !begins
 }
 
 fn is_uid(text: &[u8]) -> bool
