@@ -252,7 +252,7 @@ fn check_others<A: Allocator + Copy>(
     tag: Tag,
     wanted: &str,
 ) -> Result<(), Fail> {
-    let others = set.without(tag)?;
+    let others = set.without(tag, 0)?;
     if others.get(tag).is_some() {
         return Err("the tag is kept".into());
     }
@@ -307,7 +307,7 @@ fn check_unchanged<A: Allocator + Copy>(
     alloc: A,
     set: &DataSet<A>,
 ) -> Result<(), Fail> {
-    let unchanged = set.without(TRANSACTION_UID)?;
+    let unchanged = set.without(TRANSACTION_UID, 0)?;
     check_written(rt, alloc, TransferSyntax::Implicit, &unchanged, STEP)
 }
 

@@ -4,7 +4,6 @@ ghost use Rattle.std.specs.Prelude.{◌≡◌, IfOk};
 ghost use Rattle.ups_dataset.specs.View.{element_view, value_view};
 
 use crate::set::{DataSet, Element, Value};
-use crate::value_bytes::ValueBytes;
 use std::alloc::{AllocError, Allocator};
 
 /// Copies a data set.
@@ -47,7 +46,7 @@ pub(crate) fn copy_value<A: Allocator + Copy>(
     ensures { IfOk result (λ v. value_view v ≡ value_view value.now) }
 {
     match value {
-        Value::Bytes(bytes) => Ok(Value::Bytes(ValueBytes::copy_of(alloc, bytes.as_slice())?)),
+        Value::Bytes(bytes) => Ok(Value::Bytes(bytes.copy(alloc)?)),
         Value::Items(sets) => {
             let mut copies = Vec::with_capacity(alloc, sets.len())?;
             for set in sets {

@@ -172,6 +172,7 @@ fn item_fault(level: u8, len: u32, room: usize) -> Option<SetFault>
 }
 
 /// Reads the header of the element at the front, and returns its tag, VR and length with the bytes that follow.
+#[inline(always)]
 pub(crate) fn known_at(
     syntax: TransferSyntax,
     from: u64,

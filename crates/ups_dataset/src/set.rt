@@ -185,16 +185,16 @@ impl<A: Allocator + Copy> DataSet<A> {
         Ok(DataSet::from_vec(elements))
     }
 
-    /// Returns a copy of the elements with other tags than this one.
+    /// Returns a copy of the elements with other tags than this one, and room for `room` elements more.
     ///
     /// # Errors
     ///
     /// If memory runs out.
-    pub fn without(&self, tag: Tag) -> Result<DataSet<A>, AllocError>
+    pub fn without(&self, tag: Tag, room: usize) -> Result<DataSet<A>, AllocError>
         ensures { IfOk result (λ s. s ≡ filter (λ e. not (is_tag e.tag tag)) self.now) }
     {
         let alloc = *self.elements.allocator();
-        let mut elements = Vec::with_capacity(alloc, self.elements.len())?;
+        let mut elements = Vec::with_capacity(alloc, self.elements.len().saturating_add(room))?;
         for element in &self.elements {
             if element.tag != tag {
                 elements.push(copy_element(alloc, element)?)?;

@@ -68,9 +68,9 @@ impl Tag {
     pub fn put<A: Allocator + Copy>(self, out: &mut Vec<u8, A>) -> Result<(), AllocError>
         ensures { OnOk result (out.new.items ≡ out.old.items ++ tag_bytes self) }
     {
-        out.extend_from_slice(&self.group.to_le_bytes())?;
-        out.extend_from_slice(&self.element.to_le_bytes())?;
-        Ok(())
+        let [group, high_group] = self.group.to_le_bytes();
+        let [element, high_element] = self.element.to_le_bytes();
+        out.extend_from_slice(&[group, high_group, element, high_element])
     }
 }
 

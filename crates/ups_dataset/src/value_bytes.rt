@@ -54,6 +54,16 @@ impl FewBytes {
         }
     }
 
+    /// Returns a copy. It copies the room for 30 bytes, which takes less time than only those that it holds.
+    fn copy(&self) -> FewBytes
+        ensures { result ≡ self.now }
+    {
+        FewBytes {
+            bytes: self.bytes,
+            len: self.len,
+        }
+    }
+
     /// Returns the bytes as a slice.
     fn as_slice(&self) -> &[u8]
         ensures { result.now ≡ self.now }
@@ -72,7 +82,8 @@ fn joined_on_heap<A: Allocator + Copy>(
 ) -> Result<Vec<u8, A>, AllocError>
     ensures { IfOk result (λ v. v.items ≡ front.now ++ back.now) }
 {
-    let mut bytes = Vec::from_slice(alloc, front)?;
+    let mut bytes = Vec::with_capacity(alloc, front.len().saturating_add(back.len()))?;
+    bytes.extend_from_slice(front)?;
     bytes.extend_from_slice(back)?;
     Ok(bytes)
 }
@@ -148,6 +159,21 @@ impl<A: Allocator + Copy> ValueBytes<A> {
             Held::InPlace(FewBytes::joined(front, back))
         } else {
             Held::OnHeap(joined_on_heap(alloc, front, back)?)
+        };
+        Ok(ValueBytes { held })
+    }
+
+    /// Returns a copy.
+    ///
+    /// # Errors
+    ///
+    /// If there are more than 30 bytes, and memory runs out.
+    pub(crate) fn copy(&self, alloc: A) -> Result<ValueBytes<A>, AllocError>
+        ensures { IfOk result (λ b. b ≡ self.now) }
+    {
+        let held = match &self.held {
+            Held::InPlace(few) => Held::InPlace(few.copy()),
+            Held::OnHeap(bytes) => Held::OnHeap(Vec::from_slice(alloc, bytes)?),
         };
         Ok(ValueBytes { held })
     }

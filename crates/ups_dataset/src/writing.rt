@@ -1,9 +1,9 @@
 //! Writing data sets, with defined lengths (PS3.5 sections 7.1 and 7.5).
 
-ghost use Rattle.std.specs.Prelude.{◌≡◌, ◌<◌, ◌^◌, ◌++◌, length, min, OnOk, IfOk};
+ghost use Rattle.std.specs.Prelude.{◌≡◌, ◌<◌, ◌^◌, ◌++◌, true, length, min, OnOk, IfOk};
 ghost use Rattle.ups_pdu.specs.declared.syntax.TransferSyntax.TheVariants.{Explicit};
 ghost use Rattle.ups_dataset.specs.View.{value_view, element_view};
-ghost use Rattle.ups_dataset.specs.Written.{written, written_length, written_head, written_data, written_element, sequence_item, KeepsVrs};
+ghost use Rattle.ups_dataset.specs.Written.{written, written_head, written_data, written_element, sequence_item, KeepsVrs};
 ghost use Rattle.ups_dataset.specs.Vr.{is_long};
 ghost use Rattle.ups_dataset.specs.Spelling.{SpellsSet};
 ghost use Rattle.ups_dataset.specs.Tag.{item_tag};
@@ -66,22 +66,23 @@ fn value_size<A: Allocator + Copy>(syntax: TransferSyntax, value: &Value<A>) -> 
     }
 }
 
-/// Appends the length that follows the letters of a VR.
-fn put_length<A: Allocator + Copy>(out: &mut Vec<u8, A>, vr: Vr, len: u32) -> Result<(), AllocError>
-    ensures { OnOk result (out.new.items ≡ out.old.items ++ written_length (is_long vr) len) }
+/// Appends the header of an element whose VR has a long length, in Explicit VR (PS3.5 section 7.1.2).
+fn put_long_head<A: Allocator + Copy>(
+    out: &mut Vec<u8, A>,
+    tag: Tag,
+    vr: Vr,
+    len: u32,
+) -> Result<(), AllocError>
+    requires { is_long vr ≡ true }
+    ensures { OnOk result (out.new.items ≡ out.old.items ++ written_head Explicit tag vr len) }
 {
-    if vr.is_long() {
-        out.extend_from_slice(&[0, 0])?;
-        out.extend_from_slice(&len.to_le_bytes())?;
-        return Ok(());
-    }
-    let [first, second, ..] = len.to_le_bytes();
-    out.push(first)?;
-    out.push(second)?;
-    Ok(())
+    tag.put(out)?;
+    out.extend_from_slice(&vr.letters())?;
+    out.extend_from_slice(&[0, 0])?;
+    out.extend_from_slice(&len.to_le_bytes())
 }
 
-/// Appends the header of an element.
+/// Appends the header of an element. That of a usual element is appended at once.
 fn put_head<A: Allocator + Copy>(
     out: &mut Vec<u8, A>,
     syntax: TransferSyntax,
@@ -91,15 +92,37 @@ fn put_head<A: Allocator + Copy>(
 ) -> Result<(), AllocError>
     ensures { OnOk result (out.new.items ≡ out.old.items ++ written_head syntax tag vr len) }
 {
-    tag.put(out)?;
+    let [group, high_group] = tag.group.to_le_bytes();
+    let [element, high_element] = tag.element.to_le_bytes();
+    let [first, second, third, fourth] = len.to_le_bytes();
     match syntax {
-        TransferSyntax::Implicit => out.extend_from_slice(&len.to_le_bytes())?,
+        TransferSyntax::Implicit => out.extend_from_slice(&[
+            group,
+            high_group,
+            element,
+            high_element,
+            first,
+            second,
+            third,
+            fourth,
+        ]),
         TransferSyntax::Explicit => {
-            out.extend_from_slice(&vr.letters())?;
-            put_length(out, vr, len)?;
+            if vr.is_long() {
+                return put_long_head(out, tag, vr, len);
+            }
+            let [letter, other] = vr.letters();
+            out.extend_from_slice(&[
+                group,
+                high_group,
+                element,
+                high_element,
+                letter,
+                other,
+                first,
+                second,
+            ])
         }
     }
-    Ok(())
 }
 
 /// Appends a data set.

@@ -78,7 +78,7 @@ fn new_row<A: Allocator + Copy>(
     ensures { IfOk result (λ row. row ≡ new_row step attributes.now) }
 {
     let class = RegisteredUid::UpsPush.text();
-    let mut row = attributes.without(TRANSACTION_UID)?;
+    let mut row = attributes.without(TRANSACTION_UID, 2)?;
     row.replace(uid_element(alloc, SOP_INSTANCE_UID, step.as_bytes())?)?;
     row.replace(uid_element(alloc, SOP_CLASS_UID, class)?)?;
     Ok(row)
@@ -243,7 +243,7 @@ fn given<A: Allocator + Copy>(
             StepState::Scheduled => canceled_by_request(alloc, moment, offset, reasons),
             _ => Ok(DataSet::new(alloc)),
         },
-        Request::Set { attributes, .. } => Ok(attributes.without(TRANSACTION_UID)?),
+        Request::Set { attributes, .. } => Ok(attributes.without(TRANSACTION_UID, 0)?),
         _ => Ok(DataSet::new(alloc)),
     }
 }

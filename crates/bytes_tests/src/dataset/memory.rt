@@ -68,7 +68,7 @@ fn is_done<A: Allocator + Copy>(
         Job::Copy => set.copy(),
         Job::Project => set.project(&[UNIFIED_PROCEDURE_STEP_PERFORMED_PROCEDURE_SEQUENCE]),
         Job::LayOver => set.laid_over(set),
-        Job::LeaveOut => set.without(PATIENT_ID),
+        Job::LeaveOut => set.without(PATIENT_ID, 0),
         Job::Answer => set.answer(keys),
     };
     match made {
