@@ -8,7 +8,6 @@ use Rattle.ups_dimse.specs.declared.fault.DimseFault.{DimseFault}
 use Rattle.ups_dimse.specs.declared.fault.DimseFault.TheVariants.{Missing, BadValue, UnknownField, Memory}
 use Rattle.ups_dimse.specs.declared.command.Command.{Command}
 use Rattle.ups_dimse.specs.declared.command.Command.TheVariants.{Request, Response, Cancel}
-use Rattle.ups_dimse.specs.declared.command.RequestCommand.{RequestCommand}
 use Rattle.ups_dimse.specs.declared.command.Operation.{Operation}
 use Rattle.ups_dimse.specs.declared.command.Operation.TheVariants as operations
 use Rattle.ups_dimse.specs.declared.command.OperationResult.{OperationResult}
@@ -18,7 +17,7 @@ use Rattle.ups_dimse.specs.declared.message.Message.TheVariants.{GetRequest}
 use Rattle.ups_dimse.specs.Elements.{CommandElement, SpellsCommandElements}
 use Rattle.ups_dimse.specs.Messages.{Need, has_us, may_have_us, may_have_at, field_of, needs}
 use Rattle.ups_dimse.specs.Values.{HasUs, UsFails, MayHaveUs, PresentUsFails, HasUid, HasDataSet, HasTags, TagsFail}
-use Rattle.ups_dimse.specs.Commands.{request_of, response_of, IsRequest, IsCommand, SpellsCommand, HasOperation, HasResult}
+use Rattle.ups_dimse.specs.Commands.{request_of, response_of, IsCommand, SpellsCommand, HasOperation, HasResult}
 use Rattle.ups_dimse.specs.Faults.{MeetsNeed, Fails, FirstFails, CommandElementsFail, IsCommandFault, ReadsOrFails}
 use Rattle.ups_dimse.proofs.AttributeTags.{tags_fours}
 use Rattle.ups_dimse.proofs.Unique.{one_us, one_message, one_command, message_of, command_field}
@@ -100,14 +99,10 @@ fault_command bytes m es s h (Err e) (inr g) = inr (inr (es, s, inr (inr (m, h, 
 pub get_fails : {A : Type 0} (es : List CommandElement) (sop_class instance : Option (List ℕ)) (id : ℕ) (there : Rattle.std.proofs.Common.Bool) (e : DimseFault)
     → HasUid es 0x0003 sop_class → HasUs es 0x0100 (field_of GetRequest) → HasUs es 0x0110 id → HasDataSet es there → HasUid es 0x1001 instance
     → ((e ≡ Memory) × (tags : List Tag) × HasTags es 0x1005 tags) ⊎ TagsFail es 0x1005 e
-    → ReadsOrFails {X = RequestCommand A} (IsRequest es) (FirstFails es (needs GetRequest)) (Err e)
+    → ReadsOrFails {X = Command A} (IsCommand es) (FirstFails es (needs GetRequest)) (Err e)
 get_fails es sop_class instance id there e u h i d v (inl g) =
-    inl (g.0, record { sop_class = sop_class; message_id = id; has_data_set = there; operation = operations.Get instance g.1 }, record { sop_class = u; field = h; message_id = i; data_set = d; operation = (v, g.2) })
+    inl (g.0, Request (record { sop_class = sop_class; message_id = id; has_data_set = there; operation = operations.Get instance g.1 }), record { sop_class = u; field = h; message_id = i; data_set = d; operation = (v, g.2) })
 get_fails es sop_class instance id there e u h i d v (inr g) = inr (inr ((id, i), inr ((d.0, d.1), inl g)))
-
-pub request_fails : {A : Type 0} (es : List CommandElement) (ns : List Need) (e : DimseFault) → ReadsOrFails {X = RequestCommand A} (IsRequest es) (FirstFails es ns) (Err e) → ReadsOrFails {X = Command A} (IsCommand es) (FirstFails es ns) (Err e)
-request_fails es ns e (inl g) = inl (g.0, Request g.1, g.2)
-request_fails es ns e (inr g) = inr g
 
 -- one fault of each need, and so one that is the first
 one_us_fault : (es : List CommandElement) (n : ℕ) (f g : DimseFault) → UsFails es n f → UsFails es n g → f ≡ g

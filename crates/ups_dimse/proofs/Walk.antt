@@ -1,11 +1,10 @@
 -- One way to read the elements of a command set.
-use Rattle.std.proofs.Common.{◌≡◌, ℕ, ◌+◌, ◌<◌, ◌≤◌, cond, eqb, Bool, false, IsTrue, List, [], ◌∷◌, ◌++◌, None, Some, length, refl, sym, ap, subst, ◌∙◌, arith}
+use Rattle.std.proofs.Common.{◌≡◌, ℕ, ◌+◌, ◌<◌, ◌≤◌, List, [], ◌∷◌, ◌++◌, length, refl, sym, ap, subst, ◌∙◌, arith}
 use Rattle.std.specs.Int.{w16, w32, to_le_bytes}
-use Rattle.std.proofs.lemmas.Bool.{false≢true, eq-eqb, ne_eqb}
 use Rattle.std.proofs.lemmas.List.{length-append}
 use Rattle.ups_pdu.proofs.Parts.{same_parts, same_le_2, same_le_4}
 use Rattle.ups_dataset.specs.Tag.{tag_bytes}
-use Rattle.ups_dimse.specs.Elements.{CommandElement, IsCommandElement, SpellsCommandElements, AreCommandElements, command_tag, value_in}
+use Rattle.ups_dimse.specs.Elements.{CommandElement, IsCommandElement, SpellsCommandElements, AreCommandElements, command_tag}
 
 -- one element at the front, and one rest
 pub one_element : (bytes : List ℕ) (e f : CommandElement) (r s : List ℕ) → IsCommandElement bytes e r → IsCommandElement bytes f s → (e ≡ f) × (r ≡ s)
@@ -38,24 +37,10 @@ goes_next bytes from rest e after g p low = record {
   on = λ a. (front_of from rest e after p (g.on a)).1;
 }
 
--- the element of a number is still to come
-abbrev pub StillIn : ℕ → List ℕ → List ℕ → Type 0
-StillIn number bytes rest = (es : List CommandElement) → SpellsCommandElements 0 bytes es [] → (from : ℕ) × (tail : List CommandElement) × SpellsCommandElements from rest tail [] × (value_in number es ≡ value_in number tail)
-
-pub front_value : (number from : ℕ) (bytes : List ℕ) (es : List CommandElement) (e : CommandElement) (rest : List ℕ) → IsCommandElement bytes e rest → SpellsCommandElements from bytes es []
-    → (tail : List CommandElement) × SpellsCommandElements (e.number + 1) rest tail [] × (value_in number es ≡ cond (eqb e.number number) (Some e.value) (value_in number tail))
-front_value number from bytes [] e rest p s = let none : length bytes ≡ 0 = ap length s in absurd (omega (arith, none, element_shorter bytes e rest p))
-front_value number from bytes (f ∷ fs) e rest p s =
-    let same = one_element bytes f e s.0 rest s.1 p in
-    (fs, subst (λ (l : List ℕ). SpellsCommandElements (e.number + 1) l fs []) same.1 (subst (λ (x : CommandElement). SpellsCommandElements (x.number + 1) s.0 fs []) same.0 s.3), ap (λ (x : CommandElement). cond (eqb x.number number) (Some x.value) (value_in number fs)) same.0)
-
 -- where no element stands at the front, there is none
 pub no_front : (from : ℕ) (bytes : List ℕ) (es : List CommandElement) → ((e : CommandElement) → (rest : List ℕ) → IsCommandElement bytes e rest → ⊥) → SpellsCommandElements from bytes es [] → es ≡ []
 no_front from bytes [] none s = refl
 no_front from bytes (e ∷ es) none s = absurd (none e s.0 s.1)
-
-pub refused : (P : Type 0) → (P → ⊥) → (IsTrue false → P) × (P → IsTrue false)
-refused P none = (λ e. absurd (false≢true e), λ p. absurd (none p))
 
 pub not_here : (bytes : List ℕ) (from : ℕ) (rest : List ℕ) → GoesOn bytes from rest → 0 < length rest → ((e : CommandElement) → (after : List ℕ) → IsCommandElement rest e after → ⊥) → AreCommandElements 0 bytes → ⊥
 not_here bytes from rest g some none a =
@@ -67,38 +52,6 @@ not_here bytes from rest g some none a =
 
 pub too_low : (bytes : List ℕ) (from : ℕ) (rest : List ℕ) (e : CommandElement) (after : List ℕ) → GoesOn bytes from rest → IsCommandElement rest e after → e.number < from → AreCommandElements 0 bytes → ⊥
 too_low bytes from rest e after g p low a = omega (arith, low, (front_of from rest e after p (g.on a)).0)
-
-pub found_here : (number : ℕ) (bytes rest : List ℕ) (e : CommandElement) (after : List ℕ) → StillIn number bytes rest → IsCommandElement rest e after → e.number ≡ number
-    → (es : List CommandElement) → SpellsCommandElements 0 bytes es [] → value_in number es ≡ Some e.value
-found_here number bytes rest e after still p same es s =
-    let t = still es s in
-    let f = front_value number t.0 rest t.1 e after p t.2 in
-    t.3 ∙ f.2 ∙ ap (λ (b : Bool). cond b (Some e.value) (value_in number f.0)) (eq-eqb e.number number same)
-
-pub still_next : (number : ℕ) (bytes rest : List ℕ) (e : CommandElement) (after : List ℕ) → StillIn number bytes rest → IsCommandElement rest e after → (e.number ≡ number → ⊥) → StillIn number bytes after
-still_next number bytes rest e after still p other = λ es s.
-    let t = still es s in
-    let f = front_value number t.0 rest t.1 e after p t.2 in
-    (e.number + 1, f.0, f.1, t.3 ∙ f.2 ∙ ap (λ (b : Bool). cond b (Some e.value) (value_in number f.0)) (ne_eqb e.number number other))
-
-pub found_none : (number : ℕ) (bytes rest : List ℕ) → StillIn number bytes rest → ((e : CommandElement) → (after : List ℕ) → IsCommandElement rest e after → ⊥) → (es : List CommandElement) → SpellsCommandElements 0 bytes es [] → value_in number es ≡ None
-found_none number bytes rest still none es s =
-    let t = still es s in
-    t.3 ∙ ap (value_in number) (no_front t.0 rest t.1 none t.2)
-
--- no number that rising ones have passed is among them
-above_none : (number from : ℕ) (bytes : List ℕ) (es : List CommandElement) → number < from → SpellsCommandElements from bytes es [] → value_in number es ≡ None
-above_none number from bytes [] l s = refl
-above_none number from bytes (e ∷ es) l s =
-    ap (λ (b : Bool). cond b (Some e.value) (value_in number es)) (ne_eqb e.number number (λ same. omega (arith, l, s.2, same))) ∙ above_none number (e.number + 1) s.0 es (omega (arith, l, s.2)) s.3
-
-pub passed_none : (number : ℕ) (bytes rest : List ℕ) (e : CommandElement) (after : List ℕ) → StillIn number bytes rest → IsCommandElement rest e after → number < e.number
-    → (es : List CommandElement) → SpellsCommandElements 0 bytes es [] → value_in number es ≡ None
-passed_none number bytes rest e after still p greater es s =
-    let t = still es s in
-    let f = front_value number t.0 rest t.1 e after p t.2 in
-    let other = ne_eqb e.number number (λ same. omega (arith, greater, same)) in
-    t.3 ∙ f.2 ∙ ap (λ (b : Bool). cond b (Some e.value) (value_in number f.0)) other ∙ above_none number (e.number + 1) after f.0 (omega (arith, greater)) f.1
 
 -- the bytes are one list of elements
 pub one_list : (from : ℕ) (bytes : List ℕ) (es fs : List CommandElement) → SpellsCommandElements from bytes es [] → SpellsCommandElements from bytes fs [] → es ≡ fs

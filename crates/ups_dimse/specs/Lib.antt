@@ -4,5 +4,6 @@ pub mod Faults
 pub mod Held
 pub mod Limits
 pub mod Messages
+pub mod Sorted
 pub mod Values
 pub mod Written

@@ -5,18 +5,21 @@ ghost use Rattle.std.specs.Prelude.{◌≡◌, ◌↔◌, ◌%◌, ℕ, List, []
 ghost use Rattle.ups_pdu.specs.Each.{Each};
 ghost use Rattle.ups_dataset.specs.declared.tag.Tag.{Tag};
 ghost use Rattle.ups_dimse.specs.Elements.{CommandElement, IsCommandElement, SpellsCommandElements, AreCommandElements, value_in};
+ghost use Rattle.std.specs.Option.{option_copied};
 ghost use Rattle.ups_dimse.specs.Faults.{ReadsOrFails};
+ghost use Rattle.ups_dimse.specs.Sorted.{HasValues};
 ghost use Rattle.ups_dimse.specs.Values.{HasUs, UsFails, MayHaveUs, PresentUsFails, HasUid, HasDataSet, IsTagAt, HasTags, TagsFail};
 
 use crate::fault::DimseFault;
 use crate::numbers::{DATA_SET_TYPE, command_tag};
 use crate::tag_list::Tags;
+use crate::values::CommandValues;
 use std::alloc::{AllocError, Allocator};
 use ups_dataset::{Tag, UNDEFINED_LENGTH};
 use ups_pdu::{Uid, le_u32_at};
 
 /// The length of the header of an element, in bytes: its tag and the length of its value.
-const HEADER_LEN: usize = 8;
+pub const HEADER_LEN: usize = 8;
 
 /// Reads the element at the front and returns its number, its value and the rest, or None if there is none.
 #[inline(always)]
@@ -37,60 +40,45 @@ fn element_at(bytes: &[u8]) -> Option<(u16, &[u8], &[u8])>
     Some((tag.element, value, rest))
 }
 
-/// Returns whether the bytes are elements with rising tags, and nothing else.
-pub(crate) fn are_elements(bytes: &[u8]) -> bool
-    ensures { IsTrue result ↔ AreCommandElements 0 bytes.now }
+/// Returns the values of the elements, or None if the bytes are not elements with rising tags, and nothing else.
+pub(crate) fn values_in(bytes: &[u8]) -> Option<CommandValues<'_>>
+    ensures { MatchOption result (AreCommandElements 0 bytes.now → ⊥) (λ values. (elements : List CommandElement) × SpellsCommandElements 0 bytes.now elements [] × HasValues elements values) }
 {
+    let mut values = CommandValues::none();
     let mut from = 0;
     let mut rest = bytes;
     while !rest.is_empty() {
-        let Some((number, _, after)) = element_at(rest) else {
-            return false;
+        let Some((number, value, after)) = element_at(rest) else {
+            return None;
         };
         if u32::from(number) < from {
-            return false;
+            return None;
         }
+        values.keep(number, value);
         from = u32::from(number) + 1;
         rest = after;
     }
-    true
+    Some(values)
 }
 
-/// Returns the value of an element, in bytes that are elements. Since their tags rise, the search stops at a greater
-/// one.
-#[inline(always)]
-fn value_of(bytes: &[u8], number: u16) -> Option<&[u8]>
-    ensures { (elements : List CommandElement) → SpellsCommandElements 0 bytes.now elements [] → MatchOption result (value_in number elements ≡ None) (λ v. value_in number elements ≡ Some v.now) }
+/// Returns the number that a value with the value representation US encodes (PS3.5 section 6.2). `number` is that of
+/// its element.
+pub(crate) fn us_of(value: Option<&[u8]>, number: u16) -> Result<u16, DimseFault>
+    ensures { (elements : List CommandElement) → option_copied value.entry ≡ value_in number elements → MatchResult result (HasUs elements number) (UsFails elements number) }
 {
-    let mut rest = bytes;
-    while let Some((found, value, after)) = element_at(rest) {
-        if found == number {
-            return Some(value);
-        }
-        if found > number {
-            return None;
-        }
-        rest = after;
-    }
-    None
-}
-
-/// Returns the number in an element with the value representation US (PS3.5 section 6.2).
-pub(crate) fn us_of(bytes: &[u8], number: u16) -> Result<u16, DimseFault>
-    ensures { (elements : List CommandElement) → SpellsCommandElements 0 bytes.now elements [] → MatchResult result (HasUs elements number) (UsFails elements number) }
-{
-    let Some(value) = optional_us_of(bytes, number)? else {
+    let Some(value) = optional_us_of(value, number)? else {
         return Err(DimseFault::Missing(command_tag(number)));
     };
     Ok(value)
 }
 
-/// Returns the number in an element with the value representation US, or None if there is no such element.
+/// Returns the number that a value with the value representation US encodes, or None if there is no value. `number` is
+/// that of its element.
 #[inline(always)]
-pub(crate) fn optional_us_of(bytes: &[u8], number: u16) -> Result<Option<u16>, DimseFault>
-    ensures { (elements : List CommandElement) → SpellsCommandElements 0 bytes.now elements [] → MatchResult result (MayHaveUs elements number) (PresentUsFails elements number) }
+pub(crate) fn optional_us_of(value: Option<&[u8]>, number: u16) -> Result<Option<u16>, DimseFault>
+    ensures { (elements : List CommandElement) → option_copied value.entry ≡ value_in number elements → MatchResult result (MayHaveUs elements number) (PresentUsFails elements number) }
 {
-    let Some(value) = value_of(bytes, number) else {
+    let Some(value) = value else {
         return Ok(None);
     };
     if value.len() != 2 {
@@ -99,19 +87,19 @@ pub(crate) fn optional_us_of(bytes: &[u8], number: u16) -> Result<Option<u16>, D
     Ok(Some(u16::from_le_bytes([value[0], value[1]])))
 }
 
-/// Returns the UID in an element with the value representation UI (PS3.5 section 6.2), or None if it is absent or
-/// malformed.
-pub(crate) fn uid_of(bytes: &[u8], number: u16) -> Option<Uid>
-    ensures { (elements : List CommandElement) → SpellsCommandElements 0 bytes.now elements [] → HasUid elements number result }
+/// Returns the UID that a value with the value representation UI encodes (PS3.5 section 6.2), or None if it is absent
+/// or malformed.
+pub(crate) fn uid_of(value: Option<&[u8]>) -> Option<Uid>
+    ensures { (elements : List CommandElement) → (number : ℕ) → option_copied value.entry ≡ value_in number elements → HasUid elements number result }
 {
-    Uid::of(value_of(bytes, number)?)
+    Uid::of(value?)
 }
 
 /// Returns whether a data set follows the command (PS3.7 annex E.1, Command Data Set Type).
-pub(crate) fn has_data_set(bytes: &[u8]) -> Result<bool, DimseFault>
-    ensures { (elements : List CommandElement) → SpellsCommandElements 0 bytes.now elements [] → MatchResult result (HasDataSet elements) (UsFails elements 0x0800) }
+pub(crate) fn has_data_set(values: &CommandValues<'_>) -> Result<bool, DimseFault>
+    ensures { (elements : List CommandElement) → HasValues elements values.now → MatchResult result (HasDataSet elements) (UsFails elements 0x0800) }
 {
-    Ok(us_of(bytes, DATA_SET_TYPE)? != 0x0101)
+    Ok(us_of(values.data_set_type, DATA_SET_TYPE)? != 0x0101)
 }
 
 /// Returns the tags that the bytes encode.
@@ -129,16 +117,16 @@ fn tags_in<A: Allocator + Copy>(alloc: A, bytes: &[u8]) -> Result<Tags<A>, Alloc
     Ok(Tags::from_vec(tags))
 }
 
-/// Returns the tags in an element with the value representation AT (PS3.5 section 6.2), or none if there is no such
-/// element.
+/// Returns the tags that a value with the value representation AT encodes (PS3.5 section 6.2), or none if there is no
+/// value. `number` is that of its element.
 pub(crate) fn tags_of<A: Allocator + Copy>(
     alloc: A,
-    bytes: &[u8],
+    value: Option<&[u8]>,
     number: u16,
 ) -> Result<Tags<A>, DimseFault>
-    ensures { (elements : List CommandElement) → SpellsCommandElements 0 bytes.now elements [] → ReadsOrFails (HasTags elements number) (TagsFail elements number) result }
+    ensures { (elements : List CommandElement) → option_copied value.entry ≡ value_in number elements → ReadsOrFails (HasTags elements number) (TagsFail elements number) result }
 {
-    let Some(value) = value_of(bytes, number) else {
+    let Some(value) = value else {
         return Ok(Tags::new(alloc));
     };
     if value.len() % 4 != 0 {

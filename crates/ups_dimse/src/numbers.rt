@@ -22,7 +22,7 @@ pub(crate) const PRIORITY: u16 = 0x0700;
 /// Command Data Set Type, US.
 pub(crate) const DATA_SET_TYPE: u16 = 0x0800;
 /// Status, US.
-pub(crate) const STATUS: u16 = 0x0900;
+pub const STATUS: u16 = 0x0900;
 /// Affected SOP Instance UID, UI.
 pub(crate) const AFFECTED_INSTANCE: u16 = 0x1000;
 /// Requested SOP Instance UID, UI.

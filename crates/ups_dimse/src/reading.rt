@@ -6,207 +6,289 @@ ghost use Rattle.ups_dimse.specs.declared.fault.DimseFault.{DimseFault};
 ghost use Rattle.ups_dimse.specs.declared.fault.DimseFault.TheVariants.{Memory};
 ghost use Rattle.ups_dimse.specs.Elements.{CommandElement, SpellsCommandElements};
 ghost use Rattle.ups_dimse.specs.Messages.{field_of, needs};
+ghost use Rattle.ups_dimse.specs.Sorted.{HasValues};
 ghost use Rattle.ups_dimse.specs.Values.{HasUs};
-ghost use Rattle.ups_dimse.specs.Commands.{HasOperation, HasResult, IsRequest, IsResponse, IsCancel, IsCommand, SpellsCommand, request_of, response_of};
+ghost use Rattle.ups_dimse.specs.Commands.{IsCommand, SpellsCommand};
 ghost use Rattle.ups_dimse.specs.Faults.{FirstFails, ReadsOrFails, IsCommandFault};
-ghost use Rattle.ups_dimse.specs.declared.message.Message.TheVariants.{EventReportRequest, EventReportResponse, GetRequest, ActionRequest, ActionResponse, FindRequest, CancelRequest};
+ghost use Rattle.ups_dimse.specs.declared.message.Message.TheVariants.{EventReportRequest, EventReportResponse, GetRequest, GetResponse, SetRequest, SetResponse, ActionRequest, ActionResponse, CreateRequest, CreateResponse, EchoRequest, EchoResponse, FindRequest, FindResponse, CancelRequest};
 
 use crate::command::{
     CancelCommand, Command, Operation, OperationResult, RequestCommand, ResponseCommand,
 };
-use crate::elements::{are_elements, has_data_set, optional_us_of, tags_of, uid_of, us_of};
+use crate::elements::{has_data_set, optional_us_of, tags_of, uid_of, us_of, values_in};
 use crate::fault::DimseFault;
 use crate::message::Message;
 use crate::numbers::{
-    ACTION_TYPE, AFFECTED_CLASS, AFFECTED_INSTANCE, ATTRIBUTES, COMMAND_FIELD, EVENT_TYPE,
-    GROUP_LENGTH, MESSAGE_ID, PRIORITY, REQUESTED_CLASS, REQUESTED_INSTANCE, RESPONDED_TO, STATUS,
-    command_tag,
+    ACTION_TYPE, ATTRIBUTES, COMMAND_FIELD, EVENT_TYPE, GROUP_LENGTH, MESSAGE_ID, PRIORITY,
+    RESPONDED_TO, STATUS, command_tag,
 };
+use crate::values::CommandValues;
 use std::alloc::Allocator;
 
 /// Reads an N-EVENT-REPORT-RQ (PS3.7 section 10.3.1.1).
-fn event_report_request<A: Allocator + Copy>(bytes: &[u8]) -> Result<RequestCommand<A>, DimseFault>
-    ensures { (elements : List CommandElement) → SpellsCommandElements 0 bytes.now elements [] → HasUs elements 0x0100 (field_of EventReportRequest)
-        → MatchResult result (IsRequest elements) (FirstFails elements (needs EventReportRequest)) }
+fn event_report_request<A: Allocator + Copy>(
+    values: &CommandValues<'_>,
+) -> Result<Command<A>, DimseFault>
+    ensures { (elements : List CommandElement) → HasValues elements values.now → HasUs elements 0x0100 (field_of EventReportRequest)
+        → ReadsOrFails (IsCommand elements) (FirstFails elements (needs EventReportRequest)) result }
 {
-    Ok(RequestCommand {
-        sop_class: uid_of(bytes, AFFECTED_CLASS),
-        message_id: us_of(bytes, MESSAGE_ID)?,
-        has_data_set: has_data_set(bytes)?,
+    Ok(Command::Request(RequestCommand {
+        sop_class: uid_of(values.affected_class),
+        message_id: us_of(values.message_id, MESSAGE_ID)?,
+        has_data_set: has_data_set(values)?,
         operation: Operation::EventReport {
-            instance: uid_of(bytes, AFFECTED_INSTANCE),
-            event: us_of(bytes, EVENT_TYPE)?,
+            instance: uid_of(values.affected_instance),
+            event: us_of(values.event_type, EVENT_TYPE)?,
         },
-    })
+    }))
 }
 
 /// Reads an N-GET-RQ (PS3.7 section 10.3.2.1).
-fn get_request<A: Allocator + Copy>(alloc: A, bytes: &[u8]) -> Result<RequestCommand<A>, DimseFault>
-    ensures { (elements : List CommandElement) → SpellsCommandElements 0 bytes.now elements [] → HasUs elements 0x0100 (field_of GetRequest)
-        → ReadsOrFails (IsRequest elements) (FirstFails elements (needs GetRequest)) result }
+fn get_request<A: Allocator + Copy>(
+    alloc: A,
+    values: &CommandValues<'_>,
+) -> Result<Command<A>, DimseFault>
+    ensures { (elements : List CommandElement) → HasValues elements values.now → HasUs elements 0x0100 (field_of GetRequest)
+        → ReadsOrFails (IsCommand elements) (FirstFails elements (needs GetRequest)) result }
 {
-    Ok(RequestCommand {
-        sop_class: uid_of(bytes, REQUESTED_CLASS),
-        message_id: us_of(bytes, MESSAGE_ID)?,
-        has_data_set: has_data_set(bytes)?,
+    Ok(Command::Request(RequestCommand {
+        sop_class: uid_of(values.requested_class),
+        message_id: us_of(values.message_id, MESSAGE_ID)?,
+        has_data_set: has_data_set(values)?,
         operation: Operation::Get {
-            instance: uid_of(bytes, REQUESTED_INSTANCE),
-            attributes: tags_of(alloc, bytes, ATTRIBUTES)?,
+            instance: uid_of(values.requested_instance),
+            attributes: tags_of(alloc, values.attributes, ATTRIBUTES)?,
         },
-    })
+    }))
+}
+
+/// Reads an N-SET-RQ (PS3.7 section 10.3.3.1).
+fn set_request<A: Allocator + Copy>(values: &CommandValues<'_>) -> Result<Command<A>, DimseFault>
+    ensures { (elements : List CommandElement) → HasValues elements values.now → HasUs elements 0x0100 (field_of SetRequest)
+        → ReadsOrFails (IsCommand elements) (FirstFails elements (needs SetRequest)) result }
+{
+    Ok(Command::Request(RequestCommand {
+        sop_class: uid_of(values.requested_class),
+        message_id: us_of(values.message_id, MESSAGE_ID)?,
+        has_data_set: has_data_set(values)?,
+        operation: Operation::Set {
+            instance: uid_of(values.requested_instance),
+        },
+    }))
 }
 
 /// Reads an N-ACTION-RQ (PS3.7 section 10.3.4.1).
-fn action_request<A: Allocator + Copy>(bytes: &[u8]) -> Result<RequestCommand<A>, DimseFault>
-    ensures { (elements : List CommandElement) → SpellsCommandElements 0 bytes.now elements [] → HasUs elements 0x0100 (field_of ActionRequest)
-        → MatchResult result (IsRequest elements) (FirstFails elements (needs ActionRequest)) }
+fn action_request<A: Allocator + Copy>(values: &CommandValues<'_>) -> Result<Command<A>, DimseFault>
+    ensures { (elements : List CommandElement) → HasValues elements values.now → HasUs elements 0x0100 (field_of ActionRequest)
+        → ReadsOrFails (IsCommand elements) (FirstFails elements (needs ActionRequest)) result }
 {
-    Ok(RequestCommand {
-        sop_class: uid_of(bytes, REQUESTED_CLASS),
-        message_id: us_of(bytes, MESSAGE_ID)?,
-        has_data_set: has_data_set(bytes)?,
+    Ok(Command::Request(RequestCommand {
+        sop_class: uid_of(values.requested_class),
+        message_id: us_of(values.message_id, MESSAGE_ID)?,
+        has_data_set: has_data_set(values)?,
         operation: Operation::Action {
-            instance: uid_of(bytes, REQUESTED_INSTANCE),
-            action: us_of(bytes, ACTION_TYPE)?,
+            instance: uid_of(values.requested_instance),
+            action: us_of(values.action_type, ACTION_TYPE)?,
         },
-    })
+    }))
+}
+
+/// Reads an N-CREATE-RQ (PS3.7 section 10.3.5.1).
+fn create_request<A: Allocator + Copy>(values: &CommandValues<'_>) -> Result<Command<A>, DimseFault>
+    ensures { (elements : List CommandElement) → HasValues elements values.now → HasUs elements 0x0100 (field_of CreateRequest)
+        → ReadsOrFails (IsCommand elements) (FirstFails elements (needs CreateRequest)) result }
+{
+    Ok(Command::Request(RequestCommand {
+        sop_class: uid_of(values.affected_class),
+        message_id: us_of(values.message_id, MESSAGE_ID)?,
+        has_data_set: has_data_set(values)?,
+        operation: Operation::Create {
+            instance: uid_of(values.affected_instance),
+        },
+    }))
+}
+
+/// Reads a C-ECHO-RQ (PS3.7 section 9.3.5.1).
+fn echo_request<A: Allocator + Copy>(values: &CommandValues<'_>) -> Result<Command<A>, DimseFault>
+    ensures { (elements : List CommandElement) → HasValues elements values.now → HasUs elements 0x0100 (field_of EchoRequest)
+        → ReadsOrFails (IsCommand elements) (FirstFails elements (needs EchoRequest)) result }
+{
+    Ok(Command::Request(RequestCommand {
+        sop_class: uid_of(values.affected_class),
+        message_id: us_of(values.message_id, MESSAGE_ID)?,
+        has_data_set: has_data_set(values)?,
+        operation: Operation::Echo,
+    }))
 }
 
 /// Reads a C-FIND-RQ (PS3.7 section 9.3.2.1).
-fn find_request<A: Allocator + Copy>(bytes: &[u8]) -> Result<RequestCommand<A>, DimseFault>
-    ensures { (elements : List CommandElement) → SpellsCommandElements 0 bytes.now elements [] → HasUs elements 0x0100 (field_of FindRequest)
-        → MatchResult result (IsRequest elements) (FirstFails elements (needs FindRequest)) }
+fn find_request<A: Allocator + Copy>(values: &CommandValues<'_>) -> Result<Command<A>, DimseFault>
+    ensures { (elements : List CommandElement) → HasValues elements values.now → HasUs elements 0x0100 (field_of FindRequest)
+        → ReadsOrFails (IsCommand elements) (FirstFails elements (needs FindRequest)) result }
 {
-    Ok(RequestCommand {
-        sop_class: uid_of(bytes, AFFECTED_CLASS),
-        message_id: us_of(bytes, MESSAGE_ID)?,
+    Ok(Command::Request(RequestCommand {
+        sop_class: uid_of(values.affected_class),
+        message_id: us_of(values.message_id, MESSAGE_ID)?,
         operation: Operation::Find {
-            priority: optional_us_of(bytes, PRIORITY)?,
+            priority: optional_us_of(values.priority, PRIORITY)?,
         },
-        has_data_set: has_data_set(bytes)?,
-    })
+        has_data_set: has_data_set(values)?,
+    }))
 }
 
 /// Reads a C-CANCEL-RQ (PS3.7 section 9.3.2.3).
-fn cancel_request(bytes: &[u8]) -> Result<CancelCommand, DimseFault>
-    ensures { (elements : List CommandElement) → SpellsCommandElements 0 bytes.now elements [] → HasUs elements 0x0100 (field_of CancelRequest)
-        → MatchResult result (IsCancel elements) (FirstFails elements (needs CancelRequest)) }
+fn cancel_request<A: Allocator + Copy>(values: &CommandValues<'_>) -> Result<Command<A>, DimseFault>
+    ensures { (elements : List CommandElement) → HasValues elements values.now → HasUs elements 0x0100 (field_of CancelRequest)
+        → ReadsOrFails (IsCommand elements) (FirstFails elements (needs CancelRequest)) result }
 {
-    Ok(CancelCommand {
-        responded_to: us_of(bytes, RESPONDED_TO)?,
-        has_data_set: has_data_set(bytes)?,
-    })
-}
-
-/// Reads the request for an operation whose own elements have been read (PS3.7 sections 9.3 and 10.3).
-fn request<A: Allocator + Copy>(
-    bytes: &[u8],
-    operation: Operation<A>,
-) -> Result<RequestCommand<A>, DimseFault>
-    ensures { (elements : List CommandElement) → SpellsCommandElements 0 bytes.now elements [] → HasUs elements 0x0100 (field_of (request_of operation))
-        → HasOperation elements operation → MatchResult result (λ r. IsRequest elements r × (r.operation ≡ operation)) (FirstFails elements (needs (request_of operation))) }
-{
-    Ok(RequestCommand {
-        sop_class: uid_of(bytes, operation.class_element()),
-        message_id: us_of(bytes, MESSAGE_ID)?,
-        has_data_set: has_data_set(bytes)?,
-        operation,
-    })
+    Ok(Command::Cancel(CancelCommand {
+        responded_to: us_of(values.responded_to, RESPONDED_TO)?,
+        has_data_set: has_data_set(values)?,
+    }))
 }
 
 /// Reads an N-EVENT-REPORT-RSP (PS3.7 section 10.3.1.2).
-fn event_report_response(bytes: &[u8]) -> Result<ResponseCommand, DimseFault>
-    ensures { (elements : List CommandElement) → SpellsCommandElements 0 bytes.now elements [] → HasUs elements 0x0100 (field_of EventReportResponse)
-        → MatchResult result (IsResponse elements) (FirstFails elements (needs EventReportResponse)) }
+fn event_report_response<A: Allocator + Copy>(
+    values: &CommandValues<'_>,
+) -> Result<Command<A>, DimseFault>
+    ensures { (elements : List CommandElement) → HasValues elements values.now → HasUs elements 0x0100 (field_of EventReportResponse)
+        → ReadsOrFails (IsCommand elements) (FirstFails elements (needs EventReportResponse)) result }
 {
-    Ok(ResponseCommand {
-        sop_class: uid_of(bytes, AFFECTED_CLASS),
-        responded_to: us_of(bytes, RESPONDED_TO)?,
-        has_data_set: has_data_set(bytes)?,
-        status: us_of(bytes, STATUS)?,
+    Ok(Command::Response(ResponseCommand {
+        sop_class: uid_of(values.affected_class),
+        responded_to: us_of(values.responded_to, RESPONDED_TO)?,
+        has_data_set: has_data_set(values)?,
+        status: us_of(values.status, STATUS)?,
         result: OperationResult::EventReport {
-            instance: uid_of(bytes, AFFECTED_INSTANCE),
-            event: optional_us_of(bytes, EVENT_TYPE)?,
+            instance: uid_of(values.affected_instance),
+            event: optional_us_of(values.event_type, EVENT_TYPE)?,
         },
-    })
+    }))
+}
+
+/// Reads an N-GET-RSP (PS3.7 section 10.3.2.2).
+fn get_response<A: Allocator + Copy>(values: &CommandValues<'_>) -> Result<Command<A>, DimseFault>
+    ensures { (elements : List CommandElement) → HasValues elements values.now → HasUs elements 0x0100 (field_of GetResponse)
+        → ReadsOrFails (IsCommand elements) (FirstFails elements (needs GetResponse)) result }
+{
+    Ok(Command::Response(ResponseCommand {
+        sop_class: uid_of(values.affected_class),
+        responded_to: us_of(values.responded_to, RESPONDED_TO)?,
+        has_data_set: has_data_set(values)?,
+        status: us_of(values.status, STATUS)?,
+        result: OperationResult::Get {
+            instance: uid_of(values.affected_instance),
+        },
+    }))
+}
+
+/// Reads an N-SET-RSP (PS3.7 section 10.3.3.2).
+fn set_response<A: Allocator + Copy>(values: &CommandValues<'_>) -> Result<Command<A>, DimseFault>
+    ensures { (elements : List CommandElement) → HasValues elements values.now → HasUs elements 0x0100 (field_of SetResponse)
+        → ReadsOrFails (IsCommand elements) (FirstFails elements (needs SetResponse)) result }
+{
+    Ok(Command::Response(ResponseCommand {
+        sop_class: uid_of(values.affected_class),
+        responded_to: us_of(values.responded_to, RESPONDED_TO)?,
+        has_data_set: has_data_set(values)?,
+        status: us_of(values.status, STATUS)?,
+        result: OperationResult::Set {
+            instance: uid_of(values.affected_instance),
+        },
+    }))
 }
 
 /// Reads an N-ACTION-RSP (PS3.7 section 10.3.4.2).
-fn action_response(bytes: &[u8]) -> Result<ResponseCommand, DimseFault>
-    ensures { (elements : List CommandElement) → SpellsCommandElements 0 bytes.now elements [] → HasUs elements 0x0100 (field_of ActionResponse)
-        → MatchResult result (IsResponse elements) (FirstFails elements (needs ActionResponse)) }
+fn action_response<A: Allocator + Copy>(
+    values: &CommandValues<'_>,
+) -> Result<Command<A>, DimseFault>
+    ensures { (elements : List CommandElement) → HasValues elements values.now → HasUs elements 0x0100 (field_of ActionResponse)
+        → ReadsOrFails (IsCommand elements) (FirstFails elements (needs ActionResponse)) result }
 {
-    Ok(ResponseCommand {
-        sop_class: uid_of(bytes, AFFECTED_CLASS),
-        responded_to: us_of(bytes, RESPONDED_TO)?,
-        has_data_set: has_data_set(bytes)?,
-        status: us_of(bytes, STATUS)?,
+    Ok(Command::Response(ResponseCommand {
+        sop_class: uid_of(values.affected_class),
+        responded_to: us_of(values.responded_to, RESPONDED_TO)?,
+        has_data_set: has_data_set(values)?,
+        status: us_of(values.status, STATUS)?,
         result: OperationResult::Action {
-            instance: uid_of(bytes, AFFECTED_INSTANCE),
-            action: us_of(bytes, ACTION_TYPE)?,
+            instance: uid_of(values.affected_instance),
+            action: us_of(values.action_type, ACTION_TYPE)?,
         },
-    })
+    }))
 }
 
-/// Reads the response with a result whose own elements have been read (PS3.7 sections 9.3 and 10.3).
-fn response(bytes: &[u8], outcome: OperationResult) -> Result<ResponseCommand, DimseFault>
-    ensures { (elements : List CommandElement) → SpellsCommandElements 0 bytes.now elements [] → HasUs elements 0x0100 (field_of (response_of outcome))
-        → HasResult elements outcome → MatchResult result (λ r. IsResponse elements r × (r.result ≡ outcome)) (FirstFails elements (needs (response_of outcome))) }
+/// Reads an N-CREATE-RSP (PS3.7 section 10.3.5.2).
+fn create_response<A: Allocator + Copy>(
+    values: &CommandValues<'_>,
+) -> Result<Command<A>, DimseFault>
+    ensures { (elements : List CommandElement) → HasValues elements values.now → HasUs elements 0x0100 (field_of CreateResponse)
+        → ReadsOrFails (IsCommand elements) (FirstFails elements (needs CreateResponse)) result }
 {
-    Ok(ResponseCommand {
-        sop_class: uid_of(bytes, AFFECTED_CLASS),
-        responded_to: us_of(bytes, RESPONDED_TO)?,
-        has_data_set: has_data_set(bytes)?,
-        status: us_of(bytes, STATUS)?,
-        result: outcome,
-    })
+    Ok(Command::Response(ResponseCommand {
+        sop_class: uid_of(values.affected_class),
+        responded_to: us_of(values.responded_to, RESPONDED_TO)?,
+        has_data_set: has_data_set(values)?,
+        status: us_of(values.status, STATUS)?,
+        result: OperationResult::Create {
+            instance: uid_of(values.affected_instance),
+        },
+    }))
 }
 
-/// Reads the command of a message.
+/// Reads a C-ECHO-RSP (PS3.7 section 9.3.5.2).
+fn echo_response<A: Allocator + Copy>(values: &CommandValues<'_>) -> Result<Command<A>, DimseFault>
+    ensures { (elements : List CommandElement) → HasValues elements values.now → HasUs elements 0x0100 (field_of EchoResponse)
+        → ReadsOrFails (IsCommand elements) (FirstFails elements (needs EchoResponse)) result }
+{
+    Ok(Command::Response(ResponseCommand {
+        sop_class: uid_of(values.affected_class),
+        responded_to: us_of(values.responded_to, RESPONDED_TO)?,
+        has_data_set: has_data_set(values)?,
+        status: us_of(values.status, STATUS)?,
+        result: OperationResult::Echo,
+    }))
+}
+
+/// Reads a C-FIND-RSP (PS3.7 section 9.3.2.2).
+fn find_response<A: Allocator + Copy>(values: &CommandValues<'_>) -> Result<Command<A>, DimseFault>
+    ensures { (elements : List CommandElement) → HasValues elements values.now → HasUs elements 0x0100 (field_of FindResponse)
+        → ReadsOrFails (IsCommand elements) (FirstFails elements (needs FindResponse)) result }
+{
+    Ok(Command::Response(ResponseCommand {
+        sop_class: uid_of(values.affected_class),
+        responded_to: us_of(values.responded_to, RESPONDED_TO)?,
+        has_data_set: has_data_set(values)?,
+        status: us_of(values.status, STATUS)?,
+        result: OperationResult::Find,
+    }))
+}
+
+/// Reads the command of a message. Each message has a function of its own: a function clears the room of all its values
+/// before it begins, so one for all messages would clear that of each.
 fn command_of<A: Allocator + Copy>(
     alloc: A,
-    bytes: &[u8],
+    values: &CommandValues<'_>,
     message: Message,
 ) -> Result<Command<A>, DimseFault>
-    ensures { (elements : List CommandElement) → SpellsCommandElements 0 bytes.now elements [] → HasUs elements 0x0100 (field_of message)
+    ensures { (elements : List CommandElement) → HasValues elements values.now → HasUs elements 0x0100 (field_of message)
         → ReadsOrFails (IsCommand elements) (FirstFails elements (needs message)) result }
 {
     match message {
-        Message::EventReportRequest => Ok(Command::Request(event_report_request(bytes)?)),
-        Message::EventReportResponse => Ok(Command::Response(event_report_response(bytes)?)),
-        Message::GetRequest => Ok(Command::Request(get_request(alloc, bytes)?)),
-        Message::GetResponse => {
-            let instance = uid_of(bytes, AFFECTED_INSTANCE);
-            let outcome = OperationResult::Get { instance };
-            Ok(Command::Response(response(bytes, outcome)?))
-        }
-        Message::SetRequest => {
-            let instance = uid_of(bytes, REQUESTED_INSTANCE);
-            let operation = Operation::Set { instance };
-            Ok(Command::Request(request(bytes, operation)?))
-        }
-        Message::SetResponse => {
-            let instance = uid_of(bytes, AFFECTED_INSTANCE);
-            let outcome = OperationResult::Set { instance };
-            Ok(Command::Response(response(bytes, outcome)?))
-        }
-        Message::ActionRequest => Ok(Command::Request(action_request(bytes)?)),
-        Message::ActionResponse => Ok(Command::Response(action_response(bytes)?)),
-        Message::CreateRequest => {
-            let instance = uid_of(bytes, AFFECTED_INSTANCE);
-            let operation = Operation::Create { instance };
-            Ok(Command::Request(request(bytes, operation)?))
-        }
-        Message::CreateResponse => {
-            let instance = uid_of(bytes, AFFECTED_INSTANCE);
-            let outcome = OperationResult::Create { instance };
-            Ok(Command::Response(response(bytes, outcome)?))
-        }
-        Message::EchoRequest => Ok(Command::Request(request(bytes, Operation::Echo)?)),
-        Message::EchoResponse => Ok(Command::Response(response(bytes, OperationResult::Echo)?)),
-        Message::FindRequest => Ok(Command::Request(find_request(bytes)?)),
-        Message::FindResponse => Ok(Command::Response(response(bytes, OperationResult::Find)?)),
-        Message::CancelRequest => Ok(Command::Cancel(cancel_request(bytes)?)),
+        Message::EventReportRequest => event_report_request(values),
+        Message::EventReportResponse => event_report_response(values),
+        Message::GetRequest => get_request(alloc, values),
+        Message::GetResponse => get_response(values),
+        Message::SetRequest => set_request(values),
+        Message::SetResponse => set_response(values),
+        Message::ActionRequest => action_request(values),
+        Message::ActionResponse => action_response(values),
+        Message::CreateRequest => create_request(values),
+        Message::CreateResponse => create_response(values),
+        Message::EchoRequest => echo_request(values),
+        Message::EchoResponse => echo_response(values),
+        Message::FindRequest => find_request(values),
+        Message::FindResponse => find_response(values),
+        Message::CancelRequest => cancel_request(values),
     }
 }
 
@@ -228,14 +310,14 @@ pub fn read_command<A: Allocator + Copy>(alloc: A, bytes: &[u8]) -> Result<Comma
     // A fault is the first one.
     ensures fault { IfErr result (IsCommandFault A bytes.now) }
 {
-    if !are_elements(bytes) {
+    let Some(values) = values_in(bytes) else {
         return Err(DimseFault::BadValue(command_tag(GROUP_LENGTH)));
-    }
-    let field = us_of(bytes, COMMAND_FIELD)?;
+    };
+    let field = us_of(values.command_field, COMMAND_FIELD)?;
     let Some(message) = Message::of(field) else {
         return Err(DimseFault::UnknownField);
     };
-    command_of(alloc, bytes, message)
+    command_of(alloc, &values, message)
 }
 
 /// Does nothing at run time: its contract tells a proof that bytes encode at most one command.

@@ -11,7 +11,7 @@ use std::cell::{Cell, RefCell};
 use std::net::SocketAddr;
 use std::time::{Clock, Duration, Instant};
 use std::{fmt, str};
-use ups_dimse::{Command, ResponseCommand, read_command};
+use ups_dimse::{Command, HEADER_LEN, ResponseCommand, STATUS, read_command};
 use ups_pdu::{Ae, PduKind, calling_title};
 use ups_session::{End, SessionFault};
 
@@ -34,17 +34,11 @@ const END_OF_COMMAND: u8 = 3;
 /// The status of a response that others to the same request follow (PS3.4 section C.4.1.1.4).
 const PENDING: u16 = 0xff00;
 
-/// The length of the header of an element of a command set, in bytes, and the element number of Status (0000,0900)
-/// (PS3.7 section 6.3.1).
-const HEADER_LENGTH: usize = 8;
-
-const STATUS: u16 = 0x0900;
-
 /// Returns the status in the command set of a response, or None if it has none. The rest is not read.
 fn status_in(command: &[u8]) -> Option<u16> {
     let mut rest = command;
-    while rest.len() >= HEADER_LENGTH {
-        let (header, after) = rest.split_at(HEADER_LENGTH);
+    while rest.len() >= HEADER_LEN {
+        let (header, after) = rest.split_at(HEADER_LEN);
         let number = u16::from_le_bytes([header[2], header[3]]);
         let len = u16::from_le_bytes([header[4], header[5]]) as usize;
         let value = after.get(..len)?;
