@@ -19,11 +19,11 @@ use Rattle.ups_index.specs.Stored.{is_stored_text}
 use Rattle.ups_index.proofs.Placed.{any_viewed}
 
 -- a text that a test finds is one of the texts
-pub found_among : {A : Type 0} (texts : List (StoredText A)) (stored : StoredText A) (b : Bool) → b ≡ list_any (λ s. is_stored_text stored.tag stored.text.items (text_view s)) texts → b ≡ true → Contains (map text_view texts) (text_view stored)
+pub found_among : {A : Type 0} (texts : List (StoredText A)) (stored : StoredText A) (b : Bool) → b ≡ list_any (λ s. is_stored_text stored.tag stored.text (text_view s)) texts → b ≡ true → Contains (map text_view texts) (text_view stored)
 found_among texts stored b is passed =
-    let (k, s, l, at, passes) = Any-from_list_any (is_stored_text stored.tag stored.text.items) (map text_view texts) (sym (any_viewed stored.tag stored.text.items texts) ∙ sym is ∙ passed) in
-    let two = both (is_tag s.0 stored.tag) (bytes_eq stored.text.items s.1) passes in
-    let same : s ≡ text_view stored = λ i. (same_tag s.0 stored.tag two.0 i, sym (same_text stored.text.items s.1 (sym two.1)) i) in
+    let (k, s, l, at, passes) = Any-from_list_any (is_stored_text stored.tag stored.text) (map text_view texts) (sym (any_viewed stored.tag stored.text texts) ∙ sym is ∙ passed) in
+    let two = both (is_tag s.0 stored.tag) (bytes_eq stored.text s.1) passes in
+    let same : s ≡ text_view stored = λ i. (same_tag s.0 stored.tag two.0 i, sym (same_text stored.text s.1 (sym two.1)) i) in
     subst (Contains (map text_view texts)) same (k, l, at)
 
 -- one text more

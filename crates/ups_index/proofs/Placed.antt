@@ -74,7 +74,7 @@ nowhere_first slots step p rest here later number place values r (suc k, l, e) =
 pub nowhere_none : {A : Type 0} (slots : List (Slot A)) (step : List ℕ) → LeadsNowhere slots step []
 nowhere_none slots step number place values r (k, l, e) = absurd (omega (arith, l))
 
-pub texts_more : {A : Type 0} (texts : List (StoredText A)) (i place number : ℕ) (t : StoredText A) (old new : List Post) → i < length texts → t ≡ get_or texts i t → number ≡ text_number t.tag t.text.items
+pub texts_more : {A : Type 0} (texts : List (StoredText A)) (i place number : ℕ) (t : StoredText A) (old new : List Post) → i < length texts → t ≡ get_or texts i t → number ≡ text_number t.tag t.text
     → HasTexts (map text_view (take i texts)) place old → KeepsEach old new → Contains new (post number place) → HasTexts (map text_view (take (i + 1) texts)) place new
 texts_more texts i place number t old new l is n has keeps this stored h =
     elim (Contains-push_cases (map text_view (take i texts)) (text_view t) stored (subst (λ (s : List (Tag × List ℕ)). Contains s stored) (map_more text_view texts i t l ∙ ap (λ (s : StoredText _). map text_view (take i texts) ++ text_view s ∷ []) (sym is)) h)) [

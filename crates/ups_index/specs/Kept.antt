@@ -16,7 +16,7 @@ use Rattle.ups_index.specs.declared.posts.Post.{Post}
 use Rattle.ups_index.specs.Stored.{RowValues, has_first}
 
 abbrev pub text_view : {A : Type 0} → StoredText A → Tag × List ℕ
-text_view stored = (stored.tag, stored.text.items)
+text_view stored = (stored.tag, stored.text)
 
 -- a start lies between two moments
 abbrev pub starts_within : Option ℤ → Option ℤ → Option ℤ → Bool

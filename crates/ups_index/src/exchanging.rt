@@ -16,7 +16,7 @@ use std::alloc::Allocator;
 fn is_among<A: Allocator + Copy>(texts: &[StoredText<A>], stored: &StoredText<A>) -> bool
     ensures { IsTrue result → Contains (map text_view texts.now) (text_view stored.now) }
 {
-    has_text(texts, stored.tag, &stored.text)
+    has_text(texts, stored.tag, stored.text.as_slice())
 }
 
 /// Returns whether one of the texts has a number.
@@ -24,7 +24,7 @@ fn has_number<A: Allocator + Copy>(texts: &[StoredText<A>], number: u64) -> bool
     ensures { result ≡ false → (stored : Tag × List ℕ) → Contains (map text_view texts.now) stored → text_number stored.0 stored.1 ≢ number }
 {
     for stored in texts {
-        if text_number(stored.tag, &stored.text) == number {
+        if text_number(stored.tag, stored.text.as_slice()) == number {
             return true;
         }
     }
@@ -45,7 +45,7 @@ fn drop_text<A: Allocator + Copy>(
     if is_among(others, stored) {
         return;
     }
-    let number = text_number(stored.tag, &stored.text);
+    let number = text_number(stored.tag, stored.text.as_slice());
     if has_number(others, number) {
         return;
     }
@@ -76,14 +76,14 @@ fn add_text<A: Allocator + Copy>(
     place: u32,
 )
     requires { 0 < table.old.room }
-    ensures has { Contains (map text_view others.now) (text_view stored.now) ⊎ Contains table.new.posts (post (text_number stored.now.tag stored.now.text.items) place) }
+    ensures has { Contains (map text_view others.now) (text_view stored.now) ⊎ Contains table.new.posts (post (text_number stored.now.tag stored.now.text) place) }
     ensures keeps { KeepsEach table.old.posts table.new.posts }
     ensures room { table.old.room ≤ table.new.room + 1 }
 {
     if is_among(others, stored) {
         return;
     }
-    table.put(text_number(stored.tag, &stored.text), place);
+    table.put(text_number(stored.tag, stored.text.as_slice()), place);
 }
 
 /// Adds the posts of texts at a place, except for those among `others`, whose posts are there already.

@@ -113,7 +113,7 @@ pub(crate) fn put_texts<A: Allocator + Copy>(
     ensures room { table.old.room ≤ table.new.room + length texts.now }
 {
     for stored in texts {
-        table.put(text_number(stored.tag, &stored.text), place);
+        table.put(text_number(stored.tag, stored.text.as_slice()), place);
     }
 }
 
@@ -127,7 +127,7 @@ pub(crate) fn take_texts<A: Allocator + Copy>(
     ensures room { table.old.room ≤ table.new.room }
 {
     for stored in texts {
-        table.take(text_number(stored.tag, &stored.text), place);
+        table.take(text_number(stored.tag, stored.text.as_slice()), place);
     }
 }
 

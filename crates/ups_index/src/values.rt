@@ -18,7 +18,7 @@ use ups_dataset::dictionary::{
     PATIENT_ID, PROCEDURE_STEP_STATE, SCHEDULED_PROCEDURE_STEP_PRIORITY, SOP_INSTANCE_UID,
     WORKLIST_LABEL,
 };
-use ups_dataset::{DataSet, Tag};
+use ups_dataset::{DataSet, Tag, ValueBytes};
 use ups_match::First;
 
 /// The number of texts for which room is taken at once: most steps have one under each tag.
@@ -28,7 +28,7 @@ const USUAL_TEXTS: usize = 6;
 #[derive(Drop)]
 pub(crate) struct StoredText<A: Allocator + Copy> {
     pub tag: Tag,
-    pub text: Vec<u8, A>,
+    pub text: ValueBytes<A>,
 }
 
 /// The values by which a step is found. A contract sees the texts with their tags, and the first moment of the start.

@@ -8,4 +8,4 @@ use Rattle.ups_index.proofs.exchanging.is_among.Goals as goal
 pub returns : goal.returns
 returns g c = λ h.
     found_among c.args.texts.now c.args.stored.now c.has_text.result
-    (c.has_text.ensures ∙ ap (λ (t : List ℕ). list_any (λ s. is_stored_text c.args.stored.now.tag t (text_view s)) c.args.texts.now) c.deref.ensures.value) h
+    (c.has_text.ensures ∙ ap (λ (t : List ℕ). list_any (λ s. is_stored_text c.args.stored.now.tag t (text_view s)) c.args.texts.now) c.as_slice.ensures) h

@@ -10,7 +10,7 @@ put-requires g c = omega (arith, c.loop-stored.invariant.room, c.requires, c.loo
 pub loop-stored-preserved : goal.loop-stored-preserved
 loop-stored-preserved g c = record {
   has = texts_more c.args.texts.now c.loop-stored.stored-index c.args.place c.text_number.result c.stored-item.result c.loop-stored.table.posts c.put.new.self.posts c.loop-stored-test.true c.stored-item.is
-      (c.text_number.ensures ∙ ap (text_number c.stored-item.result.tag) c.deref.ensures.value) c.loop-stored.invariant.has c.put.ensures.keeps c.put.ensures.has;
+      (c.text_number.ensures ∙ ap (text_number c.stored-item.result.tag) c.as_slice.ensures) c.loop-stored.invariant.has c.put.ensures.keeps c.put.ensures.has;
   keeps = then_live _ c.loop-stored.table.posts c.put.new.self.posts c.loop-stored.invariant.keeps c.put.ensures.keeps;
   room = omega (arith, c.loop-stored.invariant.room, c.put.ensures.room);
 }
