@@ -3,9 +3,7 @@ use Rattle.std.proofs.Common.{◌≡◌, ℕ, List, [], ◌∷◌, ◌++◌, Res
 use Rattle.ups_session.specs.declared.fault.SessionFault.{SessionFault}
 use Rattle.ups_session.specs.declared.fault.SessionFault.TheVariants.{Read, Write, Turns, Memory}
 use Rattle.ups_session.specs.WatchedIo.{Input, HasEnded}
-use Rattle.ups_pdu.specs.declared.pdu.Pdu.{Pdu}
 use Rattle.ups_pdu.specs.declared.fault.PduFault.{PduFault}
-use Rattle.ups_pdu.specs.Spelling.{SpellsPdu}
 use Rattle.ups_session.specs.declared.fault.End.{End}
 use Rattle.ups_session.specs.Fold.{Side, Arrival, pdu, bad, closed, brings, Chain, Happens, Processes, IsOpen}
 use Rattle.ups_session.specs.World.{World, Performed}
@@ -16,7 +14,7 @@ use Rattle.ups_session.specs.Turn.{IsTurn}
 use Rattle.ups_session.proofs.Chains.{chain_one}
 use Rattle.ups_session.specs.declared.pdu_io.PduRead.{PduRead}
 use Rattle.ups_session.specs.declared.pdu_io.PduRead.TheVariants as reads
-use Rattle.ups_session.specs.Broken.{IsBadPdu}
+use Rattle.ups_session.specs.Broken.{IsBadPdu, IsLost}
 use Rattle.ups_session.specs.Reading as reading
 use Rattle.ups_session.proofs.Going.{goes_on, goes_nowhere, goes_short}
 
@@ -118,22 +116,22 @@ session_unbegun side ending start last turns now u v Turns g = absurd (no_turns 
     no_turns (inl (e, really, part)) = cc
     no_turns (inr (e, part)) = cc
 
-abbrev pub lost_for : (A : Type 0) → SessionFault → Result (PduRead A) SessionFault
-lost_for A fault = Err fault
+abbrev pub lost_for : SessionFault → Result PduRead SessionFault
+lost_for fault = Err fault
 
-abbrev pub got : (A : Type 0) → PduRead A → Result (PduRead A) SessionFault
-got A x = Ok x
+abbrev pub got : PduRead → Result PduRead SessionFault
+got x = Ok x
 
 -- memory ran out while something was read
-pub turned_lost : {A L W : Type 0} (side : Side A L W) (association after : L) (now : Input) (input : List ℕ) (u : World A) (fault : SessionFault) → reading.IsRead now input (lost_for A fault) → IsTurn side association after now input u u (failing fault)
-turned_lost side association after now input u fault (is, begun) = rw is (lost, association, begun, refl, goes_short (Happens side) [] association association u)
+pub turned_lost : {A L W : Type 0} (side : Side A L W) (association after : L) (now : Input) (input : List ℕ) (u : World A) (fault : SessionFault) → fault ≡ Memory → IsLost A input → IsTurn side association after now input u u (failing fault)
+turned_lost side association after now input u fault is begun = rw is (lost, association, begun, refl, goes_short (Happens side) [] association association u)
 
 -- the input ended inside a PDU, or a read failed
-pub turned_cut : {A L W : Type 0} (side : Side A L W) (association after : L) (now : Input) (input : List ℕ) (u : World A) → reading.IsRead now input (got A reads.Cut) → IsTurn side association after now input u u (failing Read)
-turned_cut side association after now input u t = (cut, t, refl, refl)
+pub turned_cut : {A L W : Type 0} (side : Side A L W) (association after : L) (now : Input) (input : List ℕ) (u : World A) (bytes : List ℕ) → reading.IsRead A now input bytes (got reads.Cut) → IsTurn side association after now input u u (failing Read)
+turned_cut side association after now input u bytes t = (cut, t, refl, refl)
 
-pub turned_failed : {A L W : Type 0} (side : Side A L W) (association after : L) (now : Input) (input : List ℕ) (u : World A) → reading.IsRead now input (got A reads.Failed) → IsTurn side association after now input u u (failing Read)
-turned_failed side association after now input u t = (failed, t, refl, refl)
+pub turned_failed : {A L W : Type 0} (side : Side A L W) (association after : L) (now : Input) (input : List ℕ) (u : World A) (bytes : List ℕ) → reading.IsRead A now input bytes (got reads.Failed) → IsTurn side association after now input u u (failing Read)
+turned_failed side association after now input u bytes t = (failed, t, refl, refl)
 
 -- something came, and not all that it brings happened
 pub turned_part : {A L W : Type 0} (side : Side A L W) (association after : L) (now : Input) (input : List ℕ) (a : Arrival A) (u v : World A) (fault : SessionFault) → Spells input a → AtEnd now (a ∷ []) → Performed (Happens side) (brings a) association after u v (failing fault)
@@ -157,11 +155,11 @@ pub turned : {A L W : Type 0} (side : Side A L W) (association after : L) (now :
 turned side association after now input a u v (Ok done) s end g = (a, s, end, g)
 turned side association after now input a u v (Err fault) s end g = turned_part side association after now input a u v fault s end g
 
-pub got_pdu : (A : Type 0) (now : Input) (input : List ℕ) (x : PduRead A) (p : Pdu A) → x ≡ reads.Pdu p → reading.IsRead now input (got A x) → SpellsPdu input p
-got_pdu A now input x p is t = subst (λ (y : PduRead A). reading.IsRead now input (got A y)) is t
+pub got_whole : (A : Type 0) (now : Input) (input bytes : List ℕ) (x : PduRead) → x ≡ reads.Whole → reading.IsRead A now input bytes (got x) → (bytes ≡ input) × reading.IsComplete input
+got_whole A now input bytes x is t = subst (λ (y : PduRead). reading.IsRead A now input bytes (got y)) is t
 
-pub got_bad : (A : Type 0) (now : Input) (input : List ℕ) (x : PduRead A) (f : PduFault) → x ≡ reads.Bad f → reading.IsRead now input (got A x) → IsBadPdu A input f
-got_bad A now input x f is t = subst (λ (y : PduRead A). reading.IsRead now input (got A y)) is t
+pub got_bad : (A : Type 0) (now : Input) (input bytes : List ℕ) (x : PduRead) (f : PduFault) → x ≡ reads.Bad f → reading.IsRead A now input bytes (got x) → IsBadPdu A input f
+got_bad A now input bytes x f is t = subst (λ (y : PduRead). reading.IsRead A now input bytes (got y)) is t
 
-pub got_closed : (A : Type 0) (now : Input) (input : List ℕ) (x : PduRead A) → x ≡ reads.Closed → reading.IsRead now input (got A x) → (input ≡ []) × HasEnded now
-got_closed A now input x is t = subst (λ (y : PduRead A). reading.IsRead now input (got A y)) is t
+pub got_closed : (A : Type 0) (now : Input) (input bytes : List ℕ) (x : PduRead) → x ≡ reads.Closed → reading.IsRead A now input bytes (got x) → (input ≡ []) × HasEnded now
+got_closed A now input bytes x is t = subst (λ (y : PduRead). reading.IsRead A now input bytes (got y)) is t

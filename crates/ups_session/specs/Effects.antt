@@ -8,6 +8,7 @@ use Rattle.ups_assoc.specs.declared.negotiating.Outcome.TheVariants.{Accept, Rej
 use Rattle.ups_session.specs.declared.dispatch.Dispatch.{Dispatch}
 use Rattle.ups_session.specs.declared.dispatch.Dispatch.TheVariants.{Answer, Question}
 use Rattle.ups_session.specs.declared.effect.Effect.{Effect}
+use Rattle.ups_session.specs.declared.effect.AwaitedParts.{AwaitedParts}
 use Rattle.ups_session.specs.declared.effect.AwaitedRequest.{AwaitedRequest}
 use Rattle.ups_session.specs.declared.association.Established.{Established}
 use Rattle.ups_session.specs.declared.association.Association.{Association}
@@ -34,8 +35,11 @@ dispatch_view (Answer status) = answered_at_once status
 dispatch_view (Question ask) = asking ask
 
 -- the view of a request whose reply is awaited
+abbrev pub parts_view : {A : Type 0} → AwaitedParts A → AwaitedRequestView A
+parts_view parts = record { ae = parts.ae; ask = parts.ask; max = parts.max; context = parts.context; command = parts.command }
+
 abbrev pub awaited_view : {A : Type 0} → AwaitedRequest A → AwaitedRequestView A
-awaited_view w = record { ae = w.ae; ask = w.ask; max = w.max; context = w.context; command = w.command }
+awaited_view w = parts_view w.parts.value
 
 -- the reaction of a session with this effect
 abbrev pub reaction_of : {A : Type 0} → AssociationView A → Effect A (AwaitedRequest A) → ReactionOf A
@@ -48,7 +52,7 @@ message_effect (Some effect) = Some (said_by effect, awaited_by awaited_view eff
 
 -- the response to a request can be written: the maximum length is at least 8 bytes
 abbrev pub HasRoom : {A : Type 0} → AwaitedRequest A → Type 0
-HasRoom waiting = 8 ≤ waiting.max
+HasRoom waiting = 8 ≤ waiting.parts.value.max
 
 -- each PDU that the effect sends, or will send, can be written
 abbrev pub IsSendable : {A : Type 0} → Effect A (AwaitedRequest A) → Type 0

@@ -13,7 +13,7 @@ ghost use Rattle.ups_session.specs.World.{world};
 
 use crate::association::{ACCEPTOR, Association, UNEXPECTED, reason_of};
 use crate::driver::drive;
-use crate::effect::{AwaitedRequest, Effect};
+use crate::effect::{AwaitedParts, AwaitedRequest, Effect};
 use crate::fault::{End, SessionFault};
 use crate::gate::Gate;
 use crate::indication::{UlIndication, take_pdv};
@@ -45,18 +45,18 @@ fn respond<A: Allocator + Copy, W: Write, S: Service<A>, G: Gate>(
     buffer: &mut Vec<u8, A>,
     waiting: AwaitedRequest<A>,
 ) -> Result<(), SessionFault>
-    requires { 8 ≤ waiting.max }
+    requires { 8 ≤ waiting.parts.value.max }
     ensures { (config : Config) → (association : AssociationView A) → IsSettled (acceptor config) (awaiting_reply association (awaited_view waiting)) association
         (world writer.old (G.told gate.old) (S.settings service.old) (S.others service.old) (S.caller service.old) (S.seen service.old))
         (world writer.new (G.told gate.new) (S.settings service.new) (S.others service.new) (S.caller service.new) (S.seen service.new)) result }
 {
-    let AwaitedRequest {
+    let AwaitedParts {
         ae,
         ask,
         max,
         context,
         command,
-    } = waiting;
+    } = waiting.into_parts();
     let moment = gate.now();
     let reply = service.call(ae, moment, ask);
     send_reply(writer, gate, buffer, max, &context, &command, &reply)

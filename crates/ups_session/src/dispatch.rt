@@ -6,7 +6,7 @@ ghost use Rattle.ups_dataset.specs.Data.{El};
 ghost use Rattle.ups_dataset.specs.declared.fault.SetFault.TheVariants.{Memory as NoRoomForSet};
 ghost use Rattle.ups_life.specs.declared.request.Ask.{Ask};
 ghost use Rattle.ups_session.specs.Effects.{dispatch_view, parameters_view, message_effect, AreSendable, IsSendable};
-ghost use Rattle.ups_session.specs.Dispatch.{asking};
+ghost use Rattle.ups_session.specs.Dispatch.{answered_at_once, asking};
 ghost use Rattle.ups_session.specs.Rules.{supports_operation, accepts_sop_class, has_action_type, supports_action_type, HasSet, unreadable_status, dispatched, Dispatches};
 ghost use Rattle.ups_assoc.specs.declared.message.RawMessage.{RawMessage};
 ghost use Rattle.ups_dimse.specs.declared.command.Command.{Command};
@@ -19,7 +19,7 @@ ghost use Rattle.ups_session.specs.Acceptor.{message_effect_of, OnCommand, OnMes
 ghost use Rattle.ups_session.specs.Sides.{context_at};
 
 use crate::association::Parameters;
-use crate::effect::{AwaitedRequest, BareResponse, Effect};
+use crate::effect::{AwaitedParts, AwaitedRequest, BareResponse, Effect};
 use crate::fault::SessionFault;
 use crate::response::response_bytes;
 use std::alloc::{AllocError, Allocator};
@@ -210,6 +210,28 @@ pub(crate) fn context_at(id: u8, contexts: &[AcceptedContext]) -> Option<Accepte
     contexts.iter().copied().find(|context| context.id == id)
 }
 
+/// Returns the effect of a request that is answered with this status before the service sees it.
+///
+/// Errors: out of memory.
+fn respond_at_once<A: Allocator + Copy>(
+    alloc: A,
+    parameters: &Parameters<A>,
+    context: &AcceptedContext,
+    command: &RequestCommand<A>,
+    status: Status,
+) -> Result<Effect<A, AwaitedRequest<A>>, SessionFault>
+    requires { 8 ≤ parameters.now.max }
+    ensures effect { IfOk result (λ effect. message_effect (Some effect) ≡ message_effect_of (parameters_view parameters.now) context.now command.now (answered_at_once status)) }
+    ensures writable { IfOk result IsSendable }
+    ensures memory { IfErr result (λ e. e ≡ Memory) }
+{
+    Ok(Effect::Respond(BareResponse {
+        max: parameters.max,
+        context: context.id,
+        command: response_bytes(alloc, command, status, false)?,
+    }))
+}
+
 /// Returns the effect of a request: the session answers at once, or awaits the reply of the service.
 ///
 /// Errors: out of memory.
@@ -226,18 +248,19 @@ fn effect_of<A: Allocator + Copy>(
     ensures memory { IfErr result (λ e. e ≡ Memory) }
 {
     match dispatch {
-        Dispatch::Answer(status) => Ok(Effect::Respond(BareResponse {
-            max: parameters.max,
-            context: context.id,
-            command: response_bytes(alloc, &command, status, false)?,
-        })),
-        Dispatch::Question(ask) => Ok(Effect::Call(AwaitedRequest {
-            ae: parameters.ae,
-            ask,
-            max: parameters.max,
-            context,
-            command,
-        })),
+        Dispatch::Answer(status) => respond_at_once(alloc, parameters, &context, &command, status),
+        Dispatch::Question(ask) => {
+            let ae = parameters.ae;
+            let max = parameters.max;
+            let parts = AwaitedParts {
+                ae,
+                ask,
+                max,
+                context,
+                command,
+            };
+            Ok(Effect::Call(AwaitedRequest::new(alloc, parts)?))
+        }
     }
 }
 

@@ -2,11 +2,13 @@
 
 ghost use Rattle.std.specs.Prelude.{◌≡◌, [], ◌∷◌, ℕ, List, IfOk, MatchResult, OnOk, map};
 ghost use Rattle.std.specs.Io.KnownBytes.{Consumes};
-ghost use Rattle.ups_pdu.specs.Spelling.{SpellsPdu};
-ghost use Rattle.ups_session.specs.Fold.{presentation_data, indications, Happens};
+ghost use Rattle.ups_pdu.specs.Spelling.{SpellsPdu, IsFault};
+ghost use Rattle.ups_session.specs.Fold.{bad, brings, closed, presentation_data, indications, Happens};
 ghost use Rattle.ups_session.specs.Party.{indication_of, Comes};
+ghost use Rattle.ups_session.specs.Reading.{IsComplete};
 ghost use Rattle.ups_session.specs.Session.{IsSession};
 ghost use Rattle.ups_session.specs.Turn.{IsTurn};
+ghost use Rattle.ups_session.specs.WatchedIo.{Input};
 ghost use Rattle.ups_session.specs.World.{world, Performed};
 
 use crate::effect::Effect;
@@ -14,12 +16,12 @@ use crate::fault::{End, SessionFault};
 use crate::gate::Gate;
 use crate::indication::UlIndication;
 use crate::party::Party;
-use crate::pdu_io::{PduRead, read_one, send_pdus};
+use crate::pdu_io::{PduRead, read_one, send_pdus, trim};
 use crate::sending::send_command;
 use crate::watched_io::{WatchedReader, WatchedWriter};
 use std::alloc::Allocator;
 use std::io::{Read, Write};
-use ups_pdu::{Pdu, Pdvs};
+use ups_pdu::{Pdu, PduFault, Pdvs, read_data, read_pdu};
 use ups_service::Service;
 use ups_ulstate::UlEvent;
 
@@ -150,6 +152,128 @@ fn process_pdu<A: Allocator + Copy, W: Write, S: Service<A>, G: Gate, P: Party<A
     }
 }
 
+/// Processes bytes that are not a PDU.
+///
+/// Errors: a failed write; out of memory.
+fn process_bad<A: Allocator + Copy, W: Write, S: Service<A>, G: Gate, P: Party<A>>(
+    party: &mut P,
+    writer: &mut WatchedWriter<W>,
+    service: &mut S,
+    gate: &mut G,
+    buffer: &mut Vec<u8, A>,
+    fault: PduFault,
+) -> Result<(), SessionFault>
+    requires ready { P.is_ready party.old }
+    ensures performed { Performed (Happens (P.side (P.setup party.old))) (brings (bad fault)) (P.view party.old) (P.view party.new)
+        (world writer.old (G.told gate.old) (S.settings service.old) (S.others service.old) (S.caller service.old) (S.seen service.old))
+        (world writer.new (G.told gate.new) (S.settings service.new) (S.others service.new) (S.caller service.new) (S.seen service.new)) result }
+    ensures ready { OnOk result (P.is_ready party.new) }
+    ensures setup { P.setup party.new ≡ P.setup party.old }
+{
+    let indication = UlIndication::InvalidPdu(fault);
+    process(party, writer, service, gate, buffer, indication)
+}
+
+/// Processes the end of the input.
+///
+/// Errors: a failed write; out of memory.
+fn process_close<A: Allocator + Copy, W: Write, S: Service<A>, G: Gate, P: Party<A>>(
+    party: &mut P,
+    writer: &mut WatchedWriter<W>,
+    service: &mut S,
+    gate: &mut G,
+    buffer: &mut Vec<u8, A>,
+) -> Result<(), SessionFault>
+    requires ready { P.is_ready party.old }
+    ensures performed { Performed (Happens (P.side (P.setup party.old))) (brings closed) (P.view party.old) (P.view party.new)
+        (world writer.old (G.told gate.old) (S.settings service.old) (S.others service.old) (S.caller service.old) (S.seen service.old))
+        (world writer.new (G.told gate.new) (S.settings service.new) (S.others service.new) (S.caller service.new) (S.seen service.new)) result }
+    ensures ready { OnOk result (P.is_ready party.new) }
+    ensures setup { P.setup party.new ≡ P.setup party.old }
+{
+    let indication = UlIndication::Event(UlEvent::TransportClosed);
+    process(party, writer, service, gate, buffer, indication)
+}
+
+/// Processes a PDU of the buffer that could not be read: its bytes are not a PDU, or memory ran out.
+///
+/// Errors: a failed write; out of memory.
+fn process_fault<A: Allocator + Copy, W: Write, S: Service<A>, G: Gate, P: Party<A>>(
+    party: &mut P,
+    writer: &mut WatchedWriter<W>,
+    service: &mut S,
+    gate: &mut G,
+    buffer: &mut Vec<u8, A>,
+    fault: PduFault,
+) -> Result<(), SessionFault>
+    requires ready { P.is_ready party.old }
+    ensures turn { (now : Input) → (input : List ℕ) → IsComplete input → IsFault A input fault → IsTurn (P.side (P.setup party.old)) (P.view party.old) (P.view party.new) now input
+        (world writer.old (G.told gate.old) (S.settings service.old) (S.others service.old) (S.caller service.old) (S.seen service.old))
+        (world writer.new (G.told gate.new) (S.settings service.new) (S.others service.new) (S.caller service.new) (S.seen service.new)) result }
+    ensures ready { OnOk result (P.is_ready party.new) }
+    ensures setup { P.setup party.new ≡ P.setup party.old }
+{
+    match fault {
+        PduFault::Memory => Err(SessionFault::Memory),
+        _ => process_bad(party, writer, service, gate, buffer, fault),
+    }
+}
+
+/// Processes the PDU whose bytes the buffer holds, of any type.
+///
+/// Errors: a failed write; out of memory.
+fn process_any<A: Allocator + Copy, W: Write, S: Service<A>, G: Gate, P: Party<A>>(
+    party: &mut P,
+    writer: &mut WatchedWriter<W>,
+    service: &mut S,
+    gate: &mut G,
+    buffer: &mut Vec<u8, A>,
+) -> Result<(), SessionFault>
+    requires ready { P.is_ready party.old }
+    requires complete { IsComplete buffer.old.items }
+    ensures turn { (now : Input) → IsTurn (P.side (P.setup party.old)) (P.view party.old) (P.view party.new) now buffer.old.items
+        (world writer.old (G.told gate.old) (S.settings service.old) (S.others service.old) (S.caller service.old) (S.seen service.old))
+        (world writer.new (G.told gate.new) (S.settings service.new) (S.others service.new) (S.caller service.new) (S.seen service.new)) result }
+    ensures ready { OnOk result (P.is_ready party.new) }
+    ensures setup { P.setup party.new ≡ P.setup party.old }
+{
+    let read = read_pdu(*buffer.allocator(), buffer.as_slice());
+    trim(buffer);
+    match read {
+        Ok((pdu, _)) => process_pdu(party, writer, service, gate, buffer, pdu),
+        Err(fault) => process_fault(party, writer, service, gate, buffer, fault),
+    }
+}
+
+/// Processes the PDU whose bytes the buffer holds. Most are P-DATA-TFs, which are read by themselves: a function clears
+/// the room of all its values before it begins, and that of a PDU of any type is large.
+///
+/// Errors: a failed write; out of memory.
+fn process_whole<A: Allocator + Copy, W: Write, S: Service<A>, G: Gate, P: Party<A>>(
+    party: &mut P,
+    writer: &mut WatchedWriter<W>,
+    service: &mut S,
+    gate: &mut G,
+    buffer: &mut Vec<u8, A>,
+) -> Result<(), SessionFault>
+    requires ready { P.is_ready party.old }
+    requires complete { IsComplete buffer.old.items }
+    ensures turn { (now : Input) → IsTurn (P.side (P.setup party.old)) (P.view party.old) (P.view party.new) now buffer.old.items
+        (world writer.old (G.told gate.old) (S.settings service.old) (S.others service.old) (S.caller service.old) (S.seen service.old))
+        (world writer.new (G.told gate.new) (S.settings service.new) (S.others service.new) (S.caller service.new) (S.seen service.new)) result }
+    ensures ready { OnOk result (P.is_ready party.new) }
+    ensures setup { P.setup party.new ≡ P.setup party.old }
+{
+    match read_data(*buffer.allocator(), buffer.as_slice()) {
+        Ok(Some((pdvs, _))) => {
+            trim(buffer);
+            process_fragments(party, writer, service, gate, buffer, pdvs)
+        }
+        Ok(None) => process_any(party, writer, service, gate, buffer),
+        Err(fault) => process_fault(party, writer, service, gate, buffer, fault),
+    }
+}
+
 /// Reads the next PDU, or the end of the input, and processes it.
 ///
 /// Errors: Read if a read failed or the input ended inside a PDU; a failed write; out of memory.
@@ -170,15 +294,9 @@ fn process_next<A: Allocator + Copy, R: Read, W: Write, S: Service<A>, G: Gate, 
     ensures setup { P.setup party.new ≡ P.setup party.old }
 {
     match read_one(reader, buffer) {
-        Ok(PduRead::Pdu(pdu)) => process_pdu(party, writer, service, gate, buffer, pdu),
-        Ok(PduRead::Bad(fault)) => {
-            let indication = UlIndication::InvalidPdu(fault);
-            process(party, writer, service, gate, buffer, indication)
-        }
-        Ok(PduRead::Closed) => {
-            let indication = UlIndication::Event(UlEvent::TransportClosed);
-            process(party, writer, service, gate, buffer, indication)
-        }
+        Ok(PduRead::Whole) => process_whole(party, writer, service, gate, buffer),
+        Ok(PduRead::Bad(fault)) => process_bad(party, writer, service, gate, buffer, fault),
+        Ok(PduRead::Closed) => process_close(party, writer, service, gate, buffer),
         Ok(PduRead::Cut | PduRead::Failed) => Err(SessionFault::Read),
         Err(fault) => Err(fault),
     }

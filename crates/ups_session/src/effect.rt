@@ -1,14 +1,16 @@
 //! The effects of indications.
 
-use std::alloc::Allocator;
+ghost use Rattle.std.specs.Prelude.{◌≡◌, IfOk};
+
+use std::alloc::{AllocError, Allocator};
 use ups_assoc::AcceptedContext;
 use ups_dimse::RequestCommand;
 use ups_life::Ask;
 use ups_pdu::{Ae, Pdu};
 
-/// A request whose reply is awaited from the service.
+/// A request whose reply is awaited from the service, with what the response takes from it.
 #[derive(Drop)]
-pub(crate) struct AwaitedRequest<A: Allocator + Copy> {
+pub(crate) struct AwaitedParts<A: Allocator + Copy> {
     /// The title of the AE in whose name it is made.
     pub ae: Ae,
     /// The request or the query.
@@ -19,6 +21,33 @@ pub(crate) struct AwaitedRequest<A: Allocator + Copy> {
     pub context: AcceptedContext,
     /// The command of the request.
     pub command: RequestCommand<A>,
+}
+
+/// A request whose reply is awaited from the service. Its parts take some 350 bytes, which are passed on several times,
+/// so they have a block of memory of their own.
+#[derive(Drop)]
+pub(crate) struct AwaitedRequest<A: Allocator + Copy> {
+    parts: Box<AwaitedParts<A>, A>,
+}
+
+impl<A: Allocator + Copy> AwaitedRequest<A> {
+    /// Awaits the reply to a request.
+    ///
+    /// Errors: out of memory.
+    pub fn new(alloc: A, parts: AwaitedParts<A>) -> Result<AwaitedRequest<A>, AllocError>
+        ensures { IfOk result (λ w. w.parts.value ≡ parts) }
+    {
+        let parts = Box::new(alloc, parts)?;
+        Ok(AwaitedRequest { parts })
+    }
+
+    /// Returns the request with its parts.
+    pub fn into_parts(self) -> AwaitedParts<A>
+        ensures { result ≡ self.parts.value }
+    {
+        let AwaitedRequest { parts } = self;
+        Box::into_inner(parts)
+    }
 }
 
 /// A response without a data set, which awaits nothing.

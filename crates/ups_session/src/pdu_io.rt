@@ -1,6 +1,6 @@
 //! PDUs read from a reader and written to a writer.
 
-ghost use Rattle.std.specs.Prelude.{◌≡◌, ℕ, List, ◌++◌, ◌<◌, ◌≤◌, false, true, length, take, ◌≢◌, ◌⊎◌, Ok, Err, ◌+◌, ◌^◌, [], IfOk, IfErr, OnOk, MatchResult, vec_capacity, ◌∷◌};
+ghost use Rattle.std.specs.Prelude.{◌≡◌, ℕ, List, ◌++◌, ◌<◌, ◌≤◌, false, true, length, take, ◌+◌, ◌^◌, [], IfErr, OnOk, MatchResult, vec_capacity, ◌∷◌};
 ghost use Rattle.std.specs.Io.KnownBytes.{Appends, Consumes};
 ghost use Rattle.ups_session.specs.WatchedIo.{HasEnded};
 ghost use Rattle.ups_session.specs.declared.watched_io.LastRead.TheVariants as last_reads;
@@ -9,20 +9,19 @@ ghost use Rattle.ups_session.specs.Tells.{IsAnnounced, Tells};
 ghost use Rattle.ups_session.specs.Wire.{Sent};
 ghost use Rattle.ups_pdu.specs.declared.kind.PduKind.{PduKind};
 ghost use Rattle.ups_pdu.specs.Header.{IsHeader, type_code, limit};
-ghost use Rattle.ups_session.specs.Reading.{IsRead};
-ghost use Rattle.ups_session.specs.declared.pdu_io.PduRead.TheVariants.{Bad, Cut, Failed};
+ghost use Rattle.ups_session.specs.Reading.{IsCutOff, IsRead};
+ghost use Rattle.ups_session.specs.declared.pdu_io.PduRead.TheVariants.{Cut, Failed};
 ghost use Rattle.ups_session.specs.declared.fault.SessionFault.TheVariants.{Memory};
 ghost use Rattle.std.specs.List.{AllByRecursion};
 ghost use Rattle.ups_pdu.specs.Fits.{Fits};
 ghost use Rattle.ups_session.specs.Visits.{SendsPdus};
-ghost use Rattle.ups_pdu.specs.declared.fault.PduFault.TheVariants as faults;
 
 use crate::fault::SessionFault;
 use crate::gate::Gate;
 use crate::watched_io::{WatchedReader, WatchedWriter};
 use std::alloc::Allocator;
 use std::io::{Read, Write};
-use ups_pdu::{Pdu, PduFault, body_len, read_pdu, write_pdu};
+use ups_pdu::{Pdu, PduFault, body_len, write_pdu};
 
 /// How far a buffer was filled, and whether the reader failed.
 #[derive(Clone, Copy, Debug)]
@@ -85,10 +84,10 @@ pub(crate) fn write_announced<W: Write, G: Gate>(
 const HEADER_LENGTH: usize = 6;
 
 /// The outcome of reading one PDU.
-#[derive(Drop)]
-pub(crate) enum PduRead<A: Allocator + Copy> {
-    /// A PDU.
-    Pdu(Pdu<A>),
+#[derive(Clone, Copy, Debug, PartialEq, Eq)]
+pub(crate) enum PduRead {
+    /// The bytes of a PDU, as its header announces them.
+    Whole,
     /// Bytes that are not the beginning of a PDU, whatever follows.
     Bad(PduFault),
     /// The input ended before a PDU.
@@ -100,7 +99,7 @@ pub(crate) enum PduRead<A: Allocator + Copy> {
 }
 
 /// Returns the outcome of reading an incomplete header or body.
-fn cut_off<A: Allocator + Copy>(filled: Filled) -> PduRead<A>
+fn cut_off(filled: Filled) -> PduRead
     ensures failed { filled.failed ≡ true → result ≡ Failed }
     ensures ended { filled.failed ≡ false → result ≡ Cut }
 {
@@ -111,23 +110,11 @@ fn cut_off<A: Allocator + Copy>(filled: Filled) -> PduRead<A>
     }
 }
 
-/// Returns the outcome of reading bytes that are not a PDU.
-///
-/// Errors: out of memory.
-fn no_pdu<A: Allocator + Copy>(fault: PduFault) -> Result<PduRead<A>, SessionFault>
-    ensures { ((fault ≡ faults.Memory) × (result ≡ Err Memory)) ⊎ ((fault ≢ faults.Memory) × (result ≡ Ok (Bad fault))) }
-{
-    match fault {
-        PduFault::Memory => Err(SessionFault::Memory),
-        _ => Ok(PduRead::Bad(fault)),
-    }
-}
-
 /// The maximum number of bytes of memory that a buffer keeps between two PDUs.
 const KEPT_CAPACITY: usize = 16_384;
 
 /// Frees the memory of a buffer if a long PDU made it larger than what is kept.
-fn trim<A: Allocator + Copy>(buffer: &mut Vec<u8, A>)
+pub(crate) fn trim<A: Allocator + Copy>(buffer: &mut Vec<u8, A>)
     ensures { vec_capacity buffer.new ≤ 16384 }
 {
     if buffer.capacity() > KEPT_CAPACITY {
@@ -156,7 +143,7 @@ fn begin_pdu<A: Allocator + Copy>(
     Ok(())
 }
 
-/// Reads the body that a header announces, and not a byte more. The buffer is for the bytes of the PDU.
+/// Reads the body that a header announces, and not a byte more. The buffer gets the bytes of the PDU.
 ///
 /// Errors: out of memory.
 fn read_body<A: Allocator + Copy, R: Read>(
@@ -164,33 +151,26 @@ fn read_body<A: Allocator + Copy, R: Read>(
     buffer: &mut Vec<u8, A>,
     header: &[u8],
     len: usize,
-) -> Result<PduRead<A>, SessionFault>
+) -> Result<PduRead, SessionFault>
     requires six { length header.now ≡ 6 }
     requires header { (kind : PduKind) × (rest : List ℕ) × IsHeader header.now (type_code kind) len rest × (len ≤ limit kind) }
     requires len { len < 2 ^ 32 }
-    ensures { (body : List ℕ) × Consumes reader.old.left reader.new.left body × IsRead reader.new (header.now ++ body) result }
+    ensures { (body : List ℕ) × Consumes reader.old.left reader.new.left body × IsRead A reader.new (header.now ++ body) buffer.new.items result }
 {
     begin_pdu(buffer, header, len)?;
     let whole = fill(reader, buffer.as_mut_slice(), HEADER_LENGTH);
     if whole.count < buffer.len() {
         return Ok(cut_off(whole));
     }
-    let read = read_pdu(*buffer.allocator(), buffer.as_slice());
-    trim(buffer);
-    match read {
-        Ok((pdu, _)) => Ok(PduRead::Pdu(pdu)),
-        Err(fault) => no_pdu(fault),
-    }
+    Ok(PduRead::Whole)
 }
 
 /// Reads the header of a PDU.
 ///
 /// Errors: the outcome if no header came.
-fn read_header<A: Allocator + Copy, R: Read>(
-    reader: &mut WatchedReader<R>,
-) -> Result<[u8; 6], PduRead<A>>
+fn read_header<R: Read>(reader: &mut WatchedReader<R>) -> Result<[u8; 6], PduRead>
     ensures { (input : List ℕ) × Consumes reader.old.left reader.new.left input
-        × MatchResult result (λ header. (header ≡ input) × (length input ≡ 6)) (λ got. IsRead reader.new input (Ok got)) }
+        × MatchResult result (λ header. (header ≡ input) × (length input ≡ 6)) (IsCutOff reader.new input) }
 {
     let mut header = [0; HEADER_LENGTH];
     let front = fill(reader, &mut header, 0);
@@ -203,14 +183,14 @@ fn read_header<A: Allocator + Copy, R: Read>(
     Ok(header)
 }
 
-/// Reads one PDU, and not a byte more than its header and its length announce. The buffer is for the bytes of the PDU.
+/// Reads the bytes of one PDU, and not a byte more than its header and its length announce. The buffer gets the bytes.
 ///
 /// Errors: out of memory.
 pub(crate) fn read_one<A: Allocator + Copy, R: Read>(
     reader: &mut WatchedReader<R>,
     buffer: &mut Vec<u8, A>,
-) -> Result<PduRead<A>, SessionFault>
-    ensures { (input : List ℕ) × Consumes reader.old.left reader.new.left input × IsRead reader.new input result }
+) -> Result<PduRead, SessionFault>
+    ensures { (input : List ℕ) × Consumes reader.old.left reader.new.left input × IsRead A reader.new input buffer.new.items result }
 {
     trim(buffer);
     let header = match read_header(reader) {
