@@ -2,8 +2,10 @@
 """Counts what one request of each kind costs, in instructions of the processor and blocks of memory; prints a table.
 
 Each figure is what a run of `upsd pipe` with some requests takes beyond one without them, divided by their number, while steps
-are held. It is counted by valgrind (from Debian's package of that name), which is slow, but the same at each run, whatever else
-the machine does. Each of several programs, an older one first, has its own columns.
+are held. There are as many requests as steps, so that each table that grows with the requests doubles once: its growth is shared
+out over the requests between two doublings. A run is stopped once it has answered, so that the end of the program, which frees
+all steps, isn't counted. It is counted by valgrind (from Debian's package of that name), which is slow, but the same at each run,
+whatever else the machine does. Each of several programs, an older one first, has its own columns.
 
 With --longest it measures a server over TCP instead: the longest N-CREATE among the last tenth of the steps, by the clock, so a
 busy machine makes it longer.
@@ -11,18 +13,21 @@ busy machine makes it longer.
 
 import argparse
 import os
+import re
+import subprocess
 import sys
+import threading
 import time
 
 sys.path.insert(0, os.path.join(os.path.dirname(os.path.dirname(os.path.abspath(__file__))), "check/lib"))
 import dicom
 import pipe
-from compare import PIPE, allocations, instructions
+from compare import PIPE
 from peer import Peer
 from serve import Measured
 
 HELD = 1_000  # steps held
-ASKED = 200  # requests counted
+ASKED = HELD  # requests counted
 OPENING = dicom.associate([(dicom.PUSH, dicom.EXPLICIT), (dicom.PULL, dicom.EXPLICIT), (dicom.VERIFICATION, dicom.EXPLICIT)])
 PUSH_ON, PULL_ON, ECHO_ON = 1, 3, 5
 
@@ -87,6 +92,30 @@ ROWS = (
 
 
 STATUS = bytes((0, 0, 0, 9, 2, 0, 0, 0))  # the header of Status (0000,0900)
+
+
+def counted_by(tool, command, stdin):
+    """Returns what valgrind says of a program that has answered all requests, and was then stopped."""
+    answers = len(subprocess.run(command, input=stdin, stdout=subprocess.PIPE, check=True).stdout)
+    with subprocess.Popen(["valgrind", *tool, *command], stdin=subprocess.PIPE, stdout=subprocess.PIPE, stderr=subprocess.PIPE) as it:
+        given = threading.Thread(target=lambda: (it.stdin.write(stdin[: -len(dicom.RELEASE)]), it.stdin.flush()))
+        given.start()
+        it.stdout.read(answers - len(dicom.RELEASE))
+        given.join()
+        it.terminate()
+        return it.communicate()[1].decode()
+
+
+def instructions(command, stdin):
+    """Counts the instructions until all requests are answered."""
+    tool = ["--tool=callgrind", "--callgrind-out-file=/dev/null"]
+    return int(re.search(r"Collected : (\d+)", counted_by(tool, command, stdin))[1])
+
+
+def allocations(command, stdin):
+    """Counts the blocks of memory allocated until all requests are answered."""
+    told = counted_by(["--tool=memcheck", "--leak-check=no"], command, stdin)
+    return int(re.search(r"total heap usage: ([\d,]+) allocs", told)[1].replace(",", ""))
 
 
 def granted(program, stdin):
