@@ -97,16 +97,28 @@ def run(command, stdin):
     return took, done.stderr
 
 
+CALLGRIND = ("--tool=callgrind", "--callgrind-out-file=/dev/null")
+MEMCHECK = ("--tool=memcheck", "--leak-check=no")
+
+
+def collected(told):
+    """Returns the instructions that callgrind tells of a run."""
+    return int(re.search(r"Collected : (\d+)", told)[1])
+
+
+def allocated(told):
+    """Returns the blocks of memory that memcheck tells of a run."""
+    return int(re.search(r"total heap usage: ([\d,]+) allocs", told)[1].replace(",", ""))
+
+
 def instructions(command, stdin):
     """Counts the instructions of one run."""
-    _, told = run(["valgrind", "--tool=callgrind", "--callgrind-out-file=/dev/null", *command], stdin)
-    return int(re.search(r"Collected : (\d+)", told)[1])
+    return collected(run(["valgrind", *CALLGRIND, *command], stdin)[1])
 
 
 def allocations(command, stdin):
     """Counts the blocks of memory that one run allocates."""
-    _, told = run(["valgrind", "--tool=memcheck", "--leak-check=no", *command], stdin)
-    return int(re.search(r"total heap usage: ([\d,]+) allocs", told)[1].replace(",", ""))
+    return allocated(run(["valgrind", *MEMCHECK, *command], stdin)[1])
 
 
 def compared(programs, words, base, whole, times, count):

@@ -13,7 +13,6 @@ busy machine makes it longer.
 
 import argparse
 import os
-import re
 import subprocess
 import sys
 import threading
@@ -22,7 +21,7 @@ import time
 sys.path.insert(0, os.path.join(os.path.dirname(os.path.dirname(os.path.abspath(__file__))), "check/lib"))
 import dicom
 import pipe
-from compare import PIPE
+from compare import CALLGRIND, MEMCHECK, PIPE, allocated, collected
 from peer import Peer
 from serve import Measured
 
@@ -108,14 +107,12 @@ def counted_by(tool, command, stdin):
 
 def instructions(command, stdin):
     """Counts the instructions until all requests are answered."""
-    tool = ["--tool=callgrind", "--callgrind-out-file=/dev/null"]
-    return int(re.search(r"Collected : (\d+)", counted_by(tool, command, stdin))[1])
+    return collected(counted_by(CALLGRIND, command, stdin))
 
 
 def allocations(command, stdin):
     """Counts the blocks of memory allocated until all requests are answered."""
-    told = counted_by(["--tool=memcheck", "--leak-check=no"], command, stdin)
-    return int(re.search(r"total heap usage: ([\d,]+) allocs", told)[1].replace(",", ""))
+    return allocated(counted_by(MEMCHECK, command, stdin))
 
 
 def granted(program, stdin):
