@@ -4,6 +4,8 @@ ghost use Rattle.std.specs.Prelude.{◌≡◌, IfOk};
 ghost use Rattle.ups_dataset.specs.View.{element_view, value_view};
 
 use crate::set::{DataSet, Element, Value};
+use crate::tag::Tag;
+use crate::vr::Vr;
 use std::alloc::{AllocError, Allocator};
 
 /// Copies a data set.
@@ -21,7 +23,7 @@ pub(crate) fn copy_set<A: Allocator + Copy>(
     Ok(DataSet::from_vec(elements))
 }
 
-/// Copies an element.
+/// Copies an element. One whose value is held in place, as most are, is copied at once.
 #[cycle(copying)]
 pub(crate) fn copy_element<A: Allocator + Copy>(
     alloc: A,
@@ -29,30 +31,38 @@ pub(crate) fn copy_element<A: Allocator + Copy>(
 ) -> Result<Element<A>, AllocError>
     ensures { IfOk result (λ e. element_view e ≡ element_view element.now) }
 {
-    let value = copy_value(alloc, &element.value)?;
-    Ok(Element {
-        tag: element.tag,
-        vr: element.vr,
-        value,
-    })
+    if let Value::Bytes(bytes) = &element.value {
+        if let Some(copy) = bytes.copy_in_place() {
+            return Ok(Element {
+                tag: element.tag,
+                vr: element.vr,
+                value: Value::Bytes(copy),
+            });
+        }
+    }
+    copy_long_element(alloc, element.tag, element.vr, &element.value)
 }
 
-/// Copies a value.
+/// Copies an element whose value is on the heap.
 #[cycle(copying)]
-pub(crate) fn copy_value<A: Allocator + Copy>(
+#[inline(never)]
+fn copy_long_element<A: Allocator + Copy>(
     alloc: A,
+    tag: Tag,
+    vr: Vr,
     value: &Value<A>,
-) -> Result<Value<A>, AllocError>
-    ensures { IfOk result (λ v. value_view v ≡ value_view value.now) }
+) -> Result<Element<A>, AllocError>
+    ensures { IfOk result (λ e. element_view e ≡ record { tag = tag; vr = vr; value = value_view value.now }) }
 {
-    match value {
-        Value::Bytes(bytes) => Ok(Value::Bytes(bytes.copy(alloc)?)),
+    let value = match value {
+        Value::Bytes(bytes) => Value::Bytes(bytes.copy(alloc)?),
         Value::Items(sets) => {
             let mut copies = Vec::with_capacity(alloc, sets.len())?;
             for set in sets {
                 copies.push(copy_set(alloc, set)?)?;
             }
-            Ok(Value::of_items(copies))
+            Value::of_items(copies)
         }
-    }
+    };
+    Ok(Element { tag, vr, value })
 }

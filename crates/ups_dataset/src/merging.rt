@@ -49,7 +49,7 @@ pub(crate) fn merged<A: Allocator + Copy>(
     requires below_rises { IsDataSet (map element_view below.now) }
     ensures { IfOk result (λ v. map element_view v.items ≡ laid_over (map element_view above.now) (map element_view below.now)) }
 {
-    let mut elements = Vec::with_capacity(alloc, above.len().saturating_add(below.len()))?;
+    let mut elements = Vec::with_capacity(alloc, above.len().max(below.len()))?;
     let mut upper = above;
     let mut lower = below;
     while let Some((element, upper_left, lower_left)) = next(upper, lower) {

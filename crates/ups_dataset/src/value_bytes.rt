@@ -119,7 +119,7 @@ impl<A: Allocator + Copy> Model for ValueBytes<A> {
 }
 
 impl<A: Allocator + Copy> ValueBytes<A> {
-    ghost use Rattle.std.specs.Prelude.{◌≡◌, ◌++◌, [], length, IfOk};
+    ghost use Rattle.std.specs.Prelude.{◌≡◌, ◌++◌, [], length, IfOk, IfSome};
 
     /// Returns no bytes.
     pub fn empty() -> ValueBytes<A>
@@ -161,6 +161,18 @@ impl<A: Allocator + Copy> ValueBytes<A> {
             Held::OnHeap(joined_on_heap(alloc, front, back)?)
         };
         Ok(ValueBytes { held })
+    }
+
+    /// Returns a copy, which takes no memory, or None if the bytes are on the heap.
+    pub(crate) fn copy_in_place(&self) -> Option<ValueBytes<A>>
+        ensures { IfSome result (λ b. b ≡ self.now) }
+    {
+        match &self.held {
+            Held::InPlace(few) => Some(ValueBytes {
+                held: Held::InPlace(few.copy()),
+            }),
+            Held::OnHeap(_) => None,
+        }
     }
 
     /// Returns a copy.

@@ -2,8 +2,9 @@
 
 ghost use Rattle.std.specs.Prelude.{◌≡◌, ◌<◌, ◌^◌, ◌++◌, true, length, min, OnOk, IfOk};
 ghost use Rattle.ups_pdu.specs.declared.syntax.TransferSyntax.TheVariants.{Explicit};
-ghost use Rattle.ups_dataset.specs.View.{value_view, element_view};
-ghost use Rattle.ups_dataset.specs.Written.{written, written_head, written_data, written_element, sequence_item, KeepsVrs};
+ghost use Rattle.ups_dataset.specs.Data.{items_of};
+ghost use Rattle.ups_dataset.specs.View.{element_view};
+ghost use Rattle.ups_dataset.specs.Written.{written, written_head, written_items, written_element, sequence_item, KeepsVrs};
 ghost use Rattle.ups_dataset.specs.Vr.{is_long};
 ghost use Rattle.ups_dataset.specs.Spelling.{SpellsSet};
 ghost use Rattle.ups_dataset.specs.Tag.{item_tag};
@@ -46,24 +47,24 @@ pub(crate) fn set_size<A: Allocator + Copy>(syntax: TransferSyntax, set: &DataSe
 fn element_size<A: Allocator + Copy>(syntax: TransferSyntax, element: &Element<A>) -> u64
     ensures { result ≡ min (length (written_element syntax (element_view element.now))) 18446744073709551615 }
 {
-    head_size(syntax, element.vr).saturating_add(value_size(syntax, &element.value))
+    let value_size = match &element.value {
+        Value::Bytes(bytes) => bytes.len() as u64,
+        Value::Items(sets) => items_size(syntax, sets),
+    };
+    head_size(syntax, element.vr).saturating_add(value_size)
 }
 
-/// Returns the number of bytes of a value, or the greatest `u64` if there are more.
+/// Returns the number of bytes of the items of a sequence, or the greatest `u64` if there are more.
 #[cycle(sizing)]
-fn value_size<A: Allocator + Copy>(syntax: TransferSyntax, value: &Value<A>) -> u64
-    ensures { result ≡ min (length (written_data syntax (value_view value.now))) 18446744073709551615 }
+#[inline(never)]
+fn items_size<A: Allocator + Copy>(syntax: TransferSyntax, sets: &[DataSet<A>]) -> u64
+    ensures { result ≡ min (length (written_items syntax (items_of sets.now))) 18446744073709551615 }
 {
-    match value {
-        Value::Bytes(bytes) => bytes.len() as u64,
-        Value::Items(sets) => {
-            let mut total: u64 = 0;
-            for set in sets {
-                total = total.saturating_add(set_size(syntax, set).saturating_add(8));
-            }
-            total
-        }
+    let mut total: u64 = 0;
+    for set in sets {
+        total = total.saturating_add(set_size(syntax, set).saturating_add(8));
     }
+    total
 }
 
 /// Appends the header of an element whose VR has a long length, in Explicit VR (PS3.5 section 7.1.2).
@@ -151,9 +152,15 @@ fn put_element<A: Allocator + Copy>(
     requires { length (written_element syntax (element_view element.now)) < 2 ^ 32 }
     ensures { OnOk result (out.new.items ≡ out.old.items ++ written_element syntax (element_view element.now)) }
 {
-    let len = value_size(syntax, &element.value) as u32;
+    let len = match &element.value {
+        Value::Bytes(bytes) => bytes.len() as u32,
+        Value::Items(sets) => items_size(syntax, sets) as u32,
+    };
     put_head(out, syntax, element.tag, element.vr, len)?;
-    put_value(out, syntax, &element.value)
+    match &element.value {
+        Value::Bytes(bytes) => out.extend_from_slice(bytes.as_slice()),
+        Value::Items(sets) => put_items(out, syntax, sets),
+    }
 }
 
 /// Appends an item.
@@ -172,25 +179,21 @@ fn put_item<A: Allocator + Copy>(
     put_set(out, syntax, set)
 }
 
-/// Appends a value.
+/// Appends the items of a sequence.
 #[cycle(putting)]
-fn put_value<A: Allocator + Copy>(
+#[inline(never)]
+fn put_items<A: Allocator + Copy>(
     out: &mut Vec<u8, A>,
     syntax: TransferSyntax,
-    value: &Value<A>,
+    sets: &[DataSet<A>],
 ) -> Result<(), AllocError>
-    requires { length (written_data syntax (value_view value.now)) < 2 ^ 32 }
-    ensures { OnOk result (out.new.items ≡ out.old.items ++ written_data syntax (value_view value.now)) }
+    requires { length (written_items syntax (items_of sets.now)) < 2 ^ 32 }
+    ensures { OnOk result (out.new.items ≡ out.old.items ++ written_items syntax (items_of sets.now)) }
 {
-    match value {
-        Value::Bytes(bytes) => out.extend_from_slice(bytes.as_slice()),
-        Value::Items(sets) => {
-            for set in sets {
-                put_item(out, syntax, set)?;
-            }
-            Ok(())
-        }
+    for set in sets {
+        put_item(out, syntax, set)?;
     }
+    Ok(())
 }
 
 /// Encodes a data set, with defined lengths and without group lengths. If its size in Explicit VR is known to be

@@ -22,12 +22,12 @@ pub(crate) fn key_rule(tag: Tag) -> Rule
     rule_of(vr_of(tag))
 }
 
-/// Returns the fault of the text of a key, if there is one.
-fn text_fault(rule: Rule, offset: i16, key: &[u8]) -> Option<KeyFault>
-    ensures { result ≡ text_fault rule offset key.now }
+/// Returns the fault of the text of a key, if there is one. The rule is looked up only if the key isn't universal.
+fn text_fault(tag: Tag, offset: i16, key: &[u8]) -> Option<KeyFault>
+    ensures { result ≡ text_fault (key_rule tag) offset key.now }
 {
-    if rule != Rule::Range
-        || is_universal_text(key)
+    if is_universal_text(key)
+        || key_rule(tag) != Rule::Range
         || span_of(without_padding(key), offset).is_some()
     {
         return None;
@@ -44,7 +44,7 @@ fn key_fault<A: Allocator + Copy>(key: &Element<A>, offset: i16) -> Option<KeyFa
         return None;
     }
     match &key.value {
-        Value::Bytes(bytes) => text_fault(key_rule(key.tag), offset, bytes.as_slice()),
+        Value::Bytes(bytes) => text_fault(key.tag, offset, bytes.as_slice()),
         Value::Items(sets) => items_fault(sets, offset),
     }
 }
