@@ -32,14 +32,14 @@ written_fragment A context command last bytes =
     ∙ ap (λ (n : ℕ). (4 ∷ 0 ∷ []) ++ (to_be_bytes w32 n ++ written_pdv pdv)) whole
     ∙ ap (λ (n : ℕ). (4 ∷ 0 ∷ []) ++ (to_be_bytes w32 (length bytes + 6) ++ (to_be_bytes w32 n ++ pdv_content pdv))) content
 
--- five texts, one behind the other
-pub put_five : (old first second third fourth new a b c d e : List ℕ) → first ≡ old ++ a → second ≡ first ++ b → third ≡ second ++ c → fourth ≡ third ++ d → new ≡ fourth ++ e
-    → new ≡ old ++ (a ++ (b ++ (c ++ (d ++ e))))
-put_five old first second third fourth new a b c d e p q r s t =
-    t ∙ ap (λ (l : List ℕ). l ++ e) s ∙ append_assoc third d e
-    ∙ ap (λ (l : List ℕ). l ++ (d ++ e)) r ∙ append_assoc second c (d ++ e)
-    ∙ ap (λ (l : List ℕ). l ++ (c ++ (d ++ e))) q ∙ append_assoc first b (c ++ (d ++ e))
-    ∙ ap (λ (l : List ℕ). l ++ (b ++ (c ++ (d ++ e)))) p ∙ append_assoc old a (b ++ (c ++ (d ++ e)))
+-- a head of four parts, and what follows it
+pub headed : (old first new head a b c d e : List ℕ) → head ≡ a ++ (b ++ (c ++ d)) → first ≡ old ++ head → new ≡ first ++ e → new ≡ old ++ (a ++ (b ++ (c ++ (d ++ e))))
+headed old first new head a b c d e parts p q =
+    q ∙ ap (λ (l : List ℕ). l ++ e) p ∙ append_assoc old head e
+    ∙ ap (λ (l : List ℕ). old ++ (l ++ e)) parts
+    ∙ ap (λ (l : List ℕ). old ++ l) (append_assoc a (b ++ (c ++ d)) e)
+    ∙ ap (λ (l : List ℕ). old ++ (a ++ l)) (append_assoc b (c ++ d) e)
+    ∙ ap (λ (l : List ℕ). old ++ (a ++ (b ++ l))) (append_assoc c d e)
 
 -- the last fragment
 pub fragments-last : (A : Type 0) (most size context : ℕ) (command : Bool) (bytes : List ℕ) → length bytes ≤ size → fragments {A = A} most size context command bytes ≡ fragment context command true bytes ∷ []

@@ -281,15 +281,16 @@ impl<A: Allocator + Copy> Assembler<A> {
         if !self.ids.as_slice().contains(&pdv.context) {
             return Err(AssocFault::UnknownContext);
         }
-        match take_fragment(self.alloc, begun, pdv)? {
-            Taken::More(begun) => {
+        match take_fragment(self.alloc, begun, pdv) {
+            Ok(Taken::More(begun)) => {
                 self.begun = begun;
                 Ok(None)
             }
-            Taken::Whole(message) => {
+            Ok(Taken::Whole(message)) => {
                 self.begun = Begun::Nothing;
                 Ok(Some(message))
             }
+            Err(fault) => Err(fault),
         }
     }
 }

@@ -1,6 +1,7 @@
 //! Cutting messages into fragments (PS3.8 annexes D.1 and E, PS3.7 section 6.3.1).
 
 ghost use Rattle.std.specs.Prelude.{◌≡◌, ◌≤◌, ◌<◌, ◌⊎◌, ◌+◌, ◌-◌, ◌++◌, List, [], ◌∷◌, ℕ, Some, length, true, is_some, option_copied, unwrap_or, if◌then◌else◌, OnOk, IfOk, IfErr};
+ghost use Rattle.std.specs.Int.{to_be_bytes, w32};
 ghost use Rattle.std.specs.List.{flat_map, AllByRecursion};
 ghost use Rattle.ups_pdu.specs.Written.{written_pdu};
 ghost use Rattle.ups_pdu.specs.Fits.{Fits};
@@ -61,6 +62,30 @@ fn control_of(command: bool, last: bool) -> u8
     u8::from(command) + if last { 2 } else { 0 }
 }
 
+/// Returns the headers of a P-DATA-TF with one PDV and of that PDV, which has a fragment of `len` bytes (PS3.8 sections
+/// 9.3.5 and 9.3.5.1).
+fn fragment_head(len: u32, context: u8, command: bool, last: bool) -> [u8; 12]
+    requires { len ≤ max_data_length - 6 }
+    ensures { result ≡ (4 ∷ 0 ∷ []) ++ (to_be_bytes w32 (len + 6) ++ (to_be_bytes w32 (len + 2) ++ (context ∷ ((if command then 1 else 0) + (if last then 2 else 0)) ∷ []))) }
+{
+    let [pdu_first, pdu_second, pdu_third, pdu_fourth] = (len + 6).to_be_bytes();
+    let [pdv_first, pdv_second, pdv_third, pdv_fourth] = (len + 2).to_be_bytes();
+    [
+        PduKind::Data.code(),
+        0,
+        pdu_first,
+        pdu_second,
+        pdu_third,
+        pdu_fourth,
+        pdv_first,
+        pdv_second,
+        pdv_third,
+        pdv_fourth,
+        context,
+        control_of(command, last),
+    ]
+}
+
 /// Appends one fragment, as the bytes of a P-DATA-TF of its own (PS3.8 sections 9.3.5 and 9.3.5.1).
 ///
 /// # Errors
@@ -78,10 +103,7 @@ pub fn put_fragment<A: Allocator + Copy>(
 {
     let len = bytes.len() as u32;
     out.reserve(bytes.len() + 12)?;
-    out.extend_from_slice(&[PduKind::Data.code(), 0])?;
-    out.extend_from_slice(&(len + 6).to_be_bytes())?;
-    out.extend_from_slice(&(len + 2).to_be_bytes())?;
-    out.extend_from_slice(&[context, control_of(command, last)])?;
+    out.extend_from_slice(&fragment_head(len, context, command, last))?;
     out.extend_from_slice(bytes)?;
     Ok(())
 }
