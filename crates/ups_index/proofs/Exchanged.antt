@@ -1,5 +1,5 @@
 -- Posts that are put in the place of others.
-use Rattle.std.proofs.Common.{◌≡◌, ◌≢◌, ℕ, ◌+◌, ◌<◌, ◌≤◌, ◌⊎◌, Bool, true, List, [], ◌∷◌, ◌++◌, length, get_or, map, take, Contains, refl, sym, ap, ◌∙◌, subst, inl, inr}
+use Rattle.std.proofs.Common.{arith, zero, suc, ◌≡◌, ◌≢◌, ℕ, ◌+◌, ◌<◌, ◌≤◌, ◌⊎◌, Bool, true, List, [], ◌∷◌, ◌++◌, length, get_or, map, take, Contains, refl, sym, ap, ◌∙◌, subst, inl, inr}
 use Rattle.std.specs.Prelude.{Option, None, Some, ℤ}
 use Rattle.std.specs.List.{list_any}
 use Rattle.std.specs.Str.{bytes_eq}
@@ -14,7 +14,7 @@ use Rattle.ups_index.specs.declared.posts.Post.{Post}
 use Rattle.ups_index.specs.declared.values.StoredText.{StoredText}
 use Rattle.ups_index.specs.Kept.{text_view}
 use Rattle.ups_index.specs.Numbers.{text_number, moment_number}
-use Rattle.ups_index.specs.Posts.{post, KeepsEach, KeepsTexts, HasTexts, HasStart}
+use Rattle.ups_index.specs.Posts.{post, KeepsTexts, HasTexts, HasStart}
 use Rattle.ups_index.specs.Stored.{is_stored_text}
 use Rattle.ups_index.proofs.Placed.{any_viewed}
 
@@ -25,6 +25,19 @@ found_among texts stored b is passed =
     let two = both (is_tag s.0 stored.tag) (bytes_eq stored.text s.1) passes in
     let same : s ≡ text_view stored = λ i. (same_tag s.0 stored.tag two.0 i, sym (same_text stored.text s.1 (sym two.1)) i) in
     subst (Contains (map text_view texts)) same (k, l, at)
+
+-- a text that is at an index is one of the texts
+pub text_at : {A : Type 0} (texts : List (StoredText A)) (i : ℕ) (t : StoredText A) → i < length texts → t ≡ get_or texts i t → Contains (map text_view texts) (text_view t)
+text_at [] i t l is = absurd (omega (arith, l))
+text_at (x ∷ xs) zero t l is = (zero, omega arith, ap text_view (sym is))
+text_at (x ∷ xs) (suc i) t l is = let (k, m, e) = text_at xs i t (omega (arith, l)) is in (suc k, omega (arith, m), e)
+
+pub found_at : {A : Type 0} (texts : List (StoredText A)) (i : ℕ) (other stored : StoredText A) (b : Bool) → i < length texts → other ≡ get_or texts i other
+    → b ≡ is_stored_text stored.tag stored.text (text_view other) → b ≡ true → Contains (map text_view texts) (text_view stored)
+found_at texts i other stored b l at is passed =
+    let two = both (is_tag other.tag stored.tag) (bytes_eq stored.text other.text) (sym is ∙ passed) in
+    let same : text_view other ≡ text_view stored = λ i. (same_tag other.tag stored.tag two.0 i, sym (same_text stored.text other.text (sym two.1)) i) in
+    subst (Contains (map text_view texts)) same (text_at texts i other l at)
 
 -- one text more
 pub one_more : {A : Type 0} (P : Tag × List ℕ → Type 0) (texts : List (StoredText A)) (i : ℕ) (t : StoredText A) → i < length texts → t ≡ get_or texts i t
@@ -46,18 +59,19 @@ pub spared : (texts : List (Tag × List ℕ)) (place number : ℕ) (a b : List P
 spared texts place number a b f none stored h x = f (text_number stored.0 stored.1) (none stored h) x
 
 -- those of some texts are there, where they are others that were, or were put
-pub exchanged : (old new : List (Tag × List ℕ)) (place : ℕ) (a b c : List Post) → HasTexts old place a → KeepsTexts new place a b → KeepsEach b c
+pub exchanged : (old new : List (Tag × List ℕ)) (place : ℕ) (a b c : List Post) → HasTexts old place a → KeepsTexts new place a b → KeepsTexts new place b c
     → ((stored : Tag × List ℕ) → Contains new stored → Contains old stored ⊎ Contains c (post (text_number stored.0 stored.1) place)) → HasTexts new place c
 exchanged old new place a b c had spares keeps has stored h = elim (has stored h) [
-  | inl x ↦ keeps (text_number stored.0 stored.1) place (spares stored h (had stored x))
+  | inl x ↦ keeps stored h (spares stored h (had stored x))
   | inr y ↦ y
 ]
 
 -- those that are there, or were, stay so
-pub still : (others : List (Tag × List ℕ)) (place : ℕ) (a b : List Post) (stored : Tag × List ℕ) → KeepsEach a b → Contains others stored ⊎ Contains a (post (text_number stored.0 stored.1) place) → Contains others stored ⊎ Contains b (post (text_number stored.0 stored.1) place)
+pub still : (others : List (Tag × List ℕ)) (place : ℕ) (a b : List Post) (stored : Tag × List ℕ) → (Contains a (post (text_number stored.0 stored.1) place) → Contains b (post (text_number stored.0 stored.1) place))
+    → Contains others stored ⊎ Contains a (post (text_number stored.0 stored.1) place) → Contains others stored ⊎ Contains b (post (text_number stored.0 stored.1) place)
 still others place a b stored keeps h = elim h [
   | inl x ↦ inl x
-  | inr y ↦ inr (keeps (text_number stored.0 stored.1) place y)
+  | inr y ↦ inr (keeps y)
 ]
 
 -- the post of a start

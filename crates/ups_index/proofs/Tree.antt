@@ -126,6 +126,14 @@ pub apart_keeps : (posts : List Post) (number place : ℕ) → KeepsOthers place
 apart_keeps posts number place n other apart h =
     filter_keeps (is_apart number place) posts (post n other) (ap (λ (b : Bool). not b || not (eqb n number)) (ne_eqb other place apart)) h
 
+-- the posts that wait at other places
+abbrev pub is_elsewhere : ℕ → Post → Bool
+is_elsewhere place p = not (eqb p.place place)
+
+pub elsewhere_keeps : (posts : List Post) (place : ℕ) → KeepsOthers place posts (filter (is_elsewhere place) posts)
+elsewhere_keeps posts place n other apart h =
+    filter_keeps (is_elsewhere place) posts (post n other) (ap not (ne_eqb other place apart)) h
+
 pub live_all : (posts new : List Post) (i : ℕ) → length posts ≤ i → KeepsEach (take i posts) new → KeepsEach posts new
 live_all posts new i l h = subst (λ (t : List Post). KeepsEach t new) (take_all i posts l) h
 

@@ -8,9 +8,14 @@ ghost use Rattle.ups_index.specs.Posts.{post, KeepsEach, KeepsOthers, KeepsTexts
 
 use crate::numbers::text_number;
 use crate::posts::Posts;
-use crate::slots::{put_start, take_start};
-use crate::values::{StoredText, has_text};
+use crate::slots::{put_start, put_texts, take_start, take_texts};
+use crate::values::{StoredText, has_text, is_text};
 use std::alloc::Allocator;
+use ups_dataset::Tag;
+
+/// The maximum number of texts of which each is compared with each other; more have all their posts replaced, in a time
+/// that grows with their number, not with its square.
+const FEW: usize = 16;
 
 /// Returns whether a text is one of `texts`.
 fn is_among<A: Allocator + Copy>(texts: &[StoredText<A>], stored: &StoredText<A>) -> bool
@@ -19,12 +24,31 @@ fn is_among<A: Allocator + Copy>(texts: &[StoredText<A>], stored: &StoredText<A>
     has_text(texts, stored.tag, stored.text.as_slice())
 }
 
-/// Returns whether one of the texts has a number.
-fn has_number<A: Allocator + Copy>(texts: &[StoredText<A>], number: u64) -> bool
+/// Returns whether a text is the one of `texts` at an index.
+fn is_at<A: Allocator + Copy>(texts: &[StoredText<A>], index: usize, stored: &StoredText<A>) -> bool
+    ensures { IsTrue result → Contains (map text_view texts.now) (text_view stored.now) }
+{
+    if index >= texts.len() {
+        return false;
+    }
+    is_text(&texts[index], stored.tag, stored.text.as_slice())
+}
+
+/// Returns whether a text has a number, which is that of a text under `tag`.
+fn has_this_number<A: Allocator + Copy>(stored: &StoredText<A>, tag: Tag, number: u64) -> bool
+    requires { (text : List ℕ) × (number ≡ text_number tag text) }
+    ensures { result ≡ false → text_number stored.now.tag stored.now.text ≢ number }
+{
+    stored.tag.number() == tag.number() && text_number(stored.tag, stored.text.as_slice()) == number
+}
+
+/// Returns whether one of the texts has a number, which is that of a text under `tag`.
+fn has_number<A: Allocator + Copy>(texts: &[StoredText<A>], tag: Tag, number: u64) -> bool
+    requires { (text : List ℕ) × (number ≡ text_number tag text) }
     ensures { result ≡ false → (stored : Tag × List ℕ) → Contains (map text_view texts.now) stored → text_number stored.0 stored.1 ≢ number }
 {
     for stored in texts {
-        if text_number(stored.tag, stored.text.as_slice()) == number {
+        if has_this_number(stored, tag, number) {
             return true;
         }
     }
@@ -42,14 +66,29 @@ fn drop_text<A: Allocator + Copy>(
     ensures spares { KeepsTexts (map text_view others.now) place table.old.posts table.new.posts }
     ensures room { table.old.room ≤ table.new.room }
 {
-    if is_among(others, stored) {
-        return;
-    }
     let number = text_number(stored.tag, stored.text.as_slice());
-    if has_number(others, number) {
+    if has_number(others, stored.tag, number) {
         return;
     }
     table.take(number, place);
+}
+
+/// Removes the post of the text at an index, if there is one, as `drop_text` does.
+fn drop_at<A: Allocator + Copy>(
+    table: &mut Posts<A>,
+    others: &[StoredText<A>],
+    texts: &[StoredText<A>],
+    index: usize,
+    place: u32,
+)
+    ensures keeps { KeepsOthers place table.old.posts table.new.posts }
+    ensures spares { KeepsTexts (map text_view others.now) place table.old.posts table.new.posts }
+    ensures room { table.old.room ≤ table.new.room }
+{
+    if index >= texts.len() {
+        return;
+    }
+    drop_text(table, others, &texts[index], place);
 }
 
 /// Removes the posts of texts at a place, except those that one of the other texts there has too.
@@ -66,6 +105,23 @@ fn drop_texts<A: Allocator + Copy>(
     for stored in texts {
         drop_text(table, others, stored, place);
     }
+}
+
+/// Removes the posts of those texts at a place that stand behind the last index of the others.
+fn drop_behind<A: Allocator + Copy>(
+    table: &mut Posts<A>,
+    others: &[StoredText<A>],
+    texts: &[StoredText<A>],
+    place: u32,
+)
+    ensures keeps { KeepsOthers place table.old.posts table.new.posts }
+    ensures spares { KeepsTexts (map text_view others.now) place table.old.posts table.new.posts }
+    ensures room { table.old.room ≤ table.new.room }
+{
+    if texts.len() <= others.len() {
+        return;
+    }
+    drop_texts(table, others, &texts[others.len()..], place);
 }
 
 /// Adds the post of a text at a place, unless it is one of `others`, whose posts are there already.
@@ -86,20 +142,44 @@ fn add_text<A: Allocator + Copy>(
     table.put(text_number(stored.tag, stored.text.as_slice()), place);
 }
 
-/// Adds the posts of texts at a place, except for those among `others`, whose posts are there already.
-fn add_texts<A: Allocator + Copy>(
+/// Replaces the post of the old text at an index by that of the text that is there now. Mostly they are the same text.
+fn exchange_text<A: Allocator + Copy>(
     table: &mut Posts<A>,
-    others: &[StoredText<A>],
-    texts: &[StoredText<A>],
+    old: &[StoredText<A>],
+    new: &[StoredText<A>],
+    index: usize,
+    stored: &StoredText<A>,
     place: u32,
 )
-    requires { length texts.now ≤ table.old.room }
-    ensures has { (stored : Tag × List ℕ) → Contains (map text_view texts.now) stored → Contains (map text_view others.now) stored ⊎ Contains table.new.posts (post (text_number stored.0 stored.1) place) }
-    ensures keeps { KeepsEach table.old.posts table.new.posts }
-    ensures room { table.old.room ≤ table.new.room + length texts.now }
+    requires { 0 < table.old.room }
+    ensures has { Contains (map text_view old.now) (text_view stored.now) ⊎ Contains table.new.posts (post (text_number stored.now.tag stored.now.text) place) }
+    ensures keeps { KeepsOthers place table.old.posts table.new.posts }
+    ensures spares { KeepsTexts (map text_view new.now) place table.old.posts table.new.posts }
+    ensures room { table.old.room ≤ table.new.room + 1 }
 {
-    for stored in texts {
-        add_text(table, others, stored, place);
+    if is_at(old, index, stored) {
+        return;
+    }
+    drop_at(table, new, old, index, place);
+    add_text(table, old, stored, place);
+}
+
+/// Replaces the posts of old texts at a place by those of the texts at the same indexes. The posts of the texts among
+/// both are there already.
+fn exchange_each<A: Allocator + Copy>(
+    table: &mut Posts<A>,
+    old: &[StoredText<A>],
+    new: &[StoredText<A>],
+    place: u32,
+)
+    requires { length new.now ≤ table.old.room }
+    ensures has { (stored : Tag × List ℕ) → Contains (map text_view new.now) stored → Contains (map text_view old.now) stored ⊎ Contains table.new.posts (post (text_number stored.0 stored.1) place) }
+    ensures keeps { KeepsOthers place table.old.posts table.new.posts }
+    ensures spares { KeepsTexts (map text_view new.now) place table.old.posts table.new.posts }
+    ensures room { table.old.room ≤ table.new.room + length new.now }
+{
+    for (index, stored) in new.iter().enumerate() {
+        exchange_text(table, old, new, index, stored, place);
     }
 }
 
@@ -116,8 +196,13 @@ pub(crate) fn exchange_texts<A: Allocator + Copy>(
     ensures keeps { KeepsOthers place table.old.posts table.new.posts }
     ensures room { table.old.room ≤ table.new.room + length new.now }
 {
-    drop_texts(table, new, old, place);
-    add_texts(table, old, new, place);
+    if old.len().max(new.len()) > FEW {
+        take_texts(table, old, place);
+        put_texts(table, new, place);
+        return;
+    }
+    drop_behind(table, new, old, place);
+    exchange_each(table, old, new, place);
 }
 
 /// Replaces the post of a start at a place by that of another.

@@ -1,7 +1,6 @@
 //! The index of the held steps.
 
-ghost use Rattle.std.specs.Prelude.{◌≡◌, ◌≤◌, ◌<◌, ◌+◌, ◌++◌, [], ◌∷◌, false, length, IfOk, IsSome, IfSome, OnOk, pos};
-ghost use Rattle.std.specs.Bool.{MatchBool};
+ghost use Rattle.std.specs.Prelude.{◌≡◌, ◌≤◌, ◌<◌, ◌+◌, ◌++◌, [], ◌∷◌, false, length, IfOk, MatchOption, IsSome, IfSome, OnOk, pos};
 ghost use Rattle.ups_match.specs.Class.{first_key, all};
 ghost use Rattle.ups_index.specs.Indexed.{values_len, has_step, put_values, without_uid, indexed_class};
 ghost use Rattle.ups_index.specs.Numbers.{low_number, high_number};
@@ -10,9 +9,7 @@ ghost use Rattle.ups_index.specs.Posts.{KeepsOthers, HasTexts, HasStart};
 use crate::exchanging::{exchange_start, exchange_texts};
 use crate::numbers::{moment_number, step_number, text_number};
 use crate::posts::Posts;
-use crate::slots::{
-    Slot, every_step, look_up, place_of, put_start, put_texts, take_start, take_texts,
-};
+use crate::slots::{Slot, look_up, place_of, put_start, put_texts, take_start, take_texts};
 use crate::values::Values;
 use std::alloc::{AllocError, Allocator};
 use std::marker::Model;
@@ -262,36 +259,29 @@ impl<A: Allocator + Copy> Index<A> {
         slots[at] = Slot { step, values: None };
     }
 
-    /// Returns whether a query has an indexed key. If it has none, its class is every step.
-    pub fn looks_up(&self, keys: &Keys<A>) -> bool
-        ensures { MatchBool result (Unit {0}) (first_key self.now.offset keys.now ≡ all) }
-    {
-        match keys.first(self.offset) {
-            First::Value(_, _) | First::Start(_, _) => true,
-            First::All => false,
-        }
-    }
-
-    /// Returns the class of a query: the steps that have its first indexed key, each once, in order of creation.
+    /// Returns the class of a query: the steps that have its first indexed key, each once, in order of creation. None if
+    /// it has no indexed key: its class is every step then.
     ///
     /// # Errors
     ///
     /// If memory runs out.
-    pub fn candidates(&self, keys: &Keys<A>) -> Result<Vec<StepUid, A>, AllocError>
-        ensures { IfOk result (λ found. found.items ≡ indexed_class (first_key self.now.offset keys.now) self.now.steps) }
+    pub fn candidates(&self, keys: &Keys<A>) -> Result<Option<Vec<StepUid, A>>, AllocError>
+        ensures { IfOk result (λ found. MatchOption found (first_key self.now.offset keys.now ≡ all) (λ steps. steps.items ≡ indexed_class (first_key self.now.offset keys.now) self.now.steps)) }
     {
         let first = keys.first(self.offset);
         match &first {
             First::Value(tag, text) => {
                 let number = text_number(*tag, text);
-                look_up(self.alloc, &self.slots, &self.texts, number, number, &first)
+                let found = look_up(self.alloc, &self.slots, &self.texts, number, number, &first)?;
+                Ok(Some(found))
             }
             First::Start(least, greatest) => {
                 let low = low_number(*least);
                 let high = high_number(*greatest);
-                look_up(self.alloc, &self.slots, &self.starts, low, high, &first)
+                let found = look_up(self.alloc, &self.slots, &self.starts, low, high, &first)?;
+                Ok(Some(found))
             }
-            First::All => every_step(self.alloc, &self.slots),
+            First::All => Ok(None),
         }
     }
 }

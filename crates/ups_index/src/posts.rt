@@ -121,6 +121,22 @@ impl<A: Allocator + Copy> Posts<A> {
         waiting.retain(|post| post.place != place || post.number != number);
     }
 
+    /// Removes the post of a number and a place, unless it waits beside the tree. It takes no memory.
+    pub(crate) fn take_settled(&mut self, number: u64, place: u32)
+        ensures keeps { KeepsOthers place self.old.posts self.new.posts }
+        ensures room { self.old.room ≤ self.new.room }
+    {
+        self.tree.remove(&Post { number, place });
+    }
+
+    /// Removes all posts of a place that wait beside the tree. It takes no memory.
+    pub(crate) fn take_waiting(&mut self, place: u32)
+        ensures keeps { KeepsOthers place self.old.posts self.new.posts }
+        ensures room { self.old.room ≤ self.new.room }
+    {
+        self.waiting.retain(|post| post.place != place);
+    }
+
     /// Returns the posts of the numbers from `low` to `high` in the tree, and all posts that wait beside it.
     pub(crate) fn runs(&self, low: u64, high: u64) -> (btree_set::Range<'_, Post>, &[Post])
         requires { low ≤ high }

@@ -7,7 +7,7 @@ ghost use Rattle.std.specs.Bool.{MatchBool};
 ghost use Rattle.std.specs.List.{filter_map};
 ghost use Rattle.std.specs.List.Sorted.{IsNonDecreasing};
 ghost use Rattle.ups_dataset.specs.declared.tag.Tag.{Tag};
-ghost use Rattle.ups_match.specs.Class.{first_view, all};
+ghost use Rattle.ups_match.specs.Class.{first_view};
 ghost use Rattle.ups_index.specs.Kept.{text_view, in_class, HasNoneIn, IsSlot, StepsPosted};
 ghost use Rattle.ups_index.specs.Numbers.{text_number, step_number, moment_number};
 ghost use Rattle.ups_index.specs.Posts.{post, KeepsEach, KeepsOthers};
@@ -117,7 +117,8 @@ pub(crate) fn put_texts<A: Allocator + Copy>(
     }
 }
 
-/// Removes the posts of texts at a place.
+/// Removes the posts of texts at a place, and all others of the place that wait. Those that wait are gone through once,
+/// not once a text.
 pub(crate) fn take_texts<A: Allocator + Copy>(
     table: &mut Posts<A>,
     texts: &[StoredText<A>],
@@ -126,8 +127,9 @@ pub(crate) fn take_texts<A: Allocator + Copy>(
     ensures keeps { KeepsOthers place table.old.posts table.new.posts }
     ensures room { table.old.room ≤ table.new.room }
 {
+    table.take_waiting(place);
     for stored in texts {
-        table.take(text_number(stored.tag, stored.text.as_slice()), place);
+        table.take_settled(text_number(stored.tag, stored.text.as_slice()), place);
     }
 }
 
@@ -296,20 +298,4 @@ pub(crate) fn look_up<A: Allocator + Copy>(
 {
     let places = places_of(alloc, table, low, high)?;
     steps_at(alloc, slots, &places, first)
-}
-
-/// Returns every step.
-///
-/// Errors: if memory runs out.
-pub(crate) fn every_step<A: Allocator + Copy>(
-    alloc: A,
-    slots: &[Slot<A>],
-) -> Result<Vec<StepUid, A>, AllocError>
-    ensures { IfOk result (λ steps. steps.items ≡ filter_map (in_class all) slots.now) }
-{
-    let mut steps = Vec::new(alloc);
-    for slot in slots {
-        add_step(&mut steps, slot, &First::All)?;
-    }
-    Ok(steps)
 }

@@ -108,7 +108,7 @@ impl<A: Allocator + Copy> Values<A> {
 }
 
 /// Returns whether what is stored is a text under a tag.
-fn is_text<A: Allocator + Copy>(stored: &StoredText<A>, tag: Tag, text: &[u8]) -> bool
+pub(crate) fn is_text<A: Allocator + Copy>(stored: &StoredText<A>, tag: Tag, text: &[u8]) -> bool
     ensures { result ≡ is_stored_text tag text.now (text_view stored.now) }
 {
     stored.tag == tag && text == stored.text.as_slice()

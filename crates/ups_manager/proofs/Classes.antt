@@ -1,6 +1,5 @@
 -- What is found among the candidates of the index is what the class of a query holds.
 use Rattle.std.proofs.Common.{◌≡◌, ℕ, suc, ℤ, ◌+◌, ◌<◌, ◌≤◌, arith, drop, Bool, true, false, ◌||◌, cond, List, [], ◌∷◌, ◌++◌, length, map, filter, take, get_or, Option, None, Some, refl, sym, ap, ◌∙◌}
-use Rattle.std.specs.Bool.{MatchBool}
 use Rattle.std.specs.List.{list_any, filter_map, cons_option}
 use Rattle.std.specs.Option.{option_map, option_to_list}
 use Rattle.std.specs.Str.{bytes_eq}
@@ -85,10 +84,6 @@ class_of_all offset keys [] none = refl
 class_of_all offset keys (r ∷ rs) none =
     ap (λ (l : List (List El)). r ∷ l) (class_of_all offset keys rs none)
     ∙ sym (ap (λ (b : Bool). cond b (r ∷ class offset keys rs) (class offset keys rs)) (ap (λ first. meets_first keys.offset first (elements_of r)) none))
-
-pub not_looked_up : {P : Type 0} (b : Bool) → b ≡ false → MatchBool b (Unit {0}) P → P
-not_looked_up false n h = h
-not_looked_up true n h = absurd cc
 
 -- there are as many attributes as steps
 pub as_many_rows : {A : Type 0} (hs : List (HeldStep A)) → length (attributes_in hs) ≡ length hs

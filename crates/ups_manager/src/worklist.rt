@@ -119,9 +119,8 @@ pub(crate) fn matches_of_class<A: Allocator + Copy, M: Matcher>(
     ensures each { OnOk result (M.asked matcher.new ≡ M.asked matcher.old + length (class index.now.offset keys.now (attributes_in (as_steps tables.now.steps.entries)))) }
     ensures most { M.asked matcher.new ≤ M.asked matcher.old + length (class index.now.offset keys.now (attributes_in (as_steps tables.now.steps.entries))) }
 {
-    if !index.looks_up(keys) {
-        return matches_of_all(alloc, tables, keys, matcher);
+    match index.candidates(keys)? {
+        Some(candidates) => matches_among(alloc, tables, candidates.as_slice(), keys, matcher),
+        None => matches_of_all(alloc, tables, keys, matcher),
     }
-    let candidates = index.candidates(keys)?;
-    matches_among(alloc, tables, candidates.as_slice(), keys, matcher)
 }

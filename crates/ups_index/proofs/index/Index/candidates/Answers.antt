@@ -1,5 +1,4 @@
-use Rattle.std.proofs.Common.{◌≡◌, FitsSigned, w16, rules, List, ℕ, sym, subst, ap, ◌∙◌, refl}
-use Rattle.std.specs.Prelude.{IfOk}
+use Rattle.std.proofs.Common.{FitsSigned, w16, rules, sym, ap, ◌∙◌, refl}
 use Rattle.std.proofs.lemmas.Int.{to_z-of_z}
 use Rattle.ups_match.specs.Class.{first_view, first_key}
 use Rattle.ups_index.proofs.Placed.{texts_lead, starts_lead, class_same}
@@ -14,20 +13,20 @@ look_up-requires-in-Start g c =
     starts_lead c.self.inside.slots.items c.deref-in-Start.result.now c.self.inside.starts.posts c.in-Start.least c.in-Start.greatest c.low_number-low.result c.high_number-high.result (first_view c.first-first.result) (ap first_view c.in-Start.is) c.deref-in-Start.ensures.value
     c.low_number-low.ensures c.high_number-high.ensures c.self.invariant.starts_posted
 
-pub returns-in-Value : goal.returns-in-Value
-returns-in-Value g c =
+pub returns-in_ok-found-in-Value : goal.returns-in_ok-found-in-Value
+returns-in_ok-found-in-Value g c =
     let fits : FitsSigned w16 c.self.inside.offset = search rules in
     let first = rw (to_z-of_z w16 c.self.inside.offset fits) at c.first-first.ensures in
-    rw (← c.self.view_is) (subst (λ (t : List (List ℕ)). IfOk c.look_up.result (λ found. found.items ≡ t)) (class_same c.self.inside.slots.items c.deref.result.now (first_view c.first-first.result) (first_key c.self.inside.offset c.args.keys.now) _ c.deref.ensures.value first refl) c.look_up.ensures)
+    rw (← c.self.view_is) (c.in_ok-found-in-Value.ensures ∙ class_same c.self.inside.slots.items c.deref.result.now (first_view c.first-first.result) (first_key c.self.inside.offset c.args.keys.now) _ c.deref.ensures.value first refl)
 
-pub returns-in-Start : goal.returns-in-Start
-returns-in-Start g c =
+pub returns-in_ok-found-in-Start : goal.returns-in_ok-found-in-Start
+returns-in_ok-found-in-Start g c =
     let fits : FitsSigned w16 c.self.inside.offset = search rules in
     let first = rw (to_z-of_z w16 c.self.inside.offset fits) at c.first-first.ensures in
-    rw (← c.self.view_is) (subst (λ (t : List (List ℕ)). IfOk c.look_up-in-Start.result (λ found. found.items ≡ t)) (class_same c.self.inside.slots.items c.deref-in-Start.result.now (first_view c.first-first.result) (first_key c.self.inside.offset c.args.keys.now) _ c.deref-in-Start.ensures.value first refl) c.look_up-in-Start.ensures)
+    rw (← c.self.view_is) (c.in_ok-found-in-Start.ensures ∙ class_same c.self.inside.slots.items c.deref-in-Start.result.now (first_view c.first-first.result) (first_key c.self.inside.offset c.args.keys.now) _ c.deref-in-Start.ensures.value first refl)
 
 pub returns-in-All : goal.returns-in-All
 returns-in-All g c =
     let fits : FitsSigned w16 c.self.inside.offset = search rules in
     let first = rw (to_z-of_z w16 c.self.inside.offset fits) at c.first-first.ensures in
-    rw (← c.self.view_is) (subst (λ (t : List (List ℕ)). IfOk c.every_step.result (λ found. found.items ≡ t)) (class_same c.self.inside.slots.items c.deref-in-All.result.now _ (first_key c.self.inside.offset c.args.keys.now) _ c.deref-in-All.ensures.value (sym (ap first_view c.in-All.is) ∙ first) refl) c.every_step.ensures)
+    rw (← c.self.view_is) (sym (sym (ap first_view c.in-All.is) ∙ first))
