@@ -9,15 +9,12 @@ use Rattle.ups_life.specs.declared.entry.Entry.{Entry}
 use Rattle.ups_life.specs.declared.peer.Peer.{Peer}
 use Rattle.ups_life.specs.declared.request.Request.{Request}
 use Rattle.ups_life.specs.declared.request.Request.TheVariants.{Create, Change, AskCancel, Set, Subscribe, Unsubscribe, Suspend, Ack, Sweep}
-use Rattle.ups_cycle.specs.declared.status.Status.{Status}
-use Rattle.ups_cycle.specs.declared.status.Status.TheVariants.{UnknownReceivingAe}
 use Rattle.ups_life.specs.declared.watching.Subscription.{Subscription}
 use Rattle.ups_life.specs.Settings.{Settings}
 use Rattle.ups_life.specs.Steps.{past, is_step, row}
 use Rattle.ups_life.specs.Watching.{is_peer, takes_in, is_at, granted, global_after, global_left, cover_after, cover, newly_covered, watch_after, watch, held, watched_step, watched}
 use Rattle.ups_life.specs.Events.{only_if, as_it_is, told_of, reports_of, numbered, events}
-use Rattle.ups_life.specs.History.{of_peer, legal}
-use Rattle.ups_cycle.specs.Statuses.{is_done}
+use Rattle.ups_life.specs.History.{legal}
 use Rattle.ups_life.proofs.Texts.{same_text}
 use Rattle.ups_life.proofs.Accepted.{differ, legal_head, legal_tail, for_peer}
 use Rattle.ups_service.specs.Law.{is_legal, entry}

@@ -1,6 +1,6 @@
 //! Answers a call by the history, and enters it if it is accepted.
 
-ghost use Rattle.std.specs.Prelude.{◌≡◌, ◌<◌, ◌++◌, length, IfOk, OnOk, IfErr};
+ghost use Rattle.std.specs.Prelude.{◌≡◌, ◌<◌, ◌++◌, length, IfOk, OnOk, IfErr, MatchResult};
 ghost use Rattle.ups_life.specs.Settings.{IsMoment};
 ghost use Rattle.ups_life.specs.declared.request.Ask.TheVariants.{Do};
 ghost use Rattle.ups_life.specs.Steps.{past};
@@ -19,6 +19,25 @@ use ups_index::Index;
 use ups_life::{Configuration, Entry, Reply};
 use ups_tables::Tables;
 
+/// Returns the reply that refuses a call where the history is full.
+#[inline(never)]
+fn refuse_when_full<A: Allocator + Copy>(
+    alloc: A,
+    configuration: &Configuration<A>,
+    history: &[Entry<A>],
+    tables: &Tables<A>,
+    call: &Entry<A>,
+) -> Result<Decision<A>, Reply<A>>
+    requires moment { IsMoment call.now.moment }
+    requires stands { ManagerStands configuration.now history.now tables.now }
+    ensures { MatchResult result (λ decision. ⊥) (IsRefused configuration.now history.now call.now) }
+{
+    match decide(alloc, configuration, history, tables, call) {
+        Ok(_) => Err(Reply::Status(Status::ResourceLimitation)),
+        Err(reply) => Err(reply),
+    }
+}
+
 /// Returns the decision about a call that is accepted, if the history has room for it.
 ///
 /// Errors: the reply that refuses the call, or that says that the history is full or that memory ran out.
@@ -35,11 +54,10 @@ fn decide_with_room<A: Allocator + Copy>(
     ensures room { OnOk result (length history.now < configuration.now.limit) }
     ensures refused { IfErr result (IsRefused configuration.now history.now call.now) }
 {
-    let decision = decide(alloc, configuration, history, tables, call)?;
     if is_full(configuration, history) {
-        return Err(Reply::Status(Status::ResourceLimitation));
+        return refuse_when_full(alloc, configuration, history, tables, call);
     }
-    Ok(decision)
+    decide(alloc, configuration, history, tables, call)
 }
 
 /// Answers a call by the history, and enters it there, in the tables and in the index if it is accepted.

@@ -210,6 +210,7 @@ fn plan_watcher<A: Allocator + Copy>(
 /// Decides about a request for a watcher.
 ///
 /// Errors: the reply that refuses the request, or that says that memory ran out.
+#[inline(never)]
 fn decide_watcher<A: Allocator + Copy>(
     alloc: A,
     configuration: &Configuration<A>,
@@ -265,6 +266,7 @@ fn accepts<A: Allocator + Copy>(reply: &Reply<A>) -> bool
 /// Decides about an acknowledgement up to a number. An application entity that is no peer has no events to acknowledge.
 ///
 /// Errors: the reply that refuses the acknowledgement.
+#[inline(never)]
 fn decide_ack<A: Allocator + Copy>(
     configuration: &Configuration<A>,
     history: &[Entry<A>],
@@ -297,6 +299,7 @@ fn decide_ack<A: Allocator + Copy>(
 /// Decides about a sweep: which of the held steps it removes.
 ///
 /// Errors: the reply that it removes none, or that memory ran out.
+#[inline(never)]
 fn decide_sweep<A: Allocator + Copy>(
     alloc: A,
     configuration: &Configuration<A>,

@@ -12,7 +12,7 @@ ghost use Rattle.ups_tables.specs.Held.{held_at};
 ghost use Rattle.ups_tables.specs.Fit.{how, holds, TablesFit, AreFreed};
 ghost use Rattle.ups_tables.specs.Effects.{IsCreated, IsChanged, IsSubscribed, IsUnsubscribed, IsSuspended, AcknowledgesUpto, IsSwept, RoomFor};
 
-use crate::settling::{forget, settle, settle_many, waiting_since};
+use crate::settling::{forget, settle, settle_many, waiting_in};
 use crate::tables::Tables;
 use crate::used::use_uid;
 use std::alloc::Allocator;
@@ -71,15 +71,13 @@ pub(crate) fn change<A: Allocator + Copy>(
     ensures effect { IsChanged entry step held news.now newly.now first.now tables.old tables.new }
     ensures fits { TablesFit tables.new }
 {
-    let kept = tables.watchers.is_kept(step);
-    let before = waiting_since(kept, tables.steps.final_at(step));
+    let before = waiting_in(&tables.watchers, step, tables.steps.final_at(step));
     tables
         .queues
         .tell_each(tables.watchers.of_step(step), entry, news);
     tables.queues.tell_each(newly, entry, first);
     tables.watchers.subscribe_each(step, newly);
-    let kept_now = tables.watchers.is_kept(step);
-    let after = waiting_since(kept_now, held.row.final_at);
+    let after = waiting_in(&tables.watchers, step, held.row.final_at);
     settle(&mut tables.due, step, before, after);
     tables.steps.put(step, held);
     tables.watchers.peers();
@@ -122,11 +120,9 @@ pub(crate) fn subscribe_single<A: Allocator + Copy>(
     ensures fits { TablesFit tables.new }
 {
     let since = tables.steps.final_at(step);
-    let kept = tables.watchers.is_kept(step);
-    let before = waiting_since(kept, since);
+    let before = waiting_in(&tables.watchers, step, since);
     tables.watchers.subscribe(peer, step, subscription);
-    let kept_now = tables.watchers.is_kept(step);
-    let after = waiting_since(kept_now, since);
+    let after = waiting_in(&tables.watchers, step, since);
     settle(&mut tables.due, step, before, after);
     tables.queues.tell(peer, entry, news);
     tables.watchers.peers();
@@ -168,11 +164,9 @@ pub(crate) fn end_single<A: Allocator + Copy>(tables: &mut Tables<A>, peer: usiz
     ensures fits { TablesFit tables.new }
 {
     let since = tables.steps.final_at(step);
-    let kept = tables.watchers.is_kept(step);
-    let before = waiting_since(kept, since);
+    let before = waiting_in(&tables.watchers, step, since);
     tables.watchers.unsubscribe(peer, Place::At(Some(step)));
-    let kept_now = tables.watchers.is_kept(step);
-    let after = waiting_since(kept_now, since);
+    let after = waiting_in(&tables.watchers, step, since);
     settle(&mut tables.due, step, before, after);
     tables.watchers.peers();
 }

@@ -16,10 +16,25 @@ use ups_watch::Watchers;
 
 /// Returns the moment since which a step awaits removal: `final_at`, or None if a peer keeps the step or it isn't
 /// final.
-pub(crate) fn waiting_since(kept: bool, final_at: Option<u64>) -> Option<u64>
+fn waiting_since(kept: bool, final_at: Option<u64>) -> Option<u64>
     ensures { result ≡ unless_kept kept final_at }
 {
     if kept { None } else { final_at }
+}
+
+/// Returns the moment since which a step awaits removal: `final_at`, or None if a peer keeps the step or it isn't
+/// final. Peers are asked only about a final step.
+pub(crate) fn waiting_in<A: Allocator + Copy>(
+    watchers: &Watchers<A>,
+    step: StepUid,
+    final_at: Option<u64>,
+) -> Option<u64>
+    ensures { result ≡ unless_kept (is_locked_by_any (cells_of watchers.now step)) final_at }
+{
+    if final_at.is_none() {
+        return None;
+    }
+    waiting_since(watchers.is_kept(step), final_at)
 }
 
 /// Returns whether both are the same moment, or both None.

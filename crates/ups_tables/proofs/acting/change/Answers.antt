@@ -1,4 +1,4 @@
-use Rattle.std.proofs.Common.{ℕ, List, Option, None, cond, get_or, length, sym, ap, ◌∙◌}
+use Rattle.std.proofs.Common.{ℕ, List, Option, None, cond, get_or, length, refl, sym, ap, ◌∙◌}
 use Rattle.std.specs.Prelude.{is_some}
 use Rattle.std.specs.Option.{option_or}
 use Rattle.std.specs.Str.{bytes_eq}
@@ -20,5 +20,5 @@ returns-clause-fits g c =
     c.settle.ensures.once
     (λ u. c.settle.ensures.waits u
     ∙ ap (λ (o : Option ℕ). cond (bytes_eq c.args.step u) o (waits u c.args.tables.now.due.steps))
-    (waits_so _ None _ _ _ _ c.waiting_since-after.ensures c.is_kept-kept_now.ensures
+    (waits_so _ None _ _ _ _ c.waiting_in-after.ensures refl
     (sym (ap (λ (xs : List (List ℕ × Held g.row.A.Denot)). final_of (held_at c.args.step xs)) c.put.ensures.entries ∙ put_final_here c.args.step c.args.held hs))))

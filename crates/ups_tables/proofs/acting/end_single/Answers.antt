@@ -11,4 +11,4 @@ returns-clause-fits g c =
     (λ p u e. c.unsubscribe.ensures.watching p u ∙ not_at (eqb c.args.peer p) (bytes_eq c.args.step u) None (how c.args.tables.now p u) e)
     c.unsubscribe.ensures.known (λ u. refl) (λ u e. refl) c.settle.ensures.once
     (λ u. c.settle.ensures.waits u
-    ∙ ap (λ (o : Option ℕ). cond (bytes_eq c.args.step u) o (waits u c.args.tables.now.due.steps)) (waits_so _ None _ _ _ _ c.waiting_since-after.ensures c.is_kept-kept_now.ensures c.final_at-since.ensures))
+    ∙ ap (λ (o : Option ℕ). cond (bytes_eq c.args.step u) o (waits u c.args.tables.now.due.steps)) (waits_so _ None _ _ _ _ c.waiting_in-after.ensures refl c.final_at-since.ensures))
