@@ -253,6 +253,7 @@ impl<'a> Account<'a> {
     }
 
     /// Logs a request by the command set of its response.
+    #[inline(never)]
     fn tell_command<R: Log>(&self, rt: &R, alloc: Global, level: Level, bytes: &[u8]) {
         let Ok(command) = read_command(alloc, bytes) else {
             return;

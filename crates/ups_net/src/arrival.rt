@@ -93,13 +93,25 @@ impl Arrival {
         is_ended
     }
 
-    // Takes one byte of a header or the available bytes of a body, and returns the bytes that follow.
+    // Takes a header, one byte of it or the available bytes of a body, and returns the bytes that follow.
     fn step<'b>(&mut self, bytes: &'b [u8]) -> &'b [u8] {
         if self.body > 0 {
             let count = self.body.min(bytes.len());
             self.body -= count;
             return bytes.get(count..).unwrap_or(&[]);
         }
+        match bytes {
+            [first, second, third, fourth, fifth, sixth, rest @ ..] if self.come == 0 => {
+                self.head = [*first, *second, *third, *fourth, *fifth, *sixth];
+                self.open();
+                rest
+            }
+            _ => self.step_in_header(bytes),
+        }
+    }
+
+    // Takes one byte of a header, and returns the bytes that follow.
+    fn step_in_header<'b>(&mut self, bytes: &'b [u8]) -> &'b [u8] {
         if let (Some(place), Some(byte)) = (self.head.get_mut(self.come), bytes.first()) {
             *place = *byte;
         }

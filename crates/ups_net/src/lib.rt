@@ -31,6 +31,7 @@ mod socket;
 mod sweeping;
 mod tally;
 mod wire;
+mod wire_fault;
 mod workers;
 
 pub use account::Account;
@@ -53,4 +54,5 @@ pub use sweeping::sweep;
 pub use tally::Tally;
 pub use ups_settings::Watcher;
 pub use wire::{Deadline, TimeLimits, Wire, WireReader, WireWriter};
+pub use wire_fault::WireFault;
 pub use workers::{run, work};

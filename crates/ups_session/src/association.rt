@@ -275,6 +275,7 @@ impl<A: Allocator + Copy> Association<A> {
     /// Performs an action that needs no data of the event.
     ///
     /// Errors: out of memory.
+    #[inline(never)]
     pub fn on_action(
         &mut self,
         alloc: A,
@@ -296,6 +297,7 @@ impl<A: Allocator + Copy> Association<A> {
     /// Processes an event that carries no data.
     ///
     /// Errors: out of memory.
+    #[inline(never)]
     pub fn on_event(
         &mut self,
         alloc: A,
@@ -409,6 +411,7 @@ impl<A: Allocator + Copy> Association<A> {
     /// Processes an A-ASSOCIATE-RQ.
     ///
     /// Errors: out of memory.
+    #[inline(never)]
     pub fn on_associate_request(
         &mut self,
         alloc: A,
@@ -430,6 +433,7 @@ impl<A: Allocator + Copy> Association<A> {
     /// Aborts the association (PS3.8 section 7.3).
     ///
     /// Errors: out of memory.
+    #[inline(never)]
     pub fn abort(&mut self, alloc: A, requestor: bool) -> Result<Vec<Pdu<A>, A>, SessionFault>
         ensures reaction { IfOk result (λ said. sending (association_view self.new) said.items ≡ aborting requestor (association_view self.old)) }
         ensures writable { IfOk result (λ said. AllByRecursion (λ p. Fits p) said.items) }

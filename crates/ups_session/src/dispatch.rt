@@ -232,36 +232,29 @@ fn respond_at_once<A: Allocator + Copy>(
     }))
 }
 
-/// Returns the effect of a request: the session answers at once, or awaits the reply of the service.
+/// Returns the effect of a request that asks something of the service, whose reply is awaited.
 ///
 /// Errors: out of memory.
-fn effect_of<A: Allocator + Copy>(
+fn await_reply<A: Allocator + Copy>(
     alloc: A,
     parameters: &Parameters<A>,
     context: AcceptedContext,
     command: RequestCommand<A>,
-    dispatch: Dispatch<A>,
+    ask: Ask<A>,
 ) -> Result<Effect<A, AwaitedRequest<A>>, SessionFault>
     requires { 8 ≤ parameters.now.max }
-    ensures effect { IfOk result (λ effect. message_effect (Some effect) ≡ message_effect_of (parameters_view parameters.now) context command (dispatch_view dispatch)) }
+    ensures effect { IfOk result (λ effect. message_effect (Some effect) ≡ message_effect_of (parameters_view parameters.now) context command (asking ask)) }
     ensures writable { IfOk result IsSendable }
     ensures memory { IfErr result (λ e. e ≡ Memory) }
 {
-    match dispatch {
-        Dispatch::Answer(status) => respond_at_once(alloc, parameters, &context, &command, status),
-        Dispatch::Question(ask) => {
-            let ae = parameters.ae;
-            let max = parameters.max;
-            let parts = AwaitedParts {
-                ae,
-                ask,
-                max,
-                context,
-                command,
-            };
-            Ok(Effect::Call(AwaitedRequest::new(alloc, parts)?))
-        }
-    }
+    let parts = AwaitedParts {
+        ae: parameters.ae,
+        ask,
+        max: parameters.max,
+        context,
+        command,
+    };
+    Ok(Effect::Call(AwaitedRequest::new(alloc, parts)?))
 }
 
 /// Returns the effect of a request message, or None if its presentation context was not accepted.
@@ -284,8 +277,15 @@ fn on_request_message<A: Allocator + Copy>(
     let Some(context) = context_at(id, parameters.contexts.as_slice()) else {
         return Ok(None);
     };
-    let dispatch = dispatch_request(alloc, config, &context, &command, body)?;
-    Ok(Some(effect_of(alloc, parameters, context, command, dispatch)?))
+    match dispatch_request(alloc, config, &context, &command, body) {
+        Ok(Dispatch::Answer(status)) => {
+            Ok(Some(respond_at_once(alloc, parameters, &context, &command, status)?))
+        }
+        Ok(Dispatch::Question(ask)) => {
+            Ok(Some(await_reply(alloc, parameters, context, command, ask)?))
+        }
+        Err(_) => Err(SessionFault::Memory),
+    }
 }
 
 /// Returns the effect of a whole message, or None if its command set can't be read or its presentation context was not

@@ -155,6 +155,7 @@ fn process_pdu<A: Allocator + Copy, W: Write, S: Service<A>, G: Gate, P: Party<A
 /// Processes bytes that are not a PDU.
 ///
 /// Errors: a failed write; out of memory.
+#[inline(never)]
 fn process_bad<A: Allocator + Copy, W: Write, S: Service<A>, G: Gate, P: Party<A>>(
     party: &mut P,
     writer: &mut WatchedWriter<W>,
@@ -177,6 +178,7 @@ fn process_bad<A: Allocator + Copy, W: Write, S: Service<A>, G: Gate, P: Party<A
 /// Processes the end of the input.
 ///
 /// Errors: a failed write; out of memory.
+#[inline(never)]
 fn process_close<A: Allocator + Copy, W: Write, S: Service<A>, G: Gate, P: Party<A>>(
     party: &mut P,
     writer: &mut WatchedWriter<W>,
@@ -198,6 +200,7 @@ fn process_close<A: Allocator + Copy, W: Write, S: Service<A>, G: Gate, P: Party
 /// Processes a PDU of the buffer that could not be read: its bytes are not a PDU, or memory ran out.
 ///
 /// Errors: a failed write; out of memory.
+#[inline(never)]
 fn process_fault<A: Allocator + Copy, W: Write, S: Service<A>, G: Gate, P: Party<A>>(
     party: &mut P,
     writer: &mut WatchedWriter<W>,
@@ -222,6 +225,7 @@ fn process_fault<A: Allocator + Copy, W: Write, S: Service<A>, G: Gate, P: Party
 /// Processes the PDU whose bytes the buffer holds, of any type.
 ///
 /// Errors: a failed write; out of memory.
+#[inline(never)]
 fn process_any<A: Allocator + Copy, W: Write, S: Service<A>, G: Gate, P: Party<A>>(
     party: &mut P,
     writer: &mut WatchedWriter<W>,
