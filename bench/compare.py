@@ -34,11 +34,11 @@ def echo_rows(few):
 def step_rows(few):
     rounds = 1 if few else 20
     for name, syntax, explicit in (("Implicit", dicom.IMPLICIT, False), ("Explicit", dicom.EXPLICIT, True)):
-        opening = dicom.associate([(dicom.PUSH, syntax)])
+        opening = dicom.associate([(dicom.PUSH, syntax), (dicom.PULL, syntax)])
         made = b"".join(dicom.create(1, i + 1, b"1.2.3.%d" % (i + 1), dicom.step(explicit)) for i in range(200))
         asked = b"".join(dicom.get(1, i + 1, b"1.2.3.%d" % (i + 1)) for i in range(200)) * rounds
         change = dicom.data(explicit, 0x0074, 0x1204, b"LO", b"MR READ ")
-        changes = b"".join(dicom.set_attributes(1, i + 1, b"1.2.3.%d" % (i + 1), change) for i in range(200)) * rounds
+        changes = b"".join(dicom.set_attributes(3, i + 1, b"1.2.3.%d" % (i + 1), change) for i in range(200)) * rounds
         yield f"N-CREATE of 20 attributes, {name}", PIPE, opening + dicom.RELEASE, opening + made + dicom.RELEASE, 200
         yield f"N-GET of 20 attributes, {name}", PIPE, opening + made + dicom.RELEASE, opening + made + asked + dicom.RELEASE, 200 * rounds
         yield f"N-SET of an attribute, {name}", PIPE, opening + made + dicom.RELEASE, opening + made + changes + dicom.RELEASE, 200 * rounds
@@ -69,6 +69,19 @@ def large_rows(few):
         opening = dicom.associate([(dicom.PUSH, dicom.EXPLICIT if explicit else dicom.IMPLICIT)])
         row = dicom.step(explicit, shape(1_000_000))
         yield f"one data set of {len(row):,} bytes, {name}", PIPE, opening + dicom.RELEASE, opening + dicom.create(1, 1, b"1.2.3.1", row) + dicom.RELEASE, 1
+
+
+def station_rows(few):
+    opening = dicom.associate([(dicom.PUSH, dicom.EXPLICIT), (dicom.PULL, dicom.EXPLICIT)])
+    made = dicom.create(1, 1, b"1.2.3.1", dicom.step(True))
+    for count in (1_000, 8_000):
+        first, second = (
+            dicom.data(True, 0x0040, 0x4025, b"SQ", dicom.items([dicom.data(True, 0x0008, 0x0100, b"SH", b"%c%07d" % (letter, i)) for i in range(count)]))
+            for letter in b"AB"
+        )
+        before = opening + made + dicom.set_attributes(3, 2, b"1.2.3.1", first)
+        asked = dicom.set_attributes(3, 3, b"1.2.3.1", second)
+        yield f"N-SET of {count:,} station name codes in place of others", PIPE, before + dicom.RELEASE, before + asked + dicom.RELEASE, 1
 
 
 def script_rows(few):
@@ -147,7 +160,7 @@ def main():
     programs = [given.before, given.after]
     unit, scale, digits = (given.count.__name__, 1, 1) if given.count else ("us", 1e6, 2)
     print(f"| what | before, {unit} each | after, {unit} each | after / before |\n|---|---|---|---|")
-    for rows in (echo_rows, step_rows, find_rows, large_rows, script_rows):
+    for rows in (echo_rows, step_rows, find_rows, large_rows, station_rows, script_rows):
         for name, words, base, whole, count in rows(given.count):
             before, after = compared(programs, words, base, whole, given.times, given.count)
             cells = (f"{scale * it / count:,.{digits}f}" for it in (before, after))
