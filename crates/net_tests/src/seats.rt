@@ -236,7 +236,7 @@ fn openings_in_turn(alloc: Global) -> Result<String, Fail> {
 fn a_desk_opens_with_memory_and_1_to_1024_seats(rt: HostRuntime) -> Result<(), Fail> {
     let alloc = rt.alloc();
     let told = openings_in_turn(alloc)?;
-    assert_eq!(rt; told.as_str(), "Memory Memory Memory Memory opens opens ");
+    assert_eq!(rt; told.as_str(), "Memory Memory Memory Memory Memory opens ");
     for (seats, expected) in [
         (0, "BadSeats"),
         (1, "opens"),

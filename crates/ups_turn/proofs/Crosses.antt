@@ -8,6 +8,7 @@ use Rattle.std_heap.specs.contracts.Global as Heap
 use Rattle.std_heap.specs.contracts.GlobalAllocator.TheImpl.{ghosts}
 use Rattle.std.proofs.Crossing.{frees, send, sync}
 use Rattle.std.proofs.Crossing as heaped
+use Rattle.std.proofs.CrossingOver as over
 use Rattle.std.specs.contracts.option.Option as Option
 use Rattle.atomic_table.specs.declared.shared.TableRule as TableRule
 use Rattle.atomic_table.specs.contracts.owned.Table as Table
@@ -34,17 +35,17 @@ module _ (S V K P A : RattleType) (r : TableRule.Ghosts P.Denot S.Denot V.Denot 
   Table-sync s y sa f = let h = Shared-sync s in let l = λ (T : RattleType). Lease-sync T sa f in search sendable depth 20
 
 module _ (M A : RattleType) (s : SharedService.Ghosts M.Denot A.Denot) (g : Allocator.Ghosts A.Denot) where
-  Held-send : IsSend M → IsSend A → IsSend (Held.the_field M A s g).row
-  Held-send m a = search sendable depth 20
+  Held-send : IsSend M → IsSend A → Frees g g.dealloc_token → IsSend (Held.the_field M A s g).row
+  Held-send m a f = search (sendable, over.crosses) depth 20
 
-  Homes-send : IsSend M → IsSend A → IsSend (Option.the_row (Held.the_row M A s g))
-  Homes-send m a = let h = Held-send m a in search sendable depth 20
+  Homes-send : IsSend M → IsSend A → Frees g g.dealloc_token → IsSend (Option.the_row (Held.the_row M A s g))
+  Homes-send m a f = let h = Held-send m a f in search sendable depth 20
 
   Desk-sync : (c : Clone.Ghosts A.Denot) → IsSend M → IsSync A → IsSend A → Frees g g.dealloc_token → IsSync (Desk.the_row M A s g c)
-  Desk-sync c m y a f = let o = Homes-send m a in search (sendable, heaped.crosses, Table-sync) depth 30
+  Desk-sync c m y a f = let o = Homes-send m a f in search (sendable, heaped.crosses, Table-sync) depth 30
 
-  Pass-send : IsSend M → IsSend A → IsSend (Pass.the_row M A s g)
-  Pass-send m a = let o = Homes-send m a in search (sendable, seat.the_send) depth 20
+  Pass-send : IsSend M → IsSend A → Frees g g.dealloc_token → IsSend (Pass.the_row M A s g)
+  Pass-send m a f = let o = Homes-send m a f in search (sendable, seat.the_send) depth 20
 
 -- at the heap, each in one step, the desk for any way to clone an allocator
 module _ (M : RattleType) (s : SharedService.Ghosts M.Denot Heap.the_row.Denot) where
@@ -52,7 +53,7 @@ module _ (M : RattleType) (s : SharedService.Ghosts M.Denot Heap.the_row.Denot) 
   desk_sync c m = Desk-sync M Heap.the_row s ghosts c m sync send frees
 
   pub pass_send : IsSend M → IsSend (Pass.the_row M Heap.the_row s ghosts)
-  pass_send m = Pass-send M Heap.the_row s ghosts m send
+  pass_send m = Pass-send M Heap.the_row s ghosts m send frees
 
 pub heap_send : IsSend Heap.the_row
 heap_send = send

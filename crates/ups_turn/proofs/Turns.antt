@@ -1,6 +1,6 @@
 -- What the steps of a turn come to, one after the other.
 use Rattle.std.proofs.Common.{◌≡◌, ◌≢◌, ℕ, ◌+◌, ◌≤◌, true, List, [], ◌∷◌, ◌++◌, length, Some, None, refl, sym, ap, ◌∙◌, subst, arith}
-use Rattle.std.specs.Prelude.{Option}
+use Rattle.std.specs.Prelude.{Option, is_some, IfSome}
 use Rattle.std.proofs.lemmas.List.{append-nil}
 use Rattle.std.proofs.lemmas.List.Elements.{All-nil, All-head, All-from_recursion}
 use Rattle.atomic_table.specs.Table.{rest}
@@ -16,6 +16,11 @@ use Rattle.ups_turn.specs.Rule.{Behind, manager_state}
 use Rattle.ups_turn.specs.Plays.{Knows, with_ticket, at_turn, served, TakesTurn, Took, MayGive, MayDecide, MayServe, seeing, history_in}
 use Rattle.ups_turn.specs.declared.view.View.{View}
 use Rattle.ups_turn.specs.Pass.{resting, seen_in, standing, IsAtRest, IsServed, HasObserved}
+
+-- the value of an option that has one, and what a clause says of it
+pub given_in : {X : Type 0} {P : X → Type 0} (o : Option X) → is_some o ≡ true → IfSome o P → (x : X) × (o ≡ Some x) × P x
+given_in None given p = absurd (cc)
+given_in (Some x) given p = (x, refl, p)
 
 module _ {A : Type 0} where
   -- the value that was taken last

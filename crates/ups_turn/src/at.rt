@@ -53,9 +53,6 @@ impl<'a, M: SharedService<A>, A: Allocator + Copy, R: Wait> Service<A> for At<'a
         ensures same_reference { self.new.pass.ghost_name ≡ self.old.pass.ghost_name }
         ensures stays { self.new.pass.now.table ≡ self.old.pass.now.table }
     {
-        let Some(ask) = ask.take() else {
-            unreachable!();
-        };
         let before = self.pass.seen();
         let reply = self.desk.call(self.rt, self.pass, ae, moment, ask);
         self.desk.announce(before, self.pass.seen());

@@ -1,5 +1,6 @@
 //! The desk: it opens over a manager, lets passes meet, and closes when all passes are back.
-ghost use Rattle.std.specs.Prelude.{◌≡◌, ◌≢◌, ℕ, ◌≤◌, ◌<◌, [], ◌∷◌, All, length, map, true, false, nat_lt, MatchBool, Some, None, vec_capacity, IfOk, IfErr, OnOk};
+ghost use Rattle.std.specs.Prelude.{◌≡◌, ◌≢◌, ℕ, ◌≤◌, ◌<◌, [], ◌∷◌, All, length, map, true, false, is_some, nat_lt, MatchBool, Some, None, vec_capacity, IfOk, IfErr, OnOk};
+ghost use Rattle.std.specs.Option.{IfSome};
 ghost use Rattle.ups_life.specs.Settings.{IsMoment};
 ghost use Rattle.ups_service.specs.State.{State};
 ghost use Rattle.ups_service.specs.Law.{SmallReply, is_legal};
@@ -149,11 +150,11 @@ fn deal_out<M: SharedService<A>, A: Allocator + Copy>(
 
 // Returns the status with which a pass that has made all its calls answers an ask: the one that says, for its kind,
 // that resources are exhausted (PS3.7 annex C, PS3.4 section C.4.1.1.4).
-fn lacking<A: Allocator + Copy>(ask: &Ask<A>) -> Status
-    ensures { result ≡ Rattle.ups_service.specs.Law.lacking ask.now }
+fn lacking<A: Allocator + Copy>(ask: &Option<Ask<A>>) -> Status
+    ensures { IfSome ask.now (λ asked. result ≡ Rattle.ups_service.specs.Law.lacking asked) }
 {
     match ask {
-        Ask::Find(_) => Status::OutOfResources,
+        Some(Ask::Find(_)) => Status::OutOfResources,
         _ => Status::ResourceLimitation,
     }
 }
@@ -179,7 +180,11 @@ impl<M: SharedService<A>, A: Allocator + Copy> Desk<M, A> {
         if !are_seats(seats) {
             return Err((manager, OpenFault::BadSeats));
         }
-        match Desk::with_seats(alloc, Held::new(manager), seats) {
+        let held = match Held::new(alloc, manager) {
+            Ok(held) => held,
+            Err(manager) => return Err((manager, OpenFault::Memory)),
+        };
+        match Desk::with_seats(alloc, held, seats) {
             Ok(opened) => Ok(opened),
             Err(held) => Err((held.into_shared(), OpenFault::Memory)),
         }
@@ -235,23 +240,25 @@ impl<M: SharedService<A>, A: Allocator + Copy> Desk<M, A> {
         At::new(rt, self, pass)
     }
 
-    /// Makes one call of a pass, in its turn. A pass that has made 2^40 calls is refused.
+    /// Makes one call of a pass, in its turn. A pass that has made 2^40 calls is refused. Only the manager takes the ask
+    /// out of its option: an ask takes some 200 bytes, which are not moved on the way.
     pub(crate) fn call<R: Wait>(
         &self,
         rt: &R,
         pass: &mut Pass<M, A>,
         ae: Ae,
         moment: u64,
-        ask: Ask<A>,
+        ask: &mut Option<Ask<A>>,
     ) -> Reply<A>
+        requires given { is_some ask.old ≡ true }
         requires moment { IsMoment moment }
         requires here { pass.old.table ≡ self.now.table }
-        ensures called { IsCall pass.old ae moment ask result pass.new }
+        ensures called { IfSome ask.old (λ asked. IsCall pass.old ae moment asked result pass.new) }
         ensures legal { is_legal pass.old.settings pass.old.seen }
         ensures small { SmallReply result }
     {
         if pass.calls >= MOST_CALLS {
-            return Reply::Status(lacking(&ask));
+            return Reply::Status(lacking(ask));
         }
         let _held = self.ticket_lock.lock(rt);
         let shelf = &self.table.shared;

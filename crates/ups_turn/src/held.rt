@@ -1,21 +1,22 @@
 //! The manager of a desk, as the desk's table contains it.
 
-ghost use Rattle.std.specs.Prelude.{◌≡◌, ◌++◌, length};
+ghost use Rattle.std.specs.Prelude.{◌≡◌, ◌++◌, length, true, is_some, IfOk, IfErr};
+ghost use Rattle.std.specs.Option.{IfSome};
 ghost use Rattle.ups_life.specs.Settings.{IsMoment};
 ghost use Rattle.ups_service.specs.Law.{Answers, SmallReply, entered, is_legal};
 
 use std::alloc::Allocator;
-use std::marker::{Model, PhantomData};
+use std::marker::Model;
 use ups_life::{Ask, Entry, Reply};
 use ups_pdu::Ae;
 use ups_service::SharedService;
 
 /// The manager that the passes share. A contract sees it as what was fixed at its start and its history, oldest entry
-/// first: the rule of the desk's table is about nothing else.
+/// first: the rule of the desk's table is about nothing else. The manager takes some 800 bytes, and is passed on with
+/// each turn, so it has a block of memory of its own.
 #[derive(Drop)]
 pub struct Held<M: SharedService<A>, A: Allocator + Copy> {
-    shared: M,
-    marker: PhantomData<A>,
+    shared: Box<M, A>,
 }
 
 impl<M: SharedService<A>, A: Allocator + Copy> Model for Held<M, A> {
@@ -28,24 +29,28 @@ impl<M: SharedService<A>, A: Allocator + Copy> Model for Held<M, A> {
 
     ghost coded = { Prim.hlevel (set_code, codes) };
 
-    ghost view = { λ h. M.state h.shared };
+    ghost view = { λ h. M.state h.shared.value };
 }
 
 impl<M: SharedService<A>, A: Allocator + Copy> Held<M, A> {
-    pub(crate) fn new(shared: M) -> Held<M, A>
-        ensures { result ≡ M.state shared }
+    /// Holds a manager in a block of memory from `alloc`.
+    ///
+    /// Errors: the manager as it was, if memory runs out.
+    pub(crate) fn new(alloc: A, shared: M) -> Result<Held<M, A>, M>
+        ensures held { IfOk result (λ h. h ≡ M.state shared) }
+        ensures refused { IfErr result (λ m. m ≡ shared) }
     {
-        Held {
-            shared,
-            marker: PhantomData,
+        match Box::new(alloc, shared) {
+            Ok(shared) => Ok(Held { shared }),
+            Err(failed) => Err(failed.value),
         }
     }
 
     pub(crate) fn into_shared(self) -> M
         ensures { M.state result ≡ self }
     {
-        let Held { shared, .. } = self;
-        shared
+        let Held { shared } = self;
+        Box::into_inner(shared)
     }
 
     /// Returns the greatest number of requests that may be entered.
@@ -71,15 +76,22 @@ impl<M: SharedService<A>, A: Allocator + Copy> Held<M, A> {
     }
 
     /// Answers what an application entity asks, and enters it if it is a request that is accepted.
-    pub(crate) fn answer_as(&mut self, caller: u32, ae: Ae, moment: u64, ask: Ask<A>) -> Reply<A>
+    pub(crate) fn answer_as(
+        &mut self,
+        caller: u32,
+        ae: Ae,
+        moment: u64,
+        ask: &mut Option<Ask<A>>,
+    ) -> Reply<A>
+        requires given { is_some ask.old ≡ true }
         requires moment { IsMoment moment }
-        ensures answer { Answers self.old.settings self.old.history caller ae moment ask result }
-        ensures history { self.new.history ≡ self.old.history ++ entered caller ae moment ask result }
+        ensures answer { IfSome ask.old (λ asked. Answers self.old.settings self.old.history caller ae moment asked result) }
+        ensures history { IfSome ask.old (λ asked. self.new.history ≡ self.old.history ++ entered caller ae moment asked result) }
         ensures settings { self.new.settings ≡ self.old.settings }
         ensures small { SmallReply result }
         ensures legal { is_legal self.old.settings self.old.history }
         ensures legal_after { is_legal self.new.settings self.new.history }
     {
-        self.shared.answer_as(caller, ae, moment, &mut Some(ask))
+        self.shared.answer_as(caller, ae, moment, ask)
     }
 }

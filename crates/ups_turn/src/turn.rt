@@ -1,6 +1,7 @@
 //! The steps of a turn: draw a ticket, look until it is served, take the manager, give it back, decide, serve; and a
 //! call made of them all.
-ghost use Rattle.std.specs.Prelude.{◌≡◌, ℕ, ◌+◌, ◌^◌, ◌<◌, ◌≤◌, ◌*◌, ◌==◌, length, [], true, false, All, Some, None, MatchBool};
+ghost use Rattle.std.specs.Prelude.{◌≡◌, ℕ, ◌+◌, ◌^◌, ◌<◌, ◌≤◌, ◌*◌, ◌==◌, length, [], true, false, is_some, All, Some, None, MatchBool};
+ghost use Rattle.std.specs.Option.{IfSome};
 ghost use Rattle.ups_life.specs.Settings.{IsMoment};
 ghost use Rattle.ups_service.specs.Law.{SmallReply, is_legal};
 ghost use Rattle.ups_turn.specs.Pass.{HasObserved, IsAtRest, IsServed, IsShelf, most_calls, seen_in, standing};
@@ -190,8 +191,9 @@ pub(crate) fn call_in_turn<M: SharedService<A>, A: Allocator + Copy, R: Wait>(
     number: u32,
     ae: Ae,
     moment: u64,
-    ask: Ask<A>,
+    ask: &mut Option<Ask<A>>,
 ) -> (Reply<A>, u64)
+    requires given { is_some ask.old ≡ true }
     requires moment { IsMoment moment }
     requires table { IsShelf place.old.table_id shelf.now.table_id }
     requires rests { IsAtRest number place.old.me }
@@ -200,7 +202,7 @@ pub(crate) fn call_in_turn<M: SharedService<A>, A: Allocator + Copy, R: Wait>(
     ensures rests { IsAtRest number place.new.me }
     ensures entries { result.1 ≡ length (seen_in place.new.me.0.parts) }
     ensures legal { is_legal place.new.me.0.settings (seen_in place.new.me.0.parts) }
-    ensures served { IsServed (standing place.old.table_id number place.old.me.0) ae moment ask result.0 (standing place.new.table_id number place.new.me.0) }
+    ensures served { IfSome ask.old (λ asked. IsServed (standing place.old.table_id number place.old.me.0) ae moment asked result.0 (standing place.new.table_id number place.new.me.0)) }
     ensures small { SmallReply result.0 }
 {
     let mut manager = take(rt, shelf, place);

@@ -1,7 +1,7 @@
 use Rattle.std.proofs.Common.{◌≡◌, ◌∙◌, ◌+◌, ℕ, true, nat_lt, ap, arith}
 use Rattle.std.proofs.lemmas.Bool.Decides.{nat_tests}
 use Rattle.ups_turn.specs.Pass.{most_calls}
-use Rattle.ups_turn.proofs.Turns.{at_rest_by, rests_by, served_by}
+use Rattle.ups_turn.proofs.Turns.{given_in, at_rest_by, rests_by, served_by}
 use Rattle.ups_turn.proofs.desk.Desk.call.Goals as goal
 
 pub call_in_turn-reply-requires-clause-rests : goal.call_in_turn-reply-requires-clause-rests
@@ -18,7 +18,8 @@ pub invariant_of-pass : goal.invariant_of-pass
 invariant_of-pass g c =
     let p = c.pass.inside in
     let e = c.call_in_turn-reply.ensures in
-    let drawn = e.served.calls ∙ ap (λ (k : ℕ). k + 1) (at_rest_by _ p.number p.calls _ p.place.me c.pass.invariant.0).1 in
+    let given = given_in c.args.ask.now c.requires.given e.served in
+    let drawn = given.2.calls ∙ ap (λ (k : ℕ). k + 1) (at_rest_by _ p.number p.calls _ p.place.me c.pass.invariant.0).1 in
     let less = c.if-pass-ge-MOST_CALLS.false in
     (rests_by p.number _ c.call_in_turn-reply.new.place.me e.rests drawn, e.entries, omega arith, e.legal)
 
@@ -26,6 +27,7 @@ pub returns-clause-called : goal.returns-clause-called
 returns-clause-called g c =
     let p = c.pass.inside in
     let e = c.call_in_turn-reply.ensures in
+    let given = given_in c.args.ask.now c.requires.given e.served in
     let before = (at_rest_by _ p.number p.calls _ p.place.me c.pass.invariant.0).1 in
     let few : nat_lt p.calls most_calls ≡ true = let less = c.if-pass-ge-MOST_CALLS.false in grind (arith, nat_tests) in
-    rw (← c.pass.view_is, few) (served_by _ _ p.number p.calls _ p.place.me.0 c.call_in_turn-reply.new.place.me.0 _ _ _ _ before (e.served.calls ∙ ap (λ (k : ℕ). k + 1) before) e.served)
+    rw (← c.pass.view_is, few, given.1) (served_by _ _ p.number p.calls _ p.place.me.0 c.call_in_turn-reply.new.place.me.0 _ _ _ _ before (given.2.calls ∙ ap (λ (k : ℕ). k + 1) before) given.2)
