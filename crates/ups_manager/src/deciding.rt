@@ -1,30 +1,33 @@
 //! The decision about a call, made from the tables, and its effect on them.
 
-ghost use Rattle.std.specs.Prelude.{◌≡◌, true, false, MatchResult, IfOk};
+ghost use Rattle.std.specs.Prelude.{◌≡◌, ◌<◌, ◌++◌, ◌∷◌, [], true, false, MatchResult, IfOk, vec_len, vec_capacity};
 ghost use Rattle.std.specs.Option.{option_copied};
 ghost use Rattle.ups_cycle.specs.Statuses.{is_done};
 ghost use Rattle.ups_life.specs.Settings.{IsMoment};
 ghost use Rattle.ups_life.specs.Steps.{past};
 ghost use Rattle.ups_life.specs.Verdict.{verdict};
-ghost use Rattle.ups_life.specs.History.{receiver_of, of_peer, of_lock, status, accepts, acknowledged};
-ghost use Rattle.ups_tables.specs.Planned.{IsPlan};
+ghost use Rattle.ups_keep.specs.Waits.{steps_of};
+ghost use Rattle.ups_life.specs.History.{legal, receiver_of, of_peer, of_lock, status, accepts, acknowledged};
+ghost use Rattle.ups_tables.specs.Planned.{IsPlan, removed_by, room_for};
 ghost use Rattle.ups_tables.specs.Stands.{Stands as TablesStand};
 ghost use Rattle.ups_manager.specs.declared.deciding.Kind.TheVariants.{OfStep, OfWatcher, OfEvents, OfTime};
 ghost use Rattle.ups_manager.specs.Deciding.{kind_of, IsDecided, IsRefused};
+ghost use Rattle.ups_manager.specs.Indexing.{after_change, has_room};
 ghost use Rattle.ups_manager.specs.Kept.{ManagerStands};
 
-use crate::indexing::IndexChange;
+use crate::indexing::{IndexChange, change_index};
 use crate::peers::{acked_at, made_at};
 use crate::rows::known;
 use crate::submitting::step_for;
 use std::alloc::{AllocError, Allocator};
 use ups_cycle::Status;
-use ups_index::Values;
+use ups_index::{Index, Values};
 use ups_life::{Configuration, Entry, Peer, Reply, Request, Row, is_peer, may_lock};
 use ups_pdu::Ae;
 use ups_rules::verdict;
 use ups_tables::{
-    Plan, Tables, place_of, plan_end, plan_step, plan_subscription, plan_suspend, plan_sweep,
+    Plan, Tables, carry_out, place_of, plan_end, plan_step, plan_subscription, plan_suspend,
+    plan_sweep,
 };
 
 /// What a request is about.
@@ -58,18 +61,36 @@ impl<A: Allocator + Copy> Drop for Decision<A> {
 }
 
 impl<A: Allocator + Copy> Decision<A> {
-    /// Takes the decision apart.
-    pub(crate) fn into_parts(self) -> (Reply<A>, Plan<A>, IndexChange<A>)
-        ensures reply { result.0 ≡ self.reply }
-        ensures plan { result.1 ≡ self.plan }
-        ensures change { result.2 ≡ self.change }
+    /// Carries out the decision about a call, for which there is room: enters the call into the history, the tables and
+    /// the index. Returns the reply to it.
+    pub(crate) fn carry_out(
+        self,
+        configuration: &Configuration<A>,
+        history: &mut Vec<Entry<A>, A>,
+        tables: &mut Tables<A>,
+        index: &mut Index<A>,
+        call: Entry<A>,
+    ) -> Reply<A>
+        requires stands { TablesStand configuration.now history.old.items tables.old }
+        requires legal { legal configuration.now (call ∷ past history.old.items) ≡ true }
+        requires plan { IsPlan configuration.now (past history.old.items) call tables.old self.plan }
+        requires room { room_for tables.old self.plan }
+        requires history_room { vec_len history.old < vec_capacity history.old }
+        requires index_room { has_room index.old.spare self.change }
+        ensures reply { result ≡ self.reply }
+        ensures history { history.new.items ≡ history.old.items ++ call ∷ [] }
+        ensures stands { TablesStand configuration.now history.new.items tables.new }
+        ensures steps { index.new.steps ≡ after_change self.change (steps_of (removed_by self.plan)) index.old.steps }
+        ensures offset { index.new.offset ≡ index.old.offset }
     {
         let Decision {
             reply,
             plan,
             change,
         } = self;
-        (reply, plan, change)
+        change_index(index, change, plan.removed());
+        carry_out(configuration, history, tables, call, plan);
+        reply
     }
 }
 

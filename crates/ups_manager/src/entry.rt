@@ -1,19 +1,51 @@
 //! Enters an accepted call into the history, the tables and the index: with room for all of it, or not at all.
 
-ghost use Rattle.std.specs.Prelude.{◌≡◌, ◌++◌, ◌∷◌, [], true, OnOk, OnErr, IfOk};
+ghost use Rattle.std.specs.Prelude.{◌≡◌, ◌<◌, ◌++◌, ◌∷◌, [], true, OnOk, OnErr, IfOk, vec_len, vec_capacity};
 ghost use Rattle.ups_life.specs.Steps.{past};
 ghost use Rattle.ups_life.specs.History.{legal};
+ghost use Rattle.ups_tables.specs.Planned.{IsPlan, room_for};
 ghost use Rattle.ups_tables.specs.Stands.{Stands as TablesStand};
 ghost use Rattle.ups_manager.specs.Deciding.{IsDecided};
-ghost use Rattle.ups_manager.specs.Indexing.{IsIndexed};
+ghost use Rattle.ups_manager.specs.Indexing.{IsIndexed, has_room};
 
 use crate::deciding::Decision;
-use crate::indexing::{change_index, make_index_room};
+use crate::indexing::make_index_room;
 use crate::reserve::Reserve;
 use std::alloc::{AllocError, Allocator};
 use ups_index::Index;
 use ups_life::{Configuration, Entry, Reply};
-use ups_tables::{Tables, carry_out, make_room};
+use ups_tables::{Tables, make_room};
+
+/// Makes room for the whole effect of an accepted call, and checks that a creation leaves the reserve beside that.
+///
+/// Errors: if memory runs out, or if a creation would not leave the reserve. The history and the contents of the tables
+/// and the index stay the same in any case.
+fn make_all_room<A: Allocator + Copy>(
+    configuration: &Configuration<A>,
+    reserve: &mut Reserve<A>,
+    history: &mut Vec<Entry<A>, A>,
+    tables: &mut Tables<A>,
+    index: &mut Index<A>,
+    call: &Entry<A>,
+    decision: &Decision<A>,
+) -> Result<(), AllocError>
+    requires stands { TablesStand configuration.now history.old.items tables.old }
+    requires indexed { IsIndexed configuration.now (past history.old.items) index.old }
+    requires legal { legal configuration.now (call.now ∷ past history.old.items) ≡ true }
+    requires plan { IsPlan configuration.now (past history.old.items) call.now tables.old decision.now.plan }
+    ensures history { history.new.items ≡ history.old.items }
+    ensures stands { TablesStand configuration.now history.new.items tables.new }
+    ensures indexed { IsIndexed configuration.now (past history.new.items) index.new }
+    ensures steps { index.new.steps ≡ index.old.steps }
+    ensures plan { IsPlan configuration.now (past history.new.items) call.now tables.new decision.now.plan }
+    ensures room { OnOk result (room_for tables.new decision.now.plan) }
+    ensures history_room { OnOk result (vec_len history.new < vec_capacity history.new) }
+    ensures index_room { OnOk result (has_room index.new.spare decision.now.change) }
+{
+    make_index_room(index, &decision.change)?;
+    make_room(configuration, history, tables, call, &decision.plan)?;
+    reserve.leave(&call.request, history.len())
+}
 
 /// Enters an accepted call by the decision about it: makes room for its whole effect, checks that a creation leaves the
 /// reserve beside that, and carries it out. Returns the reply to the call.
@@ -39,11 +71,14 @@ pub(crate) fn enter<A: Allocator + Copy>(
     ensures stands { TablesStand configuration.now history.new.items tables.new }
     ensures indexed { IsIndexed configuration.now (past history.new.items) index.new }
 {
-    make_index_room(index, &decision.change)?;
-    make_room(configuration, history, tables, &call, &decision.plan)?;
-    reserve.leave(&call.request, history.len())?;
-    let (reply, plan, change) = decision.into_parts();
-    change_index(index, change, plan.removed());
-    carry_out(configuration, history, tables, call, plan);
-    Ok(reply)
+    make_all_room(
+        configuration,
+        reserve,
+        history,
+        tables,
+        index,
+        &call,
+        &decision,
+    )?;
+    Ok(decision.carry_out(configuration, history, tables, index, call))
 }
