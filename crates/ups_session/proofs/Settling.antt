@@ -8,7 +8,7 @@ use Rattle.ups_session.specs.declared.fault.SessionFault.{SessionFault}
 use Rattle.ups_session.specs.declared.gate.GateCall.TheVariants.{Moment}
 use Rattle.ups_session.specs.Fold.{Asked, Indication, Exchange, Reaction, Side, Happens}
 use Rattle.ups_session.specs.declared.effect.Effect.{Effect}
-use Rattle.ups_session.specs.Party.{awaiting_reply, said_by, awaited_by, reaction_with}
+use Rattle.ups_session.specs.Party.{said_by, awaited_by, reaction_with}
 use Rattle.ups_session.specs.Settled.{IsSettled}
 use Rattle.ups_session.specs.Tells.{Told, Tells}
 use Rattle.ups_session.specs.Visits.{timed, calls_of, moments_of, SendsPdus}
@@ -109,17 +109,9 @@ performed_settled {A} side from after h reaction u v r reacts is =
       sends = is.sends;
     }
 
--- a side that only says something
-pub performed_said : {A L W C Y : Type 0} (side : Side A L W) (waits : C → W) (from after : L) (h : Indication A) (effect : Effect A C) (said : List (Pdu A)) (c0 c1 : Output) (m0 m1 : Told) (s : Settings) (o : Others) (k : ℕ) (seen : Seen A) (r : Result Y SessionFault)
-    → side.Reacts from h (reaction_with waits after effect) → awaited_by waits effect ≡ None → said_by effect ≡ said → SendsPdus said c0 c1 m0 m1 r
-    → Performed (Happens side) (h ∷ []) from after (world c0 m0 s o k seen) (world c1 m1 s o k seen) r
-performed_said {A} side waits from after h effect said c0 c1 m0 m1 s o k seen r reacts silent says is =
-    performed_settled side from after h (reaction_with waits after effect) (world c0 m0 s o k seen) (world c1 m1 s o k seen) r reacts
-    (settled_said side (reaction_with waits after effect) after c0 c1 m0 m1 s o k seen r silent (on_ok after r) (subst (λ (l : List (Pdu A)). SendsPdus l c0 c1 m0 m1 r) (sym says) is))
-
--- a side that calls the service
-pub performed_called : {A L W C Y : Type 0} (side : Side A L W) (waits : C → W) (from mid after : L) (h : Indication A) (effect : Effect A C) (w : W) (u v : World A) (r : Result Y SessionFault)
-    → side.Reacts from h (reaction_with waits mid effect) → said_by effect ≡ [] → awaited_by waits effect ≡ Some w → IsSettled side (awaiting_reply mid w) after u v r → Performed (Happens side) (h ∷ []) from after u v r
-performed_called {A} {L} {W} side waits from mid after h effect w u v r reacts says calls is =
-    let same : reaction_with waits mid effect ≡ awaiting_reply mid w = λ i. record { association = mid; send = says i; waiting = calls i } in
-    performed_settled side from after h (awaiting_reply mid w) u v r (subst (λ (t : Reaction A L W). side.Reacts from h t) same reacts) is
+-- an effect that only says something
+pub settled_effect : {A L W C Y : Type 0} (side : Side A L W) (waits : C → W) (after : L) (effect : Effect A C) (said : List (Pdu A)) (c0 c1 : Output) (m0 m1 : Told) (s : Settings) (o : Others) (k : ℕ) (seen : Seen A) (r : Result Y SessionFault)
+    → awaited_by waits effect ≡ None → said_by effect ≡ said → SendsPdus said c0 c1 m0 m1 r
+    → IsSettled side (reaction_with waits after effect) after (world c0 m0 s o k seen) (world c1 m1 s o k seen) r
+settled_effect {A} side waits after effect said c0 c1 m0 m1 s o k seen r silent says is =
+    settled_said side (reaction_with waits after effect) after c0 c1 m0 m1 s o k seen r silent (on_ok after r) (subst (λ (l : List (Pdu A)). SendsPdus l c0 c1 m0 m1 r) (sym says) is)

@@ -1,10 +1,12 @@
 -- The views of the program's types: an association, an effect, the outcome of a request.
-use Rattle.std.specs.Prelude.{◌≤◌, Option, None, Some}
+use Rattle.std.specs.Prelude.{◌≡◌, ◌≤◌, Option, None, Some, is_some, true}
 use Rattle.std.specs.Option.{option_map}
 use Rattle.ups_pdu.specs.declared.pdu.Pdu.TheVariants.{AssociateAc}
 use Rattle.ups_pdu.specs.Fits.{Fits}
 use Rattle.ups_assoc.specs.declared.negotiating.Outcome.{Outcome}
 use Rattle.ups_assoc.specs.declared.negotiating.Outcome.TheVariants.{Accept, Reject}
+use Rattle.ups_life.specs.declared.request.Ask.{Ask}
+use Rattle.ups_life.specs.declared.request.Ask.TheVariants.{Pending}
 use Rattle.ups_session.specs.declared.dispatch.Dispatch.{Dispatch}
 use Rattle.ups_session.specs.declared.dispatch.Dispatch.TheVariants.{Answer, Question}
 use Rattle.ups_session.specs.declared.effect.Effect.{Effect}
@@ -34,9 +36,14 @@ abbrev pub dispatch_view : {A : Type 0} → Dispatch A → DispatchView A
 dispatch_view (Answer status) = answered_at_once status
 dispatch_view (Question ask) = asking ask
 
+-- the ask in its option, which it is always in (`HasRoom`)
+abbrev pub ask_in : {A : Type 0} → Option (Ask A) → Ask A
+ask_in None = Pending 0
+ask_in (Some ask) = ask
+
 -- the view of a request whose reply is awaited
 abbrev pub parts_view : {A : Type 0} → AwaitedParts A → AwaitedRequestView A
-parts_view parts = record { ae = parts.ae; ask = parts.ask; max = parts.max; context = parts.context; command = parts.command }
+parts_view parts = record { ae = parts.ae; ask = ask_in parts.ask; max = parts.max; context = parts.context; command = parts.command }
 
 abbrev pub awaited_view : {A : Type 0} → AwaitedRequest A → AwaitedRequestView A
 awaited_view w = parts_view w.parts.value
@@ -50,9 +57,9 @@ abbrev pub message_effect : {A : Type 0} → Option (Effect A (AwaitedRequest A)
 message_effect None = None
 message_effect (Some effect) = Some (said_by effect, awaited_by awaited_view effect)
 
--- the response to a request can be written: the maximum length is at least 8 bytes
+-- the response to a request can be written, since the maximum length is at least 8 bytes, and the request is there
 abbrev pub HasRoom : {A : Type 0} → AwaitedRequest A → Type 0
-HasRoom waiting = 8 ≤ waiting.parts.value.max
+HasRoom waiting = (8 ≤ waiting.parts.value.max) × (is_some waiting.parts.value.ask ≡ true)
 
 -- each PDU that the effect sends, or will send, can be written
 abbrev pub IsSendable : {A : Type 0} → Effect A (AwaitedRequest A) → Type 0

@@ -11,7 +11,7 @@ use Rattle.ups_session.specs.declared.indication.UlIndication.{UlIndication}
 use Rattle.ups_session.specs.declared.indication.UlIndication.TheVariants as ul_indications
 use Rattle.ups_session.specs.declared.effect.Effect.{Effect}
 use Rattle.ups_session.specs.declared.effect.Effect.TheVariants.{Send, Respond, Call}
-use Rattle.ups_session.specs.Fold.{Indication, event, request, confirmation, presentation_data, invalid, Exchange, Reaction, Side, Happens, IsOpen}
+use Rattle.ups_session.specs.Fold.{Indication, event, request, confirmation, invalid, Exchange, Reaction, Side, Happens, IsOpen}
 
 -- the view of an indication
 abbrev pub indication_of : {A : Type 0} → UlIndication A → Indication A
@@ -19,7 +19,6 @@ indication_of (ul_indications.Event e) = event e
 indication_of (ul_indications.InvalidPdu fault) = invalid fault
 indication_of (ul_indications.AssociateRq rq) = request rq
 indication_of (ul_indications.AssociateAc ac) = confirmation ac
-indication_of (ul_indications.Pdv pdv) = presentation_data pdv
 
 -- What may come from a peer or from the transport connection: the connection is not confirmed again once it is open,
 -- and a request has an encoding.

@@ -79,6 +79,12 @@ abbrev pub dispatched : {A : Type 0} → ℤ → Operation A → List El → Dis
 dispatched offset operations.Echo set = answered_at_once Success
 dispatched offset operation set = question (asked offset operation set)
 
+-- the outcome of a request, by what its data set is, if it is one
+abbrev pub DispatchesBySet : {A : Type 0} → ℤ → TransferSyntax → Operation A → Option (List ℕ) → DispatchView A → Type 0
+DispatchesBySet offset syntax operation body dispatch_view =
+    ((set : List El) × HasSet syntax body set × (dispatch_view ≡ dispatched offset operation set))
+    ⊎ (((set : List El) → HasSet syntax body set → ⊥) × (dispatch_view ≡ answered_at_once (unreadable_status operation)))
+
 -- The outcome of a request with its data set on a presentation context. It is refused, in this order, if the
 -- context's SOP class doesn't support the operation (0211), if it names another SOP class (0118), if it is an
 -- N-ACTION of a type that the class doesn't have (0123), and if its data set can't be read (0110, or C000 for a
@@ -87,9 +93,8 @@ abbrev pub Dispatches : {A : Type 0} → ℤ → AcceptedContext → RequestComm
 Dispatches offset context request body dispatch_view =
     MatchBool (supports_operation context.sop_class request.operation) (
     MatchBool (accepts_sop_class context.sop_class request.operation request.sop_class) (
-    MatchBool (supports_action_type context.sop_class request.operation) (
-    ((set : List El) × HasSet context.transfer_syntax body set × (dispatch_view ≡ dispatched offset request.operation set))
-    ⊎ (((set : List El) → HasSet context.transfer_syntax body set → ⊥) × (dispatch_view ≡ answered_at_once (unreadable_status request.operation))))
+    MatchBool (supports_action_type context.sop_class request.operation)
+    (DispatchesBySet offset context.transfer_syntax request.operation body dispatch_view)
     (dispatch_view ≡ answered_at_once NoSuchActionType))
     (dispatch_view ≡ answered_at_once NoSuchSopClass))
     (dispatch_view ≡ answered_at_once UnrecognizedOperation)

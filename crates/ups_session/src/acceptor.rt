@@ -1,11 +1,11 @@
 //! The acceptor of an association (PS3.8 section 9.2).
 
-ghost use Rattle.std.specs.Prelude.{◌≤◌, List, ℕ};
+ghost use Rattle.std.specs.Prelude.{List, ℕ};
 ghost use Rattle.std.specs.Io.KnownBytes.{Consumes};
 ghost use Rattle.ups_assoc.specs.declared.negotiating.Config.{Config};
 ghost use Rattle.ups_session.specs.Acceptor.{acceptor, opened};
 ghost use Rattle.ups_session.specs.Association.{AssociationView};
-ghost use Rattle.ups_session.specs.Effects.{awaited_view};
+ghost use Rattle.ups_session.specs.Effects.{awaited_view, HasRoom};
 ghost use Rattle.ups_session.specs.Party.{awaiting_reply};
 ghost use Rattle.ups_session.specs.Session.{IsSession};
 ghost use Rattle.ups_session.specs.Settled.{IsSettled};
@@ -13,7 +13,7 @@ ghost use Rattle.ups_session.specs.World.{world};
 
 use crate::association::{ACCEPTOR, Association, UNEXPECTED, reason_of};
 use crate::driver::drive;
-use crate::effect::{AwaitedParts, AwaitedRequest, Effect};
+use crate::effect::{AwaitedRequest, Effect};
 use crate::fault::{End, SessionFault};
 use crate::gate::Gate;
 use crate::indication::{UlIndication, take_pdv};
@@ -23,6 +23,7 @@ use crate::watched_io::{WatchedReader, WatchedWriter};
 use std::alloc::Allocator;
 use std::io::{Read, Write};
 use ups_assoc::Config;
+use ups_pdu::Pdv;
 use ups_service::Service;
 use ups_ulstate::UlEvent;
 
@@ -43,23 +44,25 @@ fn respond<A: Allocator + Copy, W: Write, S: Service<A>, G: Gate>(
     service: &mut S,
     gate: &mut G,
     buffer: &mut Vec<u8, A>,
-    waiting: AwaitedRequest<A>,
+    mut waiting: AwaitedRequest<A>,
 ) -> Result<(), SessionFault>
-    requires { 8 ≤ waiting.parts.value.max }
+    requires { HasRoom waiting }
     ensures { (config : Config) → (association : AssociationView A) → IsSettled (acceptor config) (awaiting_reply association (awaited_view waiting)) association
         (world writer.old (G.told gate.old) (S.settings service.old) (S.others service.old) (S.caller service.old) (S.seen service.old))
         (world writer.new (G.told gate.new) (S.settings service.new) (S.others service.new) (S.caller service.new) (S.seen service.new)) result }
 {
-    let AwaitedParts {
-        ae,
-        ask,
-        max,
-        context,
-        command,
-    } = waiting.into_parts();
+    let parts = &mut *waiting.parts;
     let moment = gate.now();
-    let reply = service.call(ae, moment, ask);
-    send_reply(writer, gate, buffer, max, &context, &command, &reply)
+    let reply = service.answer(parts.ae, moment, &mut parts.ask);
+    send_reply(
+        writer,
+        gate,
+        buffer,
+        parts.max,
+        &parts.context,
+        &parts.command,
+        &reply,
+    )
 }
 
 impl<'a, A: Allocator + Copy> Party<A> for Acceptor<'a, A> {
@@ -105,7 +108,7 @@ impl<'a, A: Allocator + Copy> Party<A> for Acceptor<'a, A> {
     fn react(
         &mut self,
         alloc: A,
-        indication: &mut UlIndication<A>,
+        indication: &UlIndication<A>,
     ) -> Result<Effect<A, AwaitedRequest<A>>, SessionFault> {
         let association = &mut self.association;
         match indication {
@@ -114,10 +117,6 @@ impl<'a, A: Allocator + Copy> Party<A> for Acceptor<'a, A> {
                 self.config,
                 request,
             )?)),
-            UlIndication::Pdv(pdv) => {
-                let pdv = take_pdv(alloc, pdv);
-                association.on_fragment(alloc, self.config, pdv)
-            }
             UlIndication::Event(event) => Ok(Effect::Send(association.on_event(
                 alloc, ACCEPTOR, UNEXPECTED, *event,
             )?)),
@@ -134,6 +133,15 @@ impl<'a, A: Allocator + Copy> Party<A> for Acceptor<'a, A> {
                 UlEvent::AssociateAc,
             )?)),
         }
+    }
+
+    fn react_to_pdv(
+        &mut self,
+        alloc: A,
+        pdv: &mut Pdv<A>,
+    ) -> Result<Effect<A, AwaitedRequest<A>>, SessionFault> {
+        let pdv = take_pdv(alloc, pdv);
+        self.association.on_fragment(alloc, self.config, pdv)
     }
 
     fn settle<W: Write, S: Service<A>, G: Gate>(

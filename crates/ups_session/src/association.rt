@@ -82,6 +82,7 @@ pub(crate) fn established_with<A: Allocator + Copy>(
 /// Returns an error for a lack of memory alone: for any other fault in a fragment, the association is aborted.
 ///
 /// Errors: out of memory.
+#[cold]
 pub(crate) fn unless_memory(fault: AssocFault) -> Result<(), SessionFault>
     ensures other { OnOk result (fault ≢ NoMemory) }
     ensures lost { OnErr result (fault ≡ NoMemory) }
@@ -275,7 +276,7 @@ impl<A: Allocator + Copy> Association<A> {
     /// Performs an action that needs no data of the event.
     ///
     /// Errors: out of memory.
-    #[inline(never)]
+    #[cold]
     pub fn on_action(
         &mut self,
         alloc: A,
@@ -297,7 +298,7 @@ impl<A: Allocator + Copy> Association<A> {
     /// Processes an event that carries no data.
     ///
     /// Errors: out of memory.
-    #[inline(never)]
+    #[cold]
     pub fn on_event(
         &mut self,
         alloc: A,
@@ -411,7 +412,7 @@ impl<A: Allocator + Copy> Association<A> {
     /// Processes an A-ASSOCIATE-RQ.
     ///
     /// Errors: out of memory.
-    #[inline(never)]
+    #[cold]
     pub fn on_associate_request(
         &mut self,
         alloc: A,
@@ -433,7 +434,7 @@ impl<A: Allocator + Copy> Association<A> {
     /// Aborts the association (PS3.8 section 7.3).
     ///
     /// Errors: out of memory.
-    #[inline(never)]
+    #[cold]
     pub fn abort(&mut self, alloc: A, requestor: bool) -> Result<Vec<Pdu<A>, A>, SessionFault>
         ensures reaction { IfOk result (λ said. sending (association_view self.new) said.items ≡ aborting requestor (association_view self.old)) }
         ensures writable { IfOk result (λ said. AllByRecursion (λ p. Fits p) said.items) }

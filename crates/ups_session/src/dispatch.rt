@@ -7,7 +7,7 @@ ghost use Rattle.ups_dataset.specs.declared.fault.SetFault.TheVariants.{Memory a
 ghost use Rattle.ups_life.specs.declared.request.Ask.{Ask};
 ghost use Rattle.ups_session.specs.Effects.{dispatch_view, parameters_view, message_effect, AreSendable, IsSendable};
 ghost use Rattle.ups_session.specs.Dispatch.{answered_at_once, asking};
-ghost use Rattle.ups_session.specs.Rules.{supports_operation, accepts_sop_class, has_action_type, supports_action_type, HasSet, unreadable_status, dispatched, Dispatches};
+ghost use Rattle.ups_session.specs.Rules.{supports_operation, accepts_sop_class, has_action_type, supports_action_type, HasSet, unreadable_status, dispatched, DispatchesBySet, Dispatches};
 ghost use Rattle.ups_assoc.specs.declared.message.RawMessage.{RawMessage};
 ghost use Rattle.ups_dimse.specs.declared.command.Command.{Command};
 ghost use Rattle.ups_dimse.specs.declared.command.Command.TheVariants.{Request};
@@ -106,6 +106,7 @@ fn accepts_sop_class<A: Allocator + Copy>(
 }
 
 /// Returns None for a fault in reading a data set, or an error if memory ran out.
+#[cold]
 fn no_set<A: Allocator + Copy>(fault: SetFault) -> Result<Option<DataSet<A>>, AllocError>
     ensures none { IfOk result (λ found. (found ≡ None) × (fault ≢ NoRoomForSet)) }
     ensures memory { OnErr result (fault ≡ NoRoomForSet) }
@@ -137,6 +138,7 @@ fn data_set_of<A: Allocator + Copy>(
 }
 
 /// Returns the status of a request whose data set can't be read (PS3.7 annex C, PS3.4 section C.4.1.1.4).
+#[cold]
 fn unreadable_status<A: Allocator + Copy>(operation: &Operation<A>) -> Status
     ensures { result ≡ unreadable_status operation.now }
 {
@@ -171,6 +173,28 @@ fn dispatched<A: Allocator + Copy>(
     }
 }
 
+/// Returns the outcome of a request that is not refused for its SOP class: it is answered with 0110 (C000 for a C-FIND)
+/// if its data set can't be read. `offset` is the offset of the local time from UTC, in minutes.
+///
+/// Errors: out of memory; the data set can then be read.
+#[inline(never)]
+fn read_question<A: Allocator + Copy>(
+    alloc: A,
+    offset: i16,
+    syntax: TransferSyntax,
+    operation: &Operation<A>,
+    body: Option<&[u8]>,
+) -> Result<Dispatch<A>, AllocError>
+    ensures asks { IfOk result (λ dispatch. DispatchesBySet offset syntax operation.now (option_copied body.entry) (dispatch_view dispatch)) }
+    ensures memory { OnErr result ((set : List El) × HasSet syntax (option_copied body.entry) set
+        × DispatchesBySet offset syntax operation.now (option_copied body.entry) (dispatched offset operation.now set)) }
+{
+    let Some(set) = data_set_of(alloc, syntax, body)? else {
+        return Ok(Dispatch::Answer(unreadable_status(operation)));
+    };
+    dispatched(alloc, offset, operation, set)
+}
+
 /// Returns the outcome of a request on a presentation context. The first refusal that applies is the answer: 0211 if
 /// the SOP class of the context doesn't support the operation, 0118 if the request names another SOP class, 0123 if the
 /// SOP class doesn't have the action type, and 0110 (C000 for a C-FIND) if the data set can't be read. `config` has the
@@ -197,10 +221,17 @@ pub(crate) fn dispatch_request<A: Allocator + Copy>(
     if !supports_action_type(context.sop_class, &request.operation) {
         return Ok(Dispatch::Answer(Status::NoSuchActionType));
     }
-    let Some(set) = data_set_of(alloc, context.transfer_syntax, body)? else {
-        return Ok(Dispatch::Answer(unreadable_status(&request.operation)));
-    };
-    dispatched(alloc, config.offset, &request.operation, set)
+    // without the room that any other request takes
+    if let (Operation::Echo, None) = (&request.operation, body) {
+        return Ok(Dispatch::Answer(Status::Success));
+    }
+    read_question(
+        alloc,
+        config.offset,
+        context.transfer_syntax,
+        &request.operation,
+        body,
+    )
 }
 
 /// Returns the accepted presentation context with an id.
@@ -235,6 +266,7 @@ fn respond_at_once<A: Allocator + Copy>(
 /// Returns the effect of a request that asks something of the service, whose reply is awaited.
 ///
 /// Errors: out of memory.
+#[inline(never)]
 fn await_reply<A: Allocator + Copy>(
     alloc: A,
     parameters: &Parameters<A>,
@@ -249,7 +281,7 @@ fn await_reply<A: Allocator + Copy>(
 {
     let parts = AwaitedParts {
         ae: parameters.ae,
-        ask,
+        ask: Some(ask),
         max: parameters.max,
         context,
         command,
@@ -319,6 +351,7 @@ pub(crate) fn on_message<A: Allocator + Copy>(
 /// Returns None for a fault in reading a command set, for which the association is aborted.
 ///
 /// Errors: out of memory.
+#[cold]
 fn on_unreadable_command<A: Allocator + Copy>(
     fault: DimseFault,
 ) -> Result<Option<Effect<A, AwaitedRequest<A>>>, SessionFault>

@@ -4,9 +4,10 @@ ghost use Rattle.std.specs.Prelude.{◌≡◌, [], ◌∷◌, ℕ, List, IfOk, M
 ghost use Rattle.std.specs.Io.KnownBytes.{Consumes};
 ghost use Rattle.ups_pdu.specs.Spelling.{SpellsPdu, IsFault};
 ghost use Rattle.ups_session.specs.Fold.{bad, brings, closed, presentation_data, indications, Happens};
-ghost use Rattle.ups_session.specs.Party.{indication_of, Comes};
+ghost use Rattle.ups_session.specs.Party.{indication_of, reaction_with, CanSend, Comes};
 ghost use Rattle.ups_session.specs.Reading.{IsComplete};
 ghost use Rattle.ups_session.specs.Session.{IsSession};
+ghost use Rattle.ups_session.specs.Settled.{IsSettled};
 ghost use Rattle.ups_session.specs.Turn.{IsTurn};
 ghost use Rattle.ups_session.specs.WatchedIo.{Input};
 ghost use Rattle.ups_session.specs.World.{world, Performed};
@@ -21,12 +22,45 @@ use crate::sending::send_command;
 use crate::watched_io::{WatchedReader, WatchedWriter};
 use std::alloc::Allocator;
 use std::io::{Read, Write};
-use ups_pdu::{Pdu, PduFault, Pdvs, read_data, read_pdu};
+use ups_pdu::{Pdu, PduFault, Pdv, Pdvs, read_data, read_pdu};
 use ups_service::Service;
 use ups_ulstate::UlEvent;
 
-/// Processes an indication, and takes the PDV that it holds: the party reacts, and what it sends is written, or the call
-/// that it makes is settled. The buffer is for the bytes of one PDU after the other, as in all functions here.
+/// Does what a party has decided to: what it sends is written, or the call that it makes is settled. The buffer is for the
+/// bytes of one PDU after the other, as in all functions here.
+///
+/// Errors: a failed write; out of memory.
+fn carry_out<A: Allocator + Copy, W: Write, S: Service<A>, G: Gate, P: Party<A>>(
+    party: &mut P,
+    writer: &mut WatchedWriter<W>,
+    service: &mut S,
+    gate: &mut G,
+    buffer: &mut Vec<u8, A>,
+    effect: Effect<A, P::Call>,
+) -> Result<(), SessionFault>
+    requires ready { P.is_ready party.old }
+    requires sendable { CanSend P.is_roomy effect }
+    ensures settled { IsSettled (P.side (P.setup party.old)) (reaction_with P.call_view (P.view party.old) effect) (P.view party.new)
+        (world writer.old (G.told gate.old) (S.settings service.old) (S.others service.old) (S.caller service.old) (S.seen service.old))
+        (world writer.new (G.told gate.new) (S.settings service.new) (S.others service.new) (S.caller service.new) (S.seen service.new)) result }
+    ensures ready { OnOk result (P.is_ready party.new) }
+    ensures setup { P.setup party.new ≡ P.setup party.old }
+{
+    match effect {
+        Effect::Send(said) => send_pdus(*buffer.allocator(), writer, gate, said.as_slice()),
+        Effect::Respond(response) => send_command(
+            writer,
+            gate,
+            buffer,
+            response.max,
+            response.context,
+            response.command.as_slice(),
+        ),
+        Effect::Call(call) => party.settle(writer, service, gate, buffer, call),
+    }
+}
+
+/// Processes an indication: the party reacts, and does what it has decided to.
 ///
 /// Errors: a failed write; out of memory.
 fn perform<A: Allocator + Copy, W: Write, S: Service<A>, G: Gate, P: Party<A>>(
@@ -35,11 +69,11 @@ fn perform<A: Allocator + Copy, W: Write, S: Service<A>, G: Gate, P: Party<A>>(
     service: &mut S,
     gate: &mut G,
     buffer: &mut Vec<u8, A>,
-    indication: &mut UlIndication<A>,
+    indication: &UlIndication<A>,
 ) -> Result<(), SessionFault>
     requires ready { P.is_ready party.old }
-    requires comes { Comes (indication_of indication.old) }
-    ensures performed { Performed (Happens (P.side (P.setup party.old))) (indication_of indication.old ∷ []) (P.view party.old) (P.view party.new)
+    requires comes { Comes (indication_of indication.now) }
+    ensures performed { Performed (Happens (P.side (P.setup party.old))) (indication_of indication.now ∷ []) (P.view party.old) (P.view party.new)
         (world writer.old (G.told gate.old) (S.settings service.old) (S.others service.old) (S.caller service.old) (S.seen service.old))
         (world writer.new (G.told gate.new) (S.settings service.new) (S.others service.new) (S.caller service.new) (S.seen service.new)) result }
     ensures ready { OnOk result (P.is_ready party.new) }
@@ -47,16 +81,7 @@ fn perform<A: Allocator + Copy, W: Write, S: Service<A>, G: Gate, P: Party<A>>(
 {
     let alloc = *buffer.allocator();
     match party.react(alloc, indication) {
-        Ok(Effect::Send(said)) => send_pdus(alloc, writer, gate, said.as_slice()),
-        Ok(Effect::Respond(response)) => send_command(
-            writer,
-            gate,
-            buffer,
-            response.max,
-            response.context,
-            response.command.as_slice(),
-        ),
-        Ok(Effect::Call(call)) => party.settle(writer, service, gate, buffer, call),
+        Ok(effect) => carry_out(party, writer, service, gate, buffer, effect),
         Err(fault) => Err(fault),
     }
 }
@@ -70,7 +95,7 @@ fn process<A: Allocator + Copy, W: Write, S: Service<A>, G: Gate, P: Party<A>>(
     service: &mut S,
     gate: &mut G,
     buffer: &mut Vec<u8, A>,
-    mut indication: UlIndication<A>,
+    indication: UlIndication<A>,
 ) -> Result<(), SessionFault>
     requires ready { P.is_ready party.old }
     requires comes { Comes (indication_of indication) }
@@ -80,7 +105,32 @@ fn process<A: Allocator + Copy, W: Write, S: Service<A>, G: Gate, P: Party<A>>(
     ensures ready { OnOk result (P.is_ready party.new) }
     ensures setup { P.setup party.new ≡ P.setup party.old }
 {
-    perform(party, writer, service, gate, buffer, &mut indication)
+    perform(party, writer, service, gate, buffer, &indication)
+}
+
+/// Processes a PDV: the party reacts, and does what it has decided to.
+///
+/// Errors: a failed write; out of memory.
+fn process_pdv<A: Allocator + Copy, W: Write, S: Service<A>, G: Gate, P: Party<A>>(
+    party: &mut P,
+    writer: &mut WatchedWriter<W>,
+    service: &mut S,
+    gate: &mut G,
+    buffer: &mut Vec<u8, A>,
+    mut pdv: Pdv<A>,
+) -> Result<(), SessionFault>
+    requires ready { P.is_ready party.old }
+    ensures performed { Performed (Happens (P.side (P.setup party.old))) (presentation_data pdv ∷ []) (P.view party.old) (P.view party.new)
+        (world writer.old (G.told gate.old) (S.settings service.old) (S.others service.old) (S.caller service.old) (S.seen service.old))
+        (world writer.new (G.told gate.new) (S.settings service.new) (S.others service.new) (S.caller service.new) (S.seen service.new)) result }
+    ensures ready { OnOk result (P.is_ready party.new) }
+    ensures setup { P.setup party.new ≡ P.setup party.old }
+{
+    let alloc = *buffer.allocator();
+    match party.react_to_pdv(alloc, &mut pdv) {
+        Ok(effect) => carry_out(party, writer, service, gate, buffer, effect),
+        Err(fault) => Err(fault),
+    }
 }
 
 /// Processes the PDVs of a P-DATA-TF, in order (PS3.8 section 9.3.5).
@@ -102,8 +152,7 @@ fn process_fragments<A: Allocator + Copy, W: Write, S: Service<A>, G: Gate, P: P
     ensures setup { P.setup party.new ≡ P.setup party.old }
 {
     for pdv in pdvs.into_vec() {
-        let indication = UlIndication::Pdv(pdv);
-        process(party, writer, service, gate, buffer, indication)?;
+        process_pdv(party, writer, service, gate, buffer, pdv)?;
     }
     Ok(())
 }
@@ -155,7 +204,7 @@ fn process_pdu<A: Allocator + Copy, W: Write, S: Service<A>, G: Gate, P: Party<A
 /// Processes bytes that are not a PDU.
 ///
 /// Errors: a failed write; out of memory.
-#[inline(never)]
+#[cold]
 fn process_bad<A: Allocator + Copy, W: Write, S: Service<A>, G: Gate, P: Party<A>>(
     party: &mut P,
     writer: &mut WatchedWriter<W>,
@@ -178,7 +227,7 @@ fn process_bad<A: Allocator + Copy, W: Write, S: Service<A>, G: Gate, P: Party<A
 /// Processes the end of the input.
 ///
 /// Errors: a failed write; out of memory.
-#[inline(never)]
+#[cold]
 fn process_close<A: Allocator + Copy, W: Write, S: Service<A>, G: Gate, P: Party<A>>(
     party: &mut P,
     writer: &mut WatchedWriter<W>,
@@ -200,7 +249,7 @@ fn process_close<A: Allocator + Copy, W: Write, S: Service<A>, G: Gate, P: Party
 /// Processes a PDU of the buffer that could not be read: its bytes are not a PDU, or memory ran out.
 ///
 /// Errors: a failed write; out of memory.
-#[inline(never)]
+#[cold]
 fn process_fault<A: Allocator + Copy, W: Write, S: Service<A>, G: Gate, P: Party<A>>(
     party: &mut P,
     writer: &mut WatchedWriter<W>,
@@ -225,7 +274,7 @@ fn process_fault<A: Allocator + Copy, W: Write, S: Service<A>, G: Gate, P: Party
 /// Processes the PDU whose bytes the buffer holds, of any type.
 ///
 /// Errors: a failed write; out of memory.
-#[inline(never)]
+#[cold]
 fn process_any<A: Allocator + Copy, W: Write, S: Service<A>, G: Gate, P: Party<A>>(
     party: &mut P,
     writer: &mut WatchedWriter<W>,

@@ -13,8 +13,8 @@ use ups_pdu::{Ae, Pdu};
 pub(crate) struct AwaitedParts<A: Allocator + Copy> {
     /// The title of the AE in whose name it is made.
     pub ae: Ae,
-    /// The request or the query.
-    pub ask: Ask<A>,
+    /// The request or the query. It is always there: the option is what `Service::answer` takes it from, without a copy.
+    pub ask: Option<Ask<A>>,
     /// The longest P-DATA-TF that the peer receives, in bytes.
     pub max: u32,
     /// The presentation context of the request.
@@ -24,10 +24,11 @@ pub(crate) struct AwaitedParts<A: Allocator + Copy> {
 }
 
 /// A request whose reply is awaited from the service. Its parts take some 350 bytes, which are passed on several times,
-/// so they have a block of memory of their own.
+/// so they have a block of memory of their own, and are used where they lie.
 #[derive(Drop)]
 pub(crate) struct AwaitedRequest<A: Allocator + Copy> {
-    parts: Box<AwaitedParts<A>, A>,
+    /// The parts of the request.
+    pub parts: Box<AwaitedParts<A>, A>,
 }
 
 impl<A: Allocator + Copy> AwaitedRequest<A> {
@@ -39,14 +40,6 @@ impl<A: Allocator + Copy> AwaitedRequest<A> {
     {
         let parts = Box::new(alloc, parts)?;
         Ok(AwaitedRequest { parts })
-    }
-
-    /// Returns the request with its parts.
-    pub fn into_parts(self) -> AwaitedParts<A>
-        ensures { result ≡ self.parts.value }
-    {
-        let AwaitedRequest { parts } = self;
-        Box::into_inner(parts)
     }
 }
 

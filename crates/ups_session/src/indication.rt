@@ -7,7 +7,8 @@ use std::mem;
 use ups_pdu::{AssociateAc, AssociateRq, Bytes, PduFault, Pdv};
 use ups_ulstate::UlEvent;
 
-/// An event of the state transition table (PS3.8 section 9.2), with the data that it carries.
+/// An event of the state transition table (PS3.8 section 9.2) other than a PDV, with the data that it carries. A PDV goes
+/// to the party by itself: nearly all events are PDVs, and the room of an A-ASSOCIATE-RQ is large.
 #[derive(Drop)]
 pub(crate) enum UlIndication<A: Allocator + Copy> {
     /// An event that carries no data.
@@ -18,8 +19,6 @@ pub(crate) enum UlIndication<A: Allocator + Copy> {
     AssociateRq(AssociateRq<A>),
     /// An A-ASSOCIATE-AC.
     AssociateAc(AssociateAc<A>),
-    /// A PDV of a P-DATA-TF.
-    Pdv(Pdv<A>),
 }
 
 /// Takes a PDV, and leaves an empty one in its place.

@@ -9,6 +9,7 @@ use crate::indication::UlIndication;
 use crate::watched_io::WatchedWriter;
 use std::alloc::Allocator;
 use std::io::Write;
+use ups_pdu::Pdv;
 use ups_service::Service;
 
 /// A party of an association (PS3.8 section 7.1): its requestor or its acceptor.
@@ -17,7 +18,7 @@ pub(crate) trait Party<A: Allocator + Copy> {
     ghost use Rattle.ups_service.specs.Law.{Others, Seen};
     ghost use Rattle.ups_session.specs.declared.fault.End.{End};
     ghost use Rattle.ups_session.specs.declared.fault.SessionFault.TheVariants.{Memory};
-    ghost use Rattle.ups_session.specs.Fold.{Side, Happens, IsOpen};
+    ghost use Rattle.ups_session.specs.Fold.{Side, Happens, IsOpen, presentation_data};
     ghost use Rattle.ups_session.specs.Party.{indication_of, Comes, awaiting_reply, reaction_with, CanSend, IsOver};
     ghost use Rattle.ups_session.specs.Settled.{IsSettled};
     ghost use Rattle.ups_session.specs.World.{world, Performed};
@@ -75,17 +76,33 @@ pub(crate) trait Party<A: Allocator + Copy> {
         ensures ready { OnOk result (is_ready self.new) }
         ensures setup { setup self.new ≡ setup self.old };
 
-    /// Reacts to an indication, by the state transition table (PS3.8 section 9.2), and takes the PDV that it holds.
+    /// Reacts to an indication other than a PDV, by the state transition table (PS3.8 section 9.2).
     ///
     /// Errors: out of memory.
     fn react(
         &mut self,
         alloc: A,
-        indication: &mut UlIndication<A>,
+        indication: &UlIndication<A>,
     ) -> Result<Effect<A, Self::Call>, SessionFault>
         requires ready { is_ready self.old }
-        requires comes { Comes (indication_of indication.old) }
-        ensures reacts { IfOk result (λ effect. (side (setup self.old)).Reacts (view self.old) (indication_of indication.old) (reaction_with call_view (view self.new) effect)) }
+        requires comes { Comes (indication_of indication.now) }
+        ensures reacts { IfOk result (λ effect. (side (setup self.old)).Reacts (view self.old) (indication_of indication.now) (reaction_with call_view (view self.new) effect)) }
+        ensures sendable { IfOk result (CanSend is_roomy) }
+        ensures ready { OnOk result (is_ready self.new) }
+        ensures setup { setup self.new ≡ setup self.old }
+        ensures memory { IfErr result (λ e. e ≡ Memory) };
+
+    /// Reacts to a PDV of a P-DATA-TF, as `react` does to other indications, and takes it. The PDV is not passed by value,
+    /// since the toolchain can't yet prove an impl whose method takes a value that is generic in its allocator.
+    ///
+    /// Errors: out of memory.
+    fn react_to_pdv(
+        &mut self,
+        alloc: A,
+        pdv: &mut Pdv<A>,
+    ) -> Result<Effect<A, Self::Call>, SessionFault>
+        requires ready { is_ready self.old }
+        ensures reacts { IfOk result (λ effect. (side (setup self.old)).Reacts (view self.old) (presentation_data pdv.old) (reaction_with call_view (view self.new) effect)) }
         ensures sendable { IfOk result (CanSend is_roomy) }
         ensures ready { OnOk result (is_ready self.new) }
         ensures setup { setup self.new ≡ setup self.old }

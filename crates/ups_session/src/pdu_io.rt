@@ -99,6 +99,7 @@ pub(crate) enum PduRead {
 }
 
 /// Returns the outcome of reading an incomplete header or body.
+#[cold]
 fn cut_off(filled: Filled) -> PduRead
     ensures failed { filled.failed ≡ true → result ≡ Failed }
     ensures ended { filled.failed ≡ false → result ≡ Cut }

@@ -30,7 +30,7 @@ use std::alloc::Allocator;
 use std::io::{Read, Write};
 use ups_assoc::Config;
 use ups_life::{Ask, Request};
-use ups_pdu::{Ae, Pdu};
+use ups_pdu::{Ae, Pdu, Pdv};
 use ups_service::Service;
 use ups_ulstate::UlEvent;
 
@@ -168,12 +168,11 @@ impl<'a, A: Allocator + Copy> Party<A> for Requestor<'a, A> {
     fn react(
         &mut self,
         alloc: A,
-        indication: &mut UlIndication<A>,
+        indication: &UlIndication<A>,
     ) -> Result<Effect<A, DeliveryCall>, SessionFault> {
         let delivery = &mut self.delivery;
         match indication {
             UlIndication::AssociateAc(answer) => delivery.on_answer(alloc, self.ae, answer),
-            UlIndication::Pdv(pdv) => delivery.on_fragment(alloc, take_pdv(alloc, pdv)),
             UlIndication::Event(event) => {
                 Ok(Effect::Send(delivery.on_event(alloc, UNEXPECTED, *event)?))
             }
@@ -188,6 +187,15 @@ impl<'a, A: Allocator + Copy> Party<A> for Requestor<'a, A> {
                 UlEvent::AssociateRq,
             )?)),
         }
+    }
+
+    #[tactic(auto, using(crate::proofs::Delivered::sendable))]
+    fn react_to_pdv(
+        &mut self,
+        alloc: A,
+        pdv: &mut Pdv<A>,
+    ) -> Result<Effect<A, DeliveryCall>, SessionFault> {
+        self.delivery.on_fragment(alloc, take_pdv(alloc, pdv))
     }
 
     fn settle<W: Write, S: Service<A>, G: Gate>(

@@ -13,13 +13,10 @@ use Rattle.ups_session.proofs.driver.process_fragments.Goals as goal
 pub loop-pdv-init : goal.loop-pdv-init
 loop-pdv-init g c = (c.requires.ready, refl, goes_nowhere (Happens (g.P.Party.side (g.P.Party.setup c.args.party.now))) (g.P.Party.view c.args.party.now) _ tt)
 
-pub process-requires-clause-ready : goal.process-requires-clause-ready
-process-requires-clause-ready g c = c.loop-pdv.invariant.0
-
-pub returns-in_err-process-clause-performed : goal.returns-in_err-process-clause-performed
-returns-in_err-process-clause-performed g c =
+pub returns-in_err-process_pdv-clause-performed : goal.returns-in_err-process_pdv-clause-performed
+returns-in_err-process_pdv-clause-performed g c =
     let p = err_from_is_err_and c.from_residual.result c.from_residual.ensures.1 in
-    let e = c.in_err-process.field-0.0 in
+    let e = c.in_err-process_pdv.field-0.0 in
     let (ready, same, so_far) = c.loop-pdv.invariant in
     let front = c.loop-pdv.yielded in
     let rest = into_iter_items c.next.new.self in
@@ -27,25 +24,25 @@ returns-in_err-process-clause-performed g c =
     sym c.into_vec-pdv-items.ensures ∙ (sym c.into_iter-pdv-iterator.ensures.into_iter_gives.0
     ∙ (taken_front c.into_iter-pdv-iterator.result front c.loop-pdv.pdv-iterator c.loop-pdv.yielded_by ∙ ap (λ (ps : List (Pdv g.row.A.Denot)). front ++ ps) c.in-Some.ensures.steps.0)) in
     rw (p.1, p.2)
-    (fragments_cut (g.P.Party.side (g.P.Party.setup c.args.party.now)) c.args.pdvs front rest c.in-Some.pdv (g.P.Party.view c.args.party.now) (g.P.Party.view c.loop-pdv.party) (g.P.Party.view c.process.new.party) _ _ _ e parts so_far
-    (subst (λ (s : g.P.Party.Setup). Performed (Happens (g.P.Party.side s)) (presentation_data c.in-Some.pdv ∷ []) (g.P.Party.view c.loop-pdv.party) (g.P.Party.view c.process.new.party)
+    (fragments_cut (g.P.Party.side (g.P.Party.setup c.args.party.now)) c.args.pdvs front rest c.in-Some.pdv (g.P.Party.view c.args.party.now) (g.P.Party.view c.loop-pdv.party) (g.P.Party.view c.process_pdv.new.party) _ _ _ e parts so_far
+    (subst (λ (s : g.P.Party.Setup). Performed (Happens (g.P.Party.side s)) (presentation_data c.in-Some.pdv ∷ []) (g.P.Party.view c.loop-pdv.party) (g.P.Party.view c.process_pdv.new.party)
     (world c.loop-pdv.writer (g.G.Gate.told c.loop-pdv.gate) (g.S.Service.settings c.loop-pdv.service) (g.S.Service.others c.loop-pdv.service) (g.S.Service.caller c.loop-pdv.service) (g.S.Service.seen c.loop-pdv.service))
-    (world c.process.new.writer (g.G.Gate.told c.process.new.gate) (g.S.Service.settings c.process.new.service) (g.S.Service.others c.process.new.service) (g.S.Service.caller c.process.new.service) (g.S.Service.seen c.process.new.service)) (failing e))
-    same c.in_err-process.ensures.performed))
+    (world c.process_pdv.new.writer (g.G.Gate.told c.process_pdv.new.gate) (g.S.Service.settings c.process_pdv.new.service) (g.S.Service.others c.process_pdv.new.service) (g.S.Service.caller c.process_pdv.new.service) (g.S.Service.seen c.process_pdv.new.service)) (failing e))
+    same c.in_err-process_pdv.ensures.performed))
 
-pub returns-in_err-process-clause-setup : goal.returns-in_err-process-clause-setup
-returns-in_err-process-clause-setup g c = c.in_err-process.ensures.setup ∙ c.loop-pdv.invariant.1
+pub returns-in_err-process_pdv-clause-setup : goal.returns-in_err-process_pdv-clause-setup
+returns-in_err-process_pdv-clause-setup g c = c.in_err-process_pdv.ensures.setup ∙ c.loop-pdv.invariant.1
 
 pub loop-pdv-preserved : goal.loop-pdv-preserved
 loop-pdv-preserved g c =
     let (ready, same, so_far) = c.loop-pdv.invariant in (
-      c.in_ok-process.ensures.ready,
-      c.in_ok-process.ensures.setup ∙ same,
-      fragments_on (g.P.Party.side (g.P.Party.setup c.args.party.now)) c.loop-pdv.yielded c.in-Some.pdv (g.P.Party.view c.args.party.now) (g.P.Party.view c.loop-pdv.party) (g.P.Party.view c.process.new.party) _ _ _ so_far
-          (subst (λ (s : g.P.Party.Setup). Performed (Happens (g.P.Party.side s)) (presentation_data c.in-Some.pdv ∷ []) (g.P.Party.view c.loop-pdv.party) (g.P.Party.view c.process.new.party)
+      c.in_ok-process_pdv.ensures.ready,
+      c.in_ok-process_pdv.ensures.setup ∙ same,
+      fragments_on (g.P.Party.side (g.P.Party.setup c.args.party.now)) c.loop-pdv.yielded c.in-Some.pdv (g.P.Party.view c.args.party.now) (g.P.Party.view c.loop-pdv.party) (g.P.Party.view c.process_pdv.new.party) _ _ _ so_far
+          (subst (λ (s : g.P.Party.Setup). Performed (Happens (g.P.Party.side s)) (presentation_data c.in-Some.pdv ∷ []) (g.P.Party.view c.loop-pdv.party) (g.P.Party.view c.process_pdv.new.party)
           (world c.loop-pdv.writer (g.G.Gate.told c.loop-pdv.gate) (g.S.Service.settings c.loop-pdv.service) (g.S.Service.others c.loop-pdv.service) (g.S.Service.caller c.loop-pdv.service) (g.S.Service.seen c.loop-pdv.service))
-          (world c.process.new.writer (g.G.Gate.told c.process.new.gate) (g.S.Service.settings c.process.new.service) (g.S.Service.others c.process.new.service) (g.S.Service.caller c.process.new.service) (g.S.Service.seen c.process.new.service)) okay)
-          same c.in_ok-process.ensures.performed),
+          (world c.process_pdv.new.writer (g.G.Gate.told c.process_pdv.new.gate) (g.S.Service.settings c.process_pdv.new.service) (g.S.Service.others c.process_pdv.new.service) (g.S.Service.caller c.process_pdv.new.service) (g.S.Service.seen c.process_pdv.new.service)) okay)
+          same c.in_ok-process_pdv.ensures.performed),
     )
 
 pub returns-clause-performed : goal.returns-clause-performed
