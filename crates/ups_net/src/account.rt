@@ -52,6 +52,7 @@ fn status_in(command: &[u8]) -> Option<u16> {
 
 /// Returns the called AE title from the beginning of an A-ASSOCIATE-RQ, or None if the bytes encode none (PS3.8 section
 /// 9.3.2).
+#[cold]
 fn called_title(beginning: &[u8]) -> Option<Ae> {
     if beginning.first() != Some(&PduKind::AssociateRq.code()) {
         return None;
@@ -232,6 +233,7 @@ impl<'a> Account<'a> {
     }
 
     /// Returns the title and address of the peer, or None if memory runs out.
+    #[cold]
     fn peer(&self, alloc: Global) -> Option<String> {
         let address = self.address.ip();
         match self.calling.get() {
@@ -253,7 +255,7 @@ impl<'a> Account<'a> {
     }
 
     /// Logs a request by the command set of its response.
-    #[inline(never)]
+    #[cold]
     fn tell_command<R: Log>(&self, rt: &R, alloc: Global, level: Level, bytes: &[u8]) {
         let Ok(command) = read_command(alloc, bytes) else {
             return;

@@ -111,6 +111,7 @@ impl Arrival {
     }
 
     // Takes one byte of a header, and returns the bytes that follow.
+    #[cold]
     fn step_in_header<'b>(&mut self, bytes: &'b [u8]) -> &'b [u8] {
         if let (Some(place), Some(byte)) = (self.head.get_mut(self.come), bytes.first()) {
             *place = *byte;

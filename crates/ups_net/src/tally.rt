@@ -104,6 +104,7 @@ impl Tally {
 
     /// Counts a refused request of a peer (None if memory ran out), and returns whether it gets a line of its own.
     /// Never blocks.
+    #[cold]
     pub(crate) fn add_refusal(&self, peer: Option<String>) -> bool {
         self.refusals.fetch_add(1, Ordering::SeqCst);
         let is_told = match (self.peers.try_lock(), peer) {
