@@ -1,6 +1,9 @@
 /* The least that a server does for a C-ECHO: one recv for a request and one send for its response, a thread for each
    association. It reads nothing of a message but its Message ID, accepts whatever is proposed, and checks nothing, so
-   it is not a DICOM server: bench/serve.py compares the processor time of `upsd serve` with it. It prints its port. */
+   it is not a DICOM server: bench/serve.py compares the processor time of `upsd serve` with it. It prints its port.
+
+   With a number as its argument, each C-ECHO runs through that many lines of code besides, 64 bytes each, a jump from one
+   to the next: bench/code.py measures what code costs that has left the caches while a thread waited for its peer. */
 
 #include <arpa/inet.h>
 #include <netinet/in.h>
@@ -8,6 +11,7 @@
 #include <pthread.h>
 #include <stdint.h>
 #include <stdio.h>
+#include <stdlib.h>
 #include <string.h>
 #include <sys/socket.h>
 #include <unistd.h>
@@ -32,6 +36,15 @@ static const uint8_t response[] = {
 /* Where the Message ID is in that response, and in a request as check/lib/dicom.py writes it. */
 enum { ID_ANSWERED = 68, ID_ASKED = 68 };
 
+enum { LINE = 64, MOST_LINES = 400 };
+
+/* MOST_LINES lines of code; a call of the last of them returns at once. */
+__asm__(".text\n.p2align 6\nlines_of_code:\n.rept 400\njmp . + 64\n.p2align 6\n.endr\nret\n");
+extern const char lines_of_code[] __asm__("lines_of_code");
+
+/* Where in these a C-ECHO begins. */
+static void (*code)(void);
+
 static void *serve(void *given)
 {
     int peer = (int)(intptr_t)given;
@@ -44,6 +57,7 @@ static void *serve(void *given)
         if (asked[0] == 1) {
             send(peer, accepted, sizeof accepted, 0);
         } else if (asked[0] == 4) {
+            code();
             memcpy(told + ID_ANSWERED, asked + ID_ASKED, 2);
             send(peer, told, sizeof told, 0);
         } else {
@@ -55,8 +69,12 @@ static void *serve(void *given)
     return NULL;
 }
 
-int main(void)
+int main(int count, char **words)
 {
+    int lines = count > 1 ? atoi(words[1]) : 0;
+    if (lines < 0 || lines > MOST_LINES)
+        return 2;
+    code = (void (*)(void))(lines_of_code + LINE * (MOST_LINES - lines));
     struct sockaddr_in address = {.sin_family = AF_INET, .sin_addr.s_addr = htonl(INADDR_LOOPBACK)};
     socklen_t length = sizeof address;
     int on = 1, door = socket(AF_INET, SOCK_STREAM, 0);

@@ -15,6 +15,7 @@ one association, with the C library's memory as it is by default and with one ar
 Usage: bench/serve.py [--calls] [PROGRAM]        (crates/upsd/out/upsd, which `rt run` builds)
 """
 
+import contextlib
 import functools
 import multiprocessing
 import os
@@ -105,8 +106,8 @@ class Measured(Server):
 class Least(Measured):
     """bench/echo.c: the least that a server does for a C-ECHO."""
 
-    def __init__(self, program, _):
-        self.begin([program], subprocess.DEVNULL)
+    def __init__(self, words, _):
+        self.begin(words, subprocess.DEVNULL)
         self.port = self.printed()
 
 
@@ -167,15 +168,22 @@ def measure(start, name, steps, count, one, each=1, again=False, most=12):
     return took
 
 
+@contextlib.contextmanager
+def compiled_echo():
+    """Gives bench/echo.c as a program, compiled by gcc."""
+    with tempfile.TemporaryDirectory() as folder:
+        source, program = os.path.join(os.path.dirname(os.path.abspath(__file__)), "echo.c"), os.path.join(folder, "echo")
+        subprocess.run(["gcc", "-O2", "-pthread", "-o", program, source], check=True)
+        yield program
+
+
 def measure_echo(start):
     """Measures a C-ECHO; if gcc is installed, also the least for one, and returns a line that compares them."""
     took = measure(start, "C-ECHO", 0, 10_000, one_echo)
     if not shutil.which("gcc"):
         return None
-    with tempfile.TemporaryDirectory() as folder:
-        source, program = os.path.join(os.path.dirname(os.path.abspath(__file__)), "echo.c"), os.path.join(folder, "echo")
-        subprocess.run(["gcc", "-O2", "-pthread", "-o", program, source], check=True)
-        least = measure(functools.partial(Least, program), "C-ECHO, of bench/echo.c", 0, 10_000, one_echo)
+    with compiled_echo() as program:
+        least = measure(functools.partial(Least, [program]), "C-ECHO, of bench/echo.c", 0, 10_000, one_echo)
     return "a C-ECHO takes the processor " + ", ".join(f"{a / b:.2f}" for a, b in zip(took, least)) + " times what bench/echo.c takes"
 
 
