@@ -266,7 +266,6 @@ fn respond_at_once<A: Allocator + Copy>(
 /// Returns the effect of a request that asks something of the service, whose reply is awaited.
 ///
 /// Errors: out of memory.
-#[inline(never)]
 fn await_reply<A: Allocator + Copy>(
     alloc: A,
     parameters: &Parameters<A>,
