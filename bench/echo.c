@@ -36,10 +36,14 @@ static const uint8_t response[] = {
 /* Where the Message ID is in that response, and in a request as check/lib/dicom.py writes it. */
 enum { ID_ANSWERED = 68, ID_ASKED = 68 };
 
-enum { LINE = 64, MOST_LINES = 400 };
+#define LINE 64
+#define MOST_LINES 400
+#define TEXT(it) TEXT_OF(it)
+#define TEXT_OF(it) #it
 
-/* MOST_LINES lines of code; a call of the last of them returns at once. */
-__asm__(".text\n.p2align 6\nlines_of_code:\n.rept 400\njmp . + 64\n.p2align 6\n.endr\nret\n");
+/* MOST_LINES lines of code, and behind them one that returns. */
+__asm__(".text\n.balign " TEXT(LINE) "\nlines_of_code:\n.rept " TEXT(MOST_LINES) "\n"
+        "jmp . + " TEXT(LINE) "\n.balign " TEXT(LINE) "\n.endr\nret\n");
 extern const char lines_of_code[] __asm__("lines_of_code");
 
 /* Where in these a C-ECHO begins. */
