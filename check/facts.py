@@ -1,5 +1,5 @@
 #!/usr/bin/env python3
-"""Compares the numbers that documents, help texts and the client repeat with the constants of the sources.
+"""Compares numbers that documents, help texts and the client repeat with the constants of the sources; measures documents.
 
     check/facts.py              from the top of the checkout
     check/facts.py --self-test  spoils each kind of fact in memory, in turn, and checks that it is found
@@ -7,9 +7,13 @@
 A number in README.md, in a page of docs or in a man page is compared if a mark with the name of a fact precedes it:
 `<!--=keep-->60`. It has commas between thousands, and is in the unit of the constant, or in MiB, or in seconds for
 milliseconds. The mark `status` precedes the code of a status: a page that marks any has to mark all that `ups_cycle` has, and
-no other. A `[default: N]` in a help text of the program is compared by its option, and the man page of the program has to have
-each option with the same word and the same default, and no other. The client in examples has to have a text for each status
-except the one that more answers follow, and its options the defaults that their help states, and those of the sources.
+no other. A `[default: N]` in a help text of the program is compared by its option, as is the default in the docstring that names
+the option, and the man page of the program has to have each option with the same word and the same default, and no other. The
+client in examples has to have a text for each status except the one that more answers follow, and its options the defaults that
+their help states, and those of the sources. The implementation version name is the same in sources, specs and statement.
+
+A paragraph and a cell of a table have at most PARAGRAPH and CELL letters without marks, docs (without pictures) and README.md at
+most DOCS and README bytes; CONTRIBUTING.md says so with these numbers.
 
 It prints each difference with its file and line, and then the number of marks. The status is 1 if anything differs.
 """
@@ -29,13 +33,19 @@ HERE = os.path.dirname(os.path.dirname(os.path.abspath(__file__)))
 Value = Union[int, str]
 Texts = dict[str, str]  # by path
 MILLISECONDS = {"short"}
+PARAGRAPH, CELL = 600, 200  # letters
+DOCS, README = 300_000, 8_000  # bytes
+RULES = {  # how CONTRIBUTING.md says these
+    "A paragraph has at most {} letters": f"{PARAGRAPH}", "a table cell {}.": f"{CELL}",
+    "`docs` stays within {} kB without pictures": f"{DOCS // 1000}", "`README.md` within {} bytes": f"{README:,}",
+}
 # the constant of each fact: its crate, and its name in the sources
 CONSTANTS = {
     "keep": ("ups_args", "KEEP"), "offset": ("ups_args", "OFFSET"),
     "max_workers": ("ups_settings", "MAX_WORKERS"), "workers": ("ups_settings", "WORKERS"),
     "idle": ("ups_settings", "IDLE"), "timeout": ("ups_settings", "TIMEOUT"), "delivery_timeout": ("ups_settings", "DELIVERY_TIMEOUT"),
     "version": ("ups_args", "VERSION"), "address": ("ups_args", "LOOPBACK"),
-    "short": ("ups_net", "QUICK_OPENING"), "crowd": ("ups_net", "CROWD"), "group": ("ups_net", "GROUP"),
+    "short": ("ups_net", "QUICK_OPENING"), "crowd": ("ups_net", "CROWD"), "group": ("ups_ledger", "MOST"),
     "longest_pdu": ("ups_pdu", "MAX_DATA_LENGTH"), "longest_message": ("ups_assoc", "LONGEST_MESSAGE"),
     "max_depth": ("ups_dataset", "MAX_DEPTH"), "max_row_bytes": ("ups_life", "MAX_ROW_BYTES"),
     "max_history": ("ups_life", "MAX_HISTORY"), "max_peers": ("ups_life", "MAX_PEERS"),
@@ -45,7 +55,10 @@ OPTIONS = {"keep": "keep", "offset": "offset", "associations": "workers", "idle"
            "delivery-timeout": "delivery_timeout", "bind": "address"}  # the fact that is the default of each option
 STATUS_FILE = "crates/ups_cycle/src/status.rt"
 MAN_PAGE = "packaging/man/upsd.8"
-VERSION_NAMES = ("crates/ups_assoc/src/negotiating.rt", "crates/ups_assoc/specs/Negotiation.antt")  # each has it once
+VERSION_NAMES = {  # where the implementation version name stands, and how
+    "crates/ups_assoc/src/negotiating.rt": r'b"(UPSD_[^"]*)"', "crates/ups_assoc/specs/Negotiation.antt": r'codes "(UPSD_[^"]*)"',
+    "docs/use/conformance.md": r"\| implementation version name \| (UPSD_\w*)",
+}
 DOCUMENTS = (".md", ".8")
 PENDING = 0xFF00
 MARK = re.compile(r"<!--=(\w+)-->")
@@ -53,12 +66,15 @@ NUMBER = re.compile(r"-?[0-9A-Z]+(?:[.,][0-9]+)*")
 OPTION = re.compile(r'\b(?:worded|flag)\(\s*alloc,\s*"([\w-]+)",\s*(?:"(\w+)",)?')  # in the sources: its name, and its word
 ENTRY = re.compile(r"(?m)^\.It Fl -([\w-]+)(?: Ar (\w+))?\n((?:(?!\.It|\.El).*\n)*)")  # in the man page: the same, and its text
 DEFAULT = re.compile(r"\[default: ([^\]]+)\]")
+DOCSTRING = re.compile(r"after `--([\w-]+)`, or ([\w.,]+)[\s/]+without[\s/]+one\b")  # the option, and its default
+BREAK = re.compile(r" {4}|[|#]|\s*(?:[-*]|\d+\.) ")  # begins another paragraph, or what is none
 
 
 def texts() -> Texts:
     """Returns the texts of the files that are compared."""
     crates = sorted({crate for crate, _ in CONSTANTS.values()} | {"ups_cycle"})
-    forms = ["README.md", "docs/**/*.md", "examples/**/*.py", MAN_PAGE, *VERSION_NAMES, *(f"crates/{it}/src/**/*.rt" for it in crates)]
+    forms = ["*.md", "*/README.md", "docs/**/*.md", "examples/**/*.py", MAN_PAGE, *VERSION_NAMES]
+    forms += [f"crates/{it}/src/**/*.rt" for it in crates]
     found = {}
     for path in sorted(path for form in forms for path in glob.glob(form, root_dir=HERE, recursive=True)):
         with open(os.path.join(HERE, path), encoding="utf-8") as opened:
@@ -153,6 +169,18 @@ def faults_of_help(files: Texts, values: dict[str, Value]) -> Iterator[str]:
         yield f"crates/ups_args/src: no help text has the default of {', '.join(f'--{it}' for it in sorted(left))}"
 
 
+def faults_of_docstrings(files: Texts, values: dict[str, Value]) -> Iterator[str]:
+    left = set(OPTIONS)
+    for path, text in files.items():
+        for it in DOCSTRING.finditer(text) if path.startswith("crates/ups_args/") else ():
+            left.discard(it[1])
+            default = str(values.get(OPTIONS.get(it[1], "")))
+            if it[2].replace(",", "") != default:
+                yield f"{place(path, text, it.start())}: --{it[1]} is {it[2]} without a word here, and {default}"
+    if left:
+        yield f"crates/ups_args/src: no docstring has the default of {', '.join(f'--{it}' for it in sorted(left))}"
+
+
 def faults_of_man_page(files: Texts) -> Iterator[str]:
     """Yields the faults of the man page, which must have each option of the program once, with its word and its default."""
     sources = "".join(text for path, text in files.items() if path.startswith("crates/ups_args/"))
@@ -203,12 +231,45 @@ def faults_of_option(path: str, call: ast.Call, values: dict[str, Value]) -> Ite
         yield f"{path}:{call.lineno}: the default of --host is {default}, and a server listens on {values.get('address')}"
 
 
-def faults_of_version_names(files: Texts, values: dict[str, Value]) -> Iterator[str]:
-    """Yields a fault for each implementation version name that does not end in the version of the program."""
-    for path in VERSION_NAMES:
-        told = re.findall(r'"UPSD_([^"]*)"', files.get(path, ""))
-        if told != [values.get("version")]:
-            yield f"{path}: the implementation version name has the version {' and '.join(told)}, and the program {values.get('version')}"
+def faults_of_version_names(files: Texts) -> Iterator[str]:
+    """Yields a fault for each place that has the implementation version name not once, or another one than the first place."""
+    told = {path: re.findall(form, files.get(path, "")) for path, form in VERSION_NAMES.items()}
+    first = next(iter(told.values()))
+    for path, found in told.items():
+        if len(found) != 1 or found != first:
+            yield f"{path}: the implementation version name is {found}, and {first} in {next(iter(told))}"
+
+
+def paragraphs_in(text: str) -> Iterator[tuple[int, str]]:
+    """Yields the paragraphs of a page: the line of each, and its text without marks. Code is none, an item of a list is one."""
+    lines, at, is_code = [], 0, False
+    for number, line in enumerate([*MARK.sub("", text).split("\n"), ""], 1):
+        is_fence = line.startswith("```")
+        if lines and (not line or is_fence or BREAK.match(line)):
+            yield at, " ".join(lines)
+            lines = []
+        is_code ^= is_fence
+        if line and not (is_code or is_fence or line.startswith(("    ", "|", "#"))):
+            at, lines = at if lines else number, [*lines, line.strip()]
+
+
+def faults_of_layout(files: Texts) -> Iterator[str]:
+    """Yields the faults of documents that are too long: paragraphs, cells of tables, the pages in all."""
+    pages = {path: text for path, text in files.items() if path.endswith(".md")}
+    for path, text in pages.items():
+        for line, paragraph in paragraphs_in(text):
+            if len(paragraph) > PARAGRAPH:
+                yield f"{path}:{line}: a paragraph of {len(paragraph)} letters, and at most {PARAGRAPH}"
+        for number, line in enumerate(MARK.sub("", text).split("\n"), 1):
+            longest = max((len(it.strip()) for it in re.split(r"(?<!\\)\|", line)), default=0) if line.startswith("|") else 0
+            if longest > CELL:
+                yield f"{path}:{number}: a cell of {longest} letters, and at most {CELL}"
+    sizes = {"docs": sum(len(it.encode()) for path, it in pages.items() if path.startswith("docs/") and "/pictures/" not in path),
+             "README.md": len(pages.get("README.md", "").encode())}
+    yield from (f"{path}: {sizes[path]:,} bytes, and at most {most:,}" for path, most in (("docs", DOCS), ("README.md", README))
+                if sizes[path] > most)
+    yield from (f"CONTRIBUTING.md: it does not say {form.format(number)!r}" for form, number in RULES.items()
+                if form.format(number) not in pages.get("CONTRIBUTING.md", ""))
 
 
 def faults(files: Texts) -> set[str]:
@@ -217,7 +278,8 @@ def faults(files: Texts) -> set[str]:
     found = {f"crates/{it[0]}/src: no constant {it[1]}, or more than one" for name, it in CONSTANTS.items() if name not in values}
     codes = codes_of(files)
     found |= {*faults_of_marks(files, values), *faults_of_statuses(files, codes), *faults_of_help(files, values)}
-    found |= {*faults_of_man_page(files), *faults_of_client(files, codes, values), *faults_of_version_names(files, values)}
+    found |= {*faults_of_man_page(files), *faults_of_client(files, codes, values), *faults_of_version_names(files)}
+    found |= {*faults_of_docstrings(files, values), *faults_of_layout(files)}
     return found if codes else found | {f"{STATUS_FILE}: no codes"}
 
 
@@ -225,18 +287,21 @@ def faults(files: Texts) -> set[str]:
 
 def page_of(values: dict[str, Value], codes: set[int]) -> str:
     """Returns a page that marks each fact."""
-    lines = [f"{name}: <!--={name}-->{spelled(name, value, '')}." for name, value in values.items()]
+    lines = [f"- {name}: <!--={name}-->{spelled(name, value, '')}." for name, value in values.items()]
     lines += [f"| <!--=status-->{it:04X} | a status |" for it in sorted(codes)]
     in_mib = spelled("longest_message", values["longest_message"], "MiB")
-    lines.append(f"as <!--=short-->{values['short']} ms, <!--=longest_message-->{in_mib} MiB")
+    lines.append(f"\nas <!--=short-->{values['short']} ms, <!--=longest_message-->{in_mib} MiB")
+    lines += ["", "x" * PARAGRAPH, "", f"- {'y' * (PARAGRAPH - 2)}", "", f"| {'z' * CELL} |", "", "```", "w" * (PARAGRAPH + 1), "```"]
     return "\n".join(lines) + "\n"
 
 
-PAGE = "docs/planted.md"
+PAGE = "planted.md"
 IN_PAGE = {  # what is spoiled in it: a pattern and its replacement
     "an amount in MiB": (r"\d MiB", "77 MiB"), "an amount in ms": (r"\d ms", "7 ms"), "a name": ("<!--=keep-->", "<!--=kept-->"),
     "the form of a mark": ("<!--=keep-->", "<!-- =keep -->"), "what is behind a mark": ("<!--=keep-->", "<!--=keep--> about "),
     "a status that is not marked": (".*C311.*\n", ""), "a marked status": ("C311", "C312"),
+    "a paragraph": ("xx\n", "xxx\n"), "a paragraph of two lines": ("xx\n", "x\nx\n"), "an item of a list": ("yy\n", "yyy\n"),
+    "a cell": ("zz ", "zzz "),
 }
 IN_CLIENT = {
     "a status": ("0xC311:", "0xC312:"), "a default": (r'("--host", default="[0-9.]*)"', r'\g<1>1"'),
@@ -272,7 +337,16 @@ def spoiled(files: Texts) -> Iterator[tuple[str, str, str]]:
         for name, change in IN_MAN_PAGE.items() if path == MAN_PAGE else ():
             yield f"{name} of the man page", path, re.sub(*change, text, count=1)
     for path in VERSION_NAMES:
-        yield f"the version name of {path}", path, files[path].replace("UPSD_", "UPSD_9.")
+        yield f"the version name of {path}", path, re.sub(VERSION_NAMES[path], lambda it: it[0].replace(it[1], "UPSD_9"), files[path])
+        yield f"the missing version name of {path}", path, re.sub(VERSION_NAMES[path], "", files[path])
+    for path, text in files.items():
+        for it in DOCSTRING.finditer(text) if path.startswith("crates/ups_args/") else ():
+            yield f"the docstring of --{it[1]}", path, text[:it.start(2)] + "9" + text[it.end(2):]
+            yield f"the missing docstring of --{it[1]}", path, text[:it.start(2)] + text[it.end(2):]
+    for path, most in (("docs/DECISIONS.md", DOCS), ("README.md", README)):
+        yield f"the size of {path}", path, files[path] + "\n\n- x" * (most // 5)
+    for form, number in RULES.items():
+        yield form, "CONTRIBUTING.md", files["CONTRIBUTING.md"].replace(form.format(number), form.format("7"))
     for name, change in IN_PAGE.items():
         yield f"{name} of a page", PAGE, re.sub(*change, files[PAGE])
 

@@ -17,6 +17,7 @@ import threading
 import time
 from typing import Optional
 
+import making
 from dicom import PUSH, even, step
 from ledger import CANCELED, COMPLETED, LABEL, PROGRESS, SCHEDULED, SOP_CLASS, SOP_INSTANCE, STATE, Attributes, compare, read
 from machine import holds
@@ -545,11 +546,12 @@ def tried_lie(program: list[str], given: argparse.Namespace, kind: str) -> Optio
 # the whole trial
 
 def run(program: list[str], given: argparse.Namespace, results: Results) -> None:
-    """Reports the outcome of that many kills, up to `each` on one store; or of the self-test."""
+    """Reports how stores are made, and the outcome of that many kills, up to `each` on one store; or of the self-test."""
     if given.self_test:
         for kind in LIES:
             results.tell(f"a lie is found: {kind}", tried_lie(program, given, kind))
         return
+    making.run(program, results)
     for part, first in enumerate(range(0, given.kills, given.each)):
         if results.failed == 0:
             run_part(program, given, min(given.each, given.kills - first), given.seed + part, results)

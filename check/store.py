@@ -3,7 +3,8 @@
 
     check/store.py TRIAL [NUMBER] [--program PROGRAM] [--seed 1] ..      (default: crates/upsd/out/upsd)
 
-    kills 20         kills that many servers on a file at random moments; four workstations, a reader and three watchers use them
+    kills 20         tries what makes a store; kills that many servers on a file at random moments, which four workstations, a
+                     reader and three watchers use
     cuts 2000        records the writes and syncs of a server with strace, and opens that many of the states that a disk may have
                      kept if the power is cut
     full             fills a small tmpfs, and makes room again (as root)

@@ -8,18 +8,23 @@
     half a header     send three bytes of an association request, and nothing more
     all but a byte    send an association request without its last byte, and nothing more
     associates        ask for an association, and nothing more
+    inside a message  ask for an association, send half a P-DATA-TF, and nothing more
 
-A working peer that comes a second after them must be served within 15 seconds (`--limit`). Four peers that had an association
-before, and ask twice a second, must be answered all the while.
+A working peer that comes a second after them must be served within 15 seconds (`--limit`), behind the last kind within 30. Four
+peers that had an association before, and ask twice a second, must be answered all the while.
 
 On a server of two workers one peer has an association and says nothing, another asks twice a second, and a third one waits. The
 silent one must make way after ten seconds of silence, and hear an A-ABORT, which the log reports; the other must go on. The
-third one then asks every three seconds, while a fourth one waits: it must go on, too.
+third one then asks every three seconds, while a fourth one waits: it must go on, too. Then one of two peers that have asked
+before stops inside a message while a third one waits: it must make way after ten seconds, and not sooner.
+
+On a server with `--idle 2` and `--timeout 10` a peer pauses for five seconds between a command and its data set, and must be
+answered; and one that pauses there for longer than ten seconds must hear an A-ABORT, which the log reports as `Timeout`.
 
 If nobody waits, `--timeout` and `--idle` hold: with 4 and 14 seconds a connection with half a header is closed after 4 and an
 association that says nothing after 14, each within a second, and neither earlier.
 
-It ends by itself, in two minutes if all is well. It prints how long each peer waited, a line for each trial that fails, and
+It ends by itself, in four minutes if all is well. It prints how long each peer waited, a line for each trial that fails, and
 in the end how many passed. It ends with status 1 if any failed. `trials/abuse.py` has peers of many other kinds.
 """
 
@@ -36,7 +41,9 @@ from collections.abc import Awaitable, Callable, Iterator
 from typing import Optional
 
 sys.path.insert(0, os.path.join(os.path.dirname(os.path.dirname(os.path.abspath(__file__))), "check/lib"))
+import dicom
 from abuse import ABORT, CROWD, ECHO, FAULTS, REQUEST, Caller, Holder, connect, crowd, hung_up, served
+from dicom import EXPLICIT, IMPLICIT, PULL, VERIFICATION
 from ending import Visitor
 from machine import HERE, holds
 from results import Results
@@ -47,6 +54,11 @@ TIMEOUT = 10  # seconds: the limit of the server that a crowd comes to, and afte
 PATIENCE = 180  # seconds for which a working peer waits at most, longer than the limit so that its time can be reported
 SHORT, LONG = 4, 14  # the limits if nobody waits
 SLACK = 1.0
+SLOW_KIND, SLOW_LIMIT = "inside a message", 30.0  # seconds that a working peer may wait behind those
+IDLE, PAUSE = 2, 5  # seconds: a limit of silence between messages, and a pause inside of one that is longer
+CONTEXTS = ((VERIFICATION, IMPLICIT), (PULL, EXPLICIT))
+QUERY = dicom.find(3, 1, dicom.data(True, 0x0074, 0x1000, b"CS", b"SCHEDULED "))
+COMMAND_LEN = 6 + int.from_bytes(QUERY[2:6], "big")  # bytes of the PDU with the command of the query
 
 
 def sends(said: bytes) -> Callable[[Holder], Awaitable[None]]:
@@ -58,7 +70,15 @@ def sends(said: bytes) -> Callable[[Holder], Awaitable[None]]:
     return begins
 
 
-KINDS = {"half a header": sends(REQUEST[:3]), "all but a byte": sends(REQUEST[:-1]), "associates": sends(REQUEST)}
+async def stops(holder: Holder) -> None:
+    """Asks for an association, hears the answer, and sends half of a P-DATA-TF."""
+    await holder.say(REQUEST)
+    await holder.hear()
+    await holder.say(ECHO[: len(ECHO) // 2])
+    await holder.hear_all()
+
+
+KINDS = {"half a header": sends(REQUEST[:3]), "all but a byte": sends(REQUEST[:-1]), "associates": sends(REQUEST), SLOW_KIND: stops}
 
 
 @contextlib.contextmanager
@@ -140,6 +160,49 @@ def idle_trial(program: list[str], results: Results) -> None:
         print(f"a peer behind an idle one: {third.told()}; {told}", flush=True)
 
 
+def stuck_trial(program: list[str], results: Results) -> None:
+    """Tries whether an association that has asked before and stops inside a message makes way after ten seconds of silence."""
+    over = threading.Event()
+    with Server(program, "--associations", "2") as server, visitors(server.port, 1) as working:
+        stuck = Caller(server.port, 3 * TIMEOUT)
+        assert stuck.ask(ECHO) == 0
+        stuck.socket.sendall(ECHO[: len(ECHO) // 2])
+        third = Waiting(server.port, 3.0, over)
+        holds(lambda: third.seconds, 2 * TIMEOUT)
+        is_good = abs(third.seconds - TIMEOUT) <= 2 * SLACK
+        results.tell("a peer behind one that stops inside a message", None if is_good else f"it is {third.told()}")
+        results.tell("one that stops inside a message makes way, A-ABORT", heard(stuck))
+        results.tell("one that stops inside a message makes way, another one", fault_of(working))
+        over.set()
+        third.thread.join(TIMEOUT)
+        print(f"a peer behind one that stops inside a message: {third.told()}", flush=True)
+
+
+def pause_trial(program: list[str], results: Results) -> None:
+    """Tries pauses between a command and its data set: one that is longer than `--idle`, and one that is longer than `--timeout`."""
+    with Server(program, "--idle", str(IDLE), "--timeout", str(TIMEOUT)) as server:
+        peer = Caller(server.port, 3 * TIMEOUT, CONTEXTS)
+        try:
+            peer.socket.sendall(QUERY[:COMMAND_LEN])
+            time.sleep(PAUSE)
+            fault = None if peer.ask(QUERY[COMMAND_LEN:]) == 0 else "it is refused"
+        except FAULTS as met:
+            fault = repr(met)
+        results.tell("a pause between a command and its data set", fault)
+        peer = Caller(server.port, 3 * TIMEOUT, CONTEXTS)
+        address = "{}:{}".format(*peer.socket.getsockname())
+        peer.socket.sendall(QUERY[:COMMAND_LEN])
+        began = time.monotonic()
+        is_cut = hung_up(peer.socket, began + TIMEOUT + 2 * SLACK)
+        seconds = time.monotonic() - began
+        is_good = is_cut and abs(seconds - TIMEOUT) <= 2 * SLACK
+        results.tell("a pause that is too long", None if is_good else f"it lasts {seconds:.1f} s, and the limit is {TIMEOUT} s")
+        holds(lambda: any(address in line for line in server.log), TIMEOUT)
+        told = [line for line in server.log if address in line]
+        results.tell("a pause that is too long, the log", None if any("Timeout" in line for line in told) else f"it says {told}")
+        print(f"a pause that is too long: cut off after {seconds:.1f} s; {told}", flush=True)
+
+
 def heard(peer: Caller) -> Optional[str]:
     """Returns why a peer that is cut off has not heard an A-ABORT, or None."""
     peer.socket.settimeout(SLACK)
@@ -175,8 +238,10 @@ def main() -> None:
     signal.signal(signal.SIGALRM, lambda *_: sys.exit("crowds.py: it does not end"))
     signal.alarm(900)
     for name in KINDS:
-        crowd_trial(given.program, results, name, given.limit)
+        crowd_trial(given.program, results, name, SLOW_LIMIT if name == SLOW_KIND else given.limit)
     idle_trial(given.program, results)
+    stuck_trial(given.program, results)
+    pause_trial(given.program, results)
     alone_trial(given.program, results)
     results.end(f"peers that have begun, {CROWD} of each kind")
 

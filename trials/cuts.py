@@ -1,7 +1,8 @@
 """Simulates power cuts of a server on a store: whatever a disk may keep of what was written must be a store that has what was
 answered.
 
-strace records the writes and syncs of two lives of a server, with the answers and the reports that were sent in between. At a
+strace records the writes and syncs of making the store, and of two lives of a server, with the answers and the reports that were
+sent in between. A state from before the store was made need not be one: making it once more then has to succeed. At a
 point of that sequence the disk has what was written to a file before its last sync, and any part of what was written since
 then, down to parts of single writes, in sectors of 512 bytes.
 """
@@ -29,8 +30,8 @@ from ledger import LABEL, STATE, Attributes, Fault, read
 from machine import holds
 from peer import GLOBAL
 from results import Results
-from stored import (FAULTS, SECONDS, Client, Hearing, Row, Stored, a_step_of, bytes_in, ended, folder_for, performed, rows_at,
-                    rows_of, text_in)
+from stored import (FAULTS, SECONDS, Client, Hearing, Row, Stored, a_step_of, bytes_in, ended, folder_for, initialized, performed,
+                    rows_at, rows_of, text_in)
 
 SECTOR = 512
 FOREVER = 1 << 62
@@ -349,6 +350,7 @@ class Recording:
     before: dict[str, bytes] = dataclasses.field(default_factory=dict)  # the files before the sequence, and their rows
     rows_before: Optional[list[Row]] = None
     keep: str = "1000000"  # seconds for which its server keeps finished steps
+    made: int = 0  # the point by which the store was made
 
     def needed_at(self, point: int) -> int:
         """Returns how many rows must be there at a point: those on which what was sent before it rests."""
@@ -361,7 +363,8 @@ def record(program: list[str], folder: str, given: argparse.Namespace) -> Record
     file, log, watcher, other = os.path.join(folder, "store"), os.path.join(folder, "strace"), Hearing(), Hearing()
     asked = Asked({}, int(watcher.place.rsplit(":", 1)[1]))
     stations = [Station(it, asked) for it in range(STATIONS)]
-    lines: list[str] = []
+    lines = record_init(program, file, log)
+    made = len(lines)
     for life in range(LIVES):
         words = [*STRACE, "-D", "-o", log, *program]
         with Stored(words, file, "--keep", "1000000", f"W1={watcher.place}", f"W2={other.place},lock", seconds=4 * SECONDS) as server:
@@ -376,12 +379,24 @@ def record(program: list[str], folder: str, given: argparse.Namespace) -> Record
             os.kill(server.pid, signal.SIGKILL)
             server.process.wait()
             await_end(log)
-        with open(log, encoding="ascii", errors="replace") as opened:
-            lines += opened.read().splitlines()
+        lines += lines_of(log)
     faults = [fault for it in stations for fault in it.faults]
     if faults:
         raise Fault(f"the work that is recorded: {faults[0]}")
-    return judged_by(Trace(file, lines), rows_of(file), asked)
+    return dataclasses.replace(judged_by(Trace(file, lines), rows_of(file), asked), made=made)
+
+
+def record_init(program: list[str], file: str, log: str) -> list[str]:
+    """Makes a store, and returns what strace tells of that."""
+    come = initialized([*STRACE, "-o", log, *program], file)
+    if come.status != 0:
+        raise Fault(f"upsd init ends with {come.status}: {come.said[-300:]}")
+    return lines_of(log)
+
+
+def lines_of(log: str) -> list[str]:
+    with open(log, encoding="ascii", errors="replace") as opened:
+        return opened.read().splitlines()
 
 
 def work_at_once(server: Stored, stations: list[Station], steps: int, asked: Asked) -> None:
@@ -518,11 +533,18 @@ class Cuts:
         """Returns why the program doesn't start on it, or what must be there isn't there then; or None."""
         file = self.laid(kept)
         try:
+            if point <= self.recording.made and (fault := self.fault_of_init(file)):
+                return fault
             with Stored(self.program, file, "--keep", self.recording.keep, *PEERS):
                 pass
             return self.judge_started(rows_at(file), point)
         except (*FAULTS, sqlite3.Error) as fault:
             return str(fault)
+
+    def fault_of_init(self, file: str) -> Optional[str]:
+        """Returns why a store can't be made, though it may have been made before the cut; or None."""
+        come = initialized(self.program, file)
+        return None if come.status == 0 or "is not blank" in come.said else f"upsd init ends with {come.status}: {come.said[-300:]}"
 
     def judge_started(self, rows: list[Row], point: int) -> Optional[str]:
         """Returns what is wrong after a start, which may have compacted, or None."""
@@ -561,9 +583,7 @@ def record_compaction(program: list[str], folder: str) -> Recording:
     come = ended([*STRACE, "-o", log, *program, "compact", *words[:2], file, *PEERS])
     if come.status != 0:
         raise Fault(f"a compaction ends with {come.status}: {come.said[-300:]}")
-    with open(log, encoding="ascii", errors="replace") as opened:
-        trace = Trace(file, opened.read().splitlines())
-    return Recording(trace, rows_of(file), [], [], 0, 0, before, rows, "0")
+    return Recording(Trace(file, lines_of(log)), rows_of(file), [], [], 0, 0, before, rows, "0")
 
 
 def try_compaction(program: list[str], folder: str, given: argparse.Namespace, results: Results) -> None:

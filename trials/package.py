@@ -209,6 +209,13 @@ def try_installation(machine: Machine, results: Results) -> None:
     results.tell("nothing is enabled or started", unless(states == ("disabled", "inactive"), " ".join(states)))
     results.tell("the system user", fault_of(machine.run("id", "upsd")))
     results.tell("the man pages", man_pages(machine.root))
+    owner = owners(machine)
+    results.tell("the first installation makes a store", unless(owner == "upsd 600\nupsd 700", owner))
+
+
+def owners(machine: Machine) -> str:
+    """Returns who owns the store and its folder, and the mode of each."""
+    return machine.says("stat", "--format=%U %a", STORE, os.path.dirname(STORE))
 
 
 # the trials in it
@@ -257,7 +264,7 @@ def try_unit(machine: Machine, commands: list[tour.Command], results: Results) -
     """Starts the unit, takes the tour, and restarts it."""
     has_words(machine, serve_words(commands))
     results.tell("start", fault_of(machine.run("systemctl", "start", "upsd.service")) or listens(machine))
-    owner = machine.says("stat", "--format=%U %a", STORE, os.path.dirname(STORE))
+    owner = owners(machine)
     results.tell("the store is the user's alone", unless(owner == "upsd 600\nupsd 700", owner))
     take_tour(machine, commands, results)
     held = machine.says("ups", "find")
@@ -291,8 +298,24 @@ def try_ends(machine: Machine, commands: list[tour.Command], results: Results) -
         machine.run("systemctl", "reset-failed", "upsd.service")
     try_port(machine, results)
     has_words(machine, serve_words(commands))
+    try_missing(machine, results)
     machine.run("systemctl", "start", "upsd.service")
     results.tell("start again", listens(machine))
+
+
+def try_missing(machine: Machine, results: Results) -> None:
+    """Tries a store that is missing: an upgrade makes none, and the unit does not serve before it is back."""
+    machine.run("sh", "-c", f"mkdir /root/away && mv {STORE} {STORE}-wal /root/away")
+    results.tell("an upgrade without its store", fault_of(machine.run("dpkg", "--install", "--force-confold", "/root/upsd.deb")))
+    machine.run("systemctl", "start", "upsd.service")
+    refused = holds(lambda: machine.of_unit("ExecMainStatus") == "2", 10)
+    results.tell("a missing store is refused", unless(refused, machine.of_unit("ActiveState")))
+    is_made = not os.path.exists(machine.path(STORE))
+    results.tell("and neither makes one", unless(is_made, f"there is {STORE}"))
+    machine.run("sh", "-c", f"mv /root/away/* {os.path.dirname(STORE)} && rmdir /root/away")
+    results.tell("it serves once the store is back", listens(machine))
+    machine.run("systemctl", "stop", "upsd.service")
+    machine.run("systemctl", "reset-failed", "upsd.service")
 
 
 def try_port(machine: Machine, results: Results) -> None:

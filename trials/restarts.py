@@ -14,15 +14,14 @@ from typing import Optional
 from ledger import SOP_INSTANCE, Fault
 from machine import holds
 from results import Results
-from stored import (FAULTS, Client, Ended, Row, Stored, a_step_of, bytes_in, copy_of, ended, folder_for, performed, rows_of,
-                    runs_of, started_on, text_in, tried)
+from stored import (FAULTS, REFUSED, Client, Ended, Row, Stored, a_step_of, bytes_in, compacted, copy_of, folder_for, is_sentence,
+                    performed, refused, rows_of, runs_of, started_on, text_in, tried)
 
 KEEP = ["--keep", "1000000"]
 W1, W1_PLAIN, W2 = "W1=127.0.0.1:1,lock", "W1=127.0.0.1:1", "W2=127.0.0.1:1"
 BOTH = [*KEEP, W1, W2]
 STEPS = 20
 TIDY = 10.0  # seconds by which an idle server has copied its log into the file
-REFUSED = 2  # the exit status of a start that is refused
 OPERATION, RECEIVER = 3, 7  # columns of a row
 MISSING = r"fewer requests|lost|missing"
 
@@ -56,23 +55,6 @@ def make(program: list[str], file: str, steps: int = STEPS, tidies: bool = False
             raise Fault("the server does not write how many requests there are, when nobody asks anything")
         time.sleep(0.5 if tidies else 0)
     return rows_of(file)
-
-
-def is_sentence(said: str, words: str = "") -> bool:
-    """Returns whether a program says in a line of standard error why it doesn't use a store, with these words."""
-    return bool(re.search(rf"^upsd: the store [^\n]*{words}", said, re.MULTILINE | re.IGNORECASE))
-
-
-def refused(come: Ended, words: str, before: dict[str, bytes], file: str, with_log: bool = True) -> Optional[str]:
-    """Returns why a start is not refused as it should be, or None: with a sentence that has these words, and the files as they
-    were (only the file itself, without `with_log`)."""
-    if come.status != REFUSED:
-        return f"it ends with {come.status}: {come.said[-300:]!r}"
-    if not is_sentence(come.said, words):
-        return f"it does not say {words!r}: {come.said[-300:]!r}"
-    now = bytes_in(file) if os.path.isfile(file) else {}
-    differ = [it for it, content in before.items() if now.get(it) != content and (with_log or it == file)]
-    return f"{differ} are not as they were" if differ else None
 
 
 # other settings
@@ -156,7 +138,7 @@ def held(program: list[str], folder: str) -> Optional[str]:
     with Stored(program, file, *BOTH) as server:
         client = Client(server.port)
         ask_all(client, 0, 2)
-        for come in (started_on(program, file, *BOTH), ended([*program, "compact", file, *BOTH])):
+        for come in (started_on(program, file, *BOTH), compacted(program, file, *BOTH)):
             fault = refused(come, "another process", {}, file)
             if fault:
                 return fault
@@ -180,15 +162,11 @@ def foreign_files(program: list[str], folder: str, results: Results) -> None:
     os.makedirs(os.path.join(folder, "a folder"), exist_ok=True)
     for name, path in (("a folder", os.path.join(folder, "a folder")), ("a file in no folder", os.path.join(folder, "none", "store"))):
         results.tell(f"{name} for a store", refused(started_on(program, path, *BOTH), "", {}, path))
-    empty = os.path.join(folder, "empty")
-    with open(empty, "wb"):
-        pass
-    results.tell("an empty file for a store", None if make(program, empty, 2) else "it keeps nothing")
     link = os.path.join(folder, "link")
-    os.link(empty, link)
+    whole = os.path.join(folder, "whole")
+    make(program, whole, 2)
+    os.link(whole, link)
     results.tell("a file of two names for a store", refused(started_on(program, link, *BOTH), "", {}, link))
-    come = ended([*program, "compact", os.path.join(folder, "nothing"), *BOTH])
-    results.tell("a compaction of nothing", None if come.status in (0, REFUSED) else f"it ends with {come.status}: {come.said!r}")
 
 
 # damage

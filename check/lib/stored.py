@@ -30,12 +30,15 @@ ECHO_ON = 7
 READY, WAITING = b"READY", b"UNAVAILABLE"
 READINESS = (0x0040, 0x4041)
 STATE_REPORT = b"\1\0"
+REFUSED = 2  # the exit status of a start that is refused
 
 
 class Stored(Server):
-    """`upsd serve` on a store, by a program that may follow another command. It may be told not to wait for its port."""
+    """`upsd serve` on a store, which is made if it is missing, by a program that may follow another command. It may be told not
+    to wait for its port."""
 
     def __init__(self, program: list[str], file: str, *options: str, seconds: float = SECONDS, waits: bool = True) -> None:
+        make_store(program, file)
         self.begin([*program, "serve", "--ae", "UPSD", "--port", "0", "--store", file, *options], is_group=True)
         self.port, self.took = 0, 0.0
         if waits:
@@ -274,6 +277,20 @@ def ended(words: list[str], seconds: float = SECONDS) -> Ended:
     return Ended(ran.returncode, output, said)
 
 
+def initialized(program: list[str], file: str, seconds: float = SECONDS) -> Ended:
+    """Returns the outcome of making a store."""
+    return ended([*program, "init", file], seconds)
+
+
+def make_store(program: list[str], file: str) -> None:
+    """Makes a store in a file, unless the file has something."""
+    if os.path.exists(file) and os.path.getsize(file):
+        return
+    come = initialized(program, file)
+    if come.status != 0:
+        raise Fault(f"no store is made: upsd init ends with {come.status}: {come.said[-300:]!r}")
+
+
 def started_on(program: list[str], file: str, *options: str, seconds: float = SECONDS) -> Ended:
     """Returns the outcome of a start that should be refused."""
     return ended([*program, "serve", "--ae", "UPSD", "--port", "0", "--store", file, *options], seconds)
@@ -282,6 +299,23 @@ def started_on(program: list[str], file: str, *options: str, seconds: float = SE
 def compacted(program: list[str], file: str, *options: str, seconds: float = SECONDS) -> Ended:
     """Returns the outcome of a compaction."""
     return ended([*program, "compact", file, *options], seconds)
+
+
+def is_sentence(said: str, words: str = "") -> bool:
+    """Returns whether a program says in a line of standard error why it doesn't use a store, with these words."""
+    return bool(re.search(rf"^upsd: the store [^\n]*{words}", said, re.MULTILINE | re.IGNORECASE))
+
+
+def refused(come: Ended, words: str, before: dict[str, bytes], file: str, with_log: bool = True) -> Optional[str]:
+    """Returns why a start is not refused as it should be, or None: with a sentence that has these words, and the files as they
+    were (only the file itself, without `with_log`)."""
+    if come.status != REFUSED:
+        return f"it ends with {come.status}: {come.said[-300:]!r}"
+    if not is_sentence(come.said, words):
+        return f"it does not say {words!r}: {come.said[-300:]!r}"
+    now = bytes_in(file) if os.path.isfile(file) else {}
+    differ = [it for it, content in before.items() if now.get(it) != content and (with_log or it == file)]
+    return f"{differ} are not as they were" if differ else None
 
 
 def tried(trial: Callable[..., Optional[str]], *more: object) -> Optional[str]:

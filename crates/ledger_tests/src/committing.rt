@@ -13,7 +13,24 @@ use ups_turn::{Desk, Pass};
 #[derive(Drop)]
 struct Slate {
     told: String,
+    count: usize,
     is_full: bool,
+}
+
+/// Appends a word for each record, and a bar behind them.
+///
+/// Errors: Full if memory runs out.
+fn tell(told: &mut String, records: &[Record<Global>]) -> Result<(), LedgerFault> {
+    for stored in records {
+        let name = str::from_utf8(stored.request.operation.name()).unwrap_or("?");
+        if told.push_str(name).is_err() || told.push(' ').is_err() {
+            return Err(LedgerFault::Full);
+        }
+    }
+    if told.push('|').is_err() {
+        return Err(LedgerFault::Full);
+    }
+    Ok(())
 }
 
 impl Ledger for Slate {
@@ -21,21 +38,25 @@ impl Ledger for Slate {
 
     ghost kept = { λ _. [] };
 
+    ghost told = { λ slate. slate.count };
+
     ghost is_sound = { λ _. true ≢ true };
+
+    ghost is_honest = { λ _. true ≢ true };
+
+    ghost is_first = { λ _. true ≢ true };
+
+    ghost recovers = { λ _ _. true ≢ true };
 
     fn append(&mut self, records: &[Record<Global>]) -> Result<(), LedgerFault> {
         if self.is_full {
             return Err(LedgerFault::Full);
         }
-        for stored in records {
-            let name = str::from_utf8(stored.request.operation.name()).unwrap_or("?");
-            if self.told.push_str(name).is_err() || self.told.push(' ').is_err() {
-                return Err(LedgerFault::Full);
-            }
-        }
-        if self.told.push('|').is_err() {
+        let Some(count) = self.count.checked_add(records.len()) else {
             return Err(LedgerFault::Full);
-        }
+        };
+        tell(&mut self.told, records)?;
+        self.count = count;
         Ok(())
     }
 
@@ -72,6 +93,7 @@ fn told_at<M: SharedService<Global>, R: Wait>(
 {
     let mut slate = Slate {
         told: String::new(alloc),
+        count: 0,
         is_full: true,
     };
     asked(rt, desk, one, creation(alloc)?)?;

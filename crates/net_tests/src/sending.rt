@@ -6,6 +6,7 @@ use fixtures::{bytes_of, title};
 use log::Log;
 use std::alloc::Global;
 use std::io::Write;
+use std::marker::Brand;
 use std::net::{Net, Shutdown, TcpListener, TcpStream};
 use std::sync::Wait;
 use std::test::Fail;
@@ -69,7 +70,7 @@ fn told_by<M: SharedService<Global>, R: Wait + Clock + Log>(
 ) -> Result<End, SessionFault>
     requires here { pass.table ≡ desk.now.table }
 {
-    let none = Commits::of_none();
+    let none: Commits<Brand> = Commits::of_none();
     let (_, ended, is_sent) = serve_one(rt, server, account, None, desk, pass, options, &none);
     end_told(ended, is_sent)
 }

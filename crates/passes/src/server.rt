@@ -12,7 +12,7 @@ use std::sync::Wait;
 use std::thread::Threads;
 use std::time::Clock;
 use ups_args::{ArgumentFault, command};
-use ups_ledger::{Keeper, NoLedger};
+use ups_ledger::NoLedger;
 use ups_manager::Manager;
 use ups_net::Network;
 use ups_server::{RanServer, StoreOpener, Unopened, serve_words};
@@ -27,7 +27,7 @@ impl<'a> StoreOpener<'a, NoLedger> for NoStores {
         _file: &'a str,
         _may_leave_out: bool,
         manager: &mut Manager<Global>,
-    ) -> Result<Keeper<NoLedger>, Unopened> {
+    ) -> Result<(NoLedger, usize), Unopened> {
         Err(Unopened::Told)
     }
 }

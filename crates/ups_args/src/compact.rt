@@ -21,7 +21,10 @@ pub(crate) fn compact_command<'a>(alloc: Global) -> Result<Command<'a>, AllocErr
         .about("takes out of a store what is about steps that are no longer held")
         .arg(leave_out_flag(alloc))?;
     with_times(alloc, command)?
-        .arg(store_word(alloc))?
+        .arg(store_word(
+            alloc,
+            "the file of the store, which no server may have open",
+        ))?
         .arg(peer_words(alloc))
 }
 

@@ -5,6 +5,7 @@
 mod addresses;
 mod compact;
 mod fault;
+mod init;
 mod limits;
 mod options;
 mod peers;
@@ -18,6 +19,7 @@ mod title;
 
 pub use compact::{CompactArguments, compact_arguments};
 pub use fault::ArgumentFault;
+pub use init::{InitArguments, init_arguments};
 pub use limits::{KEEP, OFFSET, limits_are_as_defined};
 pub use pipe::{PipeArguments, pipe_arguments};
 pub use program::{VERSION, command};

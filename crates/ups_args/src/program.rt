@@ -1,13 +1,14 @@
 //! The command line as a whole.
 
 use crate::compact::compact_command;
+use crate::init::init_command;
 use crate::pipe::pipe_command;
 use crate::script::script_command;
 use crate::server::serve_command;
 use clap::Command;
 use std::alloc::{AllocError, Global};
 
-/// The version of `upsd`, with which its implementation version name ends too (`ups_assoc::version_name`).
+/// The version of `upsd`. Its implementation version name (`ups_assoc::version_name`) does not follow it.
 pub const VERSION: &str = "0.2.0";
 
 /// Adds a subcommand, unless memory ran out while it was made.
@@ -18,7 +19,7 @@ fn with_command<'a>(
     command.subcommand(other?)
 }
 
-/// Returns the command line of `upsd`, with the subcommands `pipe`, `script`, `serve` and `compact`.
+/// Returns the command line of `upsd`, with the subcommands `pipe`, `script`, `serve`, `init` and `compact`.
 ///
 /// # Errors
 ///
@@ -31,5 +32,6 @@ pub fn command<'a>(alloc: Global) -> Result<Command<'a>, AllocError> {
     let command = with_command(command, pipe_command(alloc))?;
     let command = with_command(command, script_command(alloc))?;
     let command = with_command(command, serve_command(alloc))?;
+    let command = with_command(command, init_command(alloc))?;
     with_command(command, compact_command(alloc))
 }

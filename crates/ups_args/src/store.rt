@@ -18,10 +18,10 @@ pub(crate) fn with_store<'a>(
 }
 
 /// Returns the argument that names the file of a store.
-pub(crate) fn store_word<'a>(alloc: Global) -> Arg<'a> {
+pub(crate) fn store_word<'a>(alloc: Global, help: &'a str) -> Arg<'a> {
     let word = Arg::new(alloc, "store")
         .value_name("FILE")
-        .help("the file of the store, which no server may have open")
+        .help(help)
         .required(true);
     naming_file(word)
 }

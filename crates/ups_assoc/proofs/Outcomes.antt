@@ -110,7 +110,7 @@ head_length : (called calling : List ℕ) → length called ≡ 16 → length ca
 unfolding associate_head
 head_length called calling h k = omega (arith, h, k, length-append called (calling ++ replicate 32 0), length-append calling (replicate 32 0), zeros)
 
-user_length : (A : Type 0) → length (user_content (this_server {A = A})) ≡ 35
+user_length : (A : Type 0) → length (user_content (this_server {A = A})) ≡ 31
 unfolding user_content written_item
 user_length A = refl
 
@@ -128,11 +128,11 @@ application_length : length (written_item 0x10 (text_of ApplicationContext)) ≡
 unfolding written_item
 application_length = refl
 
-user_item_length : (A : Type 0) → length (written_item 0x50 (user_content (this_server {A = A}))) ≡ 39
+user_item_length : (A : Type 0) → length (written_item 0x50 (user_content (this_server {A = A}))) ≡ 35
 unfolding user_content written_item
 user_item_length A = refl
 
-items_length : (A : Type 0) (cs : List AnsweredContext) → length (associate_items (text_of ApplicationContext) written_answer cs (this_server {A = A})) ≡ 64 + length (flat_map written_answer cs)
+items_length : (A : Type 0) (cs : List AnsweredContext) → length (associate_items (text_of ApplicationContext) written_answer cs (this_server {A = A})) ≡ 60 + length (flat_map written_answer cs)
 unfolding associate_items
 items_length A cs =
     omega (

@@ -42,9 +42,9 @@ number_reason r = (numbers r).2
 abbrev pub counted : ℕ → ℕ
 counted max = if max == 0 || nat_lt max_data_length max then max_data_length else max
 
--- the implementation version name of this program (PS3.7 annex D.3.3.2.4)
+-- the implementation version name of this server (PS3.7 annex D.3.3.2.4)
 abbrev pub version_name : List ℕ
-version_name = codes "UPSD_0.2.0"
+version_name = codes "UPSD_1"
 
 -- the user information about this server (PS3.7 annex D.3.3.2)
 abbrev pub this_server : {A : Type 0} → UserInformation A

@@ -344,7 +344,8 @@ fn is_too_small(max: u32) -> bool
     max > 0 && max < 8
 }
 
-/// Returns the implementation version name (PS3.7 annex D.3.3.2.4): `UPSD_` and the version of the program.
+/// Returns the implementation version name (PS3.7 annex D.3.3.2.4). It names what is exchanged, and changes with that
+/// alone: `upsd --version` tells the version of the program.
 ///
 /// # Errors
 ///
@@ -352,7 +353,7 @@ fn is_too_small(max: u32) -> bool
 pub fn version_name<A: Allocator + Copy>(alloc: A) -> Result<Bytes<A>, AllocError>
     ensures { IfOk result (λ name. name ≡ version_name) }
 {
-    Bytes::copy_of(alloc, b"UPSD_0.2.0")
+    Bytes::copy_of(alloc, b"UPSD_1")
 }
 
 /// Returns the user information of this server (PS3.7 annex D.3.3.2).

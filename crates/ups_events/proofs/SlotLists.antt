@@ -334,6 +334,14 @@ found_more ss i max s found within is so_far less = (
   let n = length-append found (lives (s ∷ [])) in let m = one_at_most s in omega (arith, n, m, less),
 )
 
+-- one slot more, counted
+pub counted_more : (ss : List Slot) (i count : ℕ) (s : Slot) → i < length ss → s ≡ get_or ss i s → count ≡ length (lives (take i ss)) → count ≤ i
+    → (count + length (lives (s ∷ [])) ≡ length (lives (take (i + 1) ss))) × (count + length (lives (s ∷ [])) ≤ i + 1)
+counted_more ss i count s within is so_far most =
+    let all : lives (take i ss) ++ lives (s ∷ []) ≡ lives (take (i + 1) ss) = sym (lives_append (take i ss) (s ∷ [])) ∙ ap (λ (t : Slot). lives (take i ss ++ t ∷ [])) is ∙ ap lives (sym (take_more ss i s within)) in
+    let m = one_at_most s in
+    (ap (λ (k : ℕ). k + length (lives (s ∷ []))) so_far ∙ sym (length-append (lives (take i ss)) (lives (s ∷ []))) ∙ ap length all, omega (arith, m, most))
+
 -- the index in another order
 pub keeps_same : (made acked : ℕ) (index new : List (List ℕ × ℕ)) (ss more : List Slot) → ((q : List ℕ) → lookup (bytes_eq q) new ≡ lookup (bytes_eq q) index) → more ≡ ss → KeepsQueue made acked index ss → KeepsQueue made acked new more
 keeps_same made acked index new ss more same is k = subst (KeepsQueue made acked new) (sym is) (record { rising = k.rising; up_to = k.up_to; indexed = again ss k.indexed })

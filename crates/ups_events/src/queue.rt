@@ -1,11 +1,13 @@
 //! The queue of a watcher.
 
-ghost use Rattle.std.specs.Prelude.{◌≡◌, ◌<◌, ◌≤◌, ◌+◌, [], take, None, Some, IfOk, IsOk, OnOk, OnErr, MatchResult};
+ghost use Rattle.std.specs.Prelude.{◌≡◌, ◌<◌, ◌≤◌, ◌+◌, [], take, length, None, Some, IfOk, IsOk, OnOk, OnErr, MatchResult};
 ghost use Rattle.ups_events.specs.Queue.{IsAdded, IsAcked, ack_fault};
 ghost use Rattle.ups_events.specs.Telling.{event_of};
 
 use crate::fault::AckFault;
-use crate::slots::{ReportNumbers, Slot, counted, drop_front, first_live, make_way, tidy};
+use crate::slots::{
+    ReportNumbers, Slot, counted, drop_front, first_live, live_count, make_way, tidy,
+};
 use std::alloc::{AllocError, Allocator};
 use std::collections::{HashMap, VecDeque};
 use std::marker::Model;
@@ -151,6 +153,13 @@ impl<A: Allocator + Copy> Queue<A> {
         ensures { IfOk result (λ v. v.items ≡ take max self.now.events) }
     {
         first_live(self.alloc, &self.slots, max)
+    }
+
+    /// Returns the number of pending events (PS3.4 CC.2.4). It takes no memory.
+    pub fn waiting(&self) -> usize
+        ensures { result ≡ length self.now.events }
+    {
+        live_count(&self.slots)
     }
 
     /// Acknowledges the events up to a number, and removes them. It takes no memory.

@@ -1,6 +1,6 @@
 //! The slots of a queue, and the index of its State Reports.
 
-ghost use Rattle.std.specs.Prelude.{◌≡◌, ◌<◌, ◌≤◌, ◌+◌, ◌&&◌, ◌++◌, ◌∷◌, [], ◌⊎◌, ℕ, List, true, map, filter, take, length, Some, IfOk, OnOk, None, MatchOption, slice_index_or, if◌then◌else◌};
+ghost use Rattle.std.specs.Prelude.{◌≡◌, ◌<◌, ◌≤◌, ◌+◌, ◌-◌, ◌^◌, ◌&&◌, ◌++◌, ◌∷◌, [], ◌⊎◌, ℕ, List, true, map, filter, take, length, Some, IfOk, OnOk, None, MatchOption, slice_index_or, if◌then◌else◌};
 ghost use Rattle.std.specs.HashMap.{get, spare};
 ghost use Rattle.std.specs.Str.{bytes_eq};
 ghost use Rattle.std.specs.VecDeque.{deque_len, deque_capacity};
@@ -219,4 +219,23 @@ pub(crate) fn first_live<A: Allocator + Copy>(
         add_live(&mut found, &slots[place])?;
     }
     Ok(found)
+}
+
+/// Returns a count, and one more if a slot is live.
+fn one_more_if_live(count: usize, slot: &Slot) -> usize
+    requires { count < 2 ^ 64 - 1 }
+    ensures { result ≡ count + length (lives (slot.now ∷ [])) }
+{
+    if slot.live { count + 1 } else { count }
+}
+
+/// Returns the number of live events.
+pub(crate) fn live_count<A: Allocator + Copy>(slots: &VecDeque<Slot, A>) -> usize
+    ensures { result ≡ length (lives slots.now.items) }
+{
+    let mut count = 0;
+    for place in 0..slots.len() {
+        count = one_more_if_live(count, &slots[place]);
+    }
+    count
 }

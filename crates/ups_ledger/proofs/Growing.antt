@@ -1,11 +1,14 @@
 -- The first entries of a history that goes on, and their records in a ledger to which more are put.
-use Rattle.std.proofs.Common.{◌≡◌, ℕ, ◌+◌, ◌<◌, ◌≤◌, List, [], ◌∷◌, ◌++◌, length, map, take, get_or, sym, ap, ◌∙◌, subst, arith}
+use Rattle.std.proofs.Common.{◌≡◌, ℕ, ◌+◌, ◌<◌, ◌≤◌, List, [], ◌∷◌, ◌++◌, length, map, take, get_or, refl, sym, ap, ◌∙◌, subst, arith}
 use Rattle.std.specs.Prelude.{drop}
-use Rattle.std.proofs.lemmas.List.{append_assoc, length-append, length-take-le, length-map, map-append, take-append-drop, take-append-le, take_all, take_more}
+use Rattle.std.specs.Global.{Global}
+use Rattle.std.proofs.lemmas.List.{append_assoc, length-append, length-take-le, length-map, map-append, take-append-drop, take-append-le, take-map, take-take, take_all, take_at, take_more}
 use Rattle.std.proofs.Math.Seq.{take-append_seam}
 use Rattle.ups_life.specs.declared.entry.Entry.{Entry}
 use Rattle.ups_journal.specs.declared.record.Record.{Record}
 use Rattle.ups_journal.specs.Columns.{recorded}
+use Rattle.ups_service.specs.Law.{BeginsHistory}
+use Rattle.ups_ledger.specs.Behind.{AreBehind}
 use Rattle.ups_ledger.specs.Keeping.{AreFirst}
 
 -- the first c of a list, and behind them at most so many more
@@ -51,3 +54,17 @@ module _ {A : Type 0} where
         there = let w = within count most history first.there in omega (arith, many);
         are = put ∙ ((λ i. first.are i ++ is i) ∙ (sym (map-append recorded (take count history) p) ∙ ap (λ (l : List (Entry A)). map recorded l) (sym (first_more count most history first.there) ∙ ap (λ (n : ℕ). take (count + n) history) (sym many))));
       }
+
+  -- the records of the first entries are as many as these
+  pub counted_first : (records : List (Record A)) (history : List (Entry A)) (count : ℕ) → AreFirst records history count → length records ≡ count
+  counted_first records history count first = ap length first.are ∙ (length-map (take count history) recorded ∙ length-take-le count history first.there)
+
+  -- and they begin with those of each beginning of the history that is no longer
+  pub named_first : (records : List (Record A)) (history seen : List (Entry A)) (count : ℕ) → AreFirst records history count → BeginsHistory seen history → length seen ≤ count → take (length seen) records ≡ map recorded seen
+  named_first records history seen count first (rest, is) few =
+      ap (take (length seen)) first.are
+      ∙ (take-map recorded (length seen) (take count history) ∙ ap (λ (l : List (Entry A)). map recorded l) (take-take (length seen) count history few ∙ (ap (take (length seen)) (sym is) ∙ take_at seen rest (length seen) refl)))
+
+-- records behind as many as were committed are as many more
+pub behind_counted : (all records : List (Record Global)) (committed : ℕ) → AreBehind all committed records → length all ≡ committed + length records
+behind_counted all records committed behind = ap length behind.are ∙ (length-append behind.front records ∙ ap (λ (n : ℕ). n + length records) behind.many)

@@ -1,1 +1,3 @@
 pub mod Growing
+pub mod Had
+mod Leaving

@@ -21,19 +21,28 @@ pub record AreFirst {A : Type 0} (records : List (Record A)) (history : List (En
   pub there : count ≤ length history
   pub are : records ≡ map recorded (take count history)
 
--- the pass has seen what others entered in the meantime, and has entered nothing
+-- the pass has seen what others entered in the meantime, and has entered nothing; each look was one of its calls
 pub record HasWatched {A : Type 0} (old new : PassView A) : Type 0 where
   pub same : SamePass old new
+  pub calls : old.calls ≤ new.calls
   pub between : List (Entry A)
   pub others : All (λ (e : Entry A). e.caller ≢ old.number) between
   pub seen : new.seen ≡ old.seen ++ between
 
 module _ {L : Type 0} (g : Ghosts L) where
   -- if the ledger is sound, it has the records of the first entries of the history, as many as are committed
-  abbrev pub IsKept : Keeper L → List (Entry Global) → Type 0
+  abbrev pub IsKept : Keeper L g → List (Entry Global) → Type 0
   IsKept keeper history = g.is_sound keeper.ledger → AreFirst (g.kept keeper.ledger) history keeper.committed
 
-  -- the same, if a ledger is kept
-  abbrev pub AreKept : Option (Keeper L) → List (Entry Global) → Type 0
+  -- A crash would leave the records of the first entries of the history, at least as many as are committed, if the ledger was
+  -- never opened anew; so also after calls that failed.
+  abbrev pub LeavesFirst : L → List (Entry Global) → ℕ → Type 0
+  LeavesFirst ledger history committed = g.is_first ledger → (rs : List (Record Global)) → g.recovers ledger rs → (n : ℕ) × (committed ≤ n) × AreFirst rs history n
+
+  abbrev pub IsSafe : Keeper L g → List (Entry Global) → Type 0
+  IsSafe keeper history = LeavesFirst keeper.ledger history keeper.committed
+
+  -- `IsKept`, if a ledger is kept
+  abbrev pub AreKept : Option (Keeper L g) → List (Entry Global) → Type 0
   AreKept None history = ⊤
   AreKept (Some keeper) history = IsKept keeper history

@@ -1,1 +1,4 @@
+pub mod Backed
+pub mod Behind
+pub mod Grouping
 pub mod Keeping

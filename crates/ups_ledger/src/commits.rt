@@ -1,14 +1,49 @@
 //! The number of committed entries, and the threads that wait for it.
 
+ghost use Rattle.std.specs.Prelude.{◌≤◌, ℕ, IfSome};
+ghost use Rattle.ups_ledger.specs.Backed.{Backs, IsBacked};
+
+use crate::keeper::Keeper;
+use crate::ledger::Ledger;
+use std::marker::{Brand, PhantomData};
 use std::sync::Wait;
-use std::sync::atomic::{AtomicU64, Ordering};
+use std::sync::atomic::{AtomicIn, AtomicU64, Ordering, Rule};
 use std::time::{Clock, Duration, Instant};
 
+/// What holds once a number of entries is committed, whatever they are committed to.
+pub trait Keeping {
+    ghost use Rattle.std.specs.Prelude.{ℕ};
+
+    ghost had: { ℕ → Type 0 };
+}
+
+impl Keeping for Brand {
+    ghost had = { λ _. Unit {0} };
+}
+
+/// The rule of the number of committed entries.
+pub struct AreCommitted<K: Keeping> {
+    keeping: PhantomData<K>,
+}
+
+impl<K: Keeping> Rule for AreCommitted<K> {
+    ghost invariant = { λ n. IsBacked K.had n };
+}
+
+/// A number of committed entries.
+#[derive(Drop)]
+pub struct Committed<K: Keeping> {
+    count: u64,
+    keeping: PhantomData<K>,
+    ghost backed: { IsBacked K.had count },
+}
+
 /// The number of committed entries of a history, for which threads wait, and the number that the committing thread is
-/// asked for. No contract covers it: that `wait_for` returns true only once that many are committed has to be read from
-/// the code.
-pub struct Commits {
-    count: AtomicU64,
+/// asked for.
+pub struct Commits<K: Keeping> {
+    count: AtomicIn<AreCommitted<K>>,
+    /// Counts how often the number was set, for the threads that sleep until then.
+    bell: AtomicU64,
     /// The highest number that was asked for.
     asked: AtomicU64,
     /// The number of waiting threads.
@@ -17,10 +52,11 @@ pub struct Commits {
     alarm: AtomicU64,
 }
 
-impl Drop for Commits {
+impl<K: Keeping> Drop for Commits<K> {
     fn drop(self) {
         let Commits {
             count: _,
+            bell: _,
             asked: _,
             waiting: _,
             alarm: _,
@@ -45,11 +81,15 @@ fn left_of<R: Clock>(rt: &R, limit: Duration, since: Instant) -> Duration {
     limit.saturating_sub(elapsed)
 }
 
-impl Commits {
-    /// Returns the state with `count` entries committed.
-    pub fn new(count: u64) -> Commits {
+impl<K: Keeping> Commits<K> {
+    /// Returns the state in which as many entries are committed as a keeper counts.
+    pub fn new<L: Ledger>(keeper: &Keeper<L>) -> Commits<K>
+        requires { Backs L.Ledger K.had }
+    {
+        let count = keeper.count();
         Commits {
-            count: AtomicU64::new(count),
+            count: AtomicIn::new(count),
+            bell: AtomicU64::new(0),
             asked: AtomicU64::new(count),
             waiting: AtomicU64::new(0),
             alarm: AtomicU64::new(AWAKE),
@@ -57,12 +97,22 @@ impl Commits {
     }
 
     /// Returns the state of a server that keeps nothing: nobody waits.
-    pub fn of_none() -> Commits {
-        Commits::new(ALL)
+    pub fn of_none() -> Commits<K>
+        requires { (n : ℕ) → K.had n }
+    {
+        Commits {
+            count: AtomicIn::new(ALL),
+            bell: AtomicU64::new(0),
+            asked: AtomicU64::new(ALL),
+            waiting: AtomicU64::new(0),
+            alarm: AtomicU64::new(AWAKE),
+        }
     }
 
     /// Returns the number of committed entries.
-    pub fn count(&self) -> u64 {
+    pub fn count(&self) -> u64
+        ensures { IsBacked K.had result }
+    {
         self.count.load(Ordering::SeqCst)
     }
 
@@ -79,11 +129,14 @@ impl Commits {
         self.asked.load(Ordering::SeqCst)
     }
 
-    /// Sets the number of committed entries, and wakes all waiting threads.
-    pub fn advance(&self, count: u64) {
-        self.count.store(count, Ordering::SeqCst);
+    /// Sets the number of committed entries to that of a keeper, and wakes all waiting threads.
+    pub fn advance<L: Ledger>(&self, keeper: &Keeper<L>)
+        requires { Backs L.Ledger K.had }
+    {
+        self.count.store(keeper.count(), Ordering::SeqCst);
+        self.bell.fetch_add(1, Ordering::SeqCst);
         if self.waiting.load(Ordering::SeqCst) > 0 {
-            self.count.wake_all();
+            self.bell.wake_all();
         }
     }
 
@@ -107,7 +160,21 @@ impl Commits {
         self.asked()
     }
 
-    /// Waits until `count` entries are committed, for at most `limit` from `since`. Returns false if they are not
+    /// Returns the number of committed entries if it is at least `count`.
+    pub fn reached(&self, count: u64) -> Option<Committed<K>>
+        ensures { IfSome result (λ committed. count ≤ committed.count) }
+    {
+        let committed = self.count();
+        if committed < count {
+            return None;
+        }
+        Some(Committed {
+            count: committed,
+            keeping: PhantomData,
+        })
+    }
+
+    /// Waits until `count` entries are committed, for at most `limit` from `since`. Returns None if they are not
     /// committed by then, or if the clock fails.
     fn wait_since<R: Wait + Clock>(
         &self,
@@ -115,34 +182,45 @@ impl Commits {
         count: u64,
         limit: Duration,
         since: Instant,
-    ) -> bool {
+    ) -> Option<Committed<K>>
+        ensures { IfSome result (λ committed. count ≤ committed.count) }
+    {
         for _ in rt.forever() {
-            let committed = self.count();
-            if committed >= count {
-                return true;
+            let rung = self.bell.load(Ordering::SeqCst);
+            let committed = self.reached(count);
+            if committed.is_some() {
+                return committed;
             }
             let left = left_of(rt, limit, since);
             if left.is_zero() {
-                return false;
+                return None;
             }
-            self.count.park_timeout(rt, low_half(committed), left);
+            self.bell.park_timeout(rt, low_half(rung), left);
         }
         unreachable!()
     }
 
-    /// Asks for `count` entries, and waits for at most `limit` until they are committed. Returns false if they are not
+    /// Asks for `count` entries, and waits for at most `limit` until they are committed. Returns None if they are not
     /// by then, or if the clock fails.
-    pub fn wait_for<R: Wait + Clock>(&self, rt: &R, count: u64, limit: Duration) -> bool {
-        if self.count() >= count {
-            return true;
+    pub fn wait_for<R: Wait + Clock>(
+        &self,
+        rt: &R,
+        count: u64,
+        limit: Duration,
+    ) -> Option<Committed<K>>
+        ensures { IfSome result (λ committed. count ≤ committed.count) }
+    {
+        let committed = self.reached(count);
+        if committed.is_some() {
+            return committed;
         }
         self.waiting.fetch_add(1, Ordering::SeqCst);
         self.ask(count);
-        let is_committed = match Instant::now(rt) {
+        let committed = match Instant::now(rt) {
             Ok(since) => self.wait_since(rt, count, limit, since),
-            Err(_) => false,
+            Err(_) => None,
         };
         self.waiting.fetch_sub(1, Ordering::SeqCst);
-        is_committed
+        committed
     }
 }

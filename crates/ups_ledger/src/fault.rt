@@ -8,10 +8,10 @@ use ups_journal::RecordingFault;
 /// Why a ledger did not take records. All but the last may be over at the next try.
 #[derive(Clone, Copy, Debug, PartialEq, Eq, Error)]
 pub enum LedgerFault {
-    /// There is no room: on the disk, in the ledger, or in memory.
+    /// There is no room: on the disk, in the ledger, or in memory. It has appended nothing, and is as it was.
     #[error("there is no room")]
     Full,
-    /// It could not be written.
+    /// It could not be written. Whether it has the records is found out by the next try.
     #[error("it can't be written")]
     Write,
     /// It takes nothing until it is reopened, because a write or a sync failed before.

@@ -4,16 +4,21 @@
 
 mod commits;
 mod committing;
+mod due;
 mod fault;
+mod group;
 mod keeper;
+pub mod laws;
 mod ledger;
 mod no_ledger;
 mod recorder;
 mod withheld;
 
-pub use commits::Commits;
+pub use commits::{AreCommitted, Commits, Committed, Keeping};
 pub use committing::commit;
+pub use due::{Due, Noted};
 pub use fault::{CommitFault, LedgerFault};
+pub use group::Group;
 pub use keeper::Keeper;
 pub use ledger::Ledger;
 pub use no_ledger::NoLedger;

@@ -12,11 +12,19 @@ use ups_journal::Record;
 pub struct NoLedger;
 
 impl Ledger for NoLedger {
-    ghost use Rattle.std.specs.Prelude.{[]};
+    ghost use Rattle.std.specs.Prelude.{◌≡◌, [], List};
 
     ghost kept = { λ _. [] };
 
+    ghost told = { λ _. 0 };
+
     ghost is_sound = { λ _. Unit {0} };
+
+    ghost is_honest = { λ _. Unit {0} };
+
+    ghost is_first = { λ _. Unit {0} };
+
+    ghost recovers = { λ _ rs. rs ≡ [] };
 
     fn append(&mut self, _records: &[Record<Global>]) -> Result<(), LedgerFault> {
         Err(LedgerFault::Full)

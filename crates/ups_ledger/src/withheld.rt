@@ -1,10 +1,11 @@
 //! A service that notes what its answers depend on.
 
-ghost use Rattle.std.specs.Prelude.{◌≡◌};
+ghost use Rattle.std.specs.Prelude.{◌≡◌, ◌≢◌, ◌≤◌, ◌<◌, length};
 
+use crate::due::{Due, Noted};
 use std::alloc::Global;
-use std::sync::Wait;
-use std::sync::atomic::{AtomicU64, Ordering};
+use std::sync::ledger::Share;
+use std::sync::{Mutex, Wait};
 use ups_life::{Ask, Reply};
 use ups_pdu::Ae;
 use ups_service::{Service, SharedService};
@@ -14,29 +15,52 @@ use ups_turn::{Fixed, Seated};
 /// sent: all that the pass has seen, with its own request and those of others on which the answer depends. It answers
 /// like the inner pass and does not wait for a commit: the sender of answers has to withhold them until then.
 #[derive(Drop)]
-pub struct Withheld<'a, F: Fixed, M: SharedService<Global>, R: Wait> {
+pub struct Withheld<'a, F: Fixed, D: Noted, M: SharedService<Global>, R: Wait> {
     seated: Seated<'a, F, M, Global, R>,
-    due: &'a AtomicU64,
+    rt: &'a R,
+    due: &'a Mutex<Due<D>>,
+    pub(crate) share: Share<D>,
+    /// The number of entries that it has noted.
+    noted: u64,
+    ghost some: { 0 < share.parts },
+    ghost same: { share.amount ≡ noted },
+    ghost covers: { seated.pass.calls ≢ D.calls → length seated.pass.seen ≤ noted },
 }
 
-impl<'a, F: Fixed, M: SharedService<Global>, R: Wait> Withheld<'a, F, M, R> {
+impl<'a, F: Fixed, D: Noted, M: SharedService<Global>, R: Wait> Withheld<'a, F, D, M, R> {
     /// Returns a service that notes in `due` what its answers depend on.
-    pub fn new(seated: Seated<'a, F, M, Global, R>, due: &'a AtomicU64) -> Withheld<'a, F, M, R>
+    pub fn new(
+        rt: &'a R,
+        seated: Seated<'a, F, M, Global, R>,
+        due: &'a Mutex<Due<D>>,
+        share: Share<D>,
+    ) -> Withheld<'a, F, D, M, R>
+        requires calls { seated.pass.calls ≡ D.calls }
+        requires some { 0 < share.parts }
+        requires nothing { share.amount ≡ 0 }
         ensures { result.seated ≡ seated.entry }
     {
-        Withheld { seated, due }
+        Withheld {
+            seated,
+            rt,
+            due,
+            share,
+            noted: 0,
+        }
     }
 
-    /// Returns the inner pass.
-    pub fn into_seated(self) -> Seated<'a, F, M, Global, R>
-        ensures { result ≡ self.entry.seated }
+    /// Returns the inner pass, and the share with what was noted.
+    pub fn into_parts(self) -> (Seated<'a, F, M, Global, R>, Share<D>)
+        ensures seated { result.0 ≡ self.entry.seated }
+        ensures noted { result.0.pass.calls ≢ D.calls → length result.0.pass.seen ≤ result.1.amount }
     {
-        let Withheld { seated, .. } = self;
-        seated
+        let Withheld { seated, share, .. } = self;
+        (seated, share)
     }
 }
 
-impl<'a, F: Fixed, M: SharedService<Global>, R: Wait> Service<Global> for Withheld<'a, F, M, R> {
+impl<'a, F: Fixed, D: Noted, M: SharedService<Global>, R: Wait> Service<Global>
+    for Withheld<'a, F, D, M, R> {
     ghost use Rattle.ups_service.specs.Law.{callers};
     ghost use Rattle.ups_turn.specs.Pass.{seen_by};
 
@@ -50,7 +74,10 @@ impl<'a, F: Fixed, M: SharedService<Global>, R: Wait> Service<Global> for Withhe
 
     fn answer(&mut self, ae: Ae, moment: u64, ask: &mut Option<Ask<Global>>) -> Reply<Global> {
         let reply = self.seated.answer(ae, moment, ask);
-        self.due.store(self.seated.seen(), Ordering::SeqCst);
+        let entries = self.seated.seen();
+        let more = entries.saturating_sub(self.noted);
+        self.due.lock(self.rt).note(&mut self.share, more);
+        self.noted = self.noted.max(entries);
         reply
     }
 }

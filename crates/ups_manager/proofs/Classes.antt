@@ -21,7 +21,8 @@ use Rattle.ups_life.specs.Watching.{held}
 use Rattle.ups_life.specs.Worklist.{rows, worklist}
 use Rattle.ups_tables.specs.declared.rows.HeldStep.{HeldStep}
 use Rattle.ups_tables.specs.HeldSteps.{held_step, held_steps, attributes_in, step_at, row_in}
-use Rattle.ups_manager.specs.Finding.{answers_among, asked_rows, attributes_of, attributes_at}
+use Rattle.ups_service.specs.Asked.{asked_rows}
+use Rattle.ups_manager.specs.Finding.{answers_among, attributes_of, attributes_at}
 use Rattle.ups_manager.specs.Indexing.{uids_in, indexed, IsIndexed}
 use Rattle.ups_manager.proofs.Matches.{filter_alike}
 

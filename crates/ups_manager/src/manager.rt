@@ -13,18 +13,19 @@ ghost use Rattle.ups_life.specs.Settings.{IsMoment, IsOffset};
 ghost use Rattle.ups_life.specs.Steps.{past};
 ghost use Rattle.ups_life.specs.declared.watching.Watched.{Watched};
 ghost use Rattle.ups_life.specs.Watching.{held, watched};
-ghost use Rattle.ups_life.specs.Events.{events, view, present};
+ghost use Rattle.ups_life.specs.Events.{events, pending, view, present};
 ghost use Rattle.ups_life.specs.History.{got};
 ghost use Rattle.ups_life.specs.Worklist.{worklist};
 ghost use Rattle.ups_settings.specs.declared.fault.ManagerFault.TheVariants.{Memory};
-ghost use Rattle.ups_manager.specs.Finding.{answers_among, asked_rows, IsAsked};
+ghost use Rattle.ups_manager.specs.Finding.{answers_among};
 ghost use Rattle.ups_manager.specs.Held.{holder_of};
+ghost use Rattle.ups_service.specs.Asked.{asked_rows, IsAsked, NotesAsked};
 ghost use Rattle.ups_service.specs.Law.{OrLacking, Answers, SmallReply, entered, is_legal};
 ghost use Rattle.ups_settings.specs.Refusal.{refusal};
 ghost use Rattle.ups_service.specs.Reporting.{reports_to};
 
 use crate::answering::answer_call;
-use crate::peers::{first_pending, watched_in};
+use crate::peers::{first_pending, waiting_at, watched_in};
 use crate::reporting::reports_of;
 use crate::reserve::Reserve;
 use crate::rows::{find, uids_of};
@@ -41,7 +42,8 @@ use ups_settings::{ManagerFault, refusal};
 use ups_tables::{Tables, begin, place_of};
 
 /// The manager: the history of accepted requests, tables of the state that they lead to, and an index of the held
-/// steps. A contract sees it as what was fixed at the start and the history, oldest entry first.
+/// steps. A contract sees it as what was fixed at the start, the history, oldest entry first, and the number of held
+/// steps about which its last query asked a matcher.
 pub struct Manager<A: Allocator + Copy> {
     alloc: A,
     configuration: Configuration<A>,
@@ -49,6 +51,8 @@ pub struct Manager<A: Allocator + Copy> {
     tables: Tables<A>,
     index: Index<A>,
     reserve: Reserve<A>,
+    /// The number of held steps about which the last query asked a matcher.
+    asked: u64,
 }
 
 impl<A: Allocator + Copy> Drop for Manager<A> {
@@ -60,21 +64,22 @@ impl<A: Allocator + Copy> Drop for Manager<A> {
             tables: _,
             index: _,
             reserve: _,
+            asked: _,
         } = self;
     }
 }
 
 impl<A: Allocator + Copy> Model for Manager<A> {
-    ghost use Rattle.ups_service.specs.State.{State};
+    ghost use Rattle.ups_manager.specs.View.{ManagerView};
 
-    ghost Value = { State A };
+    ghost Value = { ManagerView A };
 
     ghost use Rattle.std.specs.Coded.{codes};
     ghost use Rattle.ups_dataset.specs.Code.{set_code};
 
     ghost coded = { Prim.hlevel (set_code, codes) };
 
-    ghost view = { λ m. record { settings = m.configuration; history = m.history.items } };
+    ghost view = { λ m. record { settings = m.configuration; history = m.history.items; asked = m.asked } };
 
     ghost use Rattle.ups_manager.specs.Kept.{IsKeptInside};
 
@@ -101,6 +106,7 @@ impl<A: Allocator + Copy> Manager<A> {
         ensures allowed { OnOk result (refusal peers.now offset limit ≡ None) }
         ensures settings { IfOk result (λ m. m.settings ≡ record { peers = peers.now; keep = keep; offset = offset; limit = limit }) }
         ensures history { IfOk result (λ m. m.history ≡ []) }
+        ensures asked { IfOk result (λ m. m.asked ≡ 0) }
         ensures refused { IfErr result (λ fault. fault ≡ unwrap_or (refusal peers.now offset limit) Memory) }
     {
         if let Some(fault) = refusal(peers, offset, limit) {
@@ -116,6 +122,7 @@ impl<A: Allocator + Copy> Manager<A> {
             tables,
             index: Index::new(alloc, offset),
             reserve: Reserve::new(alloc),
+            asked: 0,
         })
     }
 
@@ -240,6 +247,15 @@ impl<A: Allocator + Copy> Manager<A> {
         }
     }
 
+    /// Returns the number of events that wait for a watcher (PS3.4 CC.2.4), without each State Report that a later one
+    /// of the same step supersedes; 0 for an application entity that is no peer. It takes no memory.
+    pub fn waiting(&self, ae: Ae) -> usize
+        ensures { result ≡ length (pending self.now.settings (past self.now.history) ae) }
+    {
+        let place = place_of(self.configuration.peers(), ae);
+        waiting_at(&self.tables, place)
+    }
+
     /// Returns the holder of a step: the caller that has claimed it, and its application entity (PS3.4 CC.1.1), or None
     /// if nobody has claimed it or it is not held.
     pub fn holder(&self, step: StepUid) -> Option<Holder>
@@ -259,6 +275,7 @@ impl<A: Allocator + Copy> Manager<A> {
         ensures answer { Answers self.old.settings self.old.history call.caller call.ae call.moment (Do call.request) result }
         ensures history { self.new.history ≡ self.old.history ++ entered call.caller call.ae call.moment (Do call.request) result }
         ensures settings { self.new.settings ≡ self.old.settings }
+        ensures asked { self.new.asked ≡ self.old.asked }
         ensures small { SmallReply result }
         ensures legal { is_legal self.old.settings self.old.history }
         ensures legal_after { is_legal self.new.settings self.new.history }
@@ -270,17 +287,43 @@ impl<A: Allocator + Copy> Manager<A> {
             tables,
             index,
             reserve,
+            ..
         } = self;
         answer_call(*alloc, configuration, reserve, history, tables, index, call)
     }
 
+    /// Answers a C-FIND by the rules of PS3.4, and notes about how many held steps it asked.
+    fn find_noted(&mut self, keys: &Keys<A>) -> Reply<A>
+        ensures answer { OrLacking OutOfResources (Found (worklist self.old.settings (past self.old.history) keys.now)) result }
+        ensures asked { IsAsked 0 (length (asked_rows self.old.settings (past self.old.history) keys.now)) self.new.asked result }
+        ensures history { self.new.history ≡ self.old.history }
+        ensures settings { self.new.settings ≡ self.old.settings }
+        ensures legal { is_legal self.old.settings self.old.history }
+    {
+        let mut probe = Probe::new();
+        let reply = self.find(keys, &mut probe);
+        let Manager { asked, .. } = self;
+        *asked = probe.count();
+        reply
+    }
+
+    /// Returns the number of held steps about which the last query that `answer_as` answered asked whether they match; 0
+    /// if there was none.
+    pub fn asked(&self) -> u64
+        ensures { result ≡ self.now.asked }
+    {
+        self.asked
+    }
+
     /// Answers what an application entity asks by the history, and enters it if it is a request that is accepted.
-    /// `caller` is the number of the caller, and `moment` is in seconds since 1970-01-01 UTC.
+    /// `caller` is the number of the caller, and `moment` is in seconds since 1970-01-01 UTC. A query asks once about
+    /// each held step of its class whether it matches, and about no other step.
     pub fn answer_as(&mut self, caller: u32, ae: Ae, moment: u64, ask: Ask<A>) -> Reply<A>
         requires moment { IsMoment moment }
         ensures answer { Answers self.old.settings self.old.history caller ae moment ask result }
         ensures history { self.new.history ≡ self.old.history ++ entered caller ae moment ask result }
         ensures settings { self.new.settings ≡ self.old.settings }
+        ensures asked { NotesAsked self.old.settings self.old.history ask result self.old.asked self.new.asked }
         ensures small { SmallReply result }
         ensures legal { is_legal self.old.settings self.old.history }
         ensures legal_after { is_legal self.new.settings self.new.history }
@@ -293,7 +336,7 @@ impl<A: Allocator + Copy> Manager<A> {
                 request,
             }),
             Ask::Get { step, attributes } => self.get(step, attributes.as_slice()),
-            Ask::Find(keys) => self.find(&keys, &mut Probe::new()),
+            Ask::Find(keys) => self.find_noted(&keys),
             Ask::Pending { max } => self.pending(ae, max),
         }
     }

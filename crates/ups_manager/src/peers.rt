@@ -100,3 +100,14 @@ pub(crate) fn acked_at<A: Allocator + Copy>(tables: &Tables<A>, place: Option<us
         None => 0,
     }
 }
+
+/// Returns the number of events that are pending for the peer at an index (PS3.4 CC.2.4).
+pub(crate) fn waiting_at<A: Allocator + Copy>(tables: &Tables<A>, place: Option<usize>) -> usize
+    requires { (p : ℕ) → place ≡ Some p → p < length tables.now.queues }
+    ensures { result ≡ length (by_place empty_line (λ p. queue_line tables.now p) place).events }
+{
+    match place {
+        Some(peer) => tables.queues.of_peer(peer).waiting(),
+        None => 0,
+    }
+}

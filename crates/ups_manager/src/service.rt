@@ -3,6 +3,8 @@
 ghost use Rattle.std.specs.Prelude.{◌≡◌, ◌++◌, ℕ, true, is_some, length};
 ghost use Rattle.std.specs.Option.{IfSome};
 ghost use Rattle.ups_life.specs.Settings.{IsMoment};
+ghost use Rattle.ups_manager.specs.View.{shared_state};
+ghost use Rattle.ups_service.specs.Asked.{NotesAsked};
 ghost use Rattle.ups_service.specs.Law.{Answers, Others, nobody, alone, entered, is_legal, Serves, SmallReply};
 
 use crate::manager::Manager;
@@ -35,7 +37,9 @@ impl<A: Allocator + Copy> Service<A> for Manager<A> {
 }
 
 impl<A: Allocator + Copy> SharedService<A> for Manager<A> {
-    ghost state = { λ m. m };
+    ghost state = { λ m. shared_state m };
+
+    ghost asked = { λ m. m.asked };
 
     fn limit(&self) -> u64 {
         Manager::limit(self)
@@ -49,12 +53,17 @@ impl<A: Allocator + Copy> SharedService<A> for Manager<A> {
         Manager::history(self)
     }
 
+    fn waiting(&self, ae: Ae) -> usize {
+        Manager::waiting(self, ae)
+    }
+
     fn answer_as(&mut self, caller: u32, ae: Ae, moment: u64, ask: &mut Option<Ask<A>>) -> Reply<A>
         requires given { is_some ask.old ≡ true }
         requires moment { IsMoment moment }
         ensures answer { IfSome ask.old (λ asked. Answers self.old.settings self.old.history caller ae moment asked result) }
         ensures history { IfSome ask.old (λ asked. self.new.history ≡ self.old.history ++ entered caller ae moment asked result) }
         ensures settings { self.new.settings ≡ self.old.settings }
+        ensures asked { IfSome ask.old (λ question. NotesAsked self.old.settings self.old.history question result self.old.asked self.new.asked) }
         ensures small { SmallReply result }
         ensures legal { is_legal self.old.settings self.old.history }
         ensures legal_after { is_legal self.new.settings self.new.history }

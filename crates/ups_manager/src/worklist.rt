@@ -83,7 +83,7 @@ fn matches_among<A: Allocator + Copy, M: Matcher>(
 /// Returns the answers to keys of the held steps that match them, in order of creation.
 ///
 /// Errors: if memory runs out.
-fn matches_of_all<A: Allocator + Copy, M: Matcher>(
+pub(crate) fn matches_of_all<A: Allocator + Copy, M: Matcher>(
     alloc: A,
     tables: &Tables<A>,
     keys: &Keys<A>,

@@ -1,13 +1,15 @@
 -- Each pass of a server stays at its desk, whatever its job.
 use Rattle.std.proofs.Common.{◌≡◌, ℕ, zero, suc, Bool, true, false, nat_lt, List, [], ◌∷◌, ◌++◌, sym, ap, ◌∙◌, subst, inl, inr}
-use Rattle.std.specs.Prelude.{All, MatchBool}
+use Rattle.std.specs.Prelude.{All, MatchBool, length}
 use Rattle.std.proofs.lemmas.List.Elements.{All-nil, All-cons, All-head, All-tail, All-append}
 use Rattle.atomic_table.specs.Seated.{TableId}
 use Rattle.ups_assoc.specs.declared.negotiating.Config.{Config}
 use Rattle.ups_life.specs.declared.request.Ask.{Ask}
 use Rattle.ups_life.specs.declared.request.Reply.{Reply}
-use Rattle.ups_turn.specs.Pass.{PassView, most_calls, IsServed, IsSpent, IsCall}
-use Rattle.ups_net.specs.Delivering.{DeliversTo, DeliversToAll, DeliversRounds}
+use Rattle.ups_life.specs.Events.{pending}
+use Rattle.ups_life.specs.Steps.{past}
+use Rattle.ups_turn.specs.Pass.{PassView, most_calls, HasObserved, IsServed, IsSpent, IsCall}
+use Rattle.ups_net.specs.Delivering.{CountsPending, FindsPending, DeliversTo, DeliversToAll, DeliversRounds}
 use Rattle.ups_net.specs.Sweeping.{LooksIfKept, Sweeps}
 use Rattle.ups_net.specs.Working.{Works, EndThreads, Ran}
 use Rattle.ups_net.specs.declared.options.ServerOptions.{ServerOptions}
@@ -29,9 +31,20 @@ module _ {A : Type 0} where
   swept ae keeps zero old new is = ap (λ (p : PassView A). p.table) is
   swept ae keeps (suc n) old new (between, mid, before, looks, once) = called mid new ae once.moment _ once.reply once.call ∙ (looked keeps between mid looks ∙ swept ae keeps n old between before)
 
+  counted : (ae : List ℕ) (old new : PassView A) (found : Bool) → CountsPending ae old found new → new.table ≡ old.table
+  counted ae old new found = at (nat_lt old.calls most_calls)
+    where
+      at : (b : Bool) → MatchBool b (HasObserved old new × (found ≡ nat_lt 0 (length (pending new.settings (past new.seen) ae)))) ((found ≡ false) × (new ≡ old)) → new.table ≡ old.table
+      at true s = s.0.same.0
+      at false s = ap (λ (p : PassView A). p.table) s.1
+
+  found_out : (ae : List ℕ) (old new : PassView A) (found : Bool) → FindsPending ae old found new → new.table ≡ old.table
+  found_out ae old new found (inl asks) = called old new ae asks.moment _ asks.reply asks.call
+  found_out ae old new found (inr counts) = counted ae old new found counts
+
   told : (config : Config) (turns : ℕ) (ae : List ℕ) (old new : PassView A) → DeliversTo config turns ae old new → new.table ≡ old.table
-  told config turns ae old new (between, found, asks, inl is) = ap (λ (p : PassView A). p.table) is ∙ called old between ae asks.moment _ asks.reply asks.call
-  told config turns ae old new (between, found, asks, inr (some, ended, d)) = d.same.0 ∙ called old between ae asks.moment _ asks.reply asks.call
+  told config turns ae old new (between, found, finds, inl is) = ap (λ (p : PassView A). p.table) is ∙ found_out ae old between found finds
+  told config turns ae old new (between, found, finds, inr (some, ended, d)) = d.same.0 ∙ found_out ae old between found finds
 
   told_all : (config : Config) (turns : ℕ) (aes : List (List ℕ)) (old new : PassView A) → DeliversToAll config turns aes old new → new.table ≡ old.table
   told_all config turns [] old new is = ap (λ (p : PassView A). p.table) is

@@ -1,5 +1,5 @@
 -- A pass that looks at the history and sweeps, and a ledger that has the beginning of what it has seen.
-use Rattle.std.proofs.Common.{◌≡◌, ℕ, suc, Bool, true, false, nat_lt, List, [], ◌∷◌, ◌++◌, Option, Some, None, refl, sym, ap, ◌∙◌, subst}
+use Rattle.std.proofs.Common.{◌≡◌, ℕ, suc, Bool, true, false, nat_lt, List, [], ◌∷◌, ◌++◌, Option, Some, None, refl, sym, ap, ◌∙◌, subst, arith}
 use Rattle.std.specs.Prelude.{All, MatchBool}
 use Rattle.std.specs.Global.{Global}
 use Rattle.std.proofs.lemmas.List.{append_assoc, append-nil}
@@ -19,12 +19,13 @@ use Rattle.ups_net.specs.Working.{seen_last}
 module _ {A : Type 0} where
   -- nothing was seen
   pub watched_same : (p : PassView A) → HasWatched p p
-  watched_same p = record { same = (refl, refl, refl); between = []; others = All-nil (λ (e : Entry A). ¬ (e.caller ≡ p.number)); seen = sym (append-nil p.seen) }
+  watched_same p = record { same = (refl, refl, refl); calls = omega arith; between = []; others = All-nil (λ (e : Entry A). ¬ (e.caller ≡ p.number)); seen = sym (append-nil p.seen) }
 
   -- one look after another
   pub watched_on : (a b c : PassView A) → HasWatched a b → HasWatched b c → HasWatched a c
   watched_on a b c x y = record {
     same = (y.same.0 ∙ x.same.0, y.same.1 ∙ x.same.1, y.same.2 ∙ x.same.2);
+    calls = omega (arith, x.calls, y.calls);
     between = x.between ++ y.between;
     others = All-append (λ (e : Entry A). ¬ (e.caller ≡ a.number)) x.between y.between x.others (subst (λ (n : ℕ). All (λ (e : Entry A). ¬ (e.caller ≡ n)) y.between) x.same.2 y.others);
     seen = y.seen ∙ (ap (λ (l : List (Entry A)). l ++ y.between) x.seen ∙ append_assoc a.seen x.between y.between);
@@ -57,9 +58,9 @@ module _ {A : Type 0} where
 
 module _ {L : Type 0} (g : Ghosts L) where
   -- a ledger has the beginning of a history that goes on too
-  pub kept_on : (keeper : Keeper L) (old new more : List (Entry Global)) → new ≡ old ++ more → IsKept g keeper old → IsKept g keeper new
+  pub kept_on : (keeper : Keeper L g) (old new more : List (Entry Global)) → new ≡ old ++ more → IsKept g keeper old → IsKept g keeper new
   kept_on keeper old new more is kept = λ sound. first_again (g.kept keeper.ledger) old more new keeper.committed is (kept sound)
 
-  pub are_kept_on : (keeper : Option (Keeper L)) (old new more : List (Entry Global)) → new ≡ old ++ more → AreKept g keeper old → AreKept g keeper new
+  pub are_kept_on : (keeper : Option (Keeper L g)) (old new more : List (Entry Global)) → new ≡ old ++ more → AreKept g keeper old → AreKept g keeper new
   are_kept_on None old new more is kept = tt
   are_kept_on (Some keeper) old new more is kept = kept_on keeper old new more is kept

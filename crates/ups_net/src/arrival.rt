@@ -1,6 +1,6 @@
 //! How far into a message the bytes received from a peer go.
 
-use crate::responses::Responses;
+use crate::requests::CommandListener;
 use ups_pdu::{PduKind, be_u32_at};
 
 /// The number of bytes in the header of a PDU: its type, a reserved byte and its length (PS3.8 section 9.3.1). The
@@ -22,8 +22,8 @@ const COMMAND: u8 = 1;
 
 const LAST: u8 = 2;
 
-/// How far into a message the received bytes go. A command and a data set count as a message each, so a peer is between
-/// messages after a command without a data set. Only the time limits depend on it.
+/// How far into a message the received bytes go. A command that announces a data set is a message with it, so a peer that
+/// pauses between the two pauses inside a message. Only the time limits depend on it.
 #[derive(Clone, Copy)]
 pub(crate) struct Arrival {
     /// The header that is being received, of a PDU or of a PDV.
@@ -38,6 +38,8 @@ pub(crate) struct Arrival {
     is_last: bool,
     /// Whether the fragment belongs to a command.
     is_command: bool,
+    /// Whether the last command announces a data set.
+    is_announced: bool,
 }
 
 impl Arrival {
@@ -50,47 +52,56 @@ impl Arrival {
             behind: 0,
             is_last: true,
             is_command: false,
+            is_announced: false,
         }
     }
 
     /// Returns whether each message that has begun is complete.
     pub(crate) fn is_between(&self) -> bool {
+        self.is_whole() && !(self.is_command && self.is_announced)
+    }
+
+    // Returns whether each command, data set and PDU that has begun is complete.
+    fn is_whole(&self) -> bool {
         self.is_last && self.come == 0 && self.body == 0 && self.behind == 0
     }
 
-    /// Takes received bytes, and returns whether a message ends among them.
-    pub(crate) fn take(&mut self, bytes: &[u8]) -> bool {
+    // Returns whether a command is complete, and nothing has come after it.
+    fn is_at_end_of_command(&self) -> bool {
+        self.is_command && self.is_last && self.come == 0 && self.body == 0
+    }
+
+    /// Takes received bytes, and returns whether a command, a data set or another PDU ends among them. The listener learns
+    /// of the commands.
+    pub(crate) fn take<C: CommandListener>(&mut self, bytes: &[u8], listener: &mut C) -> bool {
         let mut left = bytes;
         let mut is_ended = false;
         for _ in 0..bytes.len() {
             if left.is_empty() {
                 break;
             }
-            left = self.step(left);
-            is_ended = is_ended || self.is_between();
+            left = self.step_heard(left, listener);
+            is_ended = is_ended || self.is_whole();
         }
         is_ended
     }
 
-    /// Takes bytes received from a peer that responds, and returns whether a message ends among them.
-    pub(crate) fn take_responses(&mut self, bytes: &[u8], responses: &mut Responses) -> bool {
-        let mut left = bytes;
-        let mut is_ended = false;
-        for _ in 0..bytes.len() {
-            if left.is_empty() {
-                break;
-            }
-            let is_command = self.is_command && self.body > 0;
-            let rest = self.step(left);
-            if is_command {
-                let count = left.len().saturating_sub(rest.len());
-                let is_whole = self.is_last && self.body == 0;
-                responses.hear(left.get(..count).unwrap_or(&[]), is_whole);
-            }
-            left = rest;
-            is_ended = is_ended || self.is_between();
+    // Takes a step, of which the listener learns if it is one in a command. Returns the bytes that follow.
+    fn step_heard<'b, C: CommandListener>(
+        &mut self,
+        bytes: &'b [u8],
+        listener: &mut C,
+    ) -> &'b [u8] {
+        let is_inside = self.is_command && self.body > 0;
+        let rest = self.step(bytes);
+        let is_complete = self.is_at_end_of_command();
+        if is_inside {
+            let count = bytes.len().saturating_sub(rest.len());
+            self.is_announced = listener.hear(bytes.get(..count).unwrap_or(&[]), is_complete);
+        } else if is_complete {
+            self.is_announced = listener.hear(&[], true);
         }
-        is_ended
+        rest
     }
 
     // Takes a header, one byte of it or the available bytes of a body, and returns the bytes that follow.

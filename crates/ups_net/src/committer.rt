@@ -1,6 +1,10 @@
 //! The committer: writes new entries to a ledger in the sweeper's thread, and releases the answers that wait for it.
 
-ghost use Rattle.std.specs.Prelude.{◌≡◌};
+ghost use Rattle.std.specs.Prelude.{◌≡◌, ◌<◌, map, take, drop, IsTrue};
+ghost use Rattle.ups_journal.specs.Columns.{recorded};
+ghost use Rattle.ups_ledger.specs.Backed.{Backs};
+ghost use Rattle.ups_ledger.specs.Behind.{AreBehind};
+ghost use Rattle.ups_ledger.specs.Grouping.{most_in};
 ghost use Rattle.ups_ledger.specs.Keeping.{HasWatched, IsKept};
 
 use crate::clock::moment_of;
@@ -13,7 +17,7 @@ use std::alloc::Global;
 use std::sync::Wait;
 use std::thread;
 use std::time::{Clock, Duration, Instant};
-use ups_ledger::{CommitFault, Commits, Keeper, Ledger};
+use ups_ledger::{CommitFault, Commits, Group, Keeper, Keeping, Ledger};
 use ups_service::SharedService;
 use ups_turn::{Desk, Pass};
 
@@ -26,9 +30,6 @@ pub(crate) const REST: u64 = 100;
 
 /// The maximum number of microseconds to wait, after a commit, until as many entries are asked for as with it.
 const GATHERING: u64 = 1_000;
-
-/// The maximum number of entries to commit at once, which are recorded in one turn.
-const GROUP: usize = 256;
 
 /// Returns the time left until the next round, or zero if the clock fails.
 pub(crate) fn left_of_round<R: Clock>(rt: &R, begun: Instant) -> Duration {
@@ -53,6 +54,8 @@ pub(crate) struct Committer {
     /// The number of entries committed when it last rang, and the time of that.
     rung: u64,
     since: Option<Instant>,
+    /// How many entries it commits at once.
+    group: Group,
     /// Whether something was committed since the ledger was last tidied up.
     is_untidy: bool,
     /// The number of entries that came with the last commit and while it was made, and how long it took.
@@ -70,6 +73,7 @@ impl Committer {
             is_failing: false,
             rung: committed,
             since: None,
+            group: Group::new(),
             is_untidy: true,
             came: 0,
             took: Duration::ZERO,
@@ -123,10 +127,10 @@ impl Committer {
     // Waits at most `wait` until more entries are asked for than are committed, and returns whether they are. After a
     // commit it first waits for as many as came with it and while it was made: for as long as that took, but at most
     // `GATHERING`. So threads that ask one after the other are released together, and come together.
-    fn await_asked<R: Wait>(
+    fn await_asked<K: Keeping, R: Wait>(
         &self,
         rt: &R,
-        commits: &Commits,
+        commits: &Commits<K>,
         committed: u64,
         wait: Duration,
     ) -> bool {
@@ -139,11 +143,11 @@ impl Committer {
 
     // Returns whether there are more entries than are committed. The first call in a round checks that at once; later
     // ones wait at most `wait` until more are asked for.
-    fn await_more<M: SharedService<Global>, R: Wait>(
+    fn await_more<M: SharedService<Global>, K: Keeping, R: Wait>(
         &mut self,
         rt: &R,
         desk: &Desk<M, Global>,
-        commits: &Commits,
+        commits: &Commits<K>,
         committed: u64,
         wait: Duration,
     ) -> bool {
@@ -156,19 +160,19 @@ impl Committer {
 
     // Notes how many entries came with a commit begun at `since` and while it was made, and how long it took.
     fn note<R: Clock>(&mut self, rt: &R, came: u64, since: Option<Instant>) {
-        self.came = came.min(GROUP as u64);
+        self.came = came.min(self.group.most() as u64);
         self.took = match since {
             Some(since) => since.elapsed(rt).unwrap_or(Duration::ZERO),
             None => Duration::ZERO,
         };
     }
 
-    /// Commits new entries, at most `GROUP`. If they can't be committed, logs that, at once and then each minute, and
+    /// Commits new entries, at most one group. If they can't be committed, logs that, at once and then each minute, and
     /// returns false.
-    fn commit<M: SharedService<Global>, L: Ledger, R>(
+    fn commit<M: SharedService<Global>, K: Keeping, L: Ledger, R>(
         &mut self,
         rt: &R,
-        premises: &Premises,
+        premises: &Premises<K>,
         alloc: Global,
         desk: &Desk<M, Global>,
         pass: &mut Pass<M, Global>,
@@ -177,15 +181,19 @@ impl Committer {
     where
         R: Wait + Clock + Log,
         requires here { pass.old.table ≡ desk.now.table }
+        requires backs { Backs L.Ledger K.had }
         ensures stays { pass.new.table ≡ pass.old.table }
         ensures watched { HasWatched pass.old pass.new }
         ensures kept { IsKept L.Ledger keeper.old pass.old.seen → IsKept L.Ledger keeper.new pass.new.seen }
+        ensures behind { IsTrue result → keeper.old.committed < keeper.new.committed → L.is_honest keeper.new.ledger → AreBehind (L.kept keeper.new.ledger) keeper.old.committed (map recorded (take (most_in self.old.group) (drop keeper.old.committed pass.new.seen))) }
     {
         let before = keeper.count();
         let since = Instant::now(rt).ok();
-        match keeper.commit(rt, alloc, desk, pass, GROUP) {
+        let tried = keeper.commit(rt, alloc, desk, pass, self.group.most());
+        self.group = self.group.after(&tried);
+        match tried {
             Ok(()) => {
-                premises.commits.advance(keeper.count());
+                premises.commits.advance(keeper);
                 let came = premises.commits.asked().saturating_sub(before);
                 self.note(rt, came, since);
                 self.succeed(rt, keeper.count());
@@ -199,11 +207,11 @@ impl Committer {
     }
 
     /// Commits new entries if there are more, as `commit` does; returns true if there are none.
-    fn commit_if<M: SharedService<Global>, L: Ledger, R>(
+    fn commit_if<M: SharedService<Global>, K: Keeping, L: Ledger, R>(
         &mut self,
         is_more: bool,
         rt: &R,
-        premises: &Premises,
+        premises: &Premises<K>,
         alloc: Global,
         desk: &Desk<M, Global>,
         pass: &mut Pass<M, Global>,
@@ -212,6 +220,7 @@ impl Committer {
     where
         R: Wait + Clock + Log,
         requires here { pass.old.table ≡ desk.now.table }
+        requires backs { Backs L.Ledger K.had }
         ensures stays { pass.new.table ≡ pass.old.table }
         ensures watched { HasWatched pass.old pass.new }
         ensures kept { IsKept L.Ledger keeper.old pass.old.seen → IsKept L.Ledger keeper.new pass.new.seen }
@@ -225,10 +234,10 @@ impl Committer {
     /// Commits new entries as soon as somebody waits for them, until the next round after `begun`. Rings for the
     /// deliverers when more is committed, but at most once in a tenth of a second. If a commit fails, it is tried again
     /// in the next round.
-    fn keep_until<M: SharedService<Global>, L: Ledger, R>(
+    fn keep_until<M: SharedService<Global>, K: Keeping, L: Ledger, R>(
         &mut self,
         rt: &R,
-        premises: &Premises,
+        premises: &Premises<K>,
         alloc: Global,
         desk: &Desk<M, Global>,
         pass: &mut Pass<M, Global>,
@@ -238,6 +247,7 @@ impl Committer {
     where
         R: Wait + Clock + Log,
         requires here { pass.old.table ≡ desk.now.table }
+        requires backs { Backs L.Ledger K.had }
         ensures stays { pass.new.table ≡ pass.old.table }
         ensures watched { HasWatched pass.old pass.new }
         ensures kept { IsKept L.Ledger keeper.old pass.old.seen → IsKept L.Ledger keeper.new pass.new.seen }
@@ -257,12 +267,11 @@ impl Committer {
         unreachable!()
     }
 
-    /// Waits for the next round and commits new entries meanwhile. Tidies up the ledger if none came in this round but
-    /// some did before. If the clock fails, commits only at the end.
-    pub(crate) fn keep<M: SharedService<Global>, L: Ledger, R>(
+    // Waits for the next round and commits new entries meanwhile. If the clock fails, commits only at the end.
+    fn keep_round<M: SharedService<Global>, K: Keeping, L: Ledger, R>(
         &mut self,
         rt: &R,
-        premises: &Premises,
+        premises: &Premises<K>,
         alloc: Global,
         desk: &Desk<M, Global>,
         pass: &mut Pass<M, Global>,
@@ -271,12 +280,11 @@ impl Committer {
     where
         R: Wait + Clock + Log,
         requires here { pass.old.table ≡ desk.now.table }
+        requires backs { Backs L.Ledger K.had }
         ensures stays { pass.new.table ≡ pass.old.table }
         ensures watched { HasWatched pass.old pass.new }
         ensures kept { IsKept L.Ledger keeper.old pass.old.seen → IsKept L.Ledger keeper.new pass.new.seen }
     {
-        let committed = keeper.count();
-        self.has_looked = false;
         match Instant::now(rt) {
             Ok(begun) => self.keep_until(rt, premises, alloc, desk, pass, keeper, begun),
             Err(_) => {
@@ -284,6 +292,30 @@ impl Committer {
                 let _ = self.commit(rt, premises, alloc, desk, pass, keeper);
             }
         }
+    }
+
+    /// Waits for the next round and commits new entries meanwhile. Tidies up the ledger if none came in this round but
+    /// some did before. If the clock fails, commits only at the end.
+    pub(crate) fn keep<M: SharedService<Global>, K: Keeping, L: Ledger, R>(
+        &mut self,
+        rt: &R,
+        premises: &Premises<K>,
+        alloc: Global,
+        desk: &Desk<M, Global>,
+        pass: &mut Pass<M, Global>,
+        keeper: &mut Keeper<L>,
+    )
+    where
+        R: Wait + Clock + Log,
+        requires here { pass.old.table ≡ desk.now.table }
+        requires backs { Backs L.Ledger K.had }
+        ensures stays { pass.new.table ≡ pass.old.table }
+        ensures watched { HasWatched pass.old pass.new }
+        ensures kept { IsKept L.Ledger keeper.old pass.old.seen → IsKept L.Ledger keeper.new pass.new.seen }
+    {
+        let committed = keeper.count();
+        self.has_looked = false;
+        self.keep_round(rt, premises, alloc, desk, pass, keeper);
         if self.is_untidy && !self.is_failing && keeper.count() == committed {
             keeper.tidy();
             self.is_untidy = false;

@@ -3,9 +3,8 @@
 ghost use Rattle.std.specs.Prelude.{◌≡◌, ◌<◌};
 
 use crate::clock::milliseconds_of;
+use crate::connection::Inlet;
 use crate::door::Door;
-use crate::socket::{has_come, which_have_come};
-use std::net::TcpStream;
 use std::time::{Clock, Duration};
 
 /// The number of milliseconds that a look at the door waits before the next one: while others wait there, and while a
@@ -49,6 +48,21 @@ pub fn idle_grace(in_row: u32) -> u64
     }
 }
 
+/// Returns for how many milliseconds an association is left alone in which a message has begun, and no byte of it comes,
+/// while others wait.
+///
+/// `in_row` is the number of associations in a row that kept the same worker waiting before it; it counts as 0 once
+/// something was asked. A peer far away whose next bytes wait for an acknowledgment has a second at least.
+pub fn message_grace(in_row: u32) -> u64
+    ensures first { in_row ≡ 0 → result ≡ 10000 }
+    ensures others { 0 < in_row → result ≡ 1000 }
+{
+    if in_row == 0 {
+        return idle_grace(0);
+    }
+    1_000
+}
+
 /// What an association may have to make way for: the connections that wait at a door. The more associations in a row
 /// have kept its worker waiting before it, the sooner it makes way.
 #[derive(Clone, Copy)]
@@ -76,6 +90,11 @@ impl<'a> Pressure<'a> {
     pub(crate) fn for_idle(&self) -> Duration {
         Duration::from_millis(idle_grace(self.in_row))
     }
+
+    /// Returns how long an association is left alone that has begun a message, since its last byte.
+    pub(crate) fn for_message(&self) -> Duration {
+        Duration::from_millis(message_grace(self.in_row))
+    }
 }
 
 /// The result of a look.
@@ -98,12 +117,12 @@ fn seen_of(has_spoken: bool) -> Seen {
     }
 }
 
-/// An association after its grace: it stays as long as nobody waits for its worker. Of those that are idle for ten
-/// seconds and more, the one that is idle for the longest makes way first. No contract covers it.
+/// An association after its grace: it stays as long as nobody waits for its worker. Of those that have said nothing for
+/// ten seconds and more, the one that has been silent for the longest makes way first. No contract covers it.
 #[derive(Drop)]
 pub(crate) struct Stay<'a> {
     pressure: Pressure<'a>,
-    /// Whether others that are idle for longer make way before it.
+    /// Whether others that have been silent for longer make way before it.
     is_in_order: bool,
     /// When it began to stay, in milliseconds since 1970-01-01 UTC.
     since: u64,
@@ -112,11 +131,11 @@ pub(crate) struct Stay<'a> {
 }
 
 impl<'a> Stay<'a> {
-    /// Creates the stay of an association that is idle, or whose request is not complete.
-    pub(crate) fn new<R: Clock>(rt: &R, pressure: Pressure<'a>, is_idle: bool) -> Stay<'a> {
+    /// Creates the stay of an association that is open, or whose association request is not complete.
+    pub(crate) fn new<R: Clock>(rt: &R, pressure: Pressure<'a>, is_open: bool) -> Stay<'a> {
         Stay {
             pressure,
-            is_in_order: is_idle && pressure.in_row == 0,
+            is_in_order: is_open && pressure.in_row == 0,
             since: milliseconds_of(rt),
             looks: 0,
         }
@@ -128,13 +147,13 @@ impl<'a> Stay<'a> {
     }
 
     /// Waits for the peer and for others for at most `milliseconds`. While others wait, it pauses before the next look.
-    pub(crate) fn look(&mut self, stream: &TcpStream, milliseconds: i32) -> Seen {
+    pub(crate) fn look(&mut self, inlet: &Inlet<'_>, milliseconds: i32) -> Seen {
         let door = self.pressure.door;
         if door.has_free_worker() {
             self.looks = 0;
-            return seen_of(has_come(stream, milliseconds.min(LONG_LOOK)));
+            return seen_of(inlet.has_come(milliseconds.min(LONG_LOOK)));
         }
-        let (has_spoken, is_waited) = which_have_come(stream, door.listener(), milliseconds);
+        let (has_spoken, is_waited) = inlet.which_have_come(door.listener(), milliseconds);
         if has_spoken {
             return Seen::Peer;
         }
@@ -146,7 +165,7 @@ impl<'a> Stay<'a> {
         if self.is_due() {
             return Seen::Others;
         }
-        seen_of(has_come(stream, LOOK))
+        seen_of(inlet.has_come(LOOK))
     }
 
     /// Ends the stay, since the peer has spoken, its time is over or it makes way.

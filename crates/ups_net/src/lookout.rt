@@ -10,6 +10,7 @@ use crate::roster::{Roster, is_passed_over};
 use log::Log;
 use std::sync::Wait;
 use std::time::Clock;
+use ups_ledger::Keeping;
 use ups_life::MAX_HISTORY;
 use ups_settings::Watcher;
 
@@ -115,10 +116,10 @@ impl Lookout {
     /// Checks a server whose history has `entries` entries, and logs what there is to log: that the history has reached
     /// a mark or is full, that all workers are taken, what deliveries came to, how many requests were refused beyond
     /// those logged, and its numbers every ten minutes.
-    pub(crate) fn look<R: Wait + Clock + Log + Network>(
+    pub(crate) fn look<K: Keeping, R: Wait + Clock + Log + Network>(
         &mut self,
         rt: &R,
-        premises: &Premises,
+        premises: &Premises<K>,
         options: &ServerOptions,
         entries: u64,
     ) {

@@ -1,6 +1,6 @@
 //! How long a watcher may take.
 
-ghost use Rattle.std.specs.Prelude.{◌≡◌, ◌≤◌, ◌<◌, ◌*◌, true, false};
+ghost use Rattle.std.specs.Prelude.{◌≡◌, ◌<◌, ◌*◌, true, false};
 
 use std::io;
 use std::time::{Clock, Duration, Instant};
@@ -13,7 +13,7 @@ const ANSWER: u64 = 3_600;
 /// The number of seconds for connecting to a watcher and its answer to the association request, if no limit is given.
 const OPENING: u64 = 10;
 
-/// The maximum number of milliseconds for that with a quick watcher.
+/// The number of milliseconds for that with a quick watcher.
 const QUICK_OPENING: u64 = 500;
 
 /// Returns how many seconds to wait for an answer of a watcher: `asked`, unless that is 0.
@@ -33,20 +33,18 @@ pub fn answer_seconds(asked: u32, is_quick: bool) -> u64
 
 /// Returns how many milliseconds to wait for connecting to a watcher and its answer to the association request.
 ///
-/// Nothing is sent before that could arrive twice, so a quick watcher has at most half a second. If that is too short,
-/// it counts as slow, and at once has the seconds asked for, or ten if that is 0.
+/// Nothing is sent before that could arrive twice, so a quick watcher has half a second. If that is too short, it counts
+/// as slow, and at once has the seconds asked for, or ten if that is 0.
 pub fn opening_milliseconds(asked: u32, is_quick: bool) -> u64
-    ensures quick { is_quick ≡ true → result ≤ 500 }
+    ensures quick { is_quick ≡ true → result ≡ 500 }
     ensures asked { is_quick ≡ false → 0 < asked → result ≡ 1000 * asked }
     ensures other { is_quick ≡ false → asked ≡ 0 → result ≡ 10000 }
 {
-    let seconds = if asked > 0 { u64::from(asked) } else { OPENING };
-    let milliseconds = seconds * 1_000;
     if is_quick {
-        milliseconds.min(QUICK_OPENING)
-    } else {
-        milliseconds
+        return QUICK_OPENING;
     }
+    let seconds = if asked > 0 { u64::from(asked) } else { OPENING };
+    seconds * 1_000
 }
 
 /// How long a watcher that this side sends requests to may take.

@@ -4,18 +4,18 @@ use crate::door::Door;
 use crate::roster::Roster;
 use crate::tally::Tally;
 use std::alloc::{AllocError, Global};
-use ups_ledger::Commits;
+use ups_ledger::{Commits, Keeping};
 
 /// What the threads of a server share, besides its desk: the door, the roster of its watchers, the counts for its log,
 /// and the number of committed entries of its history.
-pub struct Premises {
+pub struct Premises<K: Keeping> {
     pub(crate) door: Door,
     pub(crate) roster: Roster,
     pub(crate) tally: Tally,
-    pub(crate) commits: Commits,
+    pub(crate) commits: Commits<K>,
 }
 
-impl Drop for Premises {
+impl<K: Keeping> Drop for Premises<K> {
     fn drop(self) {
         let Premises {
             door: _,
@@ -26,7 +26,7 @@ impl Drop for Premises {
     }
 }
 
-impl Premises {
+impl<K: Keeping> Premises<K> {
     /// Creates the premises of a server with this door, for `watchers` watchers, none of which is away, and
     /// `deliverers` deliverers. Answers and reports wait for `commits`.
     ///
@@ -38,8 +38,8 @@ impl Premises {
         door: Door,
         watchers: usize,
         deliverers: u32,
-        commits: Commits,
-    ) -> Result<Premises, AllocError> {
+        commits: Commits<K>,
+    ) -> Result<Premises<K>, AllocError> {
         let roster = Roster::new(alloc, watchers, deliverers)?;
         Ok(Premises {
             door,

@@ -1,6 +1,8 @@
 //! The responses of a watcher to its reports, as the log sees them.
 
+use crate::requests::CommandListener;
 use std::alloc::Global;
+use ups_assoc::data_follows;
 use ups_dimse::{Command, read_command};
 
 /// The number of bytes of a command above which no more are kept. A response to a report has no more than some hundred.
@@ -52,17 +54,6 @@ impl Responses {
         self.failures
     }
 
-    /// Takes bytes of a command, which may be its last ones.
-    pub(crate) fn hear(&mut self, bytes: &[u8], is_last: bool) {
-        if self.command.len() <= MOST {
-            let _ = self.command.extend_from_slice(bytes);
-        }
-        if is_last {
-            self.note();
-            self.command.clear();
-        }
-    }
-
     /// Notes the response of a complete command.
     fn note(&mut self) {
         let Ok(command) = read_command(self.alloc, self.command.as_slice()) else {
@@ -75,5 +66,20 @@ impl Responses {
             self.failures.count = self.failures.count.saturating_add(1);
             self.failures.last = response.status;
         }
+    }
+}
+
+impl CommandListener for Responses {
+    fn hear(&mut self, bytes: &[u8], is_last: bool) -> bool {
+        if self.command.len() <= MOST {
+            let _ = self.command.extend_from_slice(bytes);
+        }
+        if !is_last {
+            return false;
+        }
+        self.note();
+        let is_announced = data_follows(self.command.as_slice());
+        self.command.clear();
+        is_announced
     }
 }

@@ -6,6 +6,7 @@ ghost use denote.Param.Send.{IsSend, IsSync};
 ghost use Rattle.ups_turn.specs.Pass.{PassView};
 ghost use Rattle.ups_net.specs.Serving.{ServesAssociations};
 ghost use Rattle.ups_net.specs.Sweeping.{Sweeps};
+ghost use Rattle.ups_ledger.specs.Backed.{Backs};
 ghost use Rattle.ups_ledger.specs.Keeping.{AreKept};
 ghost use Rattle.ups_net.specs.Working.{EndsThread, EndThreads, Ran, seen_last};
 ghost use Rattle.ups_net.specs.declared.options.ServerOptions.{ServerOptions};
@@ -26,14 +27,14 @@ use std::snapshot::Snapshot;
 use std::sync::{OnceLock, OnceToken, Wait};
 use std::thread::{self, Promise, PromisedHandle, Threads};
 use std::time::Clock;
-use ups_ledger::{Keeper, Ledger};
+use ups_ledger::{Keeper, Keeping, Ledger};
 use ups_service::SharedService;
 use ups_turn::{Desk, Pass};
 
 /// Serves `options.associations` associations, one after another, each on a connection from the door of the premises.
-pub fn work<M: SharedService<Global>, R: Wait + Clock + Log>(
+pub fn work<M: SharedService<Global>, K: Keeping, R: Wait + Clock + Log>(
     rt: &R,
-    premises: &Premises,
+    premises: &Premises<K>,
     desk: &Desk<M, Global>,
     pass: Pass<M, Global>,
     options: &ServerOptions,
@@ -114,9 +115,9 @@ fn settle<'a, R: Wait>(
 
 /// Sweeps if the threads begin, and returns the pass of the sweeper and the ledger. Otherwise returns both as they
 /// were.
-fn sweep_begun<M: SharedService<Global>, L: Ledger, R>(
+fn sweep_begun<M: SharedService<Global>, K: Keeping, L: Ledger, R>(
     rt: &R,
-    premises: &Premises,
+    premises: &Premises<K>,
     desk: &Desk<M, Global>,
     mut pass: Pass<M, Global>,
     begun: bool,
@@ -126,6 +127,7 @@ fn sweep_begun<M: SharedService<Global>, L: Ledger, R>(
 where
     R: Wait + Clock + Log + Network,
     requires here { pass.table ≡ desk.now.table }
+    requires backs { Backs L.Ledger K.had }
     ensures sweeps { MatchBool begun (Sweeps options.now.config.ae (is_some keeper) options.now.rounds pass result.0) (result.0 ≡ pass) }
     ensures keeps { is_some result.1 ≡ is_some keeper }
     ensures kept { AreKept L.Ledger keeper pass.seen → AreKept L.Ledger result.1 result.0.seen }
@@ -139,9 +141,9 @@ where
 
 /// Does the job of a thread once the threads begin: a worker serves associations, and a deliverer delivers event
 /// reports. The number of its pass says which of them it is.
-fn do_job<M: SharedService<Global>, R>(
+fn do_job<M: SharedService<Global>, K: Keeping, R>(
     rt: &R,
-    premises: &Premises,
+    premises: &Premises<K>,
     desk: &Desk<M, Global>,
     pass: Pass<M, Global>,
     options: &ServerOptions,
@@ -160,10 +162,10 @@ where
 }
 
 /// Runs the thread of a pass: does its job if the threads begin, and returns the pass with what the thread was told.
-fn attend<'a, M: SharedService<Global>, R>(
+fn attend<'a, M: SharedService<Global>, K: Keeping, R>(
     rt: &R,
     start: &'a OnceLock<bool>,
-    premises: &Premises,
+    premises: &Premises<K>,
     desk: &Desk<M, Global>,
     pass: Pass<M, Global>,
     options: &ServerOptions,
@@ -235,9 +237,9 @@ fn put_back<M: SharedService<Global>>(
 ///
 /// The passes come back in their order, with that of the sweeper after them. If a thread can't be started, its pass and
 /// those after it wait in `unbegun` until those before them are back. The sweeper has the ledger, if one is kept.
-fn run_threads<M: SharedService<Global> + Send, L: Ledger, R>(
+fn run_threads<M: SharedService<Global> + Send, K: Keeping + Send, L: Ledger, R>(
     rt: &R,
-    premises: &Premises,
+    premises: &Premises<K>,
     desk: &Desk<M, Global>,
     passes: Vec<Pass<M, Global>>,
     sweeper: Pass<M, Global>,
@@ -249,6 +251,7 @@ fn run_threads<M: SharedService<Global> + Send, L: Ledger, R>(
 where
     R: Threads + Wait + Clock + Log + Sync + Network,
     requires here { All (λ p. p.table ≡ desk.now.table) passes.items }
+    requires backs { Backs L.Ledger K.had }
     requires sweeper { sweeper.table ≡ desk.now.table }
     requires room { length passes.items + 1 ≤ vec_capacity back }
     requires spare { length passes.items ≤ vec_capacity unbegun }
@@ -264,8 +267,10 @@ where
         rt,
         |scope| -> (bool, Vec<Pass<M, Global>>, Option<Keeper<L>>)
             requires send { IsSend M.row }
+            requires send_keeping { IsSend K.row }
             requires sync { IsSync R.row }
             requires here { All (λ p. p.table ≡ desk.now.table) passes.items }
+            requires backs { Backs L.Ledger K.had }
             requires sweeper { sweeper.table ≡ desk.now.table }
             requires room { length passes.items + 1 ≤ vec_capacity back }
             requires spare { length passes.items ≤ vec_capacity unbegun }
@@ -329,9 +334,9 @@ where
 ///
 /// If a ledger is kept, the sweeper commits what is entered. The ledger is given back: it has the beginning of the
 /// history that the sweeper's pass has seen, as far as it is committed, if it had before.
-pub fn run<M: SharedService<Global> + Send, L: Ledger, R>(
+pub fn run<M: SharedService<Global> + Send, K: Keeping + Send, L: Ledger, R>(
     rt: &R,
-    premises: &Premises,
+    premises: &Premises<K>,
     desk: &Desk<M, Global>,
     passes: Vec<Pass<M, Global>>,
     options: &ServerOptions,
@@ -341,6 +346,7 @@ where
     R: Threads + Wait + Clock + Log + Sync + Network,
     requires some { 2 ≤ length passes.items }
     requires here { All (λ p. p.table ≡ desk.now.table) passes.items }
+    requires backs { Backs L.Ledger K.had }
     ensures ran { Ran options.now (is_some keeper) result.0 passes.items result.1.items }
     ensures all { length result.1.items ≡ length passes.items }
     ensures stay { All (λ p. p.table ≡ desk.now.table) result.1.items }

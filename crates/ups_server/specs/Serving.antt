@@ -45,7 +45,7 @@ pub record AreAsked (options : ServerOptions) (asked : ServeArguments) (to_serve
 
 -- A manager begins without history if no ledger is kept; otherwise its whole history is committed, and the ledger has the
 -- records if it is sound.
-abbrev pub HasBegun : {L : Type 0} → Ghosts L → Option (Keeper L) → List (Entry Global) → Type 0
+abbrev pub HasBegun : {L : Type 0} → (g : Ghosts L) → Option (Keeper L g) → List (Entry Global) → Type 0
 HasBegun g None history = history ≡ []
 HasBegun g (Some keeper) history = IsKept g keeper history × (keeper.committed ≡ length history)
 

@@ -1,7 +1,7 @@
 //! Opening the store of a server.
 
 use std::alloc::Global;
-use ups_ledger::{Keeper, Ledger};
+use ups_ledger::Ledger;
 use ups_manager::Manager;
 
 /// Why a store was not opened.
@@ -16,10 +16,12 @@ pub enum Unopened {
 /// Opens the store in which a server keeps its accepted requests. Only the program itself knows how they are kept.
 pub trait StoreOpener<'a, L: Ledger> {
     ghost use Rattle.std.specs.Prelude.{◌≡◌, [], length, IfOk};
-    ghost use Rattle.ups_ledger.specs.Keeping.{IsKept};
+    ghost use Rattle.ups_ledger.specs.Backed.{HadAtLeast};
+    ghost use Rattle.ups_ledger.specs.Keeping.{AreFirst};
 
     /// Opens the store in a file, or creates one, and enters its requests into a manager without requests. Requests
-    /// that are not accepted with its settings are left out if allowed. Returns the ledger that continues the store.
+    /// that are not accepted with its settings are left out if allowed. Returns the ledger that continues the store, and
+    /// the number of its records.
     ///
     /// # Errors
     ///
@@ -29,9 +31,11 @@ pub trait StoreOpener<'a, L: Ledger> {
         file: &'a str,
         may_leave_out: bool,
         manager: &mut Manager<Global>,
-    ) -> Result<Keeper<L>, Unopened>
+    ) -> Result<(L, usize), Unopened>
         requires new { manager.old.history ≡ [] }
         ensures settings { manager.new.settings ≡ manager.old.settings }
-        ensures kept { IfOk result (λ keeper. IsKept L.Ledger keeper manager.new.history) }
-        ensures all { IfOk result (λ keeper. keeper.committed ≡ length manager.new.history) };
+        ensures told { IfOk result (λ kept. L.told kept.0 ≡ kept.1) }
+        ensures had { IfOk result (λ kept. ∥ HadAtLeast L.Ledger kept.1 ∥₁) }
+        ensures first { IfOk result (λ kept. L.is_sound kept.0 → AreFirst (L.kept kept.0) manager.new.history kept.1) }
+        ensures all { IfOk result (λ kept. kept.1 ≡ length manager.new.history) };
 }

@@ -1,10 +1,12 @@
 //! Associations over TCP, and event reports.
 
-ghost use Rattle.std.specs.Prelude.{◌≡◌, ◌≤◌, ◌+◌, [], All, false, length, is_some, None, IfOk, IfSome};
+ghost use Rattle.std.specs.Prelude.{◌≡◌, ◌≤◌, ◌+◌, ℕ, [], All, false, length, is_some, None, IfOk, IfSome};
 ghost use Rattle.clap.specs.Matches.{found_of};
 ghost use Rattle.ups_settings.specs.Limits.{workers_limit};
 ghost use Rattle.ups_settings.specs.Refusal.{refusal};
 ghost use Rattle.ups_life.specs.Limits.{history_limit, peer_limit};
+ghost use Rattle.ups_manager.specs.View.{shared_state};
+ghost use Rattle.ups_ledger.specs.Backed.{Backs};
 ghost use Rattle.ups_ledger.specs.Keeping.{AreKept};
 ghost use Rattle.ups_net.specs.Working.{seen_last};
 ghost use Rattle.ups_turn.specs.Pass.{passes_from};
@@ -15,13 +17,14 @@ use crate::telling::tell_settings;
 use clap::ArgMatches;
 use log::{Log, info};
 use std::alloc::{AllocError, Global};
+use std::marker::Brand;
 use std::sync::Wait;
 use std::thread::Threads;
 use std::time::Clock;
 use std::{io, str};
 use ups_args::{ArgumentFault, ServeArguments, serve_arguments};
 use ups_assoc::Config;
-use ups_ledger::{Commits, Keeper, Ledger};
+use ups_ledger::{Commits, Keeper, Keeping, Ledger};
 use ups_life::MAX_HISTORY;
 use ups_manager::Manager;
 use ups_net::{Door, Network, Premises, ServerOptions, run};
@@ -152,21 +155,73 @@ fn begin<'a, L: Ledger, O: StoreOpener<'a, L>>(
         }));
     };
     match opener.open(file, asked.leave_out, &mut manager) {
-        Ok(keeper) => Ok(Some(Begun {
-            manager,
-            keeper: Some(keeper),
-        })),
+        Ok((ledger, committed)) => {
+            let keeper = Keeper { ledger, committed };
+            Ok(Some(Begun {
+                manager,
+                keeper: Some(keeper),
+            }))
+        }
         Err(Unopened::Memory) => Err(AllocError),
         Err(Unopened::Told) => Ok(None),
     }
 }
 
 /// Returns what the answers of a server wait for: nothing, if nothing is kept.
-fn commits_of<L: Ledger>(keeper: &Option<Keeper<L>>) -> Commits {
+fn commits_of<K: Keeping, L: Ledger>(keeper: &Option<Keeper<L>>) -> Commits<K>
+    requires backs { Backs L.Ledger K.had }
+    requires none { is_some keeper.now ≡ false → (n : ℕ) → K.had n }
+{
     match keeper {
-        Some(keeper) => Commits::new(keeper.count()),
+        Some(keeper) => Commits::new(keeper),
         None => Commits::of_none(),
     }
+}
+
+/// Runs a server as `serve_on` does. While a connection sends something, what `K` says holds of as many entries as its
+/// pass has seen: anything that follows from what a ledger has had, or if none is kept, anything.
+///
+/// Errors: lack of memory before the threads are started.
+fn serve_kept<K: Keeping + Send, L: Ledger, R>(
+    rt: &R,
+    door: Door,
+    asked: ServeArguments<'_>,
+    begun: Begun<L>,
+    associations: u64,
+    rounds: u64,
+) -> Result<RanServer<L>, AllocError>
+where
+    R: Threads + Wait + Clock + Log + Sync + AllocGlobal + Network,
+    requires backs { Backs L.Ledger K.had }
+    requires none { is_some begun.keeper ≡ false → (n : ℕ) → K.had n }
+    requires some { 1 ≤ asked.limits.workers }
+    requires most { asked.limits.workers ≤ workers_limit }
+    requires keeps { is_some begun.keeper ≡ is_some asked.store }
+    ensures opening { IfOk result (λ server. server.desk.opening ≡ shared_state begun.manager) }
+    ensures ran { IfOk result (λ server. RanAsAsked asked.entry associations rounds server.begun (passes_from server.desk.table server.desk.opening 1 (seats_of asked.entry.limits.workers (length asked.entry.watchers.items))) server.passes.items) }
+    ensures here { IfOk result (λ server. All (λ p. p.table ≡ server.desk.table) server.passes.items) }
+    ensures kept { AreKept L.Ledger begun.keeper begun.manager.history → IfOk result (λ server. AreKept L.Ledger server.keeper (seen_last server.passes.items)) }
+{
+    let alloc = rt.alloc();
+    let Begun { manager, keeper } = begun;
+    let watchers = asked.watchers.len();
+    let deliverers = deliverers_of(asked.limits.workers, watchers);
+    let commits: Commits<K> = commits_of(&keeper);
+    let Ok(premises) = Premises::new(alloc, door, watchers, deliverers, commits) else {
+        return Err(AllocError);
+    };
+    let seats = asked.limits.workers + deliverers + 1;
+    let Ok((desk, passes)) = Desk::open(alloc, manager, seats) else {
+        return Err(AllocError);
+    };
+    let options = options_of(alloc, asked, associations, rounds);
+    let (begun, passes, keeper) = run(rt, &premises, &desk, passes, &options, keeper);
+    Ok(RanServer {
+        begun,
+        desk,
+        passes,
+        keeper,
+    })
 }
 
 /// Runs a server at a door until each worker has served `associations` associations, and the sweeper and each deliverer
@@ -187,31 +242,12 @@ where
     requires some { 1 ≤ asked.limits.workers }
     requires most { asked.limits.workers ≤ workers_limit }
     requires keeps { is_some begun.keeper ≡ is_some asked.store }
-    ensures opening { IfOk result (λ server. server.desk.opening ≡ begun.manager) }
+    ensures opening { IfOk result (λ server. server.desk.opening ≡ shared_state begun.manager) }
     ensures ran { IfOk result (λ server. RanAsAsked asked.entry associations rounds server.begun (passes_from server.desk.table server.desk.opening 1 (seats_of asked.entry.limits.workers (length asked.entry.watchers.items))) server.passes.items) }
     ensures here { IfOk result (λ server. All (λ p. p.table ≡ server.desk.table) server.passes.items) }
     ensures kept { AreKept L.Ledger begun.keeper begun.manager.history → IfOk result (λ server. AreKept L.Ledger server.keeper (seen_last server.passes.items)) }
 {
-    let alloc = rt.alloc();
-    let Begun { manager, keeper } = begun;
-    let watchers = asked.watchers.len();
-    let deliverers = deliverers_of(asked.limits.workers, watchers);
-    let commits = commits_of(&keeper);
-    let Ok(premises) = Premises::new(alloc, door, watchers, deliverers, commits) else {
-        return Err(AllocError);
-    };
-    let seats = asked.limits.workers + deliverers + 1;
-    let Ok((desk, passes)) = Desk::open(alloc, manager, seats) else {
-        return Err(AllocError);
-    };
-    let options = options_of(alloc, asked, associations, rounds);
-    let (begun, passes, keeper) = run(rt, &premises, &desk, passes, &options, keeper);
-    Ok(RanServer {
-        begun,
-        desk,
-        passes,
-        keeper,
-    })
+    serve_kept::<Brand, L, R>(rt, door, asked, begun, associations, rounds)
 }
 
 /// Answers associations over TCP and delivers event reports until each worker has served `associations` associations,

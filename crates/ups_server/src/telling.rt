@@ -14,6 +14,7 @@ pub(crate) fn tell_settings<R: Log>(rt: &R, asked: &ServeArguments<'_>) {
         offset,
         limits,
         store,
+        leave_out,
         verbose,
         ..
     } = asked;
@@ -26,7 +27,7 @@ pub(crate) fn tell_settings<R: Log>(rt: &R, asked: &ServeArguments<'_>) {
     } = limits;
     let title = str::from_utf8(asked.ae.as_bytes()).unwrap_or("");
     let (peers, watchers) = (asked.peers.len(), asked.watchers.len());
-    info!(rt; target: "upsd", "upsd {VERSION}: ae={title} bind={bind} port={port} associations={workers} idle={idle} timeout={timeout} delivery-timeout={delivery_timeout} keep={keep} offset={offset} verbose={verbose} peers={peers} watchers={watchers} store={}", store.unwrap_or("none"));
+    info!(rt; target: "upsd", "upsd {VERSION}: ae={title} bind={bind} port={port} associations={workers} idle={idle} timeout={timeout} delivery-timeout={delivery_timeout} keep={keep} offset={offset} verbose={verbose} peers={peers} watchers={watchers} store={} store-leave-out={leave_out}", store.unwrap_or("none"));
     for watcher in asked.watchers.iter() {
         let title = str::from_utf8(watcher.ae.as_bytes()).unwrap_or("");
         info!(rt; target: "upsd", "watcher {title} at {}, port {}", watcher.host, watcher.port);

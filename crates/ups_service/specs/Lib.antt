@@ -1,3 +1,4 @@
+pub mod Asked
 pub mod Claiming
 pub mod Law
 pub mod Reporting

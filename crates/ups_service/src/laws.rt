@@ -1,16 +1,20 @@
 //! The laws that a caller of a service may rely on, and that services sharing a history build on: each is the contract
 //! of a function that does nothing.
 
-ghost use Rattle.std.specs.Prelude.{◌≡◌, ◌≤◌, ◌+◌, ◌++◌, ℕ, List, [], length, Some};
-ghost use Rattle.std.specs.List.{AllByRecursion};
+ghost use Rattle.std.specs.Prelude.{◌≡◌, ◌≤◌, ◌<◌, ◌+◌, ◌++◌, ℕ, List, [], length, map, Some, All, Contains};
+ghost use Rattle.std.specs.List.{AllByRecursion, AllPairs};
 ghost use Rattle.ups_life.specs.declared.entry.Entry.{Entry};
+ghost use Rattle.ups_life.specs.declared.event.Event.{Event};
+ghost use Rattle.ups_life.specs.declared.event_reports.EventReport.{EventReport};
 ghost use Rattle.ups_life.specs.declared.request.Ask.{Ask};
 ghost use Rattle.ups_life.specs.declared.request.Reply.{Reply};
 ghost use Rattle.ups_life.specs.declared.request.Reply.TheVariants.{Status as Answered};
 ghost use Rattle.ups_life.specs.Settings.{Settings};
 ghost use Rattle.ups_life.specs.Steps.{past, holder};
+ghost use Rattle.ups_life.specs.Events.{acked, events, pending, up_to, view};
 ghost use Rattle.ups_service.specs.Claiming.{HasClaimed};
 ghost use Rattle.ups_service.specs.Law.{Others, Seen, bounded, unbounded, all_made, is_legal, BeginsHistory, entered, lacking, Calls, AllGranted};
+ghost use Rattle.ups_service.specs.Reporting.{reports_to, MayHaveGot};
 
 use std::alloc::Allocator;
 
@@ -55,4 +59,30 @@ pub fn a_step_has_one_holder<A: Allocator + Copy>()
     ensures { (s : Settings) → (u : List ℕ) → (history : List (Entry A)) → (o1 o2 : Others) → (c1 c2 : ℕ) → (ae1 ae2 : List ℕ) → (m1 m2 : ℕ) → (after1 after2 : Seen A)
         → is_legal s history → HasClaimed s o1 c1 ae1 m1 u after1 → HasClaimed s o2 c2 ae2 m2 u after2 → BeginsHistory after1.history history → BeginsHistory after2.history history
         → (after1.history ≡ after2.history) × (c1 ≡ c2) × (ae1 ≡ ae2) × (m1 ≡ m2) × (holder (past history) u ≡ Some (record { caller = c1; ae = ae1 })) }
+{}
+
+/// Each report of a delivery is of one of the watcher's events, which it has not acknowledged. The reports come in the
+/// order of the events (PS3.4 CC.2.4).
+pub fn a_delivery_reports_events_in_order<A: Allocator + Copy>()
+    ensures its_own { (s : Settings) → (history : List (Entry A)) → (max : ℕ) → (w : List ℕ)
+        → All (λ (r : EventReport A). Contains (events s (past history) w) r.event) (reports_to s history max w) }
+    ensures not_acknowledged { (s : Settings) → (history : List (Entry A)) → (max : ℕ) → (w : List ℕ)
+        → All (λ (r : EventReport A). acked (past history) w < r.event.number) (reports_to s history max w) }
+    ensures in_order { (s : Settings) → (history : List (Entry A)) → (max : ℕ) → (w : List ℕ)
+        → AllPairs (λ (q r : EventReport A). q.event.number < r.event.number) (reports_to s history max w) }
+{}
+
+/// An acknowledgement of a report receives only what its delivery reported, whatever was entered since the delivery
+/// asked: each event that is still pending, up to the number of the report, is one of those reported.
+pub fn an_acknowledgement_receives_what_was_reported<A: Allocator + Copy>()
+    ensures { (s : Settings) → (history later : List (Entry A)) → (max : ℕ) → (w : List ℕ) → (r : EventReport A) → is_legal s (history ++ later) → Contains (reports_to s history max w) r
+        → All (Contains (map (λ (q : EventReport A). q.event) (reports_to s history max w))) (up_to r.event.number (pending s (past (history ++ later)) w)) }
+{}
+
+/// Nothing is lost with the State Reports that are omitted, whichever others were sent: what a watcher may have got,
+/// followed by what is pending for it, shows the same of each step as all its events (PS3.4 CC.2.4). So a State Report
+/// that is superseded while it is on the way may arrive and be acknowledged all the same.
+pub fn what_was_got_and_is_pending_shows_all<A: Allocator + Copy>()
+    ensures { (s : Settings) → (history : List (Entry A)) → (w u : List ℕ) → (got : List Event) → is_legal s history → MayHaveGot s history w got
+        → view (got ++ pending s (past history) w) u ≡ view (events s (past history) w) u }
 {}

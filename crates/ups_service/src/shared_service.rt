@@ -10,11 +10,17 @@ pub trait SharedService<A: Allocator + Copy>: Drop {
     ghost use Rattle.std.specs.Prelude.{◌≡◌, ◌++◌, ℕ, true, is_some, length};
     ghost use Rattle.std.specs.Option.{IfSome};
     ghost use Rattle.ups_life.specs.Settings.{IsMoment};
+    ghost use Rattle.ups_life.specs.Steps.{past};
+    ghost use Rattle.ups_life.specs.Events.{pending};
+    ghost use Rattle.ups_service.specs.Asked.{NotesAsked};
     ghost use Rattle.ups_service.specs.Law.{Answers, SmallReply, entered, is_legal};
     ghost use Rattle.ups_service.specs.State.{State};
 
     /// The settings, and the accepted requests, oldest first.
     ghost state: { Self → State A };
+
+    /// The number of held steps about which its last query asked whether they match.
+    ghost asked: { Self → ℕ };
 
     /// Returns the maximum number of requests in the history.
     fn limit(&self) -> u64
@@ -29,9 +35,14 @@ pub trait SharedService<A: Allocator + Copy>: Drop {
     fn history(&self) -> &[Entry<A>]
         ensures { result.now ≡ (state self.now).history };
 
+    /// Returns the number of events that wait for a watcher (PS3.4 CC.2.4); 0 for an application entity that is no
+    /// peer. It takes no memory.
+    fn waiting(&self, ae: Ae) -> usize
+        ensures { result ≡ length (pending (state self.now).settings (past (state self.now).history) ae) };
+
     /// Takes the ask out of its option, answers it for an application entity by the history, and enters it there if it
     /// is an accepted request. `caller` is the number of the caller, and `moment` is in seconds since 1970-01-01 UTC.
-    /// The ask is not passed by value, since the toolchain can't yet prove an impl whose method takes a value that is
+    /// A query asks about each held step of its class whether it matches, and about no other step. The ask is not passed by value, since the toolchain can't yet prove an impl whose method takes a value that is
     /// generic in its allocator.
     fn answer_as(&mut self, caller: u32, ae: Ae, moment: u64, ask: &mut Option<Ask<A>>) -> Reply<A>
         requires given { is_some ask.old ≡ true }
@@ -39,6 +50,7 @@ pub trait SharedService<A: Allocator + Copy>: Drop {
         ensures answer { IfSome ask.old (λ asked. Answers (state self.old).settings (state self.old).history caller ae moment asked result) }
         ensures history { IfSome ask.old (λ asked. (state self.new).history ≡ (state self.old).history ++ entered caller ae moment asked result) }
         ensures settings { (state self.new).settings ≡ (state self.old).settings }
+        ensures asked { IfSome ask.old (λ question. NotesAsked (state self.old).settings (state self.old).history question result (asked self.old) (asked self.new)) }
         ensures small { SmallReply result }
         ensures legal { is_legal (state self.old).settings (state self.old).history }
         ensures legal_after { is_legal (state self.new).settings (state self.new).history };

@@ -42,7 +42,7 @@ context_fits A = record {
   short = omega (arith, context_length A);
 }
 
-user_length : (A : Type 0) → length (user_content (proposed_information (this_server {A = A}))) ≡ 69
+user_length : (A : Type 0) → length (user_content (proposed_information (this_server {A = A}))) ≡ 65
 unfolding user_content role_content written_item
 user_length A = refl
 
@@ -59,7 +59,7 @@ user_fits A = record {
 abbrev written_context : {A : Type 0} → ProposedContext A → List ℕ
 written_context c = written_item 0x20 (proposed_content c)
 
-items_length : (A : Type 0) → length (associate_items (text_of ApplicationContext) (written_context {A = A}) (event_context ∷ []) (proposed_information (this_server {A = A}))) ≡ 180
+items_length : (A : Type 0) → length (associate_items (text_of ApplicationContext) (written_context {A = A}) (event_context ∷ []) (proposed_information (this_server {A = A}))) ≡ 176
 unfolding associate_items user_content role_content proposed_content written_item
 items_length A = refl
 

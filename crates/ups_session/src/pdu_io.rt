@@ -21,7 +21,7 @@ use crate::gate::Gate;
 use crate::watched_io::{WatchedReader, WatchedWriter};
 use std::alloc::Allocator;
 use std::io::{Read, Write};
-use ups_pdu::{Pdu, PduFault, body_len, write_pdu};
+use ups_pdu::{MAX_DATA_LENGTH, Pdu, PduFault, body_len, write_pdu};
 
 /// How far a buffer was filled, and whether the reader failed.
 #[derive(Clone, Copy, Debug)]
@@ -111,12 +111,13 @@ fn cut_off(filled: Filled) -> PduRead
     }
 }
 
-/// The maximum number of bytes of memory that a buffer keeps between two PDUs.
-const KEPT_CAPACITY: usize = 16_384;
+/// The maximum number of bytes of memory that a buffer keeps between two PDUs: as many as the longest P-DATA-TF takes, so
+/// that a long message takes no memory anew for each of its PDUs.
+const KEPT_CAPACITY: usize = HEADER_LENGTH + MAX_DATA_LENGTH as usize;
 
 /// Frees the memory of a buffer if a long PDU made it larger than what is kept.
 pub(crate) fn trim<A: Allocator + Copy>(buffer: &mut Vec<u8, A>)
-    ensures { vec_capacity buffer.new ≤ 16384 }
+    ensures { vec_capacity buffer.new ≤ 16390 }
 {
     if buffer.capacity() > KEPT_CAPACITY {
         let alloc = *buffer.allocator();

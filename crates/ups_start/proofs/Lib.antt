@@ -1,3 +1,5 @@
+mod Behind
 mod First
+mod Leaves
 mod Said
 mod Taken

@@ -1,5 +1,5 @@
 -- Records that were entered or left out one behind the other.
-use Rattle.std.proofs.Common.{◌≡◌, Bool, List, [], ◌∷◌, ◌++◌, map, refl, sym, subst, ap, ◌∙◌, arith, append_assoc}
+use Rattle.std.proofs.Common.{◌≡◌, ◌⊎◌, ℕ, Bool, List, [], ◌∷◌, ◌++◌, map, refl, sym, subst, ap, ◌∙◌, arith, append_assoc}
 use Rattle.std.proofs.lemmas.List.{append-nil, map-append}
 use Rattle.ups_life.specs.declared.entry.Entry.{Entry}
 use Rattle.ups_life.specs.Settings.{Settings}
@@ -10,6 +10,11 @@ use Rattle.ups_restore.specs.declared.leaving.Restored.TheVariants.{Entered, Lef
 use Rattle.ups_restore.specs.declared.leaving.Restoration.{Restoration}
 use Rattle.ups_restore.specs.Leaving.{Becomes, counted_with, all_counted, BecomeAll, AreTaken}
 use Rattle.ups_restore.specs.Replaying.{GoesOnBy}
+use Rattle.ups_restore.specs.declared.acknowledging.TheConstants.{COMPACTOR}
+use Rattle.ups_compact.specs.Compacting.{compacted}
+use Rattle.ups_life.specs.Steps.{past}
+use Rattle.std.specs.declared.alloc.Global.{Global}
+use Rattle.ups_start.specs.Started.{Begins}
 
 become_more : {A : Type 0} (s : Settings) (h : List (Entry A)) (rs : List (Record A)) (may : Bool) (os : List Restored) (now then : List (Entry A)) (r : Record A) (o : Restored)
     → BecomeAll s h rs may os now → Becomes s now r may o then → BecomeAll s h (rs ++ r ∷ []) may (os ++ o ∷ []) then
@@ -58,3 +63,13 @@ entered_all s h (r ∷ rs) may c [] after b none = absurd b
 -- where none was left out, the history has gone on by the entries of these records
 pub all_entered : {A : Type 0} (s : Settings) (h : List (Entry A)) (rs : List (Record A)) (may : Bool) (c : Restoration) (after : List (Entry A)) → AreTaken s h rs may c after → c.left_out ≡ 0 → map recorded after ≡ map recorded h ++ rs
 all_entered s h rs may c after taken none = entered_all s h rs may (record { entered = 0; left_out = 0 }) taken.0 after taken.1 (sym (ap (λ (x : Restoration). x.left_out) taken.2) ∙ none)
+
+-- a start begins with what was taken, or with its compaction
+pub begins_taken : (s t : Settings) (first : List (Entry Global)) (found shown : List (Record Global)) (may : Bool) (moment : ℕ) (counts : Restoration) (entered after : List (Entry Global)) → first ≡ [] → t ≡ s → shown ≡ found
+    → AreTaken s first shown may counts entered → (after ≡ entered) ⊎ (past after ≡ compacted COMPACTOR moment t (past entered)) → Begins s found may moment after
+begins_taken s t first found shown may moment counts entered after new same all taken becomes = record {
+  entered = entered;
+  counts = counts;
+  taken = subst (λ (rs : List (Record Global)). AreTaken s [] rs may counts entered) all (subst (λ (h : List (Entry Global)). AreTaken s h shown may counts entered) new taken);
+  becomes = subst (λ (u : Settings). (after ≡ entered) ⊎ (past after ≡ compacted COMPACTOR moment u (past entered))) same becomes;
+}

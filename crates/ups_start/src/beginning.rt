@@ -1,19 +1,23 @@
 //! The start of a server on a store.
 
-ghost use Rattle.std.specs.Prelude.{◌≡◌, [], map, length, IfOk};
+ghost use Rattle.std.specs.Prelude.{◌≡◌, ◌⊎◌, [], List, map, length, IfOk, IsTrue};
 ghost use Rattle.sqlite_trees.specs.View.{IsClean};
 ghost use Rattle.ups_journal.specs.Columns.{recorded};
-ghost use Rattle.ups_ledger.specs.Keeping.{IsKept};
+ghost use Rattle.ups_compact.specs.Compacting.{compacted};
+ghost use Rattle.ups_life.specs.Steps.{past};
+ghost use Rattle.ups_ledger.specs.Keeping.{IsKept, IsSafe};
+ghost use Rattle.ups_restore.specs.declared.acknowledging.TheConstants.{COMPACTOR};
+ghost use Rattle.ups_store.specs.declared.request.StoredRequest.{StoredRequest};
 ghost use Rattle.ups_store.specs.Shown.{requests_shown, requests, shown_by, all_of, given_out};
-ghost use Rattle.ups_start.specs.Started.{said};
+ghost use Rattle.ups_start.specs.Started.{said, moment_in, Begins};
 
-use crate::compacting::compacted;
+use crate::compacting::{compacted, emptied};
 use crate::fault::StartFault;
 use crate::ledger::StoreLedger;
 use crate::place::StorePlace;
 use crate::rewriting::rewritten;
 use crate::taking::take_all;
-use log::{Log, info};
+use log::{Log, info, warn};
 use sqlite_trees::store::Store;
 use std::alloc::Global;
 use std::time::Clock;
@@ -40,6 +44,7 @@ pub(crate) fn begin_run<S: Store + Drop>(
 ) -> Result<Begun<S>, StartFault>
     ensures clean { IfOk result (λ b. IsClean (requests_shown b.store) → IsClean (shown_by replay)) }
     ensures same { IfOk result (λ b. IsClean (requests_shown b.store) → requests b.store ≡ all_of replay) }
+    ensures is_open { IfOk result (λ b. IsClean (requests_shown b.store) → IsTrue (requests_shown b.store).is_open) }
 {
     let Some(mut store) = replay.finish() else {
         return Err(StartFault::Read(StoreFault::Shut));
@@ -55,10 +60,44 @@ fn tell_left_out<R: Log>(telling: &R, left_out: u64) {
     info!(telling; target: "upsd", "store: {left_out} requests are left out from now on");
 }
 
-/// Replaces the history of the store and of the manager by a compacted one if that pays, or else the requests of the
-/// store by those of the manager if some were left out.
+/// Logs that a store was not compacted, though that would pay.
+fn tell_uncompacted<R: Log>(telling: &R, fault: &StartFault) {
+    warn!(telling; target: "upsd", "store: it is not compacted: {fault}");
+}
+
+/// Why a start over an open store ended.
+#[derive(Clone, Copy, Debug, PartialEq, Eq)]
+enum Unsettled {
+    /// Its requests could not be compacted.
+    Uncompacted(StartFault),
+    /// Another reason.
+    Failed(StartFault),
+}
+
+/// Returns whether a compaction is allowed and pays. Logs if memory runs out before that is known.
+fn is_to_be_compacted<R: Log>(
+    alloc: Global,
+    telling: &R,
+    manager: &Manager<Global>,
+    may_compact: bool,
+) -> bool {
+    if !may_compact {
+        return false;
+    }
+    match compaction_pays(alloc, manager) {
+        Ok(pays) => pays,
+        Err(_) => {
+            tell_uncompacted(telling, &StartFault::Memory);
+            false
+        }
+    }
+}
+
+/// Replaces the history of the store and of the manager by a compacted one if that is allowed and pays, or else the
+/// requests of the store by those of the manager if some were left out.
 ///
-/// Errors: Write, Compact, Memory. The store keeps its requests, or may have the new ones if the commit failed.
+/// Errors: Uncompacted; Failed with Write, Compact. The store keeps its requests, or may have the new ones if the commit
+/// failed.
 fn settled<S: Store + Drop, R: Log>(
     alloc: Global,
     telling: &R,
@@ -66,29 +105,37 @@ fn settled<S: Store + Drop, R: Log>(
     about: &Run<'_>,
     manager: &mut Manager<Global>,
     left_out: u64,
-) -> Result<Begun<S>, StartFault>
+    may_compact: bool,
+) -> Result<Begun<S>, Unsettled>
     requires whole { left_out ≡ 0 → IsClean (requests_shown begun.store) → said (requests begun.store) ≡ map recorded manager.old.history }
+    requires is_open { IsClean (requests_shown begun.store) → IsTrue (requests_shown begun.store).is_open }
     ensures kept { IfOk result (λ b. IsClean (requests_shown b.store) → said (requests b.store) ≡ map recorded manager.new.history) }
+    ensures is_open { IfOk result (λ b. IsClean (requests_shown b.store) → IsTrue (requests_shown b.store).is_open) }
+    ensures clean { IfOk result (λ b. IsClean (requests_shown b.store) → IsClean (requests_shown begun.store)) }
+    ensures becomes { IfOk result (λ _. (manager.new.history ≡ manager.old.history) ⊎ (past manager.new.history ≡ compacted COMPACTOR (moment_in about.now) manager.old.settings (past manager.old.history))) }
     ensures settings { manager.new.settings ≡ manager.old.settings }
 {
-    let Ok(pays) = compaction_pays(alloc, manager) else {
-        return Err(StartFault::Memory);
-    };
-    if pays {
-        return compacted(alloc, telling, begun, about, manager);
+    if is_to_be_compacted(alloc, telling, manager, may_compact) {
+        return match compacted(alloc, telling, begun, about, manager) {
+            Ok(begun) => Ok(begun),
+            Err(fault) => Err(Unsettled::Uncompacted(fault)),
+        };
     }
     if left_out > 0 {
         tell_left_out(telling, left_out);
-        return rewritten(alloc, begun, about, manager);
+        return match rewritten(alloc, begun, about, manager) {
+            Ok(begun) => Ok(begun),
+            Err(fault) => Err(Unsettled::Failed(fault)),
+        };
     }
     Ok(begun)
 }
 
 /// Enters the requests of a store that was just opened, and begins a run in it; replaces them if some were left out, or
-/// if a compaction pays.
+/// if a compaction is allowed and pays.
 ///
-/// Errors: Read, Restore, Write, Compact, Memory. The store keeps its requests, or may have the new ones if the commit
-/// failed.
+/// Errors: Uncompacted; Failed with Read, Restore, Write, Compact. The store keeps its requests, or may have the new ones
+/// if the commit failed.
 fn begin_over<S: Store + Drop, R: Clock + Log>(
     alloc: Global,
     telling: &R,
@@ -96,23 +143,38 @@ fn begin_over<S: Store + Drop, R: Clock + Log>(
     may_leave_out: bool,
     about: &Run<'_>,
     manager: &mut Manager<Global>,
-) -> Result<Begun<S>, StartFault>
+    may_compact: bool,
+) -> Result<Begun<S>, Unsettled>
     requires new { manager.old.history ≡ [] }
     requires first { given_out replay ≡ [] }
     ensures kept { IfOk result (λ b. IsClean (requests_shown b.store) → said (requests b.store) ≡ map recorded manager.new.history) }
+    ensures is_open { IfOk result (λ b. IsClean (requests_shown b.store) → IsTrue (requests_shown b.store).is_open) }
+    ensures begins { IfOk result (λ b. IsClean (requests_shown b.store) → Begins manager.old.settings (said (all_of replay)) may_leave_out (moment_in about.now) manager.new.history) }
     ensures settings { manager.new.settings ≡ manager.old.settings }
 {
-    let counts = take_all(telling, alloc, &mut replay, manager, may_leave_out)?;
+    let counts = match take_all(telling, alloc, &mut replay, manager, may_leave_out) {
+        Ok(counts) => counts,
+        Err(fault) => return Err(Unsettled::Failed(fault)),
+    };
     let begun = match begin_run(replay, about) {
         Ok(begun) => begun,
-        Err(fault) => return Err(fault),
+        Err(fault) => return Err(Unsettled::Failed(fault)),
     };
-    settled(alloc, telling, begun, about, manager, counts.left_out)
+    settled(
+        alloc,
+        telling,
+        begun,
+        about,
+        manager,
+        counts.left_out,
+        may_compact,
+    )
 }
 
 /// Opens the store at a place.
 pub(crate) fn opened<P: StorePlace>(place: &P) -> Result<Replay<P::Store>, StartFault>
-    ensures { IfOk result (λ r. given_out r ≡ []) }
+    ensures first { IfOk result (λ r. given_out r ≡ []) }
+    ensures found { IfOk result (λ r. P.finds place.now (all_of r)) }
 {
     match place.open() {
         Ok(replay) => Ok(replay),
@@ -120,7 +182,93 @@ pub(crate) fn opened<P: StorePlace>(place: &P) -> Result<Replay<P::Store>, Start
     }
 }
 
+/// Opens the store at a place, enters its requests into a manager, and begins a run in it.
+///
+/// Errors: Uncompacted; Failed.
+fn begin_at<P: StorePlace, R: Clock + Log>(
+    alloc: Global,
+    telling: &R,
+    place: &P,
+    may_leave_out: bool,
+    about: &Run<'_>,
+    manager: &mut Manager<Global>,
+    may_compact: bool,
+) -> Result<Begun<P::Store>, Unsettled>
+    requires new { manager.old.history ≡ [] }
+    ensures kept { IfOk result (λ b. IsClean (requests_shown b.store) → said (requests b.store) ≡ map recorded manager.new.history) }
+    ensures is_open { IfOk result (λ b. IsClean (requests_shown b.store) → IsTrue (requests_shown b.store).is_open) }
+    ensures begins { IfOk result (λ b. (found : List StoredRequest) × P.finds place.now found × (IsClean (requests_shown b.store) → Begins manager.old.settings (said found) may_leave_out (moment_in about.now) manager.new.history)) }
+    ensures settings { manager.new.settings ≡ manager.old.settings }
+{
+    let replay = match opened(place) {
+        Ok(replay) => replay,
+        Err(fault) => return Err(Unsettled::Failed(fault)),
+    };
+    begin_over(
+        alloc,
+        telling,
+        replay,
+        may_leave_out,
+        about,
+        manager,
+        may_compact,
+    )
+}
+
+/// Begins once more with a manager that has entered the requests of the store, without a compaction.
+///
+/// Errors: those of `begin`.
+fn begin_uncompacted<P: StorePlace, R: Clock + Log>(
+    alloc: Global,
+    telling: &R,
+    place: &P,
+    may_leave_out: bool,
+    about: &Run<'_>,
+    manager: &mut Manager<Global>,
+) -> Result<Begun<P::Store>, StartFault>
+    ensures kept { IfOk result (λ b. IsClean (requests_shown b.store) → said (requests b.store) ≡ map recorded manager.new.history) }
+    ensures is_open { IfOk result (λ b. IsClean (requests_shown b.store) → IsTrue (requests_shown b.store).is_open) }
+    ensures begins { IfOk result (λ b. (found : List StoredRequest) × P.finds place.now found × (IsClean (requests_shown b.store) → Begins manager.old.settings (said found) may_leave_out (moment_in about.now) manager.new.history)) }
+    ensures settings { manager.new.settings ≡ manager.old.settings }
+{
+    *manager = emptied(alloc, manager)?;
+    match begin_at(alloc, telling, place, may_leave_out, about, manager, false) {
+        Ok(begun) => Ok(begun),
+        Err(Unsettled::Uncompacted(fault) | Unsettled::Failed(fault)) => Err(fault),
+    }
+}
+
+/// Opens the store at a place, enters its requests into a manager, and begins a run in it. If its requests can't be
+/// compacted, though that would pay, the start goes on without.
+///
+/// Errors: those of `begin`.
+fn begin_in<P: StorePlace, R: Clock + Log>(
+    alloc: Global,
+    telling: &R,
+    place: &P,
+    may_leave_out: bool,
+    about: &Run<'_>,
+    manager: &mut Manager<Global>,
+) -> Result<Begun<P::Store>, StartFault>
+    requires new { manager.old.history ≡ [] }
+    ensures kept { IfOk result (λ b. IsClean (requests_shown b.store) → said (requests b.store) ≡ map recorded manager.new.history) }
+    ensures is_open { IfOk result (λ b. IsClean (requests_shown b.store) → IsTrue (requests_shown b.store).is_open) }
+    ensures begins { IfOk result (λ b. (found : List StoredRequest) × P.finds place.now found × (IsClean (requests_shown b.store) → Begins manager.old.settings (said found) may_leave_out (moment_in about.now) manager.new.history)) }
+    ensures settings { manager.new.settings ≡ manager.old.settings }
+{
+    match begin_at(alloc, telling, place, may_leave_out, about, manager, true) {
+        Ok(begun) => Ok(begun),
+        Err(Unsettled::Failed(fault)) => Err(fault),
+        Err(Unsettled::Uncompacted(fault)) => {
+            tell_uncompacted(telling, &fault);
+            begin_uncompacted(alloc, telling, place, may_leave_out, about, manager)
+        }
+    }
+}
+
 /// Opens or creates the store at a place, enters its requests into a manager, in their order, and begins a run in it.
+/// The manager then has the entries of these requests, or of those that were not left out, or their compaction. If a
+/// compaction pays but fails, the start logs that and goes on without it.
 pub fn begin<'a, P: StorePlace, R: Clock + Log>(
     alloc: Global,
     telling: &R,
@@ -132,13 +280,15 @@ pub fn begin<'a, P: StorePlace, R: Clock + Log>(
     requires new { manager.old.history ≡ [] }
     ensures settings { manager.new.settings ≡ manager.old.settings }
     ensures kept { IfOk result (λ k. IsKept ⟦<StoreLedger<'a, P> as Ledger>⟧ k manager.new.history) }
+    ensures sound { IfOk result (λ k. ⟦<StoreLedger<'a, P> as Ledger>⟧.is_honest k.ledger → ⟦<StoreLedger<'a, P> as Ledger>⟧.is_sound k.ledger) }
+    ensures safe { IfOk result (λ k. IsSafe ⟦<StoreLedger<'a, P> as Ledger>⟧ k manager.new.history) }
+    ensures begins { IfOk result (λ k. (found : List StoredRequest) × P.finds place found × (⟦<StoreLedger<'a, P> as Ledger>⟧.is_honest k.ledger → Begins manager.old.settings (said found) may_leave_out (moment_in about.entry) manager.new.history)) }
     ensures all { IfOk result (λ k. k.committed ≡ length manager.new.history) }
 {
-    let replay = opened(&place)?;
-    let begun = begin_over(alloc, telling, replay, may_leave_out, &about, manager)?;
+    let begun = begin_in(alloc, telling, &place, may_leave_out, &about, manager)?;
     let committed = manager.history().len();
     Ok(Keeper {
-        ledger: StoreLedger::of(place, about, begun),
+        ledger: StoreLedger::of(place, about, begun, committed as u64),
         committed,
     })
 }

@@ -1,6 +1,6 @@
 //! Compacting a store at a start.
 
-ghost use Rattle.std.specs.Prelude.{◌≡◌, ◌≤◌, [], map, length, IfOk, OnOk};
+ghost use Rattle.std.specs.Prelude.{◌≡◌, ◌≤◌, [], map, length, IfOk, IsTrue, OnOk};
 ghost use Rattle.sqlite_trees.specs.View.{IsClean};
 ghost use Rattle.ups_life.specs.Settings.{IsMoment};
 ghost use Rattle.ups_life.specs.Steps.{past};
@@ -24,7 +24,10 @@ use ups_store::Run;
 /// Returns a manager with the settings of another, without history.
 ///
 /// Errors: Memory.
-fn emptied(alloc: Global, manager: &Manager<Global>) -> Result<Manager<Global>, StartFault>
+pub(crate) fn emptied(
+    alloc: Global,
+    manager: &Manager<Global>,
+) -> Result<Manager<Global>, StartFault>
     ensures settings { IfOk result (λ fresh. fresh.settings ≡ manager.now.settings) }
     ensures history { IfOk result (λ fresh. fresh.history ≡ []) }
 {
@@ -67,6 +70,8 @@ pub(crate) fn compacted_to<S: Store + Drop>(
     requires new { fresh.old.history ≡ [] }
     ensures compacted { OnOk result (past fresh.new.history ≡ compacted COMPACTOR (moment_in about.now) manager.now.settings (past manager.now.history)) }
     ensures kept { IfOk result (λ b. IsClean (requests_shown b.store) → said (requests b.store) ≡ map recorded fresh.new.history) }
+    ensures is_open { IfOk result (λ b. IsClean (requests_shown b.store) → IsTrue (requests_shown b.store).is_open) }
+    ensures clean { IfOk result (λ b. IsClean (requests_shown b.store) → IsClean (requests_shown begun.store)) }
     ensures settings { fresh.new.settings ≡ fresh.old.settings }
 {
     let mut anew = match Anew::begin(begun) {
@@ -97,6 +102,8 @@ pub(crate) fn compacted<S: Store + Drop, R: Log>(
 ) -> Result<Begun<S>, StartFault>
     ensures compacted { OnOk result (past manager.new.history ≡ compacted COMPACTOR (moment_in about.now) manager.old.settings (past manager.old.history)) }
     ensures kept { IfOk result (λ b. IsClean (requests_shown b.store) → said (requests b.store) ≡ map recorded manager.new.history) }
+    ensures is_open { IfOk result (λ b. IsClean (requests_shown b.store) → IsTrue (requests_shown b.store).is_open) }
+    ensures clean { IfOk result (λ b. IsClean (requests_shown b.store) → IsClean (requests_shown begun.store)) }
     ensures settings { manager.new.settings ≡ manager.old.settings }
 {
     let mut fresh = match emptied(alloc, manager) {

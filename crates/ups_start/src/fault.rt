@@ -1,6 +1,7 @@
 //! The errors of a start on a store.
 
-ghost use Rattle.std.specs.Prelude.{◌≡◌};
+ghost use Rattle.std.specs.Prelude.{◌≡◌, false};
+ghost use Rattle.ups_ledger.specs.declared.fault.LedgerFault.TheVariants.{Full};
 ghost use Rattle.ups_start.specs.Faults.{ledger_fault_of};
 
 use thiserror::Error;
@@ -44,4 +45,16 @@ pub(crate) fn fault_of(fault: StoreFault) -> LedgerFault
         }
         StoreFault::Shut => LedgerFault::Shut,
     }
+}
+
+/// Returns the `LedgerFault` for a fault of an append. Full says that nothing was appended, so a fault that has shut the
+/// store is told as Write.
+pub(crate) fn fault_of_append(fault: StoreFault, is_shut: bool) -> LedgerFault
+    ensures { result ≡ Full → is_shut ≡ false }
+{
+    let fault = fault_of(fault);
+    if is_shut && fault == LedgerFault::Full {
+        return LedgerFault::Write;
+    }
+    fault
 }

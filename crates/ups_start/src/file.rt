@@ -1,7 +1,10 @@
-//! A store in a file. This module alone names its type.
+//! A store in a file. Only this module and `making` name its type.
 
-ghost use Rattle.std.specs.Prelude.{◌≡◌, [], IsTrue, IfOk};
+ghost use Rattle.std.specs.Prelude.{◌≡◌, ◌≤◌, [], IsTrue, IfOk};
+ghost use Rattle.sqlite_trees.specs.Tree.{Trees};
+ghost use Rattle.sqlite_trees.specs.View.{doubt};
 ghost use Rattle.ups_store.specs.Shown.{requests_shown, given_out};
+ghost use Rattle.ups_start.specs.Shelved.{CanLeave};
 
 use crate::ledger::StoreLedger;
 use crate::place::StorePlace;
@@ -29,14 +32,19 @@ pub type FileLedger<'a> = StoreLedger<'a, FilePlace<'a>>;
 impl StorePlace for FilePlace<'_> {
     type Store = FileStore<File>;
 
+    ghost finds = { λ _ _. Unit {0} };
+
     fn open(&self) -> Result<Replay<FileStore<File>>, OpenFault>
         ensures first { IfOk result (λ r. given_out r ≡ []) }
+        ensures found { IfOk result (λ _. Unit {0}) }
     {
         open(self.rt, self.path, Unknown)
     }
 
     fn checkpoint(store: &mut RequestStore<FileStore<File>>) -> Result<(), StoreFault>
         ensures same { IsTrue (requests_shown store.new).is_open → requests_shown store.new ≡ requests_shown store.old }
+        ensures clean { doubt (requests_shown store.old).is_clean ≤ doubt (requests_shown store.new).is_clean }
+        ensures crash { (db : Trees) → CanLeave store.new db → CanLeave store.old db }
     {
         store.checkpoint()
     }

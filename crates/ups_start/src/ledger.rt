@@ -1,14 +1,18 @@
 //! A ledger in a store.
 
-ghost use Rattle.std.specs.Prelude.{◌≡◌, ◌≤◌, false, length, IfOk};
+ghost use Rattle.std.specs.Prelude.{◌≡◌, ◌+◌, ◌≤◌, List, false, length, IfOk, IsTrue, OnOk, OnErr};
+ghost use Rattle.std.specs.Global.{Global};
 ghost use Rattle.sqlite_trees.specs.View.{IsClean};
 ghost use Rattle.ups_store.specs.Shown.{requests_shown, requests};
+ghost use Rattle.ups_journal.specs.declared.record.Record.{Record};
+ghost use Rattle.ups_ledger.specs.Behind.{AreBehind};
 ghost use Rattle.ups_start.specs.Started.{said};
-ghost use Rattle.ups_start.specs.Shelved.{kept_in, IsSound};
+ghost use Rattle.ups_start.specs.Reopened.{HasBehind};
+ghost use Rattle.ups_start.specs.Shelved.{kept_in, LeavesRecords, Recovers, IsSound, IsHonest, IsCounted};
 
 use crate::beginning::Begun;
 use crate::place::StorePlace;
-use crate::reopening::{fault_of_open, go_through};
+use crate::reopening::{Reopened, append_rest, fault_of_open, go_through};
 use crate::shelf::{Shelf, tidy};
 use std::alloc::Global;
 use ups_journal::Record;
@@ -24,28 +28,41 @@ pub struct StoreLedger<'a, P: StorePlace> {
     /// The number of the run.
     run: u64,
     shelf: Shelf<P::Store>,
+    ghost counted: { IsCounted shelf },
 }
 
 impl<'a, P: StorePlace> StoreLedger<'a, P> {
-    /// Returns the ledger that continues a start.
-    pub(crate) fn of(place: P, about: Run<'a>, begun: Begun<P::Store>) -> StoreLedger<'a, P>
+    /// Returns the ledger that continues a start on `committed` requests.
+    pub(crate) fn of(
+        place: P,
+        about: Run<'a>,
+        begun: Begun<P::Store>,
+        committed: u64,
+    ) -> StoreLedger<'a, P>
+        requires { IsTrue (requests_shown begun.store).is_open → length (said (requests begun.store)) ≡ committed }
         ensures clean { IsSound result.shelf → IsClean (requests_shown begun.store) }
+        ensures honest { IsHonest result.shelf → IsClean (requests_shown begun.store) }
+        ensures sound { IsTrue (requests_shown begun.store).is_open → IsSound result.shelf }
+        ensures leaves { (rs : List (Record Global)) → Recovers result.shelf.held rs → LeavesRecords begun.store rs }
         ensures kept { kept_in result.shelf ≡ said (requests begun.store) }
+        ensures committed { result.shelf.committed ≡ committed }
     {
         let Begun { store, run } = begun;
         StoreLedger {
             place,
             about,
             run,
-            shelf: Shelf::first(store),
+            shelf: Shelf::first(store, committed),
         }
     }
 
-    /// Reopens the store, and returns how many of these records it already has.
+    /// Reopens the store, and returns it with the number of these records that it already has. The ledger is without it.
     ///
     /// Errors: Shut if it can't be opened now; Lost if it is damaged, or has other requests than were committed.
-    fn reopen(&mut self, records: &[Record<Global>]) -> Result<usize, LedgerFault>
-        ensures within { IfOk result (λ there. there ≤ length records.now) }
+    fn reopen(&mut self, records: &[Record<Global>]) -> Result<Reopened<P::Store>, LedgerFault>
+        ensures within { IfOk result (λ r. r.there ≤ length records.now) }
+        ensures behind { IfOk result (λ r. IsClean (requests_shown r.store) → HasBehind (said (requests r.store)) self.old.shelf.committed records.now r.there) }
+        ensures same { self.new.shelf.committed ≡ self.old.shelf.committed }
         ensures doubtful { self.new.shelf.is_first ≡ false }
     {
         let committed = self.shelf.let_go()?;
@@ -54,16 +71,14 @@ impl<'a, P: StorePlace> StoreLedger<'a, P> {
             Err(fault) => return Err(self.missed(fault_of_open(fault))),
         };
         match go_through(replay, committed, records) {
-            Ok(reopened) => {
-                self.shelf.take_up(reopened.store);
-                Ok(reopened.there)
-            }
+            Ok(reopened) => Ok(reopened),
             Err(fault) => Err(self.missed(fault)),
         }
     }
 
     /// Notes why reopening failed, and returns the fault.
     fn missed(&mut self, fault: LedgerFault) -> LedgerFault
+        ensures same { self.new.shelf.committed ≡ self.old.shelf.committed }
         ensures doubtful { self.old.shelf.is_first ≡ false → self.new.shelf.is_first ≡ false }
     {
         if fault == LedgerFault::Lost {
@@ -72,19 +87,39 @@ impl<'a, P: StorePlace> StoreLedger<'a, P> {
         fault
     }
 
-    /// Reopens the store, and appends the records that it does not have yet.
+    /// Reopens the store, and appends the records that it does not have yet. If that fails it has to be reopened again.
     fn append_anew(&mut self, records: &[Record<Global>]) -> Result<(), LedgerFault>
-        ensures doubtful { ¬ IsSound self.new.shelf }
+        ensures behind { OnOk result (IsHonest self.new.shelf → AreBehind (kept_in self.new.shelf) self.old.shelf.committed records.now) }
+        ensures more { OnOk result (self.new.shelf.committed ≡ self.old.shelf.committed + length records.now) }
+        ensures no_more { OnErr result (self.new.shelf.committed ≡ self.old.shelf.committed) }
+        ensures doubtful { self.new.shelf.is_first ≡ false }
     {
-        let there = self.reopen(records)?;
-        self.shelf.append(self.run, &records[there..])
+        let reopened = self.reopen(records)?;
+        let Some(committed) = self.shelf.count_with(records.len()) else {
+            return Err(LedgerFault::Full);
+        };
+        match append_rest(reopened, self.run, records) {
+            Ok(store) => {
+                self.shelf.take_up(store, committed);
+                Ok(())
+            }
+            Err(fault) => Err(fault),
+        }
     }
 }
 
 impl<P: StorePlace> Ledger for StoreLedger<'_, P> {
     ghost kept = { λ l. kept_in l.shelf };
 
+    ghost told = { λ l. l.shelf.committed };
+
     ghost is_sound = { λ l. IsSound l.shelf };
+
+    ghost is_honest = { λ l. IsHonest l.shelf };
+
+    ghost is_first = { λ l. IsTrue l.shelf.is_first };
+
+    ghost recovers = { λ l rs. Recovers l.shelf.held rs };
 
     fn append(&mut self, records: &[Record<Global>]) -> Result<(), LedgerFault> {
         match self.shelf.append(self.run, records) {

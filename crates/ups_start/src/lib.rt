@@ -1,5 +1,5 @@
 //! The start of a server on a store of accepted requests, and the ledger that continues it. Everything is generic over
-//! the place of the store; one module alone names the type of a store in a file.
+//! the place of the store; only `file` and `making` name the type of a store in a file.
 #![tactic(auto)]
 
 mod beginning;
@@ -8,6 +8,7 @@ mod comparing;
 mod fault;
 mod file;
 mod ledger;
+mod making;
 mod place;
 mod progress;
 mod reopening;
@@ -20,6 +21,7 @@ pub use beginning::begin;
 pub use fault::StartFault;
 pub use file::{FileLedger, FilePlace};
 pub use ledger::StoreLedger;
+pub use making::create;
 pub use place::StorePlace;
 pub use shrinking::{Compacted, compact};
 pub use ups_restore::CompactFault;

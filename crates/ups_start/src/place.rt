@@ -1,7 +1,11 @@
 //! The place of a store.
 
-ghost use Rattle.std.specs.Prelude.{◌≡◌, [], IsTrue, IfOk};
-ghost use Rattle.ups_store.specs.Shown.{requests_shown, given_out};
+ghost use Rattle.std.specs.Prelude.{◌≡◌, ◌≤◌, [], List, IsTrue, IfOk};
+ghost use Rattle.sqlite_trees.specs.Tree.{Trees};
+ghost use Rattle.sqlite_trees.specs.View.{doubt};
+ghost use Rattle.ups_store.specs.declared.request.StoredRequest.{StoredRequest};
+ghost use Rattle.ups_store.specs.Shown.{requests_shown, all_of, given_out};
+ghost use Rattle.ups_start.specs.Shelved.{CanLeave};
 
 use sqlite_trees::store::Store;
 use ups_store::{OpenFault, Replay, RequestStore, StoreFault};
@@ -12,13 +16,17 @@ pub trait StorePlace: Drop {
     /// The store.
     type Store: Store + Drop;
 
-    /// Opens the store for reading its requests, or creates it.
+    /// That the store there can be opened with these requests.
+    ghost finds: { Self → List StoredRequest → Type 0 };
+
+    /// Opens the store for reading its requests. A store that is missing is not made.
     ///
     /// # Errors
     ///
     /// Those of [`ups_store::open`].
     fn open(&self) -> Result<Replay<Self::Store>, OpenFault>
-        ensures first { IfOk result (λ r. given_out r ≡ []) };
+        ensures first { IfOk result (λ r. given_out r ≡ []) }
+        ensures found { IfOk result (λ r. finds self.now (all_of r)) };
 
     /// Copies what is stored next to an open store into it.
     ///
@@ -26,5 +34,7 @@ pub trait StorePlace: Drop {
     ///
     /// Those of [`RequestStore::checkpoint`]. An error that leaves the store open changes nothing.
     fn checkpoint(store: &mut RequestStore<Self::Store>) -> Result<(), StoreFault>
-        ensures same { IsTrue (requests_shown store.new).is_open → requests_shown store.new ≡ requests_shown store.old };
+        ensures same { IsTrue (requests_shown store.new).is_open → requests_shown store.new ≡ requests_shown store.old }
+        ensures clean { doubt (requests_shown store.old).is_clean ≤ doubt (requests_shown store.new).is_clean }
+        ensures crash { (db : Trees) → CanLeave store.new db → CanLeave store.old db };
 }

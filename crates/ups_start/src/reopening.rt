@@ -1,12 +1,14 @@
 //! Reopening a store that a failed sync has shut.
 
-ghost use Rattle.std.specs.Prelude.{◌≡◌, ◌+◌, ◌≤◌, ◌++◌, ◌∷◌, [], false, true, None, length, take, IfOk, IfSome, OnOk, IsTrue};
+ghost use Rattle.std.specs.Prelude.{◌≡◌, ◌+◌, ◌≤◌, ◌++◌, ◌∷◌, [], ℕ, false, true, None, length, take, IfOk, IfSome, OnOk, IsTrue};
 ghost use Rattle.sqlite_trees.specs.View.{IsClean};
 ghost use Rattle.ups_store.specs.Shown.{requests_shown, requests, shown_by, all_of, given_out, has_ended, GivesRequest};
+ghost use Rattle.ups_ledger.specs.Behind.{AreBehind};
 ghost use Rattle.ups_start.specs.Started.{said};
 ghost use Rattle.ups_start.specs.Reopened.{ComesNext, HasBehind};
 
 use crate::comparing::is_same;
+use crate::fault::fault_of;
 use sqlite_trees::store::Store;
 use std::alloc::Global;
 use ups_journal::Record;
@@ -22,16 +24,22 @@ pub(crate) struct Reopened<S: Store> {
     pub(crate) there: usize,
 }
 
-/// Returns the `LedgerFault` for a store that could not be reopened: Shut if another try may succeed.
+/// Returns the `LedgerFault` for a store that could not be reopened: Shut if another try may succeed, as where a volume
+/// that was unmounted comes back.
 pub(crate) fn fault_of_open(fault: OpenFault) -> LedgerFault {
     match fault {
         OpenFault::Memory
         | OpenFault::Busy
         | OpenFault::Unopened
+        | OpenFault::Missing
         | OpenFault::Disk
         | OpenFault::Full => LedgerFault::Shut,
-        OpenFault::AtLimit | OpenFault::Damaged | OpenFault::NotStore | OpenFault::OtherFormat =>
-            LedgerFault::Lost,
+        OpenFault::AtLimit
+        | OpenFault::Damaged
+        | OpenFault::NotStore
+        | OpenFault::LogAlone
+        | OpenFault::Exists
+        | OpenFault::OtherFormat => LedgerFault::Lost,
     }
 }
 
@@ -146,5 +154,25 @@ pub(crate) fn go_through<S: Store + Drop>(
     match replay.finish() {
         Some(store) => Ok(Reopened { store, there }),
         None => Err(LedgerFault::Shut),
+    }
+}
+
+/// Appends to a store that was reopened, as entered in the run `run`, those of these records that it does not have yet,
+/// and returns it.
+///
+/// Errors: those of an append. The store is dropped, so that the next try counts its requests anew.
+pub(crate) fn append_rest<S: Store + Drop>(
+    reopened: Reopened<S>,
+    run: u64,
+    records: &[Record<Global>],
+) -> Result<RequestStore<S>, LedgerFault>
+    requires within { reopened.there ≤ length records.now }
+    ensures behind { IfOk result (λ store. (committed : ℕ) → (IsClean (requests_shown reopened.store) → HasBehind (said (requests reopened.store)) committed records.now reopened.there)
+        → IsClean (requests_shown store) → AreBehind (said (requests store)) committed records.now) }
+{
+    let Reopened { mut store, there } = reopened;
+    match store.append(run, &records[there..]) {
+        Ok(()) => Ok(store),
+        Err(fault) => Err(fault_of(fault)),
     }
 }

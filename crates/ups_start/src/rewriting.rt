@@ -1,11 +1,11 @@
 //! Replacing the requests of a store by those of a manager.
 
-ghost use Rattle.std.specs.Prelude.{◌≡◌, [], map, IfOk};
+ghost use Rattle.std.specs.Prelude.{◌≡◌, [], true, length, map, IfOk, IsTrue};
 ghost use Rattle.sqlite_trees.specs.View.{IsClean};
 ghost use Rattle.ups_journal.specs.Columns.{recorded};
 ghost use Rattle.ups_store.specs.Shown.{requests_shown, requests};
 ghost use Rattle.ups_start.specs.Started.{said};
-ghost use Rattle.ups_start.specs.Anew.{put_so_far, IsPutting};
+ghost use Rattle.ups_store.specs.Rewriting.{seen, written_anew};
 
 use crate::beginning::Begun;
 use crate::fault::{StartFault, fault_of};
@@ -23,22 +23,30 @@ pub struct Anew<S: Store> {
     rewrite: Rewrite<S>,
     /// The number of the run.
     run: u64,
+    /// The number of records that were put.
+    count: u64,
     /// Whether no call has failed.
     is_whole: bool,
+    ghost counted: { is_whole ≡ true → IsClean (seen rewrite) → length (said (written_anew rewrite)) ≡ count },
 }
 
 impl<S: Store + Drop> Anew<S> {
+    ghost use Rattle.ups_start.specs.Anew.{put_so_far, IsPutting};
+
     /// Begins to replace the requests of a store in which a run has begun.
     ///
     /// Errors: Write.
     pub(crate) fn begin(begun: Begun<S>) -> Result<Anew<S>, StartFault>
         ensures empty { IfOk result (λ anew. IsPutting anew → put_so_far anew ≡ []) }
+        ensures clean { IfOk result (λ anew. IsPutting anew → IsClean (requests_shown begun.store)) }
     {
         let Begun { store, run } = begun;
-        match store.rewrite() {
-            Ok(rewrite) => Ok(Anew {
+        let mut rewrite = store.rewrite();
+        match rewrite.begin() {
+            Ok(()) => Ok(Anew {
                 rewrite,
                 run,
+                count: 0,
                 is_whole: true,
             }),
             Err(fault) => Err(StartFault::Write(fault)),
@@ -51,36 +59,54 @@ impl<S: Store + Drop> Anew<S> {
     pub(crate) fn commit(self, about: &Run<'_>) -> Result<Begun<S>, StartFault>
         ensures replaced { IfOk result (λ b. IsClean (requests_shown b.store) → said (requests b.store) ≡ put_so_far self) }
         ensures sound { IfOk result (λ b. IsClean (requests_shown b.store) → IsPutting self) }
+        ensures is_open { IfOk result (λ b. IsClean (requests_shown b.store) → IsTrue (requests_shown b.store).is_open) }
     {
         if !self.is_whole {
             return Err(StartFault::Write(StoreFault::Shut));
         }
         let Anew {
-            rewrite,
+            mut rewrite,
             run,
+            count: _,
             is_whole: _,
         } = self;
-        match rewrite.commit(run, about) {
-            Ok(store) => Ok(Begun { store, run }),
-            Err(fault) => Err(StartFault::Write(fault)),
+        if let Err(fault) = rewrite.commit(run, about) {
+            return Err(StartFault::Write(fault));
+        }
+        match rewrite.finish() {
+            Some(store) => Ok(Begun { store, run }),
+            None => Err(StartFault::Write(StoreFault::Shut)),
         }
     }
 }
 
 impl<S: Store + Drop> Ledger for Anew<S> {
+    ghost use Rattle.std.specs.Prelude.{⊤};
     ghost use Rattle.ups_start.specs.Anew.{put_so_far, IsPutting};
 
     ghost kept = { λ l. put_so_far l };
 
+    ghost told = { λ l. l.count };
+
     ghost is_sound = { λ l. IsPutting l };
+
+    ghost is_honest = { λ l. IsClean (seen l.rewrite) };
+
+    ghost is_first = { λ _. ⊤ };
+
+    ghost recovers = { λ _ _. ⊥ };
 
     fn append(&mut self, records: &[Record<Global>]) -> Result<(), LedgerFault> {
         if !self.is_whole {
             return Err(LedgerFault::Shut);
         }
+        let Some(count) = self.count.checked_add(records.len() as u64) else {
+            return Err(LedgerFault::Full);
+        };
         self.is_whole = false;
         match self.rewrite.put(self.run, records) {
             Ok(()) => {
+                self.count = count;
                 self.is_whole = true;
                 Ok(())
             }
@@ -101,7 +127,9 @@ pub(crate) fn rewritten<S: Store + Drop>(
     about: &Run<'_>,
     manager: &Manager<Global>,
 ) -> Result<Begun<S>, StartFault>
-    ensures { IfOk result (λ b. IsClean (requests_shown b.store) → said (requests b.store) ≡ map recorded manager.now.history) }
+    ensures kept { IfOk result (λ b. IsClean (requests_shown b.store) → said (requests b.store) ≡ map recorded manager.now.history) }
+    ensures is_open { IfOk result (λ b. IsClean (requests_shown b.store) → IsTrue (requests_shown b.store).is_open) }
+    ensures clean { IfOk result (λ b. IsClean (requests_shown b.store) → IsClean (requests_shown begun.store)) }
 {
     let mut anew = Anew::begin(begun)?;
     match put_history(alloc, manager.history(), &mut anew) {

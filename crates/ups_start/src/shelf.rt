@@ -1,13 +1,17 @@
 //! The store of a ledger, which may have to be reopened.
 
-ghost use Rattle.std.specs.Prelude.{◌≡◌, ◌++◌, false, OnOk, OnErr};
+ghost use Rattle.std.specs.Prelude.{◌≡◌, ◌⊎◌, ◌+◌, ◌++◌, List, false, length, IfOk, IfErr, IfSome, IsTrue, OnOk, OnErr};
 ghost use Rattle.sqlite_trees.specs.View.{IsClean};
+ghost use Rattle.std.specs.Global.{Global};
+ghost use Rattle.ups_journal.specs.declared.record.Record.{Record};
 ghost use Rattle.ups_store.specs.Shown.{requests_shown, requests};
+ghost use Rattle.ups_ledger.specs.Behind.{AreBehind};
+ghost use Rattle.ups_ledger.specs.declared.fault.LedgerFault.TheVariants.{Full};
 ghost use Rattle.ups_start.specs.Started.{said};
-ghost use Rattle.ups_start.specs.Shelved.{records_in, IsOpenStore, kept_in, IsSound};
+ghost use Rattle.ups_start.specs.Shelved.{records_in, IsOpenStore, IsHonestStore, LeavesRecords, Recovers, kept_in, IsSound, IsHonest, IsCounted};
 ghost use Rattle.ups_start.specs.declared.shelf.Held.TheVariants.{Open, Lost};
 
-use crate::fault::fault_of;
+use crate::fault::fault_of_append;
 use crate::place::StorePlace;
 use sqlite_trees::store::Store;
 use std::alloc::Global;
@@ -20,8 +24,8 @@ use ups_store::{RequestStore, Run};
 pub enum Held<S: Store> {
     /// It is open.
     Open(RequestStore<S>),
-    /// It has to be reopened. This many requests were committed.
-    Shut(u64),
+    /// It has to be reopened.
+    Shut,
     /// It can't be reopened, or has other requests than were committed.
     Lost,
 }
@@ -30,6 +34,9 @@ pub enum Held<S: Store> {
 #[derive(Drop)]
 pub struct Shelf<S: Store> {
     held: Held<S>,
+    /// The number of requests that are committed: those that it had at first, and those that an append returned `Ok`
+    /// for. A store that a failed sync has shut may have more.
+    committed: u64,
     /// Whether it never had to be reopened.
     is_first: bool,
 }
@@ -43,13 +50,17 @@ fn append_to<S: Store>(
     ensures put { OnOk result (IsOpenStore held.new → records_in held.new ≡ records_in held.old ++ records.now) }
     ensures same { OnErr result (IsOpenStore held.new → records_in held.new ≡ records_in held.old) }
     ensures sound { IsOpenStore held.new → IsOpenStore held.old }
+    ensures is_open { OnOk result (IsHonestStore held.new → IsOpenStore held.new) }
+    ensures full { IfErr result (λ fault. fault ≡ Full → IsHonestStore held.new → IsOpenStore held.new) }
+    ensures left { OnOk result ((rs : List (Record Global)) → Recovers held.new rs → IsOpenStore held.new × (rs ≡ records_in held.new)) }
+    ensures crash { (rs : List (Record Global)) → Recovers held.new rs → Recovers held.old rs ⊎ (IsOpenStore held.old × (rs ≡ records_in held.old ++ records.now)) }
 {
     match held {
         Held::Open(store) => match store.append(run, records) {
             Ok(()) => Ok(()),
-            Err(fault) => Err(fault_of(fault)),
+            Err(fault) => Err(fault_of_append(fault, store.is_shut())),
         },
-        Held::Shut(_) => Err(LedgerFault::Shut),
+        Held::Shut => Err(LedgerFault::Shut),
         Held::Lost => Err(LedgerFault::Lost),
     }
 }
@@ -58,6 +69,7 @@ fn append_to<S: Store>(
 fn note_in<S: Store>(held: &mut Held<S>, run: u64, about: &Run<'_>) -> bool
     ensures same { IsOpenStore held.new → records_in held.new ≡ records_in held.old }
     ensures sound { IsOpenStore held.new → IsOpenStore held.old }
+    ensures crash { (rs : List (Record Global)) → Recovers held.new rs → Recovers held.old rs ⊎ (IsOpenStore held.old × (rs ≡ records_in held.old)) }
 {
     match held {
         Held::Open(store) => match store.note_requests(run, about) {
@@ -72,6 +84,7 @@ fn note_in<S: Store>(held: &mut Held<S>, run: u64, about: &Run<'_>) -> bool
 fn copy_in<P: StorePlace>(held: &mut Held<P::Store>)
     ensures same { IsOpenStore held.new → records_in held.new ≡ records_in held.old }
     ensures sound { IsOpenStore held.new → IsOpenStore held.old }
+    ensures crash { (rs : List (Record Global)) → Recovers held.new rs → Recovers held.old rs }
 {
     if let Held::Open(store) = held {
         let _ = P::checkpoint(store);
@@ -79,26 +92,58 @@ fn copy_in<P: StorePlace>(held: &mut Held<P::Store>)
 }
 
 impl<S: Store> Shelf<S> {
-    /// Returns the shelf of a store that was opened for the first time.
-    pub(crate) fn first(store: RequestStore<S>) -> Shelf<S>
+    /// Returns the shelf of a store that was opened for the first time and has `committed` requests.
+    pub(crate) fn first(store: RequestStore<S>, committed: u64) -> Shelf<S>
+        requires { IsTrue (requests_shown store).is_open → length (said (requests store)) ≡ committed }
         ensures clean { IsSound result → IsClean (requests_shown store) }
+        ensures honest { IsHonest result → IsClean (requests_shown store) }
+        ensures sound { IsTrue (requests_shown store).is_open → IsSound result }
+        ensures leaves { (rs : List (Record Global)) → Recovers result.held rs → LeavesRecords store rs }
         ensures kept { kept_in result ≡ said (requests store) }
+        ensures counted { IsCounted result }
+        ensures committed { result.committed ≡ committed }
     {
         Shelf {
             held: Held::Open(store),
+            committed,
             is_first: true,
         }
     }
 
+    /// Returns the number of committed requests after `more` are appended, or None if it is too large.
+    pub(crate) fn count_with(&self, more: usize) -> Option<u64>
+        ensures { IfSome result (λ count. count ≡ self.now.committed + more) }
+    {
+        self.committed.checked_add(more as u64)
+    }
+
     /// Appends records as entered in the run `run`, all or none.
     ///
-    /// Errors: Full, Write: nothing is appended; Shut if the store has to be reopened; Lost.
+    /// Errors: Full: nothing is appended, and the store stays open; Write: nobody knows, if the store is shut; Shut if it
+    /// has to be reopened; Lost.
     pub(crate) fn append(&mut self, run: u64, records: &[Record<Global>]) -> Result<(), LedgerFault>
         ensures put { OnOk result (IsSound self.new → kept_in self.new ≡ kept_in self.old ++ records.now) }
         ensures same { OnErr result (IsSound self.new → kept_in self.new ≡ kept_in self.old) }
         ensures sound { IsSound self.new → IsSound self.old }
+        ensures behind { OnOk result (IsCounted self.old → IsHonest self.new → AreBehind (kept_in self.new) self.old.committed records.now) }
+        ensures full { IfErr result (λ fault. fault ≡ Full → IsSound self.old → IsHonest self.new → IsSound self.new) }
+        ensures left { OnOk result ((rs : List (Record Global)) → Recovers self.new.held rs → IsOpenStore self.new.held × (rs ≡ kept_in self.new)) }
+        ensures first { self.new.is_first ≡ self.old.is_first }
+        ensures crash { (rs : List (Record Global)) → Recovers self.new.held rs → Recovers self.old.held rs ⊎ (IsOpenStore self.old.held × (rs ≡ kept_in self.old ++ records.now)) }
+        ensures more { OnOk result (self.new.committed ≡ self.old.committed + length records.now) }
+        ensures no_more { OnErr result (self.new.committed ≡ self.old.committed) }
+        ensures counted { IsCounted self.old → IsCounted self.new }
     {
-        append_to(&mut self.held, run, records)
+        let Some(committed) = self.count_with(records.len()) else {
+            return Err(LedgerFault::Full);
+        };
+        match append_to(&mut self.held, run, records) {
+            Ok(()) => {
+                self.committed = committed;
+                Ok(())
+            }
+            Err(fault) => Err(fault),
+        }
     }
 
     /// Drops the store, so that it has to be reopened, and returns the number of committed requests.
@@ -107,25 +152,27 @@ impl<S: Store> Shelf<S> {
     pub(crate) fn let_go(&mut self) -> Result<u64, LedgerFault>
     where
         S: Drop,
+        ensures number { IfOk result (λ committed. committed ≡ self.old.committed) }
+        ensures same { self.new.committed ≡ self.old.committed }
         ensures doubtful { self.new.is_first ≡ false }
+        ensures shut { ¬ IsOpenStore self.new.held }
     {
         self.is_first = false;
-        let committed = match &self.held {
-            Held::Open(store) => store.len(),
-            Held::Shut(committed) => *committed,
-            Held::Lost => return Err(LedgerFault::Lost),
-        };
-        self.held = Held::Shut(committed);
-        Ok(committed)
+        if let Held::Lost = &self.held {
+            return Err(LedgerFault::Lost);
+        }
+        self.held = Held::Shut;
+        Ok(self.committed)
     }
 
-    /// Takes the reopened store.
-    pub(crate) fn take_up(&mut self, store: RequestStore<S>)
+    /// Takes the reopened store, of `committed` requests.
+    pub(crate) fn take_up(&mut self, store: RequestStore<S>, committed: u64)
     where
         S: Drop,
-        ensures { self.new ≡ record { held = Open store; is_first = false } }
+        ensures { self.new ≡ record { held = Open store; committed = committed; is_first = false } }
     {
         self.is_first = false;
+        self.committed = committed;
         self.held = Held::Open(store);
     }
 
@@ -133,7 +180,7 @@ impl<S: Store> Shelf<S> {
     pub(crate) fn give_up(&mut self)
     where
         S: Drop,
-        ensures { self.new ≡ record { held = Lost; is_first = false } }
+        ensures { self.new ≡ record { held = Lost; committed = self.old.committed; is_first = false } }
     {
         self.is_first = false;
         self.held = Held::Lost;
@@ -145,6 +192,10 @@ impl<S: Store> Shelf<S> {
 pub(crate) fn tidy<P: StorePlace>(shelf: &mut Shelf<P::Store>, run: u64, about: &Run<'_>)
     ensures same { IsSound shelf.new → kept_in shelf.new ≡ kept_in shelf.old }
     ensures sound { IsSound shelf.new → IsSound shelf.old }
+    ensures committed { shelf.new.committed ≡ shelf.old.committed }
+    ensures counted { IsCounted shelf.old → IsCounted shelf.new }
+    ensures first { shelf.new.is_first ≡ shelf.old.is_first }
+    ensures crash { (rs : List (Record Global)) → Recovers shelf.new.held rs → Recovers shelf.old.held rs ⊎ (IsOpenStore shelf.old.held × (rs ≡ kept_in shelf.old)) }
 {
     if note_in(&mut shelf.held, run, about) {
         copy_in::<P>(&mut shelf.held);

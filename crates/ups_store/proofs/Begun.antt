@@ -1,5 +1,5 @@
 -- What a store has once the row of a run is committed.
-use Rattle.std.proofs.Common.{◌≡◌, ◌⊎◌, ℕ, ◌+◌, ◌<◌, ◌≤◌, ◌^◌, false, List, length, IsTrue, Result, Ok, Err, OnOk, OnErr, refl, sym, ap, subst, ◌∙◌}
+use Rattle.std.proofs.Common.{◌≡◌, ℕ, ◌+◌, ◌<◌, ◌≤◌, ◌^◌, false, List, length, IsTrue, Result, Ok, Err, OnOk, OnErr, refl, sym, ap, subst, ◌∙◌}
 use Rattle.std.proofs.lemmas.List.{length-map}
 use Rattle.sqlite_value.specs.Order.{Row}
 use Rattle.sqlite_trees.specs.Tree.{Trees, put_row}
@@ -12,8 +12,8 @@ use Rattle.ups_store.specs.Held.{IsAdding, Holds, HoldsIfOpen}
 use Rattle.ups_store.specs.declared.fault.StoreFault.{StoreFault}
 use Rattle.ups_store.specs.declared.fault.StoreFault.TheVariants.{Memory, Disk, Damaged, Full, Shut, TooLarge, TooMany, NotRequest, Short}
 use Rattle.ups_store.specs.Faults.{Reasons, HasRunReason}
-use Rattle.ups_store.specs.Runs.{row_of_run, last_number, last_requests, Enters}
-use Rattle.ups_store.proofs.Steps.{sound_open, open_clean, clean_before, was_open, held_undone, held_committed}
+use Rattle.ups_store.specs.Runs.{row_of_run, last_runs, last_number, last_requests, Enters}
+use Rattle.ups_store.proofs.Steps.{sound_open, open_clean, was_open, held_undone, held_committed}
 
 -- the row of a run leaves the requests
 pub adding_beside : (old new : View) (count : ℕ) (edit : List Row → List Row) → IsAdding old count → SetsTree old new 1 edit → IsAdding new count
@@ -41,6 +41,29 @@ has_run old mid new number count run holds sets done =
     record {
       noted = ap (λ (db : Trees). db 1) new_is ∙ ap (λ (v : View). v.trees 1) sets.is ∙ ap (λ (db : Trees). put_row (row_of_run number run count) (db 1)) holds.same
           ∙ ap (λ (n : ℕ). put_row (row_of_run number run n) (old.committed 1)) (counted_in old count holds);
+      requests = rw rows refl;
+    }
+
+-- the row of a run that is entered leaves the requests
+pub adding_entered : (old mid : View) (number count : ℕ) (run : Run) → IsAdding old count → Enters old mid number run count → IsAdding mid count
+adding_entered old mid number count run was enters = record {
+  sound = enters.stays;
+  numbered = subst IsNumbered (sym enters.requests) was.numbered;
+  counted = ap length enters.requests ∙ was.counted;
+}
+
+-- what is committed once a run is entered
+pub record HasEntered (old new : View) (number : ℕ) (run : Run) : Type 0 where
+  pub runs : new.committed 1 ≡ last_runs number (put_row (row_of_run number run (length (requests_in old.committed))) (old.committed 1))
+  pub requests : requests_in new.committed ≡ requests_in old.committed
+
+pub has_entered : (old mid new : View) (number count : ℕ) (run : Run) → Holds old count → Enters old mid number run count → Commits mid new → HasEntered old new number run
+has_entered old mid new number count run holds enters done =
+    let new_is : new.committed ≡ mid.trees = ap (λ (v : View). v.committed) done.is in
+    let rows : new.committed 0 ≡ old.committed 0 = ap (λ (db : Trees). db 0) new_is ∙ enters.requests ∙ ap (λ (db : Trees). db 0) holds.same in
+    record {
+      runs = ap (λ (db : Trees). db 1) new_is ∙ enters.runs ∙ ap (λ (db : Trees). last_runs number (put_row (row_of_run number run count) (db 1))) holds.same
+          ∙ ap (λ (n : ℕ). last_runs number (put_row (row_of_run number run n) (old.committed 1))) (counted_in old count holds);
       requests = rw rows refl;
     }
 

@@ -6,3 +6,4 @@ pub mod Opened
 pub mod Behind
 pub mod Begun
 pub mod Cleared
+pub mod Dropped

@@ -40,8 +40,15 @@ use Rattle.sqlite_trees.specs.declared.error.StoreError.TheVariants as names
 use Rattle.ups_store.specs.declared.fault.OpenFault.{OpenFault}
 use Rattle.ups_store.specs.declared.fault.OpenFault.TheVariants as faults
 use Rattle.ups_store.specs.Held.{IsFresh}
-use Rattle.ups_store.specs.Found.{used_page, the_schema, image_of, HoldsTables, ListsNothing, StandAlike, ReadAs}
-use Rattle.ups_store.specs.Refused.{faults_in, AreCleanFiles, MeetsLimit, OpenReasons, HasOpenReason, fault_of_opening, IsKind}
+use Rattle.sqlite_wal.specs.declared.error.Error.{Error}
+use Rattle.sqlite_wal.specs.declared.error.Error.TheVariants as log
+use Rattle.sqlite_wal.specs.Outcome.{HasCause}
+use Rattle.sqlite_wal.specs.Opening.{RefusesLog}
+use Rattle.sqlite_wal.specs.Files.{IsHuge}
+use Rattle.sqlite_wal.specs.Recovery.{IsLogFor}
+use Rattle.sqlite_pool.specs.Opening.{IsBlankFile}
+use Rattle.ups_store.specs.Found.{whole_page, used_page, the_schema, image_of, HoldsTables, HoldsNone, IsUnused, ListsNothing, StandAlike, ReadAs}
+use Rattle.ups_store.specs.Refused.{faults_in, AreCleanFiles, MeetsLimit, IsLongLog, HasLog, OpenReasons, because, HasOpenReason, reasons, fault_of_opening, refuses_log, fault_of_log, IsKind}
 
 shape_first : (schema : List Wanted) → shape_at schema 0 ≡ Table → all_shapes schema 0 ≡ Table
 unfolding all_shapes
@@ -79,6 +86,10 @@ more_from first then last below more = omega (arith, more, below)
 pub halves : (a b : Bool) → IsTrue (a && b) → IsTrue a × IsTrue b
 halves true b h = (refl, h)
 halves false b h = absurd (true≢false (sym h))
+
+pub both_true : (a b : Bool) → IsTrue a → IsTrue b → IsTrue (a && b)
+both_true true b h k = k
+both_true false b h k = absurd (true≢false (sym h))
 
 -- the files stand for one database
 pages_once : (size : ℕ) (image : Image) (p q : PageMap) → Recovers size image p → Recovers size image q → p ≡ q
@@ -174,7 +185,7 @@ module _ {D : Type 0} {g : Ghosts D} where
   clean_from it files is clean = clean_files it files.log files.db is clean
 
 -- why an open fails, in the words of the faults
-pub reason_of : (old new : ℕ) (AtLimit Wanted : Type 0) (e : OpenError) (name : StoreError) → FailsToOpen old new AtLimit Wanted e → HasOpenReason (record { Failed = MoreFaults old new; AtLimit = AtLimit; Refused = ¬ Wanted }) (fault_of_opening e name)
+pub reason_of : (old new : ℕ) (AtLimit Wanted : Type 0) (e : OpenError) (name : StoreError) → FailsToOpen old new AtLimit Wanted e → HasOpenReason (because (MoreFaults old new) AtLimit (¬ Wanted)) (fault_of_opening e name)
 reason_of old new L W kit.OutOfMemory name h = tt
 reason_of old new L W kit.Io names.OutOfMemory h = h
 reason_of old new L W kit.Io names.Io h = h
@@ -185,28 +196,46 @@ reason_of old new L W kit.Io names.Unstorable h = h
 reason_of old new L W kit.Full name h = h
 reason_of old new L W kit.Refused name h = h
 
-pub reason_as : (r s : OpenReasons) (fault : OpenFault) → (r.Failed → s.Failed) → (r.AtLimit → s.AtLimit) → (r.Refused → s.Refused) → HasOpenReason r fault → HasOpenReason s fault
-reason_as r s faults.Memory f l w h = tt
-reason_as r s faults.Busy f l w h = h
-reason_as r s faults.Unopened f l w h = h
-reason_as r s faults.Disk f l w h = f h
-reason_as r s faults.Full f l w h = f h
-reason_as r s faults.AtLimit f l w h = l h
-reason_as r s faults.Damaged f l w (inl h) = inl (f h)
-reason_as r s faults.Damaged f l w (inr h) = inr (w h)
-reason_as r s faults.NotStore f l w h = w h
-reason_as r s faults.OtherFormat f l w h = w h
+-- the same reasons in other words
+pub reason_all : (r s : OpenReasons) (fault : OpenFault) → (r.Failed → s.Failed) → (r.AtLimit → s.AtLimit) → (r.Refused → s.Refused) → (r.IsMissing → s.IsMissing) → (r.LogIsAlone → s.LogIsAlone) → (r.IsThere → s.IsThere) → HasOpenReason r fault → HasOpenReason s fault
+reason_all r s faults.Memory f l w m a t h = tt
+reason_all r s faults.Busy f l w m a t h = h
+reason_all r s faults.Unopened f l w m a t h = h
+reason_all r s faults.Disk f l w m a t h = f h
+reason_all r s faults.Full f l w m a t h = f h
+reason_all r s faults.AtLimit f l w m a t h = l h
+reason_all r s faults.Damaged f l w m a t (inl h) = inl (f h)
+reason_all r s faults.Damaged f l w m a t (inr h) = inr (w h)
+reason_all r s faults.NotStore f l w m a t h = w h
+reason_all r s faults.Missing f l w m a t h = m h
+reason_all r s faults.LogAlone f l w m a t h = a h
+reason_all r s faults.Exists f l w m a t h = t h
+reason_all r s faults.OtherFormat f l w m a t h = w h
+
+pub reason_as : (F L W : Type 0) (s : OpenReasons) (fault : OpenFault) → (F → s.Failed) → (L → s.AtLimit) → (W → s.Refused) → HasOpenReason (because F L W) fault → HasOpenReason s fault
+reason_as F L W s fault f l w h = reason_all (because F L W) s fault f l w (λ no. absurd no) (λ no. absurd no) (λ no. absurd no) h
 
 module _ {D : Type 0} {g : Ghosts D} where
   -- the same of the files that were given back
   pub reason_back : (old : ℕ) (left : Unopened D g) (r : Files D) (Limit Wanted : Type 0) (e : OpenError) (name : StoreError) (fault : OpenFault) → (r.log, r.db) ≡ files_of left → fault ≡ fault_of_opening e name → (Limit → IsFullFile left ⊎ StopsCreating left)
-      → FailsToOpen old (state_of left).faults Limit Wanted e → HasOpenReason (record { Failed = MoreFaults old (faults_in g r); AtLimit = MeetsLimit g r; Refused = ¬ Wanted }) fault
+      → FailsToOpen old (state_of left).faults Limit Wanted e → HasOpenReason (because (MoreFaults old (faults_in g r)) (MeetsLimit g r) (¬ Wanted)) fault
   reason_back old left r Limit Wanted e name fault files is limit fails =
       let there = reason_of old (state_of left).faults Limit Wanted e name fails in
-      subst (HasOpenReason (record { Failed = MoreFaults old (faults_in g r); AtLimit = MeetsLimit g r; Refused = ¬ Wanted })) (sym is) (
-      reason_as (record { Failed = MoreFaults old (state_of left).faults; AtLimit = Limit; Refused = ¬ Wanted }) (record { Failed = MoreFaults old (faults_in g r); AtLimit = MeetsLimit g r; Refused = ¬ Wanted }) (fault_of_opening e name)
+      subst (HasOpenReason (because (MoreFaults old (faults_in g r)) (MeetsLimit g r) (¬ Wanted))) (sym is) (
+      reason_as (MoreFaults old (state_of left).faults) Limit (¬ Wanted) (because (MoreFaults old (faults_in g r)) (MeetsLimit g r) (¬ Wanted)) (fault_of_opening e name)
       (λ f. subst (MoreFaults old) (faults_back left r files) f) (λ l. (left, sym files, limit l)) (λ w. w) there
       )
+
+  -- the files after reads of both, one after the other
+  pub reads_on : (a b c : D) → OnlyReads g a b → OnlyReads g b c → OnlyReads g a c
+  reads_on a b c first then = record {
+    seen = then.seen ∙ first.seen;
+    clean = λ h. first.clean (then.clean h);
+    usable = then.usable;
+    key = then.key ∙ first.key;
+    rot = then.rot ∙ first.rot;
+    crash = λ bytes h. first.crash bytes (then.crash bytes h);
+  }
 
 pub kind_reason : (r : OpenReasons) (fault : OpenFault) → IsKind fault → r.Refused → HasOpenReason r fault
 kind_reason r faults.Memory k w = tt
@@ -217,4 +246,41 @@ kind_reason r faults.Full k w = absurd k
 kind_reason r faults.AtLimit k w = absurd k
 kind_reason r faults.Damaged k w = inr w
 kind_reason r faults.NotStore k w = w
+kind_reason r faults.Missing k w = absurd k
+kind_reason r faults.LogAlone k w = absurd k
+kind_reason r faults.Exists k w = absurd k
 kind_reason r faults.OtherFormat k w = w
+
+module _ {D : Type 0} {g : Ghosts D} where
+  -- the reasons of an open, where reads of the files came first
+  pub reasons_kept : (old mid new : Files D) (fault : OpenFault) → OnlyReads g old.log mid.log → OnlyReads g old.db mid.db → faults_in g old ≤ faults_in g mid → HasOpenReason (reasons g mid new) fault → HasOpenReason (reasons g old new) fault
+  reasons_kept old mid new fault log db counts h =
+      let same = image_kept old mid log db in
+      reason_all (reasons g mid new) (reasons g old new) fault (λ f. elim f [ inl more ↦ inl (more_from _ _ _ counts more) | inr u ↦ inr u ])
+      (λ l. elim l [ inl limit ↦ inl limit | inr long ↦ inr (long_kept long) ]) (subst HoldsNone same) (subst IsUnused same) (λ a. (subst (IsBlankFile used_page) same a.0, subst HasLog log.seen a.1)) (λ t. t) h
+    where
+      long_kept : IsLongLog g mid → IsLongLog g old
+      long_kept long = (subst (IsLogFor whole_page) log.seen long.0, subst (IsHuge whole_page) (image_kept old mid log db) long.1)
+
+pub log_refused : (old new : ℕ) (bytes : List ℕ) (e : Error) → IsTrue (refuses_log e) → HasCause old new (RefusesLog whole_page bytes) e → HasLog bytes
+log_refused old new bytes (log.Io e) is h = absurd (true≢false (sym is))
+log_refused old new bytes log.OutOfMemory is h = absurd (true≢false (sym is))
+log_refused old new bytes log.Closed is h = inr (log.Closed, h)
+log_refused old new bytes log.NoSuchPage is h = inr (log.NoSuchPage, h)
+log_refused old new bytes log.Full is h = inr (log.Full, h)
+log_refused old new bytes log.Corrupt is h = inr (log.Corrupt, h)
+log_refused old new bytes log.Exists is h = inr (log.Exists, h)
+
+pub log_failed : (old new : ℕ) (bytes : List ℕ) (e : Error) → refuses_log e ≡ false → HasCause old new (RefusesLog whole_page bytes) e → HasOpenReason (because (MoreFaults old new) ⊥ ⊥) (fault_of_log e)
+log_failed old new bytes (log.Io e) is h = h
+log_failed old new bytes log.OutOfMemory is h = tt
+log_failed old new bytes log.Closed is h = absurd (true≢false is)
+log_failed old new bytes log.NoSuchPage is h = absurd (true≢false is)
+log_failed old new bytes log.Full is h = absurd (true≢false is)
+log_failed old new bytes log.Corrupt is h = absurd (true≢false is)
+log_failed old new bytes log.Exists is h = absurd (true≢false is)
+
+module _ {D : Type 0} {g : Ghosts D} where
+  -- the files are clean before the log is read alone, if they are after it
+  pub clean_beside : (log new db : D) → OnlyReads g log new → AreClean g new db → AreClean g log db
+  clean_beside log new db same clean = let both = halves (g.is_clean new) (g.is_clean db) clean in both_true (g.is_clean log) (g.is_clean db) (same.clean both.0) both.1

@@ -1,6 +1,6 @@
 -- What a scan of the requests has given.
-use Rattle.std.proofs.Common.{◌≡◌, ◌≢◌, IsTrue, true≢false, ℕ, zero, suc, pos, ◌+◌, ◌≤◌, false, List, [], ◌∷◌, ◌++◌, map, length, take, drop, Option, Some, refl, sym, ap, subst, ◌∙◌, arith, add-one}
-use Rattle.std.proofs.lemmas.List.{take-map, drop-map, length-take-le, length-drop, length-map, take_all}
+use Rattle.std.proofs.Common.{◌≡◌, ◌≢◌, IsTrue, true≢false, ℕ, zero, suc, pos, ◌+◌, ◌≤◌, List, [], ◌∷◌, ◌++◌, map, length, take, drop, Some, refl, sym, ap, subst, ◌∙◌, arith}
+use Rattle.std.proofs.lemmas.List.{drop-map, length-take-le, length-drop, length-map, take_all}
 use Rattle.sqlite_value.specs.Order.{Row}
 use Rattle.sqlite_value.specs.declared.keys.Order.{Order}
 use Rattle.sqlite_trees.specs.Tree.{Trees, from_key, sought, order_of}
@@ -9,14 +9,14 @@ use Rattle.sqlite_trees.specs.View.{View, with_cursor}
 use Rattle.ups_store.specs.declared.request.StoredRequest.{StoredRequest}
 use Rattle.ups_store.specs.declared.reading.Taken.TheVariants.{End, Other, One}
 use Rattle.ups_store.specs.Rows.{request_row, rows_from, request_in, requests_in, IsNumbered}
-use Rattle.ups_store.specs.Held.{IsFresh, HasTables, HasGiven, Holds}
+use Rattle.ups_store.specs.Held.{IsFresh, HasGiven, Holds}
 use Rattle.ups_store.specs.declared.reading.Phase.{Phase}
 use Rattle.ups_store.specs.declared.reading.Phase.TheVariants.{Fresh, Reading, Ended, Failed}
 use Rattle.ups_store.specs.Shown.{is_ended}
-use Rattle.ups_store.specs.Taken.{TakesNext, Steps}
+use Rattle.ups_store.specs.Taken.{TakesNext}
 use Rattle.ups_store.proofs.Rows.{rows_push, rows_drop}
 
-from_start : (o : Order) (rows : List Row) → from_key o [] rows ≡ rows
+pub from_start : (o : Order) (rows : List Row) → from_key o [] rows ≡ rows
 from_start o [] = refl
 from_start o ([] ∷ rows) = refl
 from_start o ((v ∷ row) ∷ rows) = refl

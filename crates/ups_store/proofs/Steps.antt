@@ -11,7 +11,7 @@ use Rattle.sqlite_trees.specs.declared.error.StoreError.TheVariants.{OutOfMemory
 use Rattle.sqlite_trees.specs.View.{View, doubt, IsClean, SetsTree, OnlyWrites, KeepsSchema, KeepsCommitted, IsFailure, HasCause, IsRolledBack, Commits}
 use Rattle.ups_store.specs.Rows.{request_row, rows_from, request_in, requests_in, IsNumbered}
 use Rattle.ups_store.specs.declared.request.StoredRequest.{StoredRequest}
-use Rattle.ups_store.specs.Held.{HasTables, IsAdding, Adds, Holds, HoldsIfOpen}
+use Rattle.ups_store.specs.Held.{IsAdding, Adds, Holds, HoldsIfOpen}
 use Rattle.ups_store.proofs.Rows.{put_last, rows_length, rows_push}
 
 pub on_either : {T E P : Type 0} (r : Result T E) → OnOk r P → IfErr r (λ _. P) → P
@@ -209,6 +209,14 @@ outcomes Before Between sound mid all says quiet db (inl both) =
     let said = says both.0 in
     inr (ap requests_in both.1 ∙ said.0, subst (λ (d : Trees). IsNumbered (d 0)) (sym both.1) said.1)
 outcomes Before Between sound mid all says quiet db (inr between) = inl (quiet db between)
+
+-- the same, where the store was open before a transaction that is sound
+pub outcomes_open : (Before Between : Trees → Type 0) (sound up : Type 0) (mid : Trees) (all : List StoredRequest) → (sound → up) → (sound → (requests_in mid ≡ all) × IsNumbered (mid 0)) → ((db : Trees) → Between db → Before db) → (db : Trees)
+    → ((sound × (db ≡ mid)) ⊎ Between db) → Before db ⊎ (up × (requests_in db ≡ all) × IsNumbered (db 0))
+outcomes_open Before Between sound up mid all was says quiet db (inl both) =
+    let said = says both.0 in
+    inr (was both.0, ap requests_in both.1 ∙ said.0, subst (λ (d : Trees). IsNumbered (d 0)) (sym both.1) said.1)
+outcomes_open Before Between sound up mid all was says quiet db (inr between) = inl (quiet db between)
 
 pub on_err : {T E P : Type 0} (r : Result T E) → P → OnErr r P
 on_err (Ok x) p = tt

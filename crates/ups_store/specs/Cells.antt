@@ -1,8 +1,8 @@
 -- Single values as cells of a row, and the values in cells.
-use Rattle.std.specs.Prelude.{ℕ, ℤ, pos, negsuc, Bool, true, false, List, [], Option, None, Some, ◌==◌, ◌^◌, nat_lt, unwrap_or, if◌then◌else◌}
+use Rattle.std.specs.Prelude.{ℕ, ℤ, pos, negsuc, Bool, true, false, List, Option, None, Some, ◌==◌, ◌^◌, nat_lt, unwrap_or, if◌then◌else◌}
 use Rattle.std.specs.Int.{w64, cast_signed, cast_unsigned}
 use Rattle.sqlite_value.specs.declared.value.Value.{Value}
-use Rattle.sqlite_value.specs.declared.value.Value.TheVariants.{Null, Int, Real, Text, Blob}
+use Rattle.sqlite_value.specs.declared.value.Value.TheVariants.{Null, Int, Text, Blob}
 use Rattle.sqlite_value.specs.Order.{bytes}
 use Rattle.ups_cycle.specs.States.{state_text}
 use Rattle.ups_cycle.specs.declared.state.StepState.{StepState}

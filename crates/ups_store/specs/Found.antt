@@ -3,7 +3,7 @@ use Rattle.std.specs.Prelude.{◌≡◌, ◌⊎◌, ℕ, List, [], ◌∷◌, co
 use Rattle.sqlite_disk.specs.declared.Disk as disk
 use Rattle.sqlite_disk.specs.declared.Files.{Files}
 use Rattle.sqlite_pages.specs.PageMap.{PageMap}
-use Rattle.sqlite_wal.specs.Recovery.{Image}
+use Rattle.sqlite_wal.specs.Recovery.{Image, Replays}
 use Rattle.sqlite_wal.specs.Files.{seen_image}
 use Rattle.sqlite_pool.specs.Stored.{Recovers}
 use Rattle.sqlite_pool.specs.Opening.{IsBlankFile}
@@ -60,9 +60,13 @@ HasNone db = (db 0 ≡ []) × (db 1 ≡ [])
 abbrev pub ListsNothing : ℕ → Image → Type 0
 ListsNothing size image = (pages : PageMap) × Recovers size image pages × (rows_at size (in_use size pages) Table 1 ≡ [])
 
+-- There is no database in the files, and the log has no frame.
+abbrev pub AreNew : Image → Type 0
+AreNew image = IsBlankFile used_page image × Replays whole_page image.log 0
+
 -- There is no database in the files yet, or one that lists nothing.
 abbrev pub IsUnused : Image → Type 0
-IsUnused image = IsBlankFile used_page image ⊎ ListsNothing used_page image
+IsUnused image = AreNew image ⊎ ListsNothing used_page image
 
 -- the files are blank, or hold no sound database of the two tables
 abbrev pub HoldsNone : Image → Type 0
@@ -72,7 +76,10 @@ HoldsNone image = IsBlankFile used_page image ⊎ (¬ HoldsTables image)
 abbrev pub StandAlike : ℕ → Image → Image → Type 0
 StandAlike size old new = (pages : PageMap) × Recovers size old pages × Recovers size new pages
 
--- The database is what the files hold, row by row; or it has no rows and the files are unused. So files with any table are
--- read as they are, or refused.
+-- The database is what the files hold, row by row.
 abbrev pub FindsIn : Image → Trees → Type 0
-FindsIn image db = ReadAs used_page image the_schema db ⊎ (IsUnused image × HasNone db)
+FindsIn image db = ReadAs used_page image the_schema db
+
+-- The database has no rows, and there was none in the files.
+abbrev pub MakesIn : Image → Trees → Type 0
+MakesIn image db = IsUnused image × HasNone db

@@ -1,11 +1,13 @@
 -- The state of a store while its requests are replaced.
-use Rattle.std.specs.Prelude.{◌≡◌, ℕ, false, List, [], ◌∷◌, ◌++◌, Vec, IsTrue}
+use Rattle.std.specs.Prelude.{◌≡◌, ℕ, Bool, true, false, List, [], ◌∷◌, ◌++◌, Vec}
 use Rattle.std.specs.declared.alloc.Global.{Global}
 use Rattle.sqlite_trees.specs.Tree.{Trees}
 use Rattle.sqlite_trees.specs.View.{View}
 use Rattle.sqlite_trees.specs.declared.store.Store.{Ghosts}
 use Rattle.ups_journal.specs.declared.record.Record.{Record}
 use Rattle.ups_store.specs.declared.request.StoredRequest.{StoredRequest}
+use Rattle.ups_store.specs.declared.rewriting.Progress.{Progress}
+use Rattle.ups_store.specs.declared.rewriting.Progress.TheVariants.{Resting, Putting, Failed}
 use Rattle.ups_store.specs.declared.rewriting.Rewrite.{Rewrite}
 use Rattle.ups_store.specs.Rows.{requests_in, IsNumbered}
 
@@ -13,6 +15,11 @@ use Rattle.ups_store.specs.Rows.{requests_in, IsNumbered}
 abbrev pub records_of : List (Vec (Record Global) Global) → List (Record Global)
 records_of [] = []
 records_of (group ∷ groups) = group.items ++ records_of groups
+
+abbrev pub is_at_rest : Progress → Bool
+is_at_rest Resting = true
+is_at_rest Putting = false
+is_at_rest Failed = false
 
 module _ {S : Type 0} {g : Ghosts S} where
   abbrev pub seen : Rewrite S g → View
@@ -22,15 +29,19 @@ module _ {S : Type 0} {g : Ghosts S} where
   abbrev pub written_anew : Rewrite S g → List StoredRequest
   written_anew it = requests_in (seen it).trees
 
-  -- their number, even after a call has failed
+  -- their number, even after a call has failed; before the rewrite has begun, the number of all requests
   abbrev pub written_count : Rewrite S g → ℕ
   written_count it = it.count
 
-  -- no call has failed
-  abbrev pub GoesOnRewriting : Rewrite S g → Type 0
-  GoesOnRewriting it = IsTrue it.is_whole × ((seen it).is_broken ≡ false)
+  -- the rewrite has not begun, or it is committed
+  abbrev pub is_resting : Rewrite S g → Bool
+  is_resting it = is_at_rest it.progress
 
-  -- no call has failed, and the database has the requests that were put, numbered from 1
+  -- the rewrite has begun, and no call has failed
+  abbrev pub GoesOnRewriting : Rewrite S g → Type 0
+  GoesOnRewriting it = (it.progress ≡ Putting) × ((seen it).is_broken ≡ false)
+
+  -- the rewrite goes on, and the database has the requests that were put, numbered from 1
   pub record IsReplaced (it : Rewrite S g) (db : Trees) : Type 0 where
     pub sound : GoesOnRewriting it
     pub requests : requests_in db ≡ written_anew it

@@ -1,10 +1,11 @@
 -- The rows of runs.
-use Rattle.std.specs.Prelude.{◌≡◌, ℕ, ℤ, ◌+◌, ◌<◌, ◌≤◌, ◌^◌, List, [], ◌∷◌, Option, None, Some, ⊤}
-use Rattle.std.specs.Int.{w64, cast_signed}
+use Rattle.std.specs.Prelude.{◌≡◌, ℕ, ℤ, ◌+◌, ◌-◌, ◌<◌, ◌≤◌, ◌^◌, Bool, true, false, nat_le, if◌then◌else◌, List, [], ◌∷◌, Option, None, Some, is_some, ⊤}
+use Rattle.std.specs.Int.{w64, cast_signed, cast_unsigned}
+use Rattle.sqlite_value.specs.declared.value.Value.{Value}
 use Rattle.sqlite_value.specs.declared.value.Value.TheVariants.{Null, Int, Text}
 use Rattle.sqlite_value.specs.Order.{Row, column}
 use Rattle.sqlite_trees.specs.Tree.{rowid, put_row}
-use Rattle.sqlite_trees.specs.View.{View, SetsTree}
+use Rattle.sqlite_trees.specs.View.{View}
 use Rattle.ups_store.specs.declared.runs.Run.{Run}
 use Rattle.ups_store.specs.Cells.{number_cell, number_in}
 
@@ -36,9 +37,40 @@ last_number runs = number_in (rowid (last_row runs))
 abbrev pub last_requests : List Row → ℕ
 last_requests runs = number_in (column (last_row runs) 5)
 
--- the transaction puts the row of a run after the last one, which counted no more requests
-pub record Enters (old new : View) (number : ℕ) (run : Run) (requests : ℕ) : Type 0 where
+-- the number of a run that began a hundred runs or more before the run with the first number
+abbrev pub old_in : ℕ → Value → Option ℤ
+old_in number (Int id) = if nat_le 100 (number - cast_unsigned w64 id) then Some id else None
+old_in number _ = None
+
+-- the number of the first of these runs, if it is that old
+abbrev pub first_old : ℕ → List Row → Option ℤ
+first_old number [] = None
+first_old number (row ∷ rows) = old_in number (rowid row)
+
+-- these rows from the first that is not that old
+abbrev pub last_runs : ℕ → List Row → List Row
+last_runs number [] = []
+last_runs number (row ∷ rows) = if is_some (old_in number (rowid row)) then last_runs number rows else row ∷ rows
+
+-- a step towards the last runs, or no step if no other rows are left
+abbrev pub DropsTo : ℕ → List Row → List Row → Bool → Type 0
+DropsTo number old new true = last_runs number new ≡ last_runs number old
+DropsTo number old new false = new ≡ last_runs number old
+
+-- the transaction is sound, and only deletes runs
+pub record DropsRuns (old new : View) (number : ℕ) (goes_on : Bool) : Type 0 where
+  pub sound : old.is_broken ≡ false
+  pub stays : new.is_broken ≡ false
+  pub requests : new.trees 0 ≡ old.trees 0
+  pub runs : DropsTo number (old.trees 1) (new.trees 1) goes_on
+
+-- the transaction puts the row of a run after the last one, which counted no more requests, and deletes those of
+-- runs that are too old
+pub record Enters (old new : View) (number : ℕ) (run : Run) (requests_before : ℕ) : Type 0 where
   pub behind : number ≡ last_number (old.trees 1) + 1
   pub low : number < 2 ^ 63
-  pub enough : last_requests (old.trees 1) ≤ requests
-  pub puts : SetsTree old new 1 (put_row (row_of_run number run requests))
+  pub enough : last_requests (old.trees 1) ≤ requests_before
+  pub sound : old.is_broken ≡ false
+  pub stays : new.is_broken ≡ false
+  pub requests : new.trees 0 ≡ old.trees 0
+  pub runs : new.trees 1 ≡ last_runs number (put_row (row_of_run number run requests_before) (old.trees 1))

@@ -2,7 +2,6 @@
 use Rattle.std.specs.Prelude.{◌≡◌, ◌≢◌, ℕ, ◌+◌, ◌≤◌, ◌^◌, ◌<◌, ⊤, pos, Some, List, [], ◌∷◌}
 use Rattle.sqlite_value.specs.Order.{Row}
 use Rattle.sqlite_trees.specs.View.{View}
-use Rattle.ups_store.specs.declared.request.StoredRequest.{StoredRequest}
 use Rattle.ups_store.specs.declared.reading.Taken.{Taken}
 use Rattle.ups_store.specs.declared.reading.Taken.TheVariants.{End, Other, Beyond, One}
 use Rattle.ups_store.specs.Rows.{request_row, request_in}

@@ -92,6 +92,15 @@ pub enum OpenFault {
     /// The file is something else.
     #[error("the file is no store of requests")]
     NotStore,
+    /// There is no file, or it is blank.
+    #[error("the file is missing or blank: upsd init makes a store")]
+    Missing,
+    /// The file is blank, but its log has commits.
+    #[error("the file is blank, but the log next to it has requests: the file was emptied or replaced")]
+    LogAlone,
+    /// A store was to be made, but the file is not blank.
+    #[error("the file is not blank: a store is made only where there is none")]
+    Exists,
     /// The file is a store of another format.
     #[error("the store has another format: another version of the program made it")]
     OtherFormat,

@@ -6,6 +6,7 @@ mod cells;
 mod fault;
 mod laws;
 mod opening;
+mod path;
 mod reading;
 mod replaced;
 mod request;
@@ -16,7 +17,8 @@ mod words;
 
 pub use fault::{OpenFault, StoreFault};
 pub use laws::append_then_crash;
-pub use opening::{Refusal, open, open_files};
+pub use opening::{Refusal, create_files, open_files};
+pub use path::{create, open};
 pub use reading::Replay;
 pub use replaced::rewrite_then_crash;
 pub use request::StoredRequest;

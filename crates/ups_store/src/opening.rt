@@ -1,17 +1,18 @@
-//! Opening the file at a path.
+//! Opening the files of a store, and making one.
 
-ghost use Rattle.std.specs.Prelude.{◌≡◌, ◌⊎◌, ◌≤◌, ⊤, [], IsTrue, IfOk, IfErr, OnOk};
+ghost use Rattle.std.specs.Prelude.{◌≡◌, ◌⊎◌, ◌≤◌, ⊤, [], false, IsTrue, IfOk, IfErr, OnOk};
 ghost use Rattle.sqlite_disk.specs.Disk.{MoreFaults};
 ghost use Rattle.sqlite_wal.specs.Files.{image_at};
 ghost use Rattle.sqlite_wal.specs.Reads.{AreClean, OnlyReads};
+ghost use Rattle.sqlite_wal.specs.Recovery.{Replays};
 ghost use Rattle.sqlite_pool.specs.Opening.{IsBlankFile};
 ghost use Rattle.sqlite_store.specs.FileStore.{view};
 ghost use Rattle.sqlite_store.specs.Unopened.{AreUsable, HasFile, HasSomeFile, IsFullFile, CanCreate, files_of, wanted_by, state_of, image};
 ghost use Rattle.sqlite_store.specs.Catalog.{wanted_of};
 ghost use Rattle.sqlite_trees.specs.View.{IsClean};
 ghost use Rattle.ups_store.specs.Held.{IsFresh};
-ghost use Rattle.ups_store.specs.Found.{used_page, table_of, the_schema, image_of, HasNone, HoldsTables, HoldsNone, ListsNothing, StandAlike, ReadAs, FindsIn};
-ghost use Rattle.ups_store.specs.Refused.{faults_in, AreCleanFiles, IsUnusable, HasFailed, MeetsLimit, HasOpenReason, fault_of_opening, reasons, IsKind, IsLongLog, pair};
+ghost use Rattle.ups_store.specs.Found.{whole_page, used_page, table_of, the_schema, image_of, HasNone, HoldsTables, ListsNothing, AreNew, StandAlike, ReadAs, FindsIn, MakesIn};
+ghost use Rattle.ups_store.specs.Refused.{faults_in, AreCleanFiles, IsUnusable, HasLog, IsAlone, MeetsLimit, because, HasOpenReason, fault_of_opening, refuses_log, fault_of_log, reasons, creation_reasons, IsKind, IsLongLog, pair};
 ghost use Rattle.ups_store.specs.Shown.{shown_by, given_out};
 ghost use Rattle.ups_store.specs.declared.fault.OpenFault.TheVariants as faults;
 
@@ -20,16 +21,14 @@ use crate::reading::Replay;
 use sqlite_disk::{Disk, Files, Start};
 use sqlite_pager::{Options, Pager};
 use sqlite_pool::probe_blank;
-use sqlite_std_file::{FileFrom, OpenError as PathError};
 use sqlite_store::{FileStore, OpenError as StoreOpenError, Unopened, name_fault};
 use sqlite_trees::error::StoreError;
 use sqlite_trees::schema::Object;
 use sqlite_trees::store::Shape;
 use sqlite_value::row::Row;
 use sqlite_value::value::ValueRef;
-use sqlite_wal::PageSize;
+use sqlite_wal::{PageSize, probe_frames};
 use std::alloc::Global;
-use std::hash::{BuildHasher, RandomState};
 
 /// The page size of the file, in bytes: most records fit in one page, and a commit writes at least two.
 const PAGE: usize = 1024;
@@ -51,14 +50,6 @@ pub struct Refusal<D: Disk> {
     pub fault: OpenFault,
     /// The files.
     pub files: Files<D>,
-}
-
-fn fault_of_path(error: PathError) -> OpenFault {
-    match error {
-        PathError::OutOfMemory => OpenFault::Memory,
-        PathError::Busy => OpenFault::Busy,
-        _ => OpenFault::Unopened,
-    }
 }
 
 /// Returns the fault for an error of opening; `named` says what failed on the disk.
@@ -124,8 +115,9 @@ fn unopened<D: Disk + Drop>(
 fn is_blank<D: Disk>(alloc: Global, files: &mut Files<D>) -> Result<bool, OpenFault>
     requires log { IsTrue (D.Disk.is_usable files.old.log) }
     requires db { IsTrue (D.Disk.is_usable files.old.db) }
-    ensures ok { IfOk result (λ blank. AreCleanFiles D.Disk files.new → IsTrue blank → IsBlankFile used_page (image_of D.Disk files.old)) }
-    ensures cause { IfErr result (λ fault. AreCleanFiles D.Disk files.new → HasOpenReason (record { Failed = HasFailed D.Disk files.old files.new; AtLimit = IsLongLog D.Disk files.old; Refused = ⊥ }) fault) }
+    ensures blank { IfOk result (λ blank. AreCleanFiles D.Disk files.new → IsTrue blank → IsBlankFile used_page (image_of D.Disk files.old)) }
+    ensures there { IfOk result (λ blank. AreCleanFiles D.Disk files.new → IsBlankFile used_page (image_of D.Disk files.old) → IsTrue blank) }
+    ensures cause { IfErr result (λ fault. AreCleanFiles D.Disk files.new → HasOpenReason (because (MoreFaults (faults_in D.Disk files.old) (faults_in D.Disk files.new)) (IsLongLog D.Disk files.old) ⊥) fault) }
     ensures counts { faults_in D.Disk files.old ≤ faults_in D.Disk files.new }
     ensures log { OnlyReads D.Disk files.old.log files.new.log }
     ensures db { OnlyReads D.Disk files.old.db files.new.db }
@@ -136,6 +128,78 @@ fn is_blank<D: Disk>(alloc: Global, files: &mut Files<D>) -> Result<bool, OpenFa
         Err(sqlite_wal::Error::OutOfMemory) => Err(OpenFault::Memory),
         Err(sqlite_wal::Error::Io(_)) => Err(OpenFault::Disk),
         Err(_) => Err(OpenFault::AtLimit),
+    }
+}
+
+/// Returns whether this is the error of a recovery that refuses a log.
+fn refuses_log(error: &sqlite_wal::Error) -> bool
+    ensures { result ≡ refuses_log error.now }
+{
+    !matches!(
+        error,
+        sqlite_wal::Error::Io(_) | sqlite_wal::Error::OutOfMemory
+    )
+}
+
+/// Returns the fault for an error of reading a log that is not refused.
+fn fault_of_log(error: sqlite_wal::Error) -> OpenFault
+    ensures { result ≡ fault_of_log error }
+{
+    match error {
+        sqlite_wal::Error::OutOfMemory => OpenFault::Memory,
+        _ => OpenFault::Disk,
+    }
+}
+
+/// Returns whether recovery takes a frame of the log, or refuses the log.
+fn has_log<D: Disk>(alloc: Global, log: &mut D) -> Result<bool, OpenFault>
+    requires { IsTrue (D.Disk.is_usable log.old) }
+    ensures some { IfOk result (λ some. IsTrue (D.Disk.is_clean log.new) → IsTrue some → HasLog (D.Disk.seen log.old)) }
+    ensures none { IfOk result (λ some. IsTrue (D.Disk.is_clean log.new) → some ≡ false → Replays whole_page (D.Disk.seen log.old) 0) }
+    ensures cause { IfErr result (λ fault. IsTrue (D.Disk.is_clean log.new) → HasOpenReason (because (MoreFaults (D.Disk.faults log.old) (D.Disk.faults log.new)) ⊥ ⊥) fault) }
+    ensures counts { D.Disk.faults log.old ≤ D.Disk.faults log.new }
+    ensures same { OnlyReads D.Disk log.old log.new }
+{
+    let size = PageSize::new(PAGE).unwrap();
+    match probe_frames(alloc, log, size) {
+        Ok(numbers) => Ok(!numbers.is_empty()),
+        Err(error) => {
+            if refuses_log(&error) {
+                Ok(true)
+            } else {
+                Err(fault_of_log(error))
+            }
+        }
+    }
+}
+
+/// Returns whether the files have no database and no commit.
+fn is_new<D: Disk>(alloc: Global, files: &mut Files<D>) -> Result<bool, OpenFault>
+    requires log { IsTrue (D.Disk.is_usable files.old.log) }
+    requires db { IsTrue (D.Disk.is_usable files.old.db) }
+    ensures fresh { IfOk result (λ new. AreCleanFiles D.Disk files.new → IsTrue new → AreNew (image_of D.Disk files.old)) }
+    ensures there { IfOk result (λ new. AreCleanFiles D.Disk files.new → new ≡ false → ¬ IsBlankFile used_page (image_of D.Disk files.old)) }
+    ensures cause { IfErr result (λ fault. AreCleanFiles D.Disk files.new → HasOpenReason (record {
+      Failed = MoreFaults (faults_in D.Disk files.old) (faults_in D.Disk files.new);
+      AtLimit = IsLongLog D.Disk files.old;
+      Refused = ⊥;
+      IsMissing = ⊥;
+      LogIsAlone = IsAlone D.Disk files.old;
+      IsThere = ⊥;
+    }) fault) }
+    ensures counts { faults_in D.Disk files.old ≤ faults_in D.Disk files.new }
+    ensures log { OnlyReads D.Disk files.old.log files.new.log }
+    ensures db { OnlyReads D.Disk files.old.db files.new.db }
+{
+    match is_blank(alloc, files) {
+        Ok(true) => {}
+        Ok(false) => return Ok(false),
+        Err(fault) => return Err(fault),
+    }
+    match has_log(alloc, &mut files.log) {
+        Ok(true) => Err(OpenFault::LogAlone),
+        Ok(false) => Ok(true),
+        Err(fault) => Err(fault),
     }
 }
 
@@ -157,11 +221,7 @@ fn made<D: Disk + Drop>(files: Unopened<D>) -> Result<FileStore<D>, Refusal<D>>
     ensures fresh { IfOk result (λ store. IsClean (view store) → IsFresh (view store)) }
     ensures empty { IfOk result (λ store. IsClean (view store) → HasNone (view store).committed) }
     ensures honest { IfOk result (λ store. IsClean (view store) → IsTrue (state_of files).is_clean) }
-    ensures cause { IfErr result (λ r. AreCleanFiles D.Disk r.files → HasOpenReason (record {
-      Failed = MoreFaults (state_of files).faults (faults_in D.Disk r.files);
-      AtLimit = MeetsLimit D.Disk r.files;
-      Refused = ¬ CanCreate files;
-    }) r.fault) }
+    ensures cause { IfErr result (λ r. AreCleanFiles D.Disk r.files → HasOpenReason (because (MoreFaults (state_of files).faults (faults_in D.Disk r.files)) (MeetsLimit D.Disk r.files) (¬ CanCreate files)) r.fault) }
     ensures falls { IfErr result (λ r. AreCleanFiles D.Disk r.files → IsTrue (state_of files).is_clean × ((state_of files).faults ≤ faults_in D.Disk r.files)) }
 {
     let before = files.tally();
@@ -178,11 +238,7 @@ fn attached<D: Disk + Drop>(files: Unopened<D>) -> Result<FileStore<D>, Refusal<
     ensures fresh { IfOk result (λ store. IsClean (view store) → IsFresh (view store)) }
     ensures found { IfOk result (λ store. IsClean (view store) → ReadAs (state_of files).page_size (image files) the_schema (view store).committed) }
     ensures honest { IfOk result (λ store. IsClean (view store) → IsTrue (state_of files).is_clean) }
-    ensures cause { IfErr result (λ r. AreCleanFiles D.Disk r.files → HasOpenReason (record {
-      Failed = MoreFaults (state_of files).faults (faults_in D.Disk r.files);
-      AtLimit = MeetsLimit D.Disk r.files;
-      Refused = ¬ HasFile files;
-    }) r.fault) }
+    ensures cause { IfErr result (λ r. AreCleanFiles D.Disk r.files → HasOpenReason (because (MoreFaults (state_of files).faults (faults_in D.Disk r.files)) (MeetsLimit D.Disk r.files) (¬ HasFile files)) r.fault) }
     ensures falls { IfErr result (λ r. AreCleanFiles D.Disk r.files → IsTrue (state_of files).is_clean × ((state_of files).faults ≤ faults_in D.Disk r.files)) }
 {
     let before = files.tally();
@@ -201,11 +257,7 @@ fn lists_nothing<D: Disk + Drop>(files: &mut Unopened<D>) -> Result<bool, OpenFa
     ensures usable { OnOk result (AreUsable files.new) }
     ensures table { wanted_by files.new ≡ wanted_by files.old }
     ensures size { IsTrue (state_of files.new).is_clean → (state_of files.new).page_size ≡ (state_of files.old).page_size }
-    ensures cause { IfErr result (λ fault. IsTrue (state_of files.new).is_clean → HasOpenReason (record {
-      Failed = MoreFaults (state_of files.old).faults (state_of files.new).faults;
-      AtLimit = IsFullFile files.new;
-      Refused = ¬ HasSomeFile files.old;
-    }) fault) }
+    ensures cause { IfErr result (λ fault. IsTrue (state_of files.new).is_clean → HasOpenReason (because (MoreFaults (state_of files.old).faults (state_of files.new).faults) (IsFullFile files.new) (¬ HasSomeFile files.old)) fault) }
     ensures falls { IsTrue (state_of files.new).is_clean → IsTrue (state_of files.old).is_clean × ((state_of files.old).faults ≤ (state_of files.new).faults) }
 {
     let before = files.tally();
@@ -215,22 +267,30 @@ fn lists_nothing<D: Disk + Drop>(files: &mut Unopened<D>) -> Result<bool, OpenFa
     }
 }
 
-/// Creates the tables in files with an empty catalog, and opens others.
-fn opened<D: Disk + Drop>(mut files: Unopened<D>) -> Result<FileStore<D>, Refusal<D>>
+/// Creates the tables in files with an empty catalog, which an interrupted creation leaves.
+fn completed<D: Disk + Drop>(mut files: Unopened<D>) -> Result<FileStore<D>, Refusal<D>>
     requires usable { AreUsable files }
     requires table { wanted_by files ≡ the_schema }
     requires size { (state_of files).page_size ≡ used_page }
     ensures fresh { IfOk result (λ store. IsClean (view store) → IsFresh (view store)) }
-    ensures found { IfOk result (λ store. IsClean (view store) → FindsIn (image files) (view store).committed) }
+    ensures empty { IfOk result (λ store. IsClean (view store) → HasNone (view store).committed) }
+    ensures nothing { IfOk result (λ store. IsClean (view store) → ListsNothing used_page (image files)) }
     ensures cause { IfErr result (λ r. AreCleanFiles D.Disk r.files → HasOpenReason (record {
       Failed = MoreFaults (state_of files).faults (faults_in D.Disk r.files);
       AtLimit = MeetsLimit D.Disk r.files;
-      Refused = ¬ HoldsTables (image files);
+      Refused = ⊤;
+      IsMissing = ⊥;
+      LogIsAlone = ⊥;
+      IsThere = ⊤;
     }) r.fault) }
+    ensures falls { IfErr result (λ r. AreCleanFiles D.Disk r.files → IsTrue (state_of files).is_clean) }
 {
     match lists_nothing(&mut files) {
         Ok(true) => made(files),
-        Ok(false) => attached(files),
+        Ok(false) | Err(OpenFault::NotStore) => Err(Refusal {
+            fault: OpenFault::Exists,
+            files: files.close(),
+        }),
         Err(fault) => Err(Refusal {
             fault,
             files: files.close(),
@@ -238,7 +298,7 @@ fn opened<D: Disk + Drop>(mut files: Unopened<D>) -> Result<FileStore<D>, Refusa
     }
 }
 
-/// Creates the tables in files that should have no database.
+/// Creates the tables in files that have no database.
 fn made_in<D: Disk + Drop>(
     alloc: Global,
     files: Files<D>,
@@ -249,16 +309,84 @@ fn made_in<D: Disk + Drop>(
     ensures fresh { IfOk result (λ store. IsClean (view store) → IsFresh (view store)) }
     ensures empty { IfOk result (λ store. IsClean (view store) → HasNone (view store).committed) }
     ensures honest { IfOk result (λ store. IsClean (view store) → AreCleanFiles D.Disk files) }
-    ensures cause { IfErr result (λ r. AreCleanFiles D.Disk r.files → HasOpenReason (record {
-      Failed = MoreFaults (faults_in D.Disk files) (faults_in D.Disk r.files);
-      AtLimit = MeetsLimit D.Disk r.files;
-      Refused = ⊤;
-    }) r.fault) }
-    ensures falls { IfErr result (λ r. AreCleanFiles D.Disk r.files → AreCleanFiles D.Disk files) }
+    ensures cause { IfErr result (λ r. AreCleanFiles D.Disk r.files → HasOpenReason (because (MoreFaults (faults_in D.Disk files) (faults_in D.Disk r.files)) (MeetsLimit D.Disk r.files) ⊤) r.fault) }
 {
     match unopened(alloc, files, seed) {
         Ok(it) => made(it),
         Err(refusal) => Err(refusal),
+    }
+}
+
+/// Creates the tables in files that are not blank, if they have an empty catalog.
+fn completed_in<D: Disk + Drop>(
+    alloc: Global,
+    files: Files<D>,
+    seed: u64,
+) -> Result<FileStore<D>, Refusal<D>>
+    requires log { IsTrue (D.Disk.is_usable files.log) }
+    requires db { IsTrue (D.Disk.is_usable files.db) }
+    ensures fresh { IfOk result (λ store. IsClean (view store) → IsFresh (view store)) }
+    ensures made { IfOk result (λ store. IsClean (view store) → MakesIn (image_of D.Disk files) (view store).committed) }
+    ensures cause { IfErr result (λ r. AreCleanFiles D.Disk r.files → HasOpenReason (record {
+      Failed = MoreFaults (faults_in D.Disk files) (faults_in D.Disk r.files);
+      AtLimit = MeetsLimit D.Disk r.files;
+      Refused = ⊤;
+      IsMissing = ⊥;
+      LogIsAlone = ⊥;
+      IsThere = ⊤;
+    }) r.fault) }
+    ensures falls { IfErr result (λ r. AreCleanFiles D.Disk r.files → AreCleanFiles D.Disk files) }
+{
+    match unopened(alloc, files, seed) {
+        Ok(it) => completed(it),
+        Err(refusal) => Err(refusal),
+    }
+}
+
+fn new_store_over<D: Disk + Drop>(
+    alloc: Global,
+    mut files: Files<D>,
+    seed: u64,
+) -> Result<FileStore<D>, Refusal<D>>
+    requires log { IsTrue (D.Disk.is_usable files.log) }
+    requires db { IsTrue (D.Disk.is_usable files.db) }
+    ensures fresh { IfOk result (λ store. IsClean (view store) → IsFresh (view store)) }
+    ensures made { IfOk result (λ store. IsClean (view store) → MakesIn (image_of D.Disk files) (view store).committed) }
+    ensures cause { IfErr result (λ r. AreCleanFiles D.Disk r.files → HasOpenReason (creation_reasons D.Disk files r.files) r.fault) }
+{
+    match is_new(alloc, &mut files) {
+        Ok(true) => made_in(alloc, files, seed),
+        Ok(false) => completed_in(alloc, files, seed),
+        Err(fault) => Err(Refusal { fault, files }),
+    }
+}
+
+/// Opens files that do not have an empty catalog.
+fn opened<D: Disk + Drop>(mut files: Unopened<D>) -> Result<FileStore<D>, Refusal<D>>
+    requires usable { AreUsable files }
+    requires table { wanted_by files ≡ the_schema }
+    requires size { (state_of files).page_size ≡ used_page }
+    ensures fresh { IfOk result (λ store. IsClean (view store) → IsFresh (view store)) }
+    ensures found { IfOk result (λ store. IsClean (view store) → FindsIn (image files) (view store).committed) }
+    ensures cause { IfErr result (λ r. AreCleanFiles D.Disk r.files → HasOpenReason (record {
+      Failed = MoreFaults (state_of files).faults (faults_in D.Disk r.files);
+      AtLimit = MeetsLimit D.Disk r.files;
+      Refused = ¬ HoldsTables (image files);
+      IsMissing = ListsNothing used_page (image files);
+      LogIsAlone = ⊥;
+      IsThere = ⊥;
+    }) r.fault) }
+{
+    match lists_nothing(&mut files) {
+        Ok(true) => Err(Refusal {
+            fault: OpenFault::Missing,
+            files: files.close(),
+        }),
+        Ok(false) => attached(files),
+        Err(fault) => Err(Refusal {
+            fault,
+            files: files.close(),
+        }),
     }
 }
 
@@ -272,11 +400,7 @@ fn held_in<D: Disk + Drop>(
     requires db { IsTrue (D.Disk.is_usable files.db) }
     ensures fresh { IfOk result (λ store. IsClean (view store) → IsFresh (view store)) }
     ensures found { IfOk result (λ store. IsClean (view store) → FindsIn (image_of D.Disk files) (view store).committed) }
-    ensures cause { IfErr result (λ r. AreCleanFiles D.Disk r.files → HasOpenReason (record {
-      Failed = HasFailed D.Disk files r.files;
-      AtLimit = MeetsLimit D.Disk r.files;
-      Refused = HoldsNone (image_of D.Disk files);
-    }) r.fault) }
+    ensures cause { IfErr result (λ r. AreCleanFiles D.Disk r.files → HasOpenReason (reasons D.Disk files r.files) r.fault) }
 {
     match unopened(alloc, files, seed) {
         Ok(it) => opened(it),
@@ -295,8 +419,11 @@ fn store_over<D: Disk + Drop>(
     ensures found { IfOk result (λ store. IsClean (view store) → FindsIn (image_of D.Disk files) (view store).committed) }
     ensures cause { IfErr result (λ r. AreCleanFiles D.Disk r.files → HasOpenReason (reasons D.Disk files r.files) r.fault) }
 {
-    match is_blank(alloc, &mut files) {
-        Ok(true) => made_in(alloc, files, seed),
+    match is_new(alloc, &mut files) {
+        Ok(true) => Err(Refusal {
+            fault: OpenFault::Missing,
+            files,
+        }),
         Ok(false) => held_in(alloc, files, seed),
         Err(fault) => Err(Refusal { fault, files }),
     }
@@ -369,11 +496,11 @@ fn told_apart<D: Disk + Drop>(alloc: Global, refusal: Refusal<D>, seed: u64) -> 
     }
 }
 
-/// Opens the files for reading their requests, or creates the tables if there is no database or one with an empty
-/// catalog. The key of the log is derived from `seed`.
+/// Opens the files for reading their requests. The key of the log is derived from `seed`.
 ///
-/// Errors: Memory; Disk, Full and Damaged if a call of the disk failed; AtLimit; Damaged, OtherFormat and NotStore if
-/// the files have no sound database of the two tables.
+/// Errors: Memory; Missing if there is no database in the files, or one with an empty catalog, which an interrupted
+/// creation leaves; LogAlone if there is none but the log has commits; Disk, Full and Damaged if a call of the disk
+/// failed; AtLimit; Damaged, OtherFormat and NotStore if the files have no sound database of the two tables.
 pub fn open_files<D: Disk + Drop>(
     alloc: Global,
     files: Files<D>,
@@ -391,27 +518,24 @@ pub fn open_files<D: Disk + Drop>(
     }
 }
 
-/// Opens the file at a path and its log for reading their requests, or creates them. `S` stands for what the files had.
+/// Makes a store in files that have no database, or one with an empty catalog, which an interrupted creation leaves.
+/// The key of the log is derived from `seed`.
 ///
-/// Errors: Busy if another process has them open, Unopened if the system cannot open them, and those of `open_files`.
-pub fn open<S: Start>(
-    rt: &HostRuntime,
-    path: &str,
-    start: S,
-) -> Result<Replay<FileStore<FileFrom<S>>>, OpenFault>
+/// Errors: Memory; Exists if the files are not blank; LogAlone if they are, but the log has commits; Disk, Full and
+/// Damaged if a call of the disk failed; AtLimit; NotStore if a table can't be made.
+pub fn create_files<D: Disk + Drop>(
+    alloc: Global,
+    files: Files<D>,
+    seed: u64,
+) -> Result<Replay<FileStore<D>>, Refusal<D>>
+    requires log { IsTrue (D.Disk.is_usable files.log) }
+    requires db { IsTrue (D.Disk.is_usable files.db) }
     ensures first { IfOk result (λ r. given_out r ≡ []) }
-    ensures found { IfOk result (λ r. IsClean (shown_by r) → FindsIn (image_at S.Start) (shown_by r).committed) }
+    ensures made { IfOk result (λ r. IsClean (shown_by r) → MakesIn (image_of D.Disk files) (shown_by r).committed) }
+    ensures cause { IfErr result (λ r. AreCleanFiles D.Disk r.files → HasOpenReason (creation_reasons D.Disk files r.files) r.fault) }
 {
-    let files = match sqlite_std_file::open(rt, path, start) {
-        Ok(files) => files,
-        Err(error) => return Err(fault_of_path(error)),
-    };
-    let seed = match RandomState::new(rt) {
-        Ok(state) => state.hash_one(&0u8),
-        Err(_) => return Err(OpenFault::Unopened),
-    };
-    match open_files(rt.alloc(), files, seed) {
-        Ok(replay) => Ok(replay),
-        Err(refusal) => Err(refusal.fault),
+    match new_store_over(alloc, files, seed) {
+        Ok(store) => Ok(Replay::over(alloc, store)),
+        Err(refusal) => Err(refusal),
     }
 }

@@ -47,7 +47,7 @@ pub fn rewrite_then_crash<S: Reopen + Drop>(
     ensures outcome { IfOk result (λ r. IsClean (shown_by r.1) → (all_of r.1 ≡ map (stored_in_run entered_in) (records_of groups.now)) ⊎ ((r.0 ≡ false) × (all_of r.1 ≡ requests store))) }
     ensures numbered { IfOk result (λ r. IsClean (shown_by r.1) → IsNumbered ((shown_by r.1).committed 0)) }
 {
-    let mut rewrite = Rewrite::over(store);
+    let mut rewrite = store.rewrite();
     let done = rewrite.replace(entered_in, groups, number, run).is_ok();
     let again = crash_and_reopen(alloc, rewrite)?;
     Ok((done, again))

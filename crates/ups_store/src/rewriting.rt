@@ -1,6 +1,6 @@
 //! Replacing all requests of a store by others, in one transaction.
 
-ghost use Rattle.std.specs.Prelude.{◌≡◌, ◌⊎◌, ◌+◌, ◌-◌, ◌++◌, ◌<◌, ◌≤◌, ◌^◌, [], ⊤, false, true, map, length, IsTrue, IfOk, IfErr, OnOk};
+ghost use Rattle.std.specs.Prelude.{◌≡◌, ◌⊎◌, ◌+◌, ◌-◌, ◌++◌, ◌<◌, ◌≤◌, ◌^◌, [], ⊤, false, map, length, is_some, IsTrue, IfSome, IfErr, OnOk};
 ghost use Rattle.sqlite_disk.specs.Disk.{MoreFaults};
 ghost use Rattle.sqlite_trees.specs.declared.store.Shape.TheVariants.{Table};
 ghost use Rattle.sqlite_trees.specs.Tree.{Trees, put_row};
@@ -10,6 +10,7 @@ ghost use Rattle.ups_store.specs.Held.{HasTables, HoldsIfOpen, IsAdding};
 ghost use Rattle.ups_store.specs.Storing.{HasTooLarge};
 ghost use Rattle.ups_store.specs.Faults.{HasReason};
 ghost use Rattle.ups_store.specs.Runs.{row_of_run};
+ghost use Rattle.ups_store.specs.declared.rewriting.Progress.TheVariants.{Resting, Putting};
 
 use crate::fault::StoreFault;
 use crate::reading::REQUESTS;
@@ -21,17 +22,27 @@ use sqlite_value::row::Row;
 use std::alloc::Global;
 use ups_journal::Record;
 
-/// A store whose requests are being replaced, in a transaction that is not committed.
+/// The progress of a rewrite.
+#[derive(Clone, Copy, Debug, PartialEq, Eq)]
+enum Progress {
+    /// Nothing is written that is not committed.
+    Resting,
+    /// The old requests are deleted, and each group that was put is there as a whole.
+    Putting,
+    Failed,
+}
+
+/// A store whose requests are replaced in one transaction: `begin`, `put` as often as needed, `commit`, `finish`.
 #[derive(Drop)]
 pub struct Rewrite<S: Store> {
     store: S,
     row: Row,
-    /// The number of requests that were put.
+    /// The number of requests that were put, or of all requests while nothing is written.
     count: u64,
-    /// Whether the old requests are deleted, and each group that was put is there as a whole.
-    is_whole: bool,
-    ghost tables: { is_whole ≡ true → IsTrue (S.Store.view store).is_open → HasTables (S.Store.view store) },
-    ghost adding: { is_whole ≡ true → (S.Store.view store).is_broken ≡ false → IsAdding (S.Store.view store) count },
+    progress: Progress,
+    ghost held: { progress ≡ Resting → HoldsIfOpen (S.Store.view store) count },
+    ghost tables: { progress ≡ Putting → IsTrue (S.Store.view store).is_open → HasTables (S.Store.view store) },
+    ghost adding: { progress ≡ Putting → (S.Store.view store).is_broken ≡ false → IsAdding (S.Store.view store) count },
 }
 
 /// Deletes the last of `count` rows of requests.
@@ -77,40 +88,27 @@ fn delete_all<S: Store>(store: &mut S, count: u64) -> Result<(), StoreError>
 
 impl<S: Store> RequestStore<S> {
     ghost use Rattle.ups_store.specs.Shown.{requests_shown, count_of};
-    ghost use Rattle.ups_store.specs.Rewriting.{seen, written_anew, GoesOnRewriting};
+    ghost use Rattle.ups_store.specs.Rewriting.{seen, written_count, is_resting};
 
-    /// Begins to replace all requests: deletes them in a transaction. What is committed stays until `Rewrite::commit`,
-    /// and after a crash before that the store has the requests that it had.
-    ///
-    /// Errors: Memory, Disk, Damaged, Full, Shut; TooMany if there are 2^63 requests or more. The store is dropped with
-    /// the transaction, so that the next open finds what was committed.
-    pub fn rewrite(self) -> Result<Rewrite<S>, StoreFault>
-    where
-        S: Drop,
-        ensures empty { IfOk result (λ it. IsClean (seen it) → written_anew it ≡ []) }
-        ensures goes_on { IfOk result (λ it. IsClean (seen it) → GoesOnRewriting it) }
-        ensures runs { IfOk result (λ it. IsClean (seen it) → (seen it).trees 1 ≡ (requests_shown self).committed 1) }
-        ensures kept { IfOk result (λ it. KeepsCommitted (requests_shown self) (seen it)) }
-        ensures quiet { IfOk result (λ it. IsQuiet S.Store.view S.Store.faults S.Store.recovers S.Store.is_shielded self.store it.store) }
-        ensures failure { IfErr result (λ fault. (last : S) × IsQuiet S.Store.view S.Store.faults S.Store.recovers S.Store.is_shielded self.store last × (IsClean (S.Store.view last) → HasReason (record {
-          Failed = MoreFaults (S.Store.faults self.store) (S.Store.faults last);
-          WasShut = IsTrue (requests_shown self).is_broken;
-          IsTooLarge = ⊥;
-          AreTooMany = 2 ^ 63 ≤ count_of self;
-          IsNotRequest = ⊥;
-        }) fault)) }
+    /// Returns the store as one whose requests can be replaced. Nothing is read or written.
+    pub fn rewrite(self) -> Rewrite<S>
+        ensures rests { IsTrue (is_resting result) }
+        ensures same { result.store ≡ self.store }
+        ensures count { written_count result ≡ count_of self }
     {
-        let mut rewrite = Rewrite::over(self);
-        match rewrite.clear() {
-            Ok(()) => Ok(rewrite),
-            Err(fault) => Err(fault),
+        let RequestStore { store, count, row } = self;
+        Rewrite {
+            store,
+            row,
+            count,
+            progress: Progress::Resting,
         }
     }
 }
 
 impl<S: Store> Rewrite<S> {
-    ghost use Rattle.ups_store.specs.Shown.{requests_shown, requests};
-    ghost use Rattle.ups_store.specs.Rewriting.{seen, written_anew, written_count, records_of, GoesOnRewriting, IsReplaced};
+    ghost use Rattle.ups_store.specs.Shown.{requests_shown};
+    ghost use Rattle.ups_store.specs.Rewriting.{seen, written_anew, written_count, is_resting, records_of, GoesOnRewriting, IsReplaced};
 
     /// Returns the inner store.
     pub(crate) fn into_store(self) -> S
@@ -120,30 +118,17 @@ impl<S: Store> Rewrite<S> {
             store,
             row: _,
             count: _,
-            is_whole: _,
+            progress: _,
         } = self;
         store
     }
 
-    /// Returns a rewrite that has not deleted any request yet.
-    pub(crate) fn over(store: RequestStore<S>) -> Rewrite<S>
-        ensures store { result.store ≡ store.store }
-        ensures count { result.count ≡ store.count }
-        ensures waits { result.is_whole ≡ false }
-    {
-        let RequestStore { store, count, row } = store;
-        Rewrite {
-            store,
-            row,
-            count,
-            is_whole: false,
-        }
-    }
-
-    /// Deletes all requests.
-    fn clear(&mut self) -> Result<(), StoreFault>
-        requires held { HoldsIfOpen (seen self.old) self.old.count }
-        requires waits { self.old.is_whole ≡ false }
+    /// Begins to replace all requests: deletes them in a transaction. What is committed stays until `commit`, and after
+    /// a crash before that the store has the requests that it had.
+    ///
+    /// Errors: Memory, Disk, Damaged, Full; TooMany if there are 2^63 requests or more; Shut if a rewrite has begun, or
+    /// after an error.
+    pub fn begin(&mut self) -> Result<(), StoreFault>
         ensures empty { OnOk result (IsClean (seen self.new) → written_anew self.new ≡ []) }
         ensures goes_on { OnOk result (IsClean (seen self.new) → GoesOnRewriting self.new) }
         ensures runs { OnOk result (IsClean (seen self.new) → (seen self.new).trees 1 ≡ (seen self.old).committed 1) }
@@ -151,19 +136,24 @@ impl<S: Store> Rewrite<S> {
         ensures schema { KeepsSchema (seen self.old) (seen self.new) }
         ensures cause { IsClean (seen self.new) → IfErr result (HasReason (record {
           Failed = MoreFaults (S.Store.faults self.old.store) (S.Store.faults self.new.store);
-          WasShut = IsTrue (seen self.old).is_broken;
+          WasShut = IsTrue (seen self.old).is_broken ⊎ (is_resting self.old ≡ false);
           IsTooLarge = ⊥;
           AreTooMany = 2 ^ 63 ≤ written_count self.old;
           IsNotRequest = ⊥;
         })) }
         ensures quiet { IsQuiet S.Store.view S.Store.faults S.Store.recovers S.Store.is_shielded self.old.store self.new.store }
     {
+        match self.progress {
+            Progress::Resting => {}
+            _ => return Err(StoreFault::Shut),
+        }
+        self.progress = Progress::Failed;
         let Some(count) = count_with(self.count, 0) else {
             return Err(StoreFault::TooMany);
         };
         delete_all(&mut self.store, count)?;
         self.count = 0;
-        self.is_whole = true;
+        self.progress = Progress::Putting;
         Ok(())
     }
 
@@ -193,16 +183,17 @@ impl<S: Store> Rewrite<S> {
         })) }
         ensures quiet { IsQuiet S.Store.view S.Store.faults S.Store.recovers S.Store.is_shielded self.old.store self.new.store }
     {
-        if !self.is_whole {
-            return Err(StoreFault::Shut);
+        match self.progress {
+            Progress::Putting => {}
+            _ => return Err(StoreFault::Shut),
         }
         let Some(count) = count_with(self.count, records.len()) else {
             return Err(StoreFault::TooMany);
         };
-        self.is_whole = false;
+        self.progress = Progress::Failed;
         put_all(&mut self.store, &mut self.row, self.count, run, records)?;
         self.count = count;
-        self.is_whole = true;
+        self.progress = Progress::Putting;
         Ok(())
     }
 
@@ -218,9 +209,14 @@ impl<S: Store> Rewrite<S> {
         Ok(())
     }
 
-    /// Writes the row of the run, and commits.
-    fn settle(&mut self, number: u64, run: &Run<'_>) -> Result<(), StoreFault>
-        ensures held { OnOk result (HoldsIfOpen (seen self.new) self.new.count) }
+    /// Commits, and returns once the disk has the records: the store then has exactly the records that were put, and
+    /// the row of the run `number` has their number. After a crash it has the requests that it had, or all these.
+    ///
+    /// Errors: Memory, Disk, Damaged, Full; TooLarge if the row of the run has a billion bytes or more; Shut before
+    /// `begin` and after an error. The next open finds the requests that the store had, or all the records that were
+    /// put.
+    pub fn commit(&mut self, number: u64, run: &Run<'_>) -> Result<(), StoreFault>
+        ensures rests { OnOk result (IsTrue (is_resting self.new)) }
         ensures replaced { OnOk result (IsClean (seen self.new) → requests_in (seen self.new).committed ≡ written_anew self.old) }
         ensures is_open { OnOk result (IsClean (seen self.new) → IsTrue (seen self.new).is_open) }
         ensures runs { OnOk result (IsClean (seen self.new) → (seen self.new).committed 1 ≡ put_row (row_of_run number run.now (length (written_anew self.old))) ((seen self.old).trees 1)) }
@@ -235,48 +231,41 @@ impl<S: Store> Rewrite<S> {
           IsNotRequest = ⊥;
         })) }
     {
-        if !self.is_whole {
-            return Err(StoreFault::Shut);
+        match self.progress {
+            Progress::Putting => {}
+            _ => return Err(StoreFault::Shut),
         }
-        self.is_whole = false;
+        self.progress = Progress::Failed;
         put_run(&mut self.store, &mut self.row, number, run, self.count)?;
         self.store.commit()?;
+        self.progress = Progress::Resting;
         Ok(())
     }
 
-    /// Commits, and returns once the disk has the records: the store then has exactly the records that were put, and
-    /// the row of the run `number` has their number.
-    ///
-    /// Errors: Memory, Disk, Damaged, Full; TooLarge if the row of the run has a billion bytes or more; Shut after an
-    /// error. The store is dropped, and the next open finds the requests that it had or all the records that were put.
-    pub fn commit(mut self, number: u64, run: &Run<'_>) -> Result<RequestStore<S>, StoreFault>
+    /// Returns the store before `begin` or after `commit`, or else None.
+    pub fn finish(self) -> Option<RequestStore<S>>
     where
         S: Drop,
-        ensures clean { IfOk result (λ it. IsClean (requests_shown it) → IsClean (seen self)) }
-        ensures replaced { IfOk result (λ it. IsClean (requests_shown it) → requests it ≡ written_anew self) }
-        ensures is_open { IfOk result (λ it. IsClean (requests_shown it) → IsTrue (requests_shown it).is_open) }
-        ensures runs { IfOk result (λ it. IsClean (requests_shown it) → (requests_shown it).committed 1 ≡ put_row (row_of_run number run.now (length (written_anew self))) ((seen self).trees 1)) }
-        ensures tables { IfOk result (λ it. HasTables (seen self) → IsClean (requests_shown it) → HasTables (requests_shown it)) }
-        ensures crash { IfOk result (λ it. (db : Trees) → S.Store.recovers it.store db → S.Store.recovers self.store db ⊎ IsReplaced self db) }
-        ensures failure { IfErr result (λ fault. (last : S) × ((db : Trees) → S.Store.recovers last db → S.Store.recovers self.store db ⊎ IsReplaced self db) × (IsClean (S.Store.view last) → HasReason (record {
-          Failed = MoreFaults (S.Store.faults self.store) (S.Store.faults last);
-          WasShut = ¬ GoesOnRewriting self;
-          IsTooLarge = ¬ IsStorableRow ((seen self).reals 1) (row_of_run number run.now (written_count self));
-          AreTooMany = ⊥;
-          IsNotRequest = ⊥;
-        }) fault)) }
+        ensures when { is_some result ≡ is_resting self }
+        ensures same { IfSome result (λ it. requests_shown it ≡ seen self) }
     {
-        match self.settle(number, run) {
-            Ok(()) => {}
-            Err(fault) => return Err(fault),
+        match self.progress {
+            Progress::Resting => Some(self.into_requests()),
+            _ => None,
         }
+    }
+
+    fn into_requests(self) -> RequestStore<S>
+        requires { IsTrue (is_resting self) }
+        ensures { requests_shown result ≡ seen self }
+    {
         let Rewrite {
             store,
             row,
             count,
-            is_whole: _,
+            progress: _,
         } = self;
-        Ok(RequestStore { store, count, row })
+        RequestStore::of(store, count, row)
     }
 
     /// Deletes the requests, puts groups of records in their place, and commits.
@@ -287,16 +276,14 @@ impl<S: Store> Rewrite<S> {
         number: u64,
         run: &Run<'_>,
     ) -> Result<(), StoreFault>
-        requires held { HoldsIfOpen (seen self.old) self.old.count }
-        requires waits { self.old.is_whole ≡ false }
         ensures replaced { OnOk result (IsClean (seen self.new) → requests_in (seen self.new).committed ≡ map (stored_in_run entered_in) (records_of groups.now)) }
         ensures is_open { OnOk result (IsClean (seen self.new) → IsTrue (seen self.new).is_open) }
         ensures tables { HasTables (seen self.old) → IsClean (seen self.new) → HasTables (seen self.new) }
         ensures crash { (db : Trees) → S.Store.recovers self.new.store db
             → S.Store.recovers self.old.store db ⊎ ((requests_in db ≡ map (stored_in_run entered_in) (records_of groups.now)) × IsNumbered (db 0)) }
     {
-        self.clear()?;
+        self.begin()?;
         self.put_groups(entered_in, groups)?;
-        self.settle(number, run)
+        self.commit(number, run)
     }
 }

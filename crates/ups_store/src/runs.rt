@@ -1,14 +1,15 @@
 //! The table of the runs of the program.
 
-ghost use Rattle.std.specs.Prelude.{◌≡◌, ◌+◌, ◌<◌, ◌≤◌, ◌^◌, Some, false, reverse, IfOk, IfErr, IsSome, IsTrue, OnOk};
+ghost use Rattle.std.specs.Prelude.{◌≡◌, ◌+◌, ◌<◌, ◌≤◌, ◌^◌, Some, FitsSigned, false, reverse, IfOk, IfSome, IfErr, IsSome, IsTrue, OnOk};
 ghost use Rattle.sqlite_disk.specs.Disk.{MoreFaults};
 ghost use Rattle.sqlite_trees.specs.declared.store.Shape.TheVariants.{Table};
 ghost use Rattle.sqlite_trees.specs.Tree.{put_row, rowid};
 ghost use Rattle.sqlite_trees.specs.View.{IsClean, IsQuiet, KeepsSchema, KeepsCommitted, SetsTree, HasCause, IsStorableRow};
 ghost use Rattle.sqlite_value.specs.Order.{column};
+ghost use Rattle.std.specs.Int.{w64};
 ghost use Rattle.ups_store.specs.Cells.{number_in};
 ghost use Rattle.ups_store.specs.Faults.{HasReason, HasRunReason};
-ghost use Rattle.ups_store.specs.Runs.{row_of_run, last_row, last_number, last_requests, IsFirst, Enters};
+ghost use Rattle.ups_store.specs.Runs.{row_of_run, old_in, first_old, DropsRuns, last_row, last_number, last_requests, IsFirst, Enters};
 
 use crate::cells;
 use crate::fault::StoreFault;
@@ -23,6 +24,9 @@ pub(crate) const RUNS: u32 = 1;
 
 /// The highest number that a run may have.
 const LAST: u64 = (1 << 63) - 1;
+
+/// How many runs are kept.
+const KEPT: u64 = 100;
 
 /// A run of the program. Runs are numbered from 1.
 #[derive(Clone, Copy)]
@@ -119,6 +123,88 @@ fn read_last<S: Store>(store: &mut S, row: &mut Row) -> Result<(), StoreError>
     take_row(store, row)
 }
 
+/// Returns the number of the run with this row if it began a hundred runs or more before the run `number`.
+fn old_in(row: &Row, number: u64) -> Option<i64>
+    ensures old { result ≡ old_in number (rowid row.now) }
+    ensures fits { IfSome result (λ id. FitsSigned w64 id) }
+{
+    match row.get(0) {
+        ValueRef::Int(id) if number.saturating_sub(id.cast_unsigned()) >= KEPT => Some(id),
+        _ => None,
+    }
+}
+
+/// Moves the cursor to the first row of the runs.
+fn seek_first<S: Store>(store: &mut S, row: &mut Row) -> Result<(), StoreError>
+    ensures live { OnOk result (IsSome ((S.Store.view store.new).cursors 0)) }
+    ensures left { OnOk result (IsClean (S.Store.view store.new) → (S.Store.view store.new).cursors 0 ≡ Some ((S.Store.view store.old).trees 1)) }
+    ensures same { OnOk result (IsClean (S.Store.view store.new) → S.Store.view store.new ≡ record (S.Store.view store.old) { cursors = (S.Store.view store.new).cursors }) }
+    ensures sound { OnOk result (IsClean (S.Store.view store.new) → (S.Store.view store.old).is_broken ≡ false) }
+    ensures kept { KeepsCommitted (S.Store.view store.old) (S.Store.view store.new) }
+    ensures schema { KeepsSchema (S.Store.view store.old) (S.Store.view store.new) }
+    ensures cause { IsClean (S.Store.view store.new) → IfErr result (HasCause (S.Store.view store.old) (MoreFaults (S.Store.faults store.old) (S.Store.faults store.new)) ⊥) }
+    ensures quiet { IsQuiet S.Store.view S.Store.faults S.Store.recovers S.Store.is_shielded store.old store.new }
+{
+    row.clear();
+    store.seek(0, RUNS, row, Direction::Forward)
+}
+
+/// Returns the number of the first run, if it began a hundred runs or more before the run `number`.
+fn first_old<S: Store>(store: &mut S, row: &mut Row, number: u64) -> Result<Option<i64>, StoreError>
+    ensures found { IfOk result (λ id. IsClean (S.Store.view store.new) → id ≡ first_old number ((S.Store.view store.old).trees 1)) }
+    ensures fits { IfOk result (λ first. IfSome first (λ id. FitsSigned w64 id)) }
+    ensures same { OnOk result (IsClean (S.Store.view store.new) → S.Store.view store.new ≡ record (S.Store.view store.old) { cursors = (S.Store.view store.new).cursors }) }
+    ensures sound { OnOk result (IsClean (S.Store.view store.new) → (S.Store.view store.old).is_broken ≡ false) }
+    ensures kept { KeepsCommitted (S.Store.view store.old) (S.Store.view store.new) }
+    ensures schema { KeepsSchema (S.Store.view store.old) (S.Store.view store.new) }
+    ensures cause { IsClean (S.Store.view store.new) → IfErr result (HasCause (S.Store.view store.old) (MoreFaults (S.Store.faults store.old) (S.Store.faults store.new)) ⊥) }
+    ensures quiet { IsQuiet S.Store.view S.Store.faults S.Store.recovers S.Store.is_shielded store.old store.new }
+{
+    seek_first(store, row)?;
+    take_row(store, row)?;
+    Ok(old_in(row, number))
+}
+
+/// Deletes the first run in a transaction, if it began a hundred runs or more before the run `number`, and returns
+/// whether it did.
+fn drop_first<S: Store>(store: &mut S, row: &mut Row, number: u64) -> Result<bool, StoreError>
+    requires table { IsClean (S.Store.view store.old) → (S.Store.view store.old).is_broken ≡ false → (S.Store.view store.old).shape 1 ≡ Table }
+    ensures dropped { IfOk result (λ goes_on. IsClean (S.Store.view store.new) → DropsRuns (S.Store.view store.old) (S.Store.view store.new) number goes_on) }
+    ensures kept { KeepsCommitted (S.Store.view store.old) (S.Store.view store.new) }
+    ensures schema { KeepsSchema (S.Store.view store.old) (S.Store.view store.new) }
+    ensures cause { IsClean (S.Store.view store.new) → IfErr result (HasCause (S.Store.view store.old) (MoreFaults (S.Store.faults store.old) (S.Store.faults store.new)) ⊥) }
+    ensures quiet { IsQuiet S.Store.view S.Store.faults S.Store.recovers S.Store.is_shielded store.old store.new }
+{
+    match first_old(store, row, number) {
+        Ok(Some(id)) => {
+            store.delete(RUNS, id)?;
+            Ok(true)
+        }
+        Ok(None) => Ok(false),
+        Err(error) => Err(error),
+    }
+}
+
+/// Deletes the runs before the first that is among the last hundred up to the run `number`, in a transaction.
+fn drop_old<S: Store>(store: &mut S, row: &mut Row, number: u64) -> Result<(), StoreError>
+    requires table { IsClean (S.Store.view store.old) → (S.Store.view store.old).is_broken ≡ false → (S.Store.view store.old).shape 1 ≡ Table }
+    ensures dropped { OnOk result (IsClean (S.Store.view store.new) → DropsRuns (S.Store.view store.old) (S.Store.view store.new) number false) }
+    ensures kept { KeepsCommitted (S.Store.view store.old) (S.Store.view store.new) }
+    ensures schema { KeepsSchema (S.Store.view store.old) (S.Store.view store.new) }
+    ensures cause { IsClean (S.Store.view store.new) → IfErr result (HasCause (S.Store.view store.old) (MoreFaults (S.Store.faults store.old) (S.Store.faults store.new)) ⊥) }
+    ensures quiet { IsQuiet S.Store.view S.Store.faults S.Store.recovers S.Store.is_shielded store.old store.new }
+{
+    for _ in 0..u64::MAX {
+        match drop_first(store, row, number) {
+            Ok(true) => {}
+            Ok(false) => return Ok(()),
+            Err(error) => return Err(error),
+        }
+    }
+    // No memory holds so many rows.
+    Err(StoreError::OutOfMemory)
+}
+
 /// Returns the number of the run after the last one, whose row is `last`.
 fn number_behind(last: &Row, requests: u64) -> Result<u64, StoreFault>
     ensures number { IfOk result (λ number. (number ≡ number_in (rowid last.now) + 1) × (number < 2 ^ 63)) }
@@ -141,7 +227,7 @@ fn number_behind(last: &Row, requests: u64) -> Result<u64, StoreFault>
     Ok(number + 1)
 }
 
-/// Appends the row of a run in a transaction, and returns its number.
+/// Appends the row of a run in a transaction, deletes the runs before the last hundred, and returns its number.
 pub(crate) fn enter_run<S: Store>(
     store: &mut S,
     row: &mut Row,
@@ -164,5 +250,6 @@ pub(crate) fn enter_run<S: Store>(
     read_last(store, row)?;
     let number = number_behind(row, requests)?;
     put_run(store, row, number, run, requests)?;
+    drop_old(store, row, number)?;
     Ok(number)
 }

@@ -4,7 +4,7 @@ ghost use Rattle.std.specs.Prelude.{◌≡◌, ◌⊎◌, ◌+◌, ◌++◌, ◌
 ghost use Rattle.sqlite_disk.specs.Disk.{MoreFaults};
 ghost use Rattle.sqlite_trees.specs.declared.store.Shape.TheVariants.{Table};
 ghost use Rattle.sqlite_trees.specs.Tree.{Trees};
-ghost use Rattle.sqlite_trees.specs.View.{IsClean, IsQuiet, KeepsSchema, KeepsCommitted, HasCause, IsStorableRow};
+ghost use Rattle.sqlite_trees.specs.View.{doubt, IsClean, IsQuiet, KeepsSchema, KeepsCommitted, HasCause, IsStorableRow};
 ghost use Rattle.ups_store.specs.Rows.{stored_in_run, request_row, requests_in, IsNumbered};
 ghost use Rattle.ups_store.specs.Held.{HasTables, HoldsIfOpen, IsAdding, Adds};
 ghost use Rattle.ups_store.specs.Storing.{HasTooLarge};
@@ -16,7 +16,7 @@ use crate::fault::StoreFault;
 use crate::reading::REQUESTS;
 use crate::request;
 use crate::runs::{Run, enter_run, put_run};
-use sqlite_disk::{Disk, Files};
+use sqlite_disk::Disk;
 use sqlite_store::FileStore;
 use sqlite_trees::error::StoreError;
 use sqlite_trees::store::Store;
@@ -131,6 +131,14 @@ impl<S: Store> RequestStore<S> {
         self.count
     }
 
+    /// Returns whether an error has shut the store, so that only reopening repairs it.
+    pub fn is_shut(&self) -> bool
+        ensures open { IsClean (requests_shown self.now) → result ≡ false → IsTrue (requests_shown self.now).is_open }
+        ensures shut { IsTrue (requests_shown self.now).is_open → result ≡ false }
+    {
+        self.store.is_broken()
+    }
+
     /// Appends records entered in the run `run`, all or none, and returns once they are on the disk. After a crash the
     /// store has all requests that were committed, followed by the records or by none of them.
     ///
@@ -143,8 +151,9 @@ impl<S: Store> RequestStore<S> {
         ensures was_open { IsTrue (requests_shown self.new).is_open → IsTrue (requests_shown self.old).is_open }
         ensures unchanged { OnErr result (IsTrue (requests_shown self.new).is_open → (requests_shown self.new).committed ≡ (requests_shown self.old).committed) }
         ensures tables { IsTrue (requests_shown self.old).is_open → IsClean (requests_shown self.new) → HasTables (requests_shown self.new) }
+        ensures clean { doubt (requests_shown self.old).is_clean ≤ doubt (requests_shown self.new).is_clean }
         ensures crash { (db : Trees) → S.Store.recovers self.new.store db
-            → S.Store.recovers self.old.store db ⊎ ((requests_in db ≡ requests self.old ++ map (stored_in_run run) records.now) × IsNumbered (db 0)) }
+            → S.Store.recovers self.old.store db ⊎ (IsTrue (requests_shown self.old).is_open × (requests_in db ≡ requests self.old ++ map (stored_in_run run) records.now) × IsNumbered (db 0)) }
         ensures cause { IsClean (requests_shown self.new) → IfErr result (HasReason (record {
           Failed = MoreFaults (S.Store.faults self.old.store) (S.Store.faults self.new.store);
           WasShut = IsTrue (requests_shown self.old).is_broken;
@@ -173,18 +182,19 @@ impl<S: Store> RequestStore<S> {
     ghost use Rattle.std.specs.Prelude.{IfSome};
     ghost use Rattle.sqlite_trees.specs.Tree.{put_row};
     ghost use Rattle.ups_store.specs.Faults.{HasRunReason};
-    ghost use Rattle.ups_store.specs.Runs.{row_of_run, last_number, last_requests};
+    ghost use Rattle.ups_store.specs.Runs.{row_of_run, last_runs, last_number, last_requests};
     ghost use Rattle.ups_store.specs.Shown.{requests_shown, requests, runs, count_of};
 
     /// Appends a run of the program, with the current number of requests, and returns the number of the run: the first
-    /// is 1. The requests stay as they are, also after a crash.
+    /// is 1. The last hundred runs are kept, and those before them are deleted. The requests stay as they are, also
+    /// after a crash.
     ///
     /// Errors: Short if the row of the last run counts more requests than there are; those of `append`, with TooLarge
     /// and TooMany for the row of the run. An error that leaves the store open changes nothing.
     pub fn begin_run(&mut self, run: &Run<'_>) -> Result<u64, StoreFault>
         ensures number { IfOk result (λ number. IsClean (requests_shown self.new) → (number ≡ last_number (runs self.old) + 1) × (number < 2 ^ 63)) }
         ensures enough { OnOk result (IsClean (requests_shown self.new) → last_requests (runs self.old) ≤ length (requests self.old)) }
-        ensures begun { IfOk result (λ number. IsClean (requests_shown self.new) → runs self.new ≡ runs self.old ++ row_of_run number run.now (length (requests self.old)) ∷ []) }
+        ensures begun { IfOk result (λ number. IsClean (requests_shown self.new) → runs self.new ≡ last_runs number (runs self.old ++ row_of_run number run.now (length (requests self.old)) ∷ [])) }
         ensures requests { OnOk result (IsClean (requests_shown self.new) → requests self.new ≡ requests self.old) }
         ensures is_open { OnOk result (IsClean (requests_shown self.new) → IsTrue (requests_shown self.new).is_open) }
         ensures was_open { IsTrue (requests_shown self.new).is_open → IsTrue (requests_shown self.old).is_open }
@@ -222,8 +232,9 @@ impl<S: Store> RequestStore<S> {
         ensures was_open { IsTrue (requests_shown self.new).is_open → IsTrue (requests_shown self.old).is_open }
         ensures unchanged { OnErr result (IsTrue (requests_shown self.new).is_open → (requests_shown self.new).committed ≡ (requests_shown self.old).committed) }
         ensures tables { IsTrue (requests_shown self.old).is_open → IsClean (requests_shown self.new) → HasTables (requests_shown self.new) }
+        ensures clean { doubt (requests_shown self.old).is_clean ≤ doubt (requests_shown self.new).is_clean }
         ensures crash { (db : Trees) → S.Store.recovers self.new.store db
-            → S.Store.recovers self.old.store db ⊎ ((requests_in db ≡ requests self.old) × IsNumbered (db 0)) }
+            → S.Store.recovers self.old.store db ⊎ (IsTrue (requests_shown self.old).is_open × (requests_in db ≡ requests self.old) × IsNumbered (db 0)) }
         ensures cause { IsClean (requests_shown self.new) → IfErr result (HasReason (record {
           Failed = MoreFaults (S.Store.faults self.old.store) (S.Store.faults self.new.store);
           WasShut = IsTrue (requests_shown self.old).is_broken;
@@ -267,16 +278,5 @@ impl<D: Disk> RequestStore<FileStore<D>> {
     {
         self.store.checkpoint()?;
         Ok(())
-    }
-
-    /// Copies the log into the file, and returns both files.
-    ///
-    /// Errors: those of `checkpoint`. The requests that were added are then in the log, and the next open finds them.
-    pub fn close(mut self) -> Result<Files<D>, StoreFault>
-    where
-        D: Drop,
-    {
-        self.checkpoint()?;
-        Ok(self.into_store().close())
     }
 }

@@ -124,6 +124,9 @@ module _ {A : Type 0} where
     pub legal_found : is_legal settings m.history
     legal_found = subst (λ (x : State A). is_legal settings x.history) (sym found.manager_is) found.legal
 
+    pub settings_found : m.settings ≡ settings
+    settings_found = ap (λ (x : State A). x.settings) found.manager_is
+
     pub observed : (table same : TableId) → same ≡ table
         → HasObserved (record { table = table; settings = settings; number = number; calls = calls; seen = seen }) (record { table = same; settings = settings; number = number; calls = calls + 1; seen = m.history })
     observed table same here =

@@ -1,7 +1,9 @@
 //! The desk: it opens over a manager, lets passes meet, and closes when all passes are back.
-ghost use Rattle.std.specs.Prelude.{◌≡◌, ◌≢◌, ℕ, ◌≤◌, ◌<◌, [], ◌∷◌, All, length, map, true, false, is_some, nat_lt, MatchBool, Some, None, vec_capacity, IfOk, IfErr, OnOk};
+ghost use Rattle.std.specs.Prelude.{◌≡◌, ◌≢◌, ℕ, ◌≤◌, ◌<◌, [], ◌∷◌, All, length, map, true, false, is_some, nat_lt, MatchBool, MatchOption, Some, None, vec_capacity, IfOk, IfErr, OnOk};
 ghost use Rattle.std.specs.Option.{IfSome};
 ghost use Rattle.ups_life.specs.Settings.{IsMoment};
+ghost use Rattle.ups_life.specs.Steps.{past};
+ghost use Rattle.ups_life.specs.Events.{pending};
 ghost use Rattle.ups_service.specs.State.{State};
 ghost use Rattle.ups_service.specs.Law.{SmallReply, is_legal};
 ghost use Rattle.ups_turn.specs.Pass.{HasObserved, IsCall, Learns, most_calls, SamePass, IsShelf, EndsFor, HaveNumbers, are_seats, most_seats, open_fault, passes_from, part_of};
@@ -13,7 +15,9 @@ use crate::fault::{CloseFault, OpenFault};
 use crate::held::Held;
 use crate::pass::Pass;
 use crate::rule::{InTurn, Place, Shelf};
-use crate::turn::{COUNT, absorb, call_in_turn, deal, low_half, note, observe_in_turn, settle};
+use crate::turn::{
+    COUNT, absorb, call_in_turn, deal, low_half, note, observe_in_turn, settle, waiting_in_turn,
+};
 use crate::view::{Opening, View};
 use atomic_table::{Refused, Table};
 use std::alloc::Allocator;
@@ -299,6 +303,27 @@ impl<M: SharedService<A>, A: Allocator + Copy> Desk<M, A> {
         pass.front = seen;
         pass.calls += 1;
         true
+    }
+
+    /// Returns the number of events that wait for a watcher (PS3.4 CC.2.4) after the history that the pass has seen then:
+    /// they are counted in a turn of the pass. This enters nothing, but counts as a call. Returns None, and counts
+    /// nothing, if the pass has made 2^40 calls.
+    pub fn waiting<R: Wait>(&self, rt: &R, pass: &mut Pass<M, A>, ae: Ae) -> Option<usize>
+        requires here { pass.old.table ≡ self.now.table }
+        ensures left { is_some result ≡ nat_lt pass.old.calls most_calls }
+        ensures pass { MatchOption result (pass.new ≡ pass.old) (λ count. HasObserved pass.old pass.new) }
+        ensures count { IfSome result (λ count. count ≡ length (pending pass.new.settings (past pass.new.seen) ae)) }
+    {
+        let has_none_left = pass.calls >= MOST_CALLS;
+        if has_none_left {
+            return None;
+        }
+        let _held = self.ticket_lock.lock(rt);
+        let shelf = &self.table.shared;
+        let (count, seen) = waiting_in_turn(rt, shelf, &mut pass.place, pass.number, ae);
+        pass.front = seen;
+        pass.calls += 1;
+        Some(count)
     }
 
     /// Waits until the number of entered requests differs from `known`, for at most `limit`, and returns it. This takes

@@ -3,6 +3,8 @@
 ghost use Rattle.std.specs.Prelude.{◌≡◌, ◌++◌, length, true, is_some, IfOk, IfErr};
 ghost use Rattle.std.specs.Option.{IfSome};
 ghost use Rattle.ups_life.specs.Settings.{IsMoment};
+ghost use Rattle.ups_life.specs.Steps.{past};
+ghost use Rattle.ups_life.specs.Events.{pending};
 ghost use Rattle.ups_service.specs.Law.{Answers, SmallReply, entered, is_legal};
 
 use std::alloc::Allocator;
@@ -73,6 +75,14 @@ impl<M: SharedService<A>, A: Allocator + Copy> Held<M, A> {
         ensures { result.now ≡ self.now.history }
     {
         self.shared.history()
+    }
+
+    /// Returns the number of events that wait for a watcher (PS3.4 CC.2.4); 0 for an application entity that is no
+    /// peer.
+    pub(crate) fn waiting(&self, ae: Ae) -> usize
+        ensures { result ≡ length (pending self.now.settings (past self.now.history) ae) }
+    {
+        self.shared.waiting(ae)
     }
 
     /// Answers what an application entity asks, and enters it if it is a request that is accepted.

@@ -3,6 +3,8 @@
 ghost use Rattle.std.specs.Prelude.{◌≡◌, ℕ, ◌+◌, ◌^◌, ◌<◌, ◌≤◌, ◌*◌, ◌==◌, length, [], true, false, is_some, All, Some, None, MatchBool};
 ghost use Rattle.std.specs.Option.{IfSome};
 ghost use Rattle.ups_life.specs.Settings.{IsMoment};
+ghost use Rattle.ups_life.specs.Steps.{past};
+ghost use Rattle.ups_life.specs.Events.{pending};
 ghost use Rattle.ups_service.specs.Law.{SmallReply, is_legal};
 ghost use Rattle.ups_turn.specs.Pass.{HasObserved, IsAtRest, IsServed, IsShelf, most_calls, seen_in, standing};
 ghost use Rattle.ups_turn.specs.Plays.{with_ticket, at_turn, served, history_in, TakesTurn, MayDecide, MayServe, Took, MayGive, note_of, joined_views, kept_back, dealt, settled, CaughtUp};
@@ -237,6 +239,32 @@ pub(crate) fn observe_in_turn<M: SharedService<A>, O: Observer<A>, A: Allocator 
     let entries = manager.entries();
     give(shelf, place, manager, 0);
     entries
+}
+
+/// Counts the events that wait for a watcher in the turn of a seat that rests: takes the manager, and gives it back as it
+/// was. Returns their number, and the number of entered requests.
+pub(crate) fn waiting_in_turn<M: SharedService<A>, A: Allocator + Copy, R: Wait>(
+    rt: &R,
+    shelf: &Shelf<M, A>,
+    place: &mut Place<M, A>,
+    number: u32,
+    ae: Ae,
+) -> (usize, u64)
+    requires table { IsShelf place.old.table_id shelf.now.table_id }
+    requires rests { IsAtRest number place.old.me }
+    requires left { place.old.me.0.draws < most_calls }
+    ensures table { place.new.table_id ≡ place.old.table_id }
+    ensures rests { IsAtRest number place.new.me }
+    ensures entries { result.1 ≡ length (seen_in place.new.me.0.parts) }
+    ensures legal { is_legal place.new.me.0.settings (seen_in place.new.me.0.parts) }
+    ensures standing { HasObserved (standing place.old.table_id number place.old.me.0) (standing place.new.table_id number place.new.me.0) }
+    ensures waiting { result.0 ≡ length (pending place.new.me.0.settings (past (seen_in place.new.me.0.parts)) ae) }
+{
+    let manager = take(rt, shelf, place);
+    let waiting = manager.waiting(ae);
+    let entries = manager.entries();
+    give(shelf, place, manager, 0);
+    (waiting, entries)
 }
 
 /// Splits off a note of what the seat's passes have seen.

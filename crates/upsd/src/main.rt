@@ -16,7 +16,7 @@ mod storing;
 
 use crate::ending::{refuse, server_status};
 use crate::scripting::answer_script;
-use crate::storing::{Stores, perform_compact};
+use crate::storing::{Stores, perform_compact, perform_init};
 use clap::ArgMatches;
 pub use ending::{Status, parse_status, script_status, session_status};
 pub use hexing::DigitFault;
@@ -150,6 +150,7 @@ where
     let performed = match matches_of(rt, words) {
         Ok(Ok(matches)) => match matches.subcommand() {
             Some(("serve", matches)) => perform_network(serving, stores, matches),
+            Some(("init", matches)) => perform_init(stores, matches),
             Some(("compact", matches)) => perform_compact(stores, matches),
             _ => perform(rt, &matches),
         },

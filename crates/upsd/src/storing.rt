@@ -1,4 +1,4 @@
-//! Stores: opened for a server, and compacted.
+//! Stores: made, opened for a server, and compacted.
 
 ghost use Rattle.std.specs.Prelude.{◌≡◌, ◌≤◌, [], length, None, IfOk};
 ghost use Rattle.ups_ledger.specs.Keeping.{IsKept};
@@ -10,9 +10,8 @@ use crate::ending::{Status, refuse};
 use clap::ArgMatches;
 use log::{Log, info};
 use std::alloc::{AllocError, Global};
-use std::fs::{self, Files};
 use std::time::Clock;
-use ups_args::{CompactArguments, VERSION, compact_arguments};
+use ups_args::{CompactArguments, InitArguments, VERSION, compact_arguments, init_arguments};
 use ups_journal::Record;
 use ups_ledger::{Keeper, Ledger, LedgerFault};
 use ups_life::MAX_HISTORY;
@@ -21,7 +20,7 @@ use ups_net::moment_of;
 use ups_server::{StoreOpener, Unopened};
 use ups_start::{
     CompactFault, FileLedger, FilePlace, OpenFault, Run, StartFault, StoreFault, StoreLedger,
-    StorePlace, begin, compact,
+    StorePlace, begin, compact, create,
 };
 
 /// The ledger of a server of this program, in a store in a file. It is a type of its own: with the place as a type
@@ -34,7 +33,15 @@ pub(crate) struct ServerLedger<'a> {
 impl<'a> Ledger for ServerLedger<'a> {
     ghost kept = { λ l. ⟦<FileLedger<'a> as Ledger>⟧.kept l.ledger };
 
+    ghost told = { λ l. ⟦<FileLedger<'a> as Ledger>⟧.told l.ledger };
+
     ghost is_sound = { λ l. ⟦<FileLedger<'a> as Ledger>⟧.is_sound l.ledger };
+
+    ghost is_honest = { λ l. ⟦<FileLedger<'a> as Ledger>⟧.is_honest l.ledger };
+
+    ghost is_first = { λ l. ⟦<FileLedger<'a> as Ledger>⟧.is_first l.ledger };
+
+    ghost recovers = { λ l. ⟦<FileLedger<'a> as Ledger>⟧.recovers l.ledger };
 
     fn append(&mut self, records: &[Record<Global>]) -> Result<(), LedgerFault> {
         self.ledger.append(records)
@@ -94,6 +101,16 @@ fn tell_unopened<R: Eprint>(rt: &R, file: &str, fault: &StartFault) -> Unopened 
     Unopened::Told
 }
 
+/// Returns how the program ends after a fault of a store, and prints it, unless memory ran out.
+///
+/// Errors: lack of memory, if that is the fault.
+fn stopped<R: Eprint>(rt: &R, file: &str, fault: &StartFault) -> Result<Status, AllocError> {
+    match tell_unopened(rt, file, fault) {
+        Unopened::Memory => Err(AllocError),
+        Unopened::Told => Ok(Status::Stopped),
+    }
+}
+
 /// Opens the store at a place, enters its requests into a manager, and logs with how many a server begins; or prints
 /// why the store was not opened.
 ///
@@ -132,14 +149,11 @@ impl<'a, R: Clock + Log> StoreOpener<'a, ServerLedger<'a>> for Stores<'a, R> {
         file: &'a str,
         may_leave_out: bool,
         manager: &mut Manager<Global>,
-    ) -> Result<Keeper<ServerLedger<'a>>, Unopened> {
+    ) -> Result<(ServerLedger<'a>, usize), Unopened> {
         let place = FilePlace::new(self.rt, file);
         let keeper = open_at(self, place, file, may_leave_out, manager)?;
         let Keeper { ledger, committed } = keeper;
-        Ok(Keeper {
-            ledger: ServerLedger { ledger },
-            committed,
-        })
+        Ok((ServerLedger { ledger }, committed))
     }
 }
 
@@ -156,15 +170,6 @@ fn new_manager(alloc: Global, asked: &CompactArguments<'_>) -> Result<Manager<Gl
         Ok(manager) => Ok(manager),
         Err(_) => Err(AllocError),
     }
-}
-
-/// Returns whether the file exists, and prints if it does not: a compaction does not create it.
-fn is_there<R: Eprint + Files>(rt: &R, file: &str) -> bool {
-    if let Ok(true) = fs::exists(rt, file) {
-        return true;
-    }
-    let _ = eprintln!(rt; "upsd: the store {file}: there is no such file");
-    false
 }
 
 /// Compacts the store at a place with two managers without requests, prints the result, and returns how the program
@@ -197,10 +202,7 @@ fn compacted_at<P: StorePlace, R: Clock + Log>(
             let _ = println!(stores.rt; "{file}: {after} requests, {before} before");
             Ok(Status::Done)
         }
-        Err(fault) => match tell_unopened(stores.rt, file, &fault) {
-            Unopened::Memory => Err(AllocError),
-            Unopened::Told => Ok(Status::Stopped),
-        },
+        Err(fault) => stopped(stores.rt, file, &fault),
     }
 }
 
@@ -221,20 +223,18 @@ fn compacted<R: Clock + Log>(
     compacted_at(stores, asked, &place, &mut manager, &mut fresh)
 }
 
-/// Compacts the store that the command line names, if it exists.
+/// Runs `init`: makes the store that the command line names, and returns how the program ends.
 ///
-/// Errors: lack of memory before the store is opened; those of `compacted_at`.
-fn compacted_if_there<R: Clock + Log>(
+/// Errors: lack of memory.
+pub(crate) fn perform_init<R: Clock + Log>(
     stores: &Stores<'_, R>,
-    asked: &CompactArguments<'_>,
-) -> Result<Status, AllocError>
-    requires few { length asked.now.peers.items ≤ peer_limit }
-    requires allowed { refusal asked.now.peers.items asked.now.offset history_limit ≡ None }
-{
-    if is_there(stores.rt, asked.store) {
-        return compacted(stores, asked);
+    matches: &ArgMatches<'_>,
+) -> Result<Status, AllocError> {
+    let InitArguments { store } = init_arguments(matches);
+    match create(stores.rt, store) {
+        Ok(_) => Ok(Status::Done),
+        Err(fault) => stopped(stores.rt, store, &StartFault::Open(fault)),
     }
-    Ok(Status::Stopped)
 }
 
 /// Runs `compact`, and returns how the program ends.
@@ -245,7 +245,7 @@ pub(crate) fn perform_compact<R: Clock + Log>(
     matches: &ArgMatches<'_>,
 ) -> Result<Status, AllocError> {
     match compact_arguments(stores.rt.alloc(), matches) {
-        Ok(asked) => compacted_if_there(stores, &asked),
+        Ok(asked) => compacted(stores, &asked),
         Err(fault) => refuse(stores.rt, fault),
     }
 }

@@ -2,10 +2,11 @@ ghost use Rattle.std.specs.Prelude.{true, false};
 
 use super::{answer_to, told, with};
 use fixtures::rows::{check, cut};
+use fixtures::title;
 use std::alloc::{Allocator, Global};
 use std::test::Fail;
 use ups_dataset::DataSet;
-use ups_life::Reply;
+use ups_life::{Ask, Reply};
 use ups_manager::*;
 use ups_match::{Keys, Matcher, Probe};
 
@@ -78,13 +79,17 @@ impl Matcher for Never {
 }
 
 /// Steps, and finds by the two matchers: the number of steps that they are asked about, and what is found. Two of the
-/// three steps are of the patient of the query.
+/// three steps have the station code, and the same two the label.
 const OWN: &str = "\
 0 SCHED1 1709208000 create 1.2.3.1 - -|00741202=READS|00100020=P1 -> 0000
 0 SCHED1 1709208000 create 1.2.3.2 - -|00741202=READS|00100020=P2 -> 0000
 0 SCHED1 1709208000 create 1.2.3.3 - -|00741202=REPROC|00100020=P1 -> 0000
-always 0 00080018=|00100020=P1|00741202=READS -> 2: 0000 00080018=1.2.3.1_ 00100020=P1 00741202=READS_ 00080018=1.2.3.3_ 00100020=P1 00741202=REPROC
-never 0 00080018=|00100020=P1|00741202=READS -> 2: 0000";
+0 SCHED1 1709208000 cancel 1.2.3.2 - -|00741238=stop -> 0000
+0 SCHED1 1709208000 set 1.2.3.1 - -|00741202=REPROC -> 0000
+0 SCHED1 1709208000 set 1.2.3.1 - -|00404025/00080100=R1,00080102=99A -> 0000
+0 SCHED1 1709208000 set 1.2.3.3 - -|00404025/00080100=R1,00080102=99B -> 0000
+always 0 00404025/00080100=R1,00080102=99A -> 2: 0000 00404025=[00080100=R1 00080102=99A_ ] 00404025=[00080100=R1 00080102=99B_ ]
+never 0 00741202=REPROC -> 2: 0000";
 
 /// Finds in a manager, and returns the number of steps that its matcher is asked about and the number that match.
 pub(super) fn counts<A: Allocator + Copy>(
@@ -109,11 +114,27 @@ fn keys_with_offset(alloc: Global, text: &str) -> Result<Keys<Global>, Fail> {
     Ok(Keys::of(with(alloc, DataSet::new(alloc), keys)?, offset_of(offset)?)?)
 }
 
-/// Finds by keys, which come after their offset, and returns as a text how many steps are asked about and how many
+/// Lets a manager answer a query, and returns the number of steps that it notes to have asked about, and the number that
 /// match.
-fn counted(rt: &impl AllocGlobal, manager: &Manager<Global>, find: &str) -> Result<String, Fail> {
+fn noted(manager: &mut Manager<Global>, keys: Keys<Global>) -> Result<(u64, usize), Fail> {
+    match manager.answer_as(0, title("SCHED1")?, 1_709_208_000, Ask::Find(keys)) {
+        Reply::Sets(sets) => Ok((manager.asked(), sets.as_slice().len())),
+        _ => Err("a status alone".into()),
+    }
+}
+
+/// Finds by keys, which come after their offset, and returns as a text how many steps are asked about and how many
+/// match. A query that is answered asks about as many.
+fn counted(
+    rt: &impl AllocGlobal,
+    manager: &mut Manager<Global>,
+    find: &str,
+) -> Result<String, Fail> {
     let keys = keys_with_offset(rt.alloc(), find)?;
     let (asked, found) = counts(manager, &keys)?;
+    if noted(manager, keys)? != (asked, found) {
+        return Err("an answer that asks about other steps".into());
+    }
     Ok(format!(in rt.alloc(); "{asked}/{found}")?)
 }
 

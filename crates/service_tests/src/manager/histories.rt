@@ -580,6 +580,9 @@ fn pending_by_both(
     if !are_behind(reports.as_slice(), &all, acked(manager.history(), ae)) {
         return Err("the plain program tells other events".into());
     }
+    if manager.waiting(ae) != reports.as_slice().len() {
+        return Err("another number of events waits".into());
+    }
     Ok(reports.as_slice().len())
 }
 

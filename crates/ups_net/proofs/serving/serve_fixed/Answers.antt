@@ -2,8 +2,8 @@ use Rattle.std.proofs.Common.{sym, ◌∙◌}
 use Rattle.ups_session.specs.Tells.{untold}
 use Rattle.ups_net.proofs.serving.serve_fixed.Goals as goal
 
-pub returns : goal.returns
-returns g c =
+pub returns-clause-serves : goal.returns-clause-serves
+returns-clause-serves g c =
     let (input, consumed, is) = c.serve-ended.ensures.session in
     record {
       same = (c.into_pass.ensures.table ∙ sym c.requires.table, c.into_pass.ensures.settings ∙ sym c.requires.settings, c.into_pass.ensures.number ∙ sym c.requires.number);
@@ -13,5 +13,5 @@ returns g c =
       after = c.serve-ended.new.writer;
       told = untold;
       later = untold;
-      session = rw c.into_pass.ensures.pass (rw c.into_seated.ensures (rw c.new-seated.ensures at (rw c.new-withheld.ensures at is)));
+      session = rw c.into_pass.ensures.pass (rw c.into_parts-seated.ensures.seated (rw c.new-seated.ensures at (rw c.new-withheld.ensures at is)));
     }

@@ -23,7 +23,7 @@ returns-clause-ran g c =
       leave_out = e.leave_out;
     } in
     let left = c.in_ok-answer_network.ensures in
-    by_words (found_of c.args.matches.now) c.args.associations c.args.rounds c.in_ok-asked.asked words c.in_ok-answer_network.field-0 left.settings left.empty left.ran
+    by_words g.L.Ledger (found_of c.args.matches.now) c.args.associations c.args.rounds c.in_ok-asked.asked words c.in_ok-answer_network.field-0 left.settings left.empty left.ran
 
 pub answer_network-requires-sync-R : goal.answer_network-requires-sync-R
 answer_network-requires-sync-R g c κs within =

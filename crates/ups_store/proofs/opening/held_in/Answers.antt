@@ -5,9 +5,9 @@ use Rattle.sqlite_wal.specs.Files.{seen_image}
 use Rattle.sqlite_store.specs.FileStore.{view}
 use Rattle.sqlite_store.specs.Unopened.{state_of, image}
 use Rattle.sqlite_trees.specs.View.{IsClean}
-use Rattle.ups_store.specs.Found.{image_of, HoldsTables, HoldsNone, FindsIn}
-use Rattle.ups_store.specs.Refused.{faults_in, AreCleanFiles, HasFailed, MeetsLimit, HasOpenReason}
-use Rattle.ups_store.proofs.Opened.{if_ok, if_err, faults_back, reason_as}
+use Rattle.ups_store.specs.Found.{used_page, image_of, HoldsTables, ListsNothing, FindsIn}
+use Rattle.ups_store.specs.Refused.{faults_in, AreCleanFiles, MeetsLimit, HasOpenReason, reasons}
+use Rattle.ups_store.proofs.Opened.{if_ok, if_err, faults_back, reason_all}
 use Rattle.ups_store.proofs.opening.held_in.Goals as goal
 
 pub returns-in-Ok-clause-found : goal.returns-in-Ok-clause-found
@@ -23,8 +23,9 @@ returns-in-Ok-clause-cause g c =
     let it = c.in-Ok.it in
     let files = c.args.files in
     let same : image it ≡ image_of g.D.Disk files = ap (λ (f : g.row.D.Denot × g.row.D.Denot). seen_image g.D.Disk f.0 f.1) c.in-Ok.ensures.files in
-    if_err (λ r. AreCleanFiles g.D.Disk r.files → HasOpenReason (record { Failed = MoreFaults (state_of it).faults (faults_in g.D.Disk r.files); AtLimit = MeetsLimit g.D.Disk r.files; Refused = ¬ HoldsTables (image it) }) r.fault)
-    (λ r. AreCleanFiles g.D.Disk r.files → HasOpenReason (record { Failed = HasFailed g.D.Disk files r.files; AtLimit = MeetsLimit g.D.Disk r.files; Refused = HoldsNone (image_of g.D.Disk files) }) r.fault) c.opened.result
-    (λ r h clean. reason_as (record { Failed = MoreFaults (state_of it).faults (faults_in g.D.Disk r.files); AtLimit = MeetsLimit g.D.Disk r.files; Refused = ¬ HoldsTables (image it) })
-    (record { Failed = HasFailed g.D.Disk files r.files; AtLimit = MeetsLimit g.D.Disk r.files; Refused = HoldsNone (image_of g.D.Disk files) }) r.fault
-    (λ f. inl (subst (λ (n : ℕ). MoreFaults n (faults_in g.D.Disk r.files)) (faults_back it files (sym c.in-Ok.ensures.files)) f)) (λ l. l) (λ no. inr (subst (λ (i : Image). ¬ HoldsTables i) same no)) (h clean)) c.opened.ensures.cause
+    if_err (λ r. AreCleanFiles g.D.Disk r.files → HasOpenReason (record { Failed = MoreFaults (state_of it).faults (faults_in g.D.Disk r.files); AtLimit = MeetsLimit g.D.Disk r.files; Refused = ¬ HoldsTables (image it); IsMissing = ListsNothing used_page (image it); LogIsAlone = ⊥; IsThere = ⊥ }) r.fault)
+    (λ r. AreCleanFiles g.D.Disk r.files → HasOpenReason (reasons g.D.Disk files r.files) r.fault) c.opened.result
+    (λ r h clean. reason_all (record { Failed = MoreFaults (state_of it).faults (faults_in g.D.Disk r.files); AtLimit = MeetsLimit g.D.Disk r.files; Refused = ¬ HoldsTables (image it); IsMissing = ListsNothing used_page (image it); LogIsAlone = ⊥; IsThere = ⊥ })
+    (reasons g.D.Disk files r.files) r.fault
+    (λ f. inl (subst (λ (n : ℕ). MoreFaults n (faults_in g.D.Disk r.files)) (faults_back it files (sym c.in-Ok.ensures.files)) f)) (λ l. inl l) (λ no. inr (subst (λ (i : Image). ¬ HoldsTables i) same no))
+    (λ m. inr (subst (λ (i : Image). ListsNothing used_page i) same m)) (λ a. absurd a) (λ t. t) (h clean)) c.opened.ensures.cause

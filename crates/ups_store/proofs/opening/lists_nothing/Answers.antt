@@ -1,4 +1,4 @@
-use Rattle.std.proofs.Common.{◌≡◌, ◌∙◌, ℕ, List, [], ◌∷◌, length, refl, sym, arith, eqb-true}
+use Rattle.std.proofs.Common.{◌≡◌, ◌∙◌, List, [], ◌∷◌, length, refl, sym, arith, eqb-true}
 use Rattle.sqlite_value.specs.Order.{Row}
 use Rattle.ups_store.proofs.opening.lists_nothing.Goals as goal
 

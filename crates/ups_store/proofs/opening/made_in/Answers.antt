@@ -1,9 +1,9 @@
-use Rattle.std.proofs.Common.{rules, ◌≡◌, ℕ, IsTrue, sym, subst}
+use Rattle.std.proofs.Common.{ℕ, IsTrue, sym, subst}
 use Rattle.sqlite_disk.specs.Disk.{MoreFaults}
 use Rattle.sqlite_store.specs.FileStore.{view}
 use Rattle.sqlite_store.specs.Unopened.{state_of, CanCreate}
 use Rattle.sqlite_trees.specs.View.{IsClean}
-use Rattle.ups_store.specs.Refused.{faults_in, AreCleanFiles, MeetsLimit, HasOpenReason}
+use Rattle.ups_store.specs.Refused.{faults_in, AreCleanFiles, MeetsLimit, because, HasOpenReason}
 use Rattle.ups_store.proofs.Opened.{if_ok, if_err, clean_from, faults_back, reason_as}
 use Rattle.ups_store.proofs.opening.made_in.Goals as goal
 
@@ -18,12 +18,7 @@ pub returns-in-Ok-clause-cause : goal.returns-in-Ok-clause-cause
 returns-in-Ok-clause-cause g c =
     let it = c.in-Ok.it in
     let same = faults_back it c.args.files (sym c.in-Ok.ensures.files) in
-    if_err (λ r. AreCleanFiles g.D.Disk r.files → HasOpenReason (record { Failed = MoreFaults (state_of it).faults (faults_in g.D.Disk r.files); AtLimit = MeetsLimit g.D.Disk r.files; Refused = ¬ CanCreate it }) r.fault)
-    (λ r. AreCleanFiles g.D.Disk r.files → HasOpenReason (record { Failed = MoreFaults (faults_in g.D.Disk c.args.files) (faults_in g.D.Disk r.files); AtLimit = MeetsLimit g.D.Disk r.files; Refused = Unit {0} }) r.fault) c.made.result
-    (λ r h clean. reason_as (record { Failed = MoreFaults (state_of it).faults (faults_in g.D.Disk r.files); AtLimit = MeetsLimit g.D.Disk r.files; Refused = ¬ CanCreate it })
-    (record { Failed = MoreFaults (faults_in g.D.Disk c.args.files) (faults_in g.D.Disk r.files); AtLimit = MeetsLimit g.D.Disk r.files; Refused = Unit {0} }) r.fault (λ f. subst (λ (n : ℕ). MoreFaults n (faults_in g.D.Disk r.files)) same f) (λ l. l) (λ _. tt) (h clean)) c.made.ensures.cause
-
-pub returns-in-Ok-clause-falls : goal.returns-in-Ok-clause-falls
-returns-in-Ok-clause-falls g c =
-    let it = c.in-Ok.it in
-    if_err (λ r. AreCleanFiles g.D.Disk r.files → IsTrue (state_of it).is_clean × _) (λ r. AreCleanFiles g.D.Disk r.files → AreCleanFiles g.D.Disk c.args.files) c.made.result (λ r h clean. clean_from it c.args.files c.in-Ok.ensures.files (h clean).0) c.made.ensures.falls
+    if_err (λ r. AreCleanFiles g.D.Disk r.files → HasOpenReason (because (MoreFaults (state_of it).faults (faults_in g.D.Disk r.files)) (MeetsLimit g.D.Disk r.files) (¬ CanCreate it)) r.fault)
+    (λ r. AreCleanFiles g.D.Disk r.files → HasOpenReason (because (MoreFaults (faults_in g.D.Disk c.args.files) (faults_in g.D.Disk r.files)) (MeetsLimit g.D.Disk r.files) (Unit {0})) r.fault) c.made.result
+    (λ r h clean. reason_as (MoreFaults (state_of it).faults (faults_in g.D.Disk r.files)) (MeetsLimit g.D.Disk r.files) (¬ CanCreate it)
+    (because (MoreFaults (faults_in g.D.Disk c.args.files) (faults_in g.D.Disk r.files)) (MeetsLimit g.D.Disk r.files) (Unit {0})) r.fault (λ f. subst (λ (n : ℕ). MoreFaults n (faults_in g.D.Disk r.files)) same f) (λ l. l) (λ _. tt) (h clean)) c.made.ensures.cause

@@ -1,36 +1,18 @@
-use Rattle.std.proofs.Common.{◌≡◌, ◌≤◌, ◌∙◌, ℕ, IsTrue, inl, inr, sym, subst}
+use Rattle.std.proofs.Common.{◌≡◌, ◌≤◌, ◌∙◌, ℕ, IsTrue, inl, sym, subst}
 use Rattle.sqlite_disk.specs.Disk.{MoreFaults}
-use Rattle.sqlite_wal.specs.Recovery.{Image}
 use Rattle.sqlite_store.specs.FileStore.{view}
-use Rattle.sqlite_store.specs.Unopened.{state_of, image, HasFile, HasSomeFile, IsFullFile, CanCreate}
+use Rattle.sqlite_store.specs.Unopened.{state_of, image, HasFile, HasSomeFile, IsFullFile}
 use Rattle.sqlite_trees.specs.View.{IsClean}
-use Rattle.ups_store.specs.Found.{used_page, the_schema, HasNone, HoldsTables, ListsNothing, StandAlike, ReadAs, FindsIn}
-use Rattle.ups_store.specs.Refused.{faults_in, AreCleanFiles, MeetsLimit, HasOpenReason}
-use Rattle.ups_store.proofs.Opened.{if_both, if_err_both, more_from, read_alike, nothing_held, no_file, no_some_file, clean_back, faults_back, reason_as}
+use Rattle.ups_store.specs.Found.{used_page, the_schema, HoldsTables, ListsNothing, StandAlike, ReadAs, FindsIn}
+use Rattle.ups_store.specs.Refused.{faults_in, AreCleanFiles, MeetsLimit, because, HasOpenReason}
+use Rattle.ups_store.proofs.Opened.{if_both, if_err_both, more_from, read_alike, no_file, no_some_file, clean_back, faults_back, reason_as}
 use Rattle.ups_store.proofs.opening.opened.Goals as goal
 
-pub returns-in-Ok-true-clause-found : goal.returns-in-Ok-true-clause-found
-returns-in-Ok-true-clause-found g c =
-    let it = c.args.files in
-    let then = c.lists_nothing.new.files in
-    let nothing = λ (clean : IsTrue (state_of then).is_clean). subst (λ (n : ℕ). ListsNothing n (image it)) c.requires.size (c.in-Ok-true.ensures.nothing clean c.in-Ok-true.field-0-test) in
-    if_both (λ store. IsClean (view store) → HasNone (view store).committed) (λ store. IsClean (view store) → IsTrue (state_of then).is_clean) (λ store. IsClean (view store) → FindsIn (image it) (view store).committed) c.made.result
-    (λ store empty honest clean. inr (inr (nothing (honest clean)), empty clean)) c.made.ensures.empty c.made.ensures.honest
-
 pub returns-in-Ok-true-clause-cause : goal.returns-in-Ok-true-clause-cause
-returns-in-Ok-true-clause-cause g c =
+returns-in-Ok-true-clause-cause g c clean =
     let it = c.args.files in
     let then = c.lists_nothing.new.files in
-    let nothing = λ (clean : IsTrue (state_of then).is_clean). subst (λ (n : ℕ). ListsNothing n (image it)) c.requires.size (c.in-Ok-true.ensures.nothing clean c.in-Ok-true.field-0-test) in
-    if_err_both (λ r. AreCleanFiles g.D.Disk r.files → HasOpenReason (record { Failed = MoreFaults (state_of then).faults (faults_in g.D.Disk r.files); AtLimit = MeetsLimit g.D.Disk r.files; Refused = ¬ CanCreate then }) r.fault)
-    (λ r. AreCleanFiles g.D.Disk r.files → IsTrue (state_of then).is_clean × ((state_of then).faults ≤ faults_in g.D.Disk r.files))
-    (λ r. AreCleanFiles g.D.Disk r.files → HasOpenReason (record { Failed = MoreFaults (state_of it).faults (faults_in g.D.Disk r.files); AtLimit = MeetsLimit g.D.Disk r.files; Refused = ¬ HoldsTables (image it) }) r.fault) c.made.result
-    (λ r cause falls clean.
-    let was = falls clean in
-    reason_as (record { Failed = MoreFaults (state_of then).faults (faults_in g.D.Disk r.files); AtLimit = MeetsLimit g.D.Disk r.files; Refused = ¬ CanCreate then })
-    (record { Failed = MoreFaults (state_of it).faults (faults_in g.D.Disk r.files); AtLimit = MeetsLimit g.D.Disk r.files; Refused = ¬ HoldsTables (image it) }) r.fault
-    (λ f. more_from _ _ _ (c.lists_nothing.ensures.falls was.0).1 f) (λ l. l) (λ _. nothing_held (image it) (nothing was.0)) (cause clean))
-    c.made.ensures.cause c.made.ensures.falls
+    subst (λ (n : ℕ). ListsNothing n (image it)) c.requires.size (c.in-Ok-true.ensures.nothing (clean_back then c.close.result c.close.ensures clean) c.in-Ok-true.field-0-test)
 
 pub returns-in-Ok-false-clause-found : goal.returns-in-Ok-false-clause-found
 returns-in-Ok-false-clause-found g c =
@@ -40,22 +22,22 @@ returns-in-Ok-false-clause-found g c =
     (λ store found honest clean.
     let size : (state_of then).page_size ≡ used_page = c.lists_nothing.ensures.size (honest clean) ∙ c.requires.size in
     let alike : StandAlike used_page (image it) (image then) = subst (λ (n : ℕ). StandAlike n (image it) (image then)) c.requires.size (c.in-Ok-false.ensures.alike (honest clean)) in
-    inl (read_alike used_page (image it) (image then) the_schema (view store).committed alike (subst (λ (n : ℕ). ReadAs n (image then) the_schema (view store).committed) size (found clean))))
+    read_alike used_page (image it) (image then) the_schema (view store).committed alike (subst (λ (n : ℕ). ReadAs n (image then) the_schema (view store).committed) size (found clean)))
     c.attached.ensures.found c.attached.ensures.honest
 
 pub returns-in-Ok-false-clause-cause : goal.returns-in-Ok-false-clause-cause
 returns-in-Ok-false-clause-cause g c =
     let it = c.args.files in
     let then = c.lists_nothing.new.files in
-    if_err_both (λ r. AreCleanFiles g.D.Disk r.files → HasOpenReason (record { Failed = MoreFaults (state_of then).faults (faults_in g.D.Disk r.files); AtLimit = MeetsLimit g.D.Disk r.files; Refused = ¬ HasFile then }) r.fault)
+    if_err_both (λ r. AreCleanFiles g.D.Disk r.files → HasOpenReason (because (MoreFaults (state_of then).faults (faults_in g.D.Disk r.files)) (MeetsLimit g.D.Disk r.files) (¬ HasFile then)) r.fault)
     (λ r. AreCleanFiles g.D.Disk r.files → IsTrue (state_of then).is_clean × ((state_of then).faults ≤ faults_in g.D.Disk r.files))
-    (λ r. AreCleanFiles g.D.Disk r.files → HasOpenReason (record { Failed = MoreFaults (state_of it).faults (faults_in g.D.Disk r.files); AtLimit = MeetsLimit g.D.Disk r.files; Refused = ¬ HoldsTables (image it) }) r.fault) c.attached.result
+    (λ r. AreCleanFiles g.D.Disk r.files → HasOpenReason (record { Failed = MoreFaults (state_of it).faults (faults_in g.D.Disk r.files); AtLimit = MeetsLimit g.D.Disk r.files; Refused = ¬ HoldsTables (image it); IsMissing = ListsNothing used_page (image it); LogIsAlone = ⊥; IsThere = ⊥ }) r.fault) c.attached.result
     (λ r cause falls clean.
     let was = falls clean in
     let size : (state_of then).page_size ≡ used_page = c.lists_nothing.ensures.size was.0 ∙ c.requires.size in
     let alike : StandAlike used_page (image it) (image then) = subst (λ (n : ℕ). StandAlike n (image it) (image then)) c.requires.size (c.in-Ok-false.ensures.alike was.0) in
-    reason_as (record { Failed = MoreFaults (state_of then).faults (faults_in g.D.Disk r.files); AtLimit = MeetsLimit g.D.Disk r.files; Refused = ¬ HasFile then })
-    (record { Failed = MoreFaults (state_of it).faults (faults_in g.D.Disk r.files); AtLimit = MeetsLimit g.D.Disk r.files; Refused = ¬ HoldsTables (image it) }) r.fault
+    reason_as (MoreFaults (state_of then).faults (faults_in g.D.Disk r.files)) (MeetsLimit g.D.Disk r.files) (¬ HasFile then)
+    (record { Failed = MoreFaults (state_of it).faults (faults_in g.D.Disk r.files); AtLimit = MeetsLimit g.D.Disk r.files; Refused = ¬ HoldsTables (image it); IsMissing = ListsNothing used_page (image it); LogIsAlone = ⊥; IsThere = ⊥ }) r.fault
     (λ f. more_from _ _ _ (c.lists_nothing.ensures.falls was.0).1 f) (λ l. l) (λ no. no_file then (image it) alike size (c.lists_nothing.ensures.table ∙ c.requires.table) no) (cause clean))
     c.attached.ensures.cause c.attached.ensures.falls
 
@@ -63,8 +45,8 @@ pub returns-in-Err-clause-cause : goal.returns-in-Err-clause-cause
 returns-in-Err-clause-cause g c clean =
     let it = c.args.files in
     let then = c.lists_nothing.new.files in
-    let files = c.close.result in
-    reason_as (record { Failed = MoreFaults (state_of it).faults (state_of then).faults; AtLimit = IsFullFile then; Refused = ¬ HasSomeFile it })
-    (record { Failed = MoreFaults (state_of it).faults (faults_in g.D.Disk files); AtLimit = MeetsLimit g.D.Disk files; Refused = ¬ HoldsTables (image it) }) c.in-Err.fault
-    (λ f. subst (MoreFaults (state_of it).faults) (faults_back then files c.close.ensures) f) (λ l. (then, sym c.close.ensures, inl l)) (λ no. no_some_file it c.requires.size no)
-    (c.in-Err.ensures.cause (clean_back then files c.close.ensures clean))
+    let files = c.close-in-Err.result in
+    reason_as (MoreFaults (state_of it).faults (state_of then).faults) (IsFullFile then) (¬ HasSomeFile it)
+    (record { Failed = MoreFaults (state_of it).faults (faults_in g.D.Disk files); AtLimit = MeetsLimit g.D.Disk files; Refused = ¬ HoldsTables (image it); IsMissing = ListsNothing used_page (image it); LogIsAlone = ⊥; IsThere = ⊥ }) c.in-Err.fault
+    (λ f. subst (MoreFaults (state_of it).faults) (faults_back then files c.close-in-Err.ensures) f) (λ l. (then, sym c.close-in-Err.ensures, inl l)) (λ no. no_some_file it c.requires.size no)
+    (c.in-Err.ensures.cause (clean_back then files c.close-in-Err.ensures clean))

@@ -1,5 +1,4 @@
-use Rattle.std.proofs.Common.{rules, arith, ◌≡◌, ◌≤◌, ◌&&◌, IsTrue, inr, sym, subst}
-use Rattle.sqlite_store.specs.Unopened.{state_of}
+use Rattle.std.proofs.Common.{rules, arith, ◌≤◌, ◌&&◌, IsTrue, inr, sym, subst}
 use Rattle.ups_store.specs.Refused.{faults_in}
 use Rattle.ups_store.proofs.Opened.{halves, clean_back, clean_from, faults_back}
 use Rattle.ups_store.proofs.opening.told_apart.Goals as goal

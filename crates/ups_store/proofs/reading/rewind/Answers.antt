@@ -1,5 +1,4 @@
-use Rattle.std.proofs.Common.{rules, ◌≡◌, Result, Ok, Err, OnOk}
-use Rattle.sqlite_trees.specs.View.{IsClean}
+use Rattle.std.proofs.Common.{Result, Ok, Err, OnOk}
 use Rattle.ups_store.proofs.Scans.{placed}
 use Rattle.ups_store.proofs.reading.rewind.Goals as goal
 

@@ -2,16 +2,12 @@ use Rattle.std.proofs.Common.{◌≡◌, map, sym, subst, ap, ◌∙◌}
 use Rattle.sqlite_trees.specs.View.{IsClean}
 use Rattle.ups_store.specs.Rows.{stored_in_run, requests_in}
 use Rattle.ups_store.specs.Rewriting.{records_of}
-use Rattle.ups_store.specs.Held.{HasTables, HoldsIfOpen}
+use Rattle.ups_store.specs.Held.{HasTables}
 use Rattle.ups_store.proofs.Cleared.{both_ways, both_ok, told}
 use Rattle.ups_store.proofs.replaced.rewrite_then_crash.Goals as goal
 
-pub replace-requires-clause-held : goal.replace-requires-clause-held
-replace-requires-clause-held g c =
-    subst (λ s. HoldsIfOpen (g.S.Store.view s) c.over-rewrite.result.count) (sym c.over-rewrite.ensures.store) (subst (HoldsIfOpen (g.S.Store.view c.args.store.store)) (sym c.over-rewrite.ensures.count) c.args.store.held)
-
 pub crash_and_reopen-requires : goal.crash_and_reopen-requires
-crash_and_reopen-requires g c clean = c.replace.ensures.tables (subst (λ s. HasTables (g.S.Store.view s)) (sym c.over-rewrite.ensures.store) (c.args.store.held c.requires).tables) clean
+crash_and_reopen-requires g c clean = c.replace.ensures.tables (subst (λ s. HasTables (g.S.Store.view s)) (sym c.rewrite-rewrite.ensures.same) (c.args.store.held c.requires).tables) clean
 
 pub returns-clause-outcome : goal.returns-clause-outcome
 returns-clause-outcome g c clean =
@@ -21,8 +17,8 @@ returns-clause-outcome g c clean =
     let all = map (stored_in_run c.args.entered_in) (records_of c.args.groups.now) in
     let after : g.S.Store.recovers c.replace.new.self.store found = c.in_ok-again.ensures.outcome clean in
     let mine : IsClean new = c.in_ok-again.ensures.clean clean in
-    let was = λ (before : g.S.Store.recovers c.over-rewrite.result.store found).
-    let same : requests_in found ≡ requests_in old.committed = ap requests_in (g.met.S.Store.settled c.args.store.store found c.requires (subst (λ s. g.S.Store.recovers s found) c.over-rewrite.ensures.store before)) in
+    let was = λ (before : g.S.Store.recovers c.rewrite-rewrite.result.store found).
+    let same : requests_in found ≡ requests_in old.committed = ap requests_in (g.met.S.Store.settled c.args.store.store found c.requires (subst (λ s. g.S.Store.recovers s found) c.rewrite-rewrite.ensures.same before)) in
     same in
     let done = both_ok c.replace.result (λ says is_open.
     let is : requests_in found ≡ all = ap requests_in (g.met.S.Store.settled c.replace.new.self.store found (is_open mine) after) ∙ says mine in

@@ -1,10 +1,9 @@
-use Rattle.std.proofs.Common.{rules, ◌≡◌, ◌+◌, ◌∷◌, [], pos, subst, OnOk, IfErr}
+use Rattle.std.proofs.Common.{rules, ◌≡◌, ◌+◌, pos, subst, IfErr}
 use Rattle.sqlite_value.specs.Order.{Row}
-use Rattle.sqlite_trees.specs.View.{IsClean, SetsTree, HasCause, IsStorableRow}
+use Rattle.sqlite_trees.specs.View.{SetsTree, HasCause, IsStorableRow}
 use Rattle.sqlite_disk.specs.Disk.{MoreFaults}
 use Rattle.sqlite_trees.specs.Tree.{put_row}
 use Rattle.ups_store.specs.Rows.{stored_in_run, request_row, request_in}
-use Rattle.ups_store.specs.Held.{Adds}
 use Rattle.ups_store.proofs.Steps.{adds, writes_kept, failed_kept, on_either, mapped}
 use Rattle.ups_store.proofs.store.put_one.Goals as goal
 

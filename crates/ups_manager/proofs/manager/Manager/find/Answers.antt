@@ -3,10 +3,11 @@ use Rattle.ups_dataset.specs.Data.{El}
 use Rattle.ups_life.specs.Distinct.{Distinct}
 use Rattle.ups_life.specs.declared.request.Reply.TheVariants.{Sets as Found}
 use Rattle.ups_life.specs.Steps.{past}
+use Rattle.ups_service.specs.Asked.{asked_rows}
 use Rattle.ups_tables.specs.declared.rows.HeldStep.{HeldStep}
 use Rattle.ups_tables.specs.Keyed.{as_steps}
 use Rattle.ups_tables.proofs.Keyed.{steps_kept}
-use Rattle.ups_manager.specs.Finding.{answers_among, asked_rows}
+use Rattle.ups_manager.specs.Finding.{answers_among}
 use Rattle.ups_manager.specs.Indexing.{uids_in}
 use Rattle.ups_manager.proofs.Classes.{index_is, class_by_history, answered_worklist}
 use Rattle.ups_manager.proofs.Reindexed.{are_once}

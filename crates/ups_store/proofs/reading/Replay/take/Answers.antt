@@ -1,9 +1,9 @@
-use Rattle.std.proofs.Common.{rules, arith, ◌≡◌, ◌≢◌, ℕ, Some, drop, subst, refl}
-use Rattle.sqlite_trees.specs.View.{View, IsClean, IsQuiet}
+use Rattle.std.proofs.Common.{arith, ◌≡◌, ◌≢◌, ℕ, Some, drop, subst}
+use Rattle.sqlite_trees.specs.View.{View, IsClean}
 use Rattle.ups_store.specs.declared.reading.Phase.{Phase}
 use Rattle.ups_store.specs.declared.reading.Phase.TheVariants.{Reading, Failed}
 use Rattle.ups_store.specs.declared.reading.Taken.{Taken}
-use Rattle.ups_store.specs.declared.reading.Taken.TheVariants.{End, Other, One}
+use Rattle.ups_store.specs.declared.reading.Taken.TheVariants.{One}
 use Rattle.ups_store.specs.Taken.{TakesNext, IsLow}
 use Rattle.ups_store.specs.Held.{HasGiven}
 use Rattle.ups_store.proofs.Steps.{clean_before}

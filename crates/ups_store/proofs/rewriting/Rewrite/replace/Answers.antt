@@ -6,41 +6,41 @@ use Rattle.ups_store.proofs.Steps.{clean_before, open_clean, sound_open, mapped}
 use Rattle.ups_store.proofs.Cleared.{tables_as, both_ways}
 use Rattle.ups_store.proofs.rewriting.Rewrite.replace.Goals as goal
 
-pub returns-in_err-clear-clause-tables : goal.returns-in_err-clear-clause-tables
-returns-in_err-clear-clause-tables g c tables clean = tables_as (g.S.Store.view c.args.self.now.store) (g.S.Store.view c.clear.new.self.store) c.clear.ensures.schema tables
+pub returns-in_err-begin-clause-tables : goal.returns-in_err-begin-clause-tables
+returns-in_err-begin-clause-tables g c tables clean = tables_as (g.S.Store.view c.args.self.now.store) (g.S.Store.view c.begin.new.self.store) c.begin.ensures.schema tables
 
 pub returns-in_err-put_groups-clause-tables : goal.returns-in_err-put_groups-clause-tables
 returns-in_err-put_groups-clause-tables g c tables clean =
-    let one = g.S.Store.view c.clear.new.self.store in
-    tables_as one (g.S.Store.view c.put_groups.new.self.store) c.put_groups.ensures.schema (tables_as (g.S.Store.view c.args.self.now.store) one c.clear.ensures.schema tables)
+    let one = g.S.Store.view c.begin.new.self.store in
+    tables_as one (g.S.Store.view c.put_groups.new.self.store) c.put_groups.ensures.schema (tables_as (g.S.Store.view c.args.self.now.store) one c.begin.ensures.schema tables)
 
 pub returns-in_err-put_groups-clause-crash : goal.returns-in_err-put_groups-clause-crash
-returns-in_err-put_groups-clause-crash g c db after = inl (c.clear.ensures.quiet.outcomes db (c.put_groups.ensures.quiet.outcomes db after))
+returns-in_err-put_groups-clause-crash g c db after = inl (c.begin.ensures.quiet.outcomes db (c.put_groups.ensures.quiet.outcomes db after))
 
 pub returns-clause-tables : goal.returns-clause-tables
 returns-clause-tables g c tables clean =
-    let one = g.S.Store.view c.clear.new.self.store in
-    c.settle.ensures.tables (tables_as one (g.S.Store.view c.put_groups.new.self.store) c.put_groups.ensures.schema (tables_as (g.S.Store.view c.args.self.now.store) one c.clear.ensures.schema tables)) clean
+    let one = g.S.Store.view c.begin.new.self.store in
+    c.commit.ensures.tables (tables_as one (g.S.Store.view c.put_groups.new.self.store) c.put_groups.ensures.schema (tables_as (g.S.Store.view c.args.self.now.store) one c.begin.ensures.schema tables)) clean
 
 pub returns-clause-replaced : goal.returns-clause-replaced
 returns-clause-replaced g c =
-    let one = g.S.Store.view c.clear.new.self.store in
+    let one = g.S.Store.view c.begin.new.self.store in
     let two = g.S.Store.view c.put_groups.new.self.store in
-    let last = g.S.Store.view c.settle.new.self.store in
+    let last = g.S.Store.view c.commit.new.self.store in
     let all = map (stored_in_run c.args.entered_in) (records_of c.args.groups.now) in
-    mapped c.settle.result (λ says clean.
-    let before = clean_before two last c.settle.ensures.clean clean in
-    says clean ∙ c.in_ok-put_groups.ensures.added before ∙ ap (λ (rs : List StoredRequest). rs ++ all) (c.in_ok-clear.ensures.empty (clean_before one two c.put_groups.ensures.quiet.clean before))) c.settle.ensures.replaced
+    mapped c.commit.result (λ says clean.
+    let before = clean_before two last c.commit.ensures.clean clean in
+    says clean ∙ c.in_ok-put_groups.ensures.added before ∙ ap (λ (rs : List StoredRequest). rs ++ all) (c.in_ok-begin.ensures.empty (clean_before one two c.put_groups.ensures.quiet.clean before))) c.commit.ensures.replaced
 
 pub returns-clause-crash : goal.returns-clause-crash
 returns-clause-crash g c db after =
-    let one = g.S.Store.view c.clear.new.self.store in
+    let one = g.S.Store.view c.begin.new.self.store in
     let two = g.S.Store.view c.put_groups.new.self.store in
     let all = map (stored_in_run c.args.entered_in) (records_of c.args.groups.now) in
-    let before = λ (between : g.S.Store.recovers c.put_groups.new.self.store db). c.clear.ensures.quiet.outcomes db (c.put_groups.ensures.quiet.outcomes db between) in
+    let before = λ (between : g.S.Store.recovers c.put_groups.new.self.store db). c.begin.ensures.quiet.outcomes db (c.put_groups.ensures.quiet.outcomes db between) in
     let has = λ (is : IsReplaced c.put_groups.new.self db).
     let clean = open_clean two (g.met.S.Store.shut_if_dirty c.put_groups.new.self.store) (sound_open two (g.met.S.Store.broken_if_shut c.put_groups.new.self.store) is.sound.1) in
-    let requests : requests_in db ≡ all = is.requests ∙ c.in_ok-put_groups.ensures.added clean ∙ ap (λ (rs : List StoredRequest). rs ++ all) (c.in_ok-clear.ensures.empty (clean_before one two c.put_groups.ensures.quiet.clean clean)) in
+    let requests : requests_in db ≡ all = is.requests ∙ c.in_ok-put_groups.ensures.added clean ∙ ap (λ (rs : List StoredRequest). rs ++ all) (c.in_ok-begin.ensures.empty (clean_before one two c.put_groups.ensures.quiet.clean clean)) in
     let both : (requests_in db ≡ all) × IsNumbered (db 0) = (requests, is.numbered) in
     both in
-    both_ways before has (c.settle.ensures.crash db after)
+    both_ways before has (c.commit.ensures.crash db after)

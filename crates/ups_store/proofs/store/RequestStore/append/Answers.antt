@@ -3,7 +3,7 @@ use Rattle.std.proofs.lemmas.List.{length-map}
 use Rattle.sqlite_trees.specs.View.{View, IsClean, Commits}
 use Rattle.ups_store.specs.Rows.{stored_in_run}
 use Rattle.ups_store.specs.Held.{IsAdding, Adds}
-use Rattle.ups_store.proofs.Steps.{clean_before, open_clean, sound_open, was_open, undoes, held_undone, held_committed, would_say, outcomes, on_err}
+use Rattle.ups_store.proofs.Steps.{clean_before, open_clean, sound_open, was_open, undoes, held_undone, held_committed, would_say, outcomes_open, on_err}
 use Rattle.ups_store.proofs.store.RequestStore.append.Goals as goal
 
 pub invariant_of-self : goal.invariant_of-self
@@ -62,7 +62,8 @@ returns-in_err-commit-clause-crash g c db after =
     let mid = g.S.Store.view c.put_all.new.store in
     let says = would_say old mid c.args.self.now.count (map (stored_in_run c.args.run) c.args.records.now) c.args.self.now.held (g.met.S.Store.shut_if_dirty c.put_all.new.store) (g.met.S.Store.broken_if_shut c.put_all.new.store)
     c.put_all.ensures.kept (search rules) in
-    outcomes (g.S.Store.recovers c.args.self.now.store) (g.S.Store.recovers c.put_all.new.store) (mid.is_broken ≡ false) mid.trees _ says c.put_all.ensures.quiet.outcomes db (c.commit.ensures.crash db after)
+    outcomes_open (g.S.Store.recovers c.args.self.now.store) (g.S.Store.recovers c.put_all.new.store) (mid.is_broken ≡ false) (IsTrue old.is_open) mid.trees _
+    (was_open old mid (g.met.S.Store.broken_if_shut c.put_all.new.store) c.put_all.ensures.kept) says c.put_all.ensures.quiet.outcomes db (c.commit.ensures.crash db after)
 
 pub returns-clause-crash : goal.returns-clause-crash
 returns-clause-crash g c db after =
@@ -70,7 +71,8 @@ returns-clause-crash g c db after =
     let mid = g.S.Store.view c.put_all.new.store in
     let says = would_say old mid c.args.self.now.count (map (stored_in_run c.args.run) c.args.records.now) c.args.self.now.held (g.met.S.Store.shut_if_dirty c.put_all.new.store) (g.met.S.Store.broken_if_shut c.put_all.new.store)
     c.put_all.ensures.kept (search rules) in
-    outcomes (g.S.Store.recovers c.args.self.now.store) (g.S.Store.recovers c.put_all.new.store) (mid.is_broken ≡ false) mid.trees _ says c.put_all.ensures.quiet.outcomes db (c.commit.ensures.crash db after)
+    outcomes_open (g.S.Store.recovers c.args.self.now.store) (g.S.Store.recovers c.put_all.new.store) (mid.is_broken ≡ false) (IsTrue old.is_open) mid.trees _
+    (was_open old mid (g.met.S.Store.broken_if_shut c.put_all.new.store) c.put_all.ensures.kept) says c.put_all.ensures.quiet.outcomes db (c.commit.ensures.crash db after)
 
 pub returns-in-Err-clause-was_open : goal.returns-in-Err-clause-was_open
 returns-in-Err-clause-was_open g c is_open =

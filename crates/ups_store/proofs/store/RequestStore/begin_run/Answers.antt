@@ -1,9 +1,9 @@
 use Rattle.std.proofs.Common.{arith, ◌≡◌, ◌+◌, ◌<◌, ◌≤◌, ◌^◌, false, subst, ap, ◌∙◌}
-use Rattle.sqlite_trees.specs.View.{View, IsStorableRow, Commits}
+use Rattle.sqlite_trees.specs.View.{IsStorableRow, Commits}
 use Rattle.sqlite_trees.specs.Tree.{Trees}
-use Rattle.ups_store.specs.Runs.{row_of_run, last_number, last_requests}
+use Rattle.ups_store.specs.Runs.{row_of_run, last_runs, last_number, last_requests}
 use Rattle.ups_store.proofs.Steps.{clean_before, open_clean, was_open, undoes, held_undone, outcomes, on_err, sound_open}
-use Rattle.ups_store.proofs.Begun.{adding_beside, has_run, is_behind, runs_table, held_run, would_keep, run_reason_as}
+use Rattle.ups_store.proofs.Begun.{adding_entered, has_entered, is_behind, runs_table, held_run, would_keep, run_reason_as}
 use Rattle.ups_store.proofs.Behind.{put_behind}
 use Rattle.ups_store.proofs.store.RequestStore.begin_run.Goals as goal
 
@@ -18,7 +18,7 @@ invariant_of-self g c =
       held = λ up.
           let clean = open_clean new (g.met.S.Store.shut_if_dirty c.commit.new.self) up in
           held_run c.commit.result old mid new count c.args.self.now.held clean (g.met.S.Store.broken_if_shut c.enter_run.new.store) kept c.enter_run.ensures.schema
-          (λ was. adding_beside old mid count _ (c.args.self.now.held was).adding (c.in-Ok.ensures.enters (clean_before mid new c.commit.ensures.clean clean)).puts) c.commit.ensures.ok c.commit.ensures.err up;
+          (λ was. adding_entered old mid c.in-Ok.number count c.args.run.now (c.args.self.now.held was).adding (c.in-Ok.ensures.enters (clean_before mid new c.commit.ensures.clean clean))) c.commit.ensures.ok c.commit.ensures.err up;
     }
 
 pub invariant_of-self-in-Err : goal.invariant_of-self-in-Err
@@ -47,7 +47,7 @@ returns-in_err-commit-in-Ok-clause-crash g c db after =
     let old = g.S.Store.view c.args.self.now.store in
     let mid = g.S.Store.view c.enter_run.new.store in
     let says = would_keep old mid c.args.self.now.count c.args.self.now.held (g.met.S.Store.shut_if_dirty c.enter_run.new.store) (g.met.S.Store.broken_if_shut c.enter_run.new.store) c.enter_run.ensures.kept
-    (λ clean. ap (λ (v : View). v.trees 0) (c.in-Ok.ensures.enters clean).puts.is) in
+    (λ clean. (c.in-Ok.ensures.enters clean).requests) in
     outcomes (g.S.Store.recovers c.args.self.now.store) (g.S.Store.recovers c.enter_run.new.store) (mid.is_broken ≡ false) mid.trees _ says c.enter_run.ensures.quiet.outcomes db (c.commit.ensures.crash db after)
 
 pub returns-in_ok-commit-in-Ok-clause-crash : goal.returns-in_ok-commit-in-Ok-clause-crash
@@ -55,7 +55,7 @@ returns-in_ok-commit-in-Ok-clause-crash g c db after =
     let old = g.S.Store.view c.args.self.now.store in
     let mid = g.S.Store.view c.enter_run.new.store in
     let says = would_keep old mid c.args.self.now.count c.args.self.now.held (g.met.S.Store.shut_if_dirty c.enter_run.new.store) (g.met.S.Store.broken_if_shut c.enter_run.new.store) c.enter_run.ensures.kept
-    (λ clean. ap (λ (v : View). v.trees 0) (c.in-Ok.ensures.enters clean).puts.is) in
+    (λ clean. (c.in-Ok.ensures.enters clean).requests) in
     outcomes (g.S.Store.recovers c.args.self.now.store) (g.S.Store.recovers c.enter_run.new.store) (mid.is_broken ≡ false) mid.trees _ says c.enter_run.ensures.quiet.outcomes db (c.commit.ensures.crash db after)
 
 pub returns-in_ok-commit-in-Ok-clause-begun : goal.returns-in_ok-commit-in-Ok-clause-begun
@@ -69,7 +69,7 @@ returns-in_ok-commit-in-Ok-clause-begun g c clean =
     let enters = c.in-Ok.ensures.enters (clean_before mid new c.commit.ensures.clean clean) in
     let behind = is_behind old mid c.in-Ok.number it.count c.args.run.now holds enters in
     let table = runs_table old it.count holds (g.met.S.Store.ordered it.store holds.adding.sound) in
-    (has_run old mid new c.in-Ok.number it.count c.args.run.now holds enters.puts done).noted ∙ put_behind (old.committed 1) c.in-Ok.number c.args.run.now _ table.0 table.1 behind.low (omega (arith, behind.behind))
+    (has_entered old mid new c.in-Ok.number it.count c.args.run.now holds enters done).runs ∙ ap (last_runs c.in-Ok.number) (put_behind (old.committed 1) c.in-Ok.number c.args.run.now _ table.0 table.1 behind.low (omega (arith, behind.behind)))
 
 pub returns-in-Err-clause-cause : goal.returns-in-Err-clause-cause
 returns-in-Err-clause-cause g c clean =

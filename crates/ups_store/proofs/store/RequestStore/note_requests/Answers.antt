@@ -1,6 +1,6 @@
-use Rattle.std.proofs.Common.{◌≡◌, false, ap}
+use Rattle.std.proofs.Common.{◌≡◌, false, IsTrue, ap}
 use Rattle.sqlite_trees.specs.View.{View, Commits}
-use Rattle.ups_store.proofs.Steps.{clean_before, open_clean, was_open, undoes, held_undone, outcomes, on_err}
+use Rattle.ups_store.proofs.Steps.{clean_before, open_clean, was_open, undoes, held_undone, outcomes_open, on_err}
 use Rattle.ups_store.proofs.Begun.{adding_beside, held_run, would_keep}
 use Rattle.ups_store.proofs.store.RequestStore.note_requests.Goals as goal
 
@@ -45,7 +45,8 @@ returns-in_err-commit-in-Ok-clause-crash g c db after =
     let mid = g.S.Store.view c.put_run.new.store in
     let says = would_keep old mid c.args.self.now.count c.args.self.now.held (g.met.S.Store.shut_if_dirty c.put_run.new.store) (g.met.S.Store.broken_if_shut c.put_run.new.store) c.put_run.ensures.kept
     (λ clean. ap (λ (v : View). v.trees 0) (c.in-Ok.ensures.put clean).is) in
-    outcomes (g.S.Store.recovers c.args.self.now.store) (g.S.Store.recovers c.put_run.new.store) (mid.is_broken ≡ false) mid.trees _ says c.put_run.ensures.quiet.outcomes db (c.commit.ensures.crash db after)
+    outcomes_open (g.S.Store.recovers c.args.self.now.store) (g.S.Store.recovers c.put_run.new.store) (mid.is_broken ≡ false) (IsTrue old.is_open) mid.trees _
+    (was_open old mid (g.met.S.Store.broken_if_shut c.put_run.new.store) c.put_run.ensures.kept) says c.put_run.ensures.quiet.outcomes db (c.commit.ensures.crash db after)
 
 pub returns-in_ok-commit-in-Ok-clause-crash : goal.returns-in_ok-commit-in-Ok-clause-crash
 returns-in_ok-commit-in-Ok-clause-crash g c db after =
@@ -53,7 +54,8 @@ returns-in_ok-commit-in-Ok-clause-crash g c db after =
     let mid = g.S.Store.view c.put_run.new.store in
     let says = would_keep old mid c.args.self.now.count c.args.self.now.held (g.met.S.Store.shut_if_dirty c.put_run.new.store) (g.met.S.Store.broken_if_shut c.put_run.new.store) c.put_run.ensures.kept
     (λ clean. ap (λ (v : View). v.trees 0) (c.in-Ok.ensures.put clean).is) in
-    outcomes (g.S.Store.recovers c.args.self.now.store) (g.S.Store.recovers c.put_run.new.store) (mid.is_broken ≡ false) mid.trees _ says c.put_run.ensures.quiet.outcomes db (c.commit.ensures.crash db after)
+    outcomes_open (g.S.Store.recovers c.args.self.now.store) (g.S.Store.recovers c.put_run.new.store) (mid.is_broken ≡ false) (IsTrue old.is_open) mid.trees _
+    (was_open old mid (g.met.S.Store.broken_if_shut c.put_run.new.store) c.put_run.ensures.kept) says c.put_run.ensures.quiet.outcomes db (c.commit.ensures.crash db after)
 
 pub returns-in-Err-clause-was_open : goal.returns-in-Err-clause-was_open
 returns-in-Err-clause-was_open g c is_open =

@@ -6,9 +6,16 @@ use Rattle.std.proofs.lemmas.List.Elements.{All-tail, All-push, All-same}
 use Rattle.std.specs.Vec.Iter.{into_iter_items}
 use Rattle.ups_net.specs.Working.{EndsThread, EndThreads, seen_last}
 use Rattle.ups_net.proofs.Ending.{first_more, last_more, none_left, ran, ends_length, told_on, none_told, unless_off}
-use denote.Param.Send.{sendable}
-use Rattle.ups_turn.proofs.Crosses.{desk_crosses}
-use Rattle.ups_net.proofs.Crosses.{premises_lent, start_lent, options_lent, token_send}
+use mir.Syntax.{named}
+use denote.Exit.{yes}
+use denote.Param.{param}
+use denote.Param.Send.{sendable, shr_send, param_send, arg_send}
+use Rattle.std.below.core.specs.contracts.clone.Clone+copy.TheImpl as copies
+use Rattle.std_heap.specs.contracts.Global as Heap
+use Rattle.std_heap.specs.contracts.GlobalAllocator.TheImpl.{ghosts}
+use Rattle.ups_turn.specs.contracts.desk.Desk as Desk
+use Rattle.ups_turn.proofs.Crosses.{desk_crosses, desk_sync, pass_send}
+use Rattle.ups_net.proofs.Crosses.{captures_send, premises_lent, start_lent, options_lent, token_send}
 use Rattle.ups_net.proofs.workers.fn.run_threads.scope.Goals as goal
 
 pub loop-pass-preserved-then-is_some : goal.loop-pass-preserved-then-is_some
@@ -114,8 +121,17 @@ returns-in_default g c = record {
   kept = λ first. subst (AreKept g.L.Ledger c.captures.keeper) (sym (ap seen_last c.push_reserved.ensures.items ∙ seen_behind c.put_back.new.passes.items c.captures.sweeper)) first;
 }
 
+-- what is captured, in its order, each reference at its lifetime: by hand, since a search does not find it with premises over a
+-- type parameter
 pub spawn_with-requires-send-F : goal.spawn_with-requires-send-F
-spawn_with-requires-send-F g l κs within = search (options_lent, start_lent, premises_lent, desk_crosses, sendable) depth 40 fits 5000
+spawn_with-requires-send-F g l κs within =
+    let rt = shr_send (named 6) κs.1.1.1.1.1.1.0 (param 3 g.row.R) l.requires.sync in
+    let start = start_lent (named 7) κs.1.1.1.1.1.1.1.0 in
+    let premises = premises_lent (param 1 g.row.K) g.K.Keeping.had (named 8) κs.1.1.1.1.1.1.1.1.0 in
+    let desk = shr_send (named 9) κs.1.1.1.1.1.1.1.1.1.0 (Desk.the_row (param 0 g.row.M) Heap.the_row g.M.SharedService ghosts (copies.ghosts Heap.the_row)) (desk_sync (param 0 g.row.M) g.M.SharedService (copies.ghosts Heap.the_row) l.requires.send) in
+    let pass = pass_send (param 0 g.row.M) g.M.SharedService l.requires.send in
+    let options = options_lent (named 10) κs.1.1.1.1.1.1.1.1.1.1.0 in
+    param_send 2 _ (arg_send _ yes _ (captures_send _ (_ ∷ _ ∷ _ ∷ _ ∷ _ ∷ _ ∷ []) (rt, (start, (premises, (desk, (pass, (options, tt))))))))
 
 pub spawn_with-requires-send-T : goal.spawn_with-requires-send-T
 spawn_with-requires-send-T g l κs within = search (sendable, desk_crosses, token_send) depth 30

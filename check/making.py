@@ -1,0 +1,67 @@
+"""Tries that `upsd init` makes a store, once and for its owner alone, and that nothing else makes one."""
+
+from __future__ import annotations
+
+import os
+from typing import Optional
+
+from results import Results
+from stored import Client, Stored, a_step_of, bytes_in, compacted, files_of, folder_for, initialized, refused, rows_of, started_on, tried
+
+NOT_MADE, ONCE, ALONE = "missing or blank: upsd init makes a store", "not blank", "emptied or replaced"
+
+
+def run(program: list[str], results: Results) -> None:
+    with folder_for(None) as folder:
+        missing, blank, alone = (os.path.join(folder, it) for it in ("missing", "blank", "alone"))
+        refuse_missing(program, missing, results)
+        refuse_blank(program, blank, results)
+        for name, file in (("in a blank file", blank), ("where there is no file", missing)):
+            results.tell(f"a store is made {name}, and only once", tried(fault_of_init, program, file))
+        in_no_folder = os.path.join(folder, "none", "store")
+        results.tell("no store is made in no folder", refused(initialized(program, in_no_folder), "no such folder", {}, in_no_folder))
+        refuse_alone(program, alone, results)
+
+
+def refuse_missing(program: list[str], file: str, results: Results) -> None:
+    for name, come in (("a start", started_on(program, file)), ("a compaction", compacted(program, file))):
+        made = f"it makes {files_of(file)}" if files_of(file) else None
+        results.tell(f"{name} on a missing file is refused", refused(come, NOT_MADE, {}, file) or made)
+
+
+def refuse_blank(program: list[str], file: str, results: Results) -> None:
+    with open(file, "wb"):
+        pass
+    for name, come in (("a start", started_on(program, file)), ("a compaction", compacted(program, file))):
+        results.tell(f"{name} on a blank file is refused", refused(come, NOT_MADE, {file: b""}, file))
+
+
+def refuse_alone(program: list[str], file: str, results: Results) -> None:
+    """Tries a store whose file was emptied."""
+    results.tell("a store whose file will be emptied", tried(fault_of_first, program, file))
+    os.truncate(file, 0)
+    before = bytes_in(file)
+    for name, come in (("a start", started_on(program, file)), ("a compaction", compacted(program, file)), ("init", initialized(program, file))):
+        results.tell(f"{name} on a blank file next to a log is refused", refused(come, ALONE, before, file))
+
+
+def fault_of_init(program: list[str], file: str) -> Optional[str]:
+    """Returns what is wrong with making a store in a file, or None."""
+    is_missing = not os.path.exists(file)
+    come = initialized(program, file)
+    if come.status != 0 or come.output or come.said:
+        return f"it ends with {come.status}: {come.output!r} {come.said[-300:]!r}"
+    modes = {it: oct(os.stat(it).st_mode & 0o777) for it in files_of(file)}
+    if is_missing and set(modes.values()) != {"0o600"}:
+        return f"the modes are {modes}"
+    again = refused(initialized(program, file), ONCE, bytes_in(file), file)
+    return f"once more: {again}" if again else fault_of_first(program, file)
+
+
+def fault_of_first(program: list[str], file: str) -> Optional[str]:
+    """Returns why a server on a new store has a step, or does not keep one; or None."""
+    with Stored(program, file) as server:
+        client = Client(server.port)
+        there, status = len(client.found()), client.create(b"1.2.3", a_step_of(b"P"))
+    is_good = there == 0 and status == 0x0000 and len(rows_of(file)) == 1
+    return None if is_good else f"{there} steps are there, a creation is answered {status:04X}, and {len(rows_of(file))} requests are kept"

@@ -1,0 +1,189 @@
+//! The outbox of a connection: what waits to be sent, what that rests on, and the commits behind it.
+
+ghost use Rattle.std.specs.Prelude.{◌≡◌, ◌≤◌, true, length, IfOk, IfSome};
+ghost use Rattle.ups_ledger.specs.Backed.{IsBacked};
+
+use crate::connection::Outlet;
+use crate::wire_fault::WireFault;
+use std::alloc::Global;
+use std::cell::RefCell;
+use std::io::{self, ErrorKind, Write};
+use std::sync::ledger::Share;
+use std::sync::{Mutex, Wait};
+use std::time::{Clock, Duration};
+use ups_ledger::{Commits, Committed, Due, Keeping, Noted};
+
+/// What answers wait for before they are sent: until as many entries are committed as they rest on, for at most
+/// `limit`.
+#[derive(Drop)]
+pub struct Backing<'a, K: Keeping> {
+    pub commits: &'a Commits<K>,
+    pub limit: Duration,
+}
+
+/// What says how long a write may wait.
+pub(crate) trait Pace {
+    /// Returns how long the next write may wait; None is no limit.
+    ///
+    /// # Errors
+    ///
+    /// TimedOut if the time of the peer is over; those of the clock.
+    fn left_to_write(&self) -> Result<Option<Duration>, WireFault>;
+}
+
+/// The bytes that wait to be sent on a connection. All that is sent on it leaves here.
+#[derive(Drop)]
+pub(crate) struct Outbox<'a, D: Noted, K: Keeping> {
+    outlet: Outlet<'a>,
+    waiting: RefCell<Vec<u8>>,
+    /// The number of entries that must be committed before anything is sent.
+    due: Mutex<Due<D>>,
+    backing: Backing<'a, K>,
+}
+
+/// The sending of what waits. At least as many entries are committed as are due.
+#[derive(Drop)]
+struct Departure<'a, P: Pace, D: Noted, K: Keeping> {
+    outlet: &'a Outlet<'a>,
+    pace: &'a P,
+    due: &'a Due<D>,
+    committed: &'a Committed<K>,
+    ghost backed: { due.now.seen.total ≤ committed.now.count },
+}
+
+impl<'a, P: Pace, D: Noted, K: Keeping> Departure<'a, P, D, K> {
+    // Writes once, in what is left of the time.
+    fn write_once(&self, buf: &[u8]) -> Result<usize, WireFault>
+        ensures { IfOk result (λ count. count ≤ length buf.now) }
+    {
+        self.outlet.set_limit(self.pace.left_to_write()?)?;
+        self.outlet.write_backed(self.due, self.committed, buf)
+    }
+}
+
+impl<'a, P: Pace, D: Noted, K: Keeping> Write for Departure<'a, P, D, K> {
+    fn write(&mut self, buf: &[u8]) -> io::Result<usize> {
+        match self.write_once(buf) {
+            Ok(count) => Ok(count),
+            Err(fault) => Err(io::Error::from(fault)),
+        }
+    }
+
+    fn flush(&mut self) -> io::Result<()> {
+        Ok(())
+    }
+}
+
+impl<'a, D: Noted, K: Keeping> Outbox<'a, D, K> {
+    /// Creates an outbox in which nothing waits.
+    pub(crate) fn new(
+        alloc: Global,
+        outlet: Outlet<'a>,
+        backing: Backing<'a, K>,
+        due: Due<D>,
+    ) -> Outbox<'a, D, K> {
+        Outbox {
+            outlet,
+            waiting: RefCell::new(Vec::new(alloc)),
+            due: Mutex::new(due),
+            backing,
+        }
+    }
+
+    /// Returns how many entries must be committed before anything is sent: as many as what waits rests on.
+    pub(crate) fn due(&self) -> &Mutex<Due<D>> {
+        &self.due
+    }
+
+    /// Appends bytes to those that wait, and returns how many wait now.
+    ///
+    /// # Errors
+    ///
+    /// If memory runs out.
+    pub(crate) fn put(&self, bytes: &[u8]) -> Result<usize, WireFault> {
+        let Ok(mut waiting) = self.waiting.try_borrow_mut() else {
+            return Err(WireFault::of(ErrorKind::ResourceBusy));
+        };
+        waiting.extend_from_slice(bytes)?;
+        Ok(waiting.len())
+    }
+
+    /// Returns the first byte that waits, or None if none does.
+    pub(crate) fn first(&self) -> Option<u8> {
+        match self.waiting.try_borrow() {
+            Ok(waiting) => waiting.first().copied(),
+            Err(_) => None,
+        }
+    }
+
+    /// Throws away what waits.
+    #[cold]
+    pub(crate) fn clear(&self) {
+        if let Ok(mut waiting) = self.waiting.try_borrow_mut() {
+            waiting.clear();
+        }
+    }
+
+    // Waits until as many entries are committed as are due. Returns None if that was not in time.
+    fn committed_for<R: Wait + Clock>(&self, rt: &R, due: &Due<D>) -> Option<Committed<K>>
+        ensures { IfSome result (λ committed. due.now.seen.total ≤ committed.count) }
+    {
+        let backing = &self.backing;
+        backing.commits.wait_for(rt, due.entries()?, backing.limit)
+    }
+
+    /// Sends what waits, once all that it rests on is committed. Returns false, and sends nothing, if that was not
+    /// committed in time. Afterwards nothing waits, even if sending failed.
+    ///
+    /// # Errors
+    ///
+    /// If the connection fails; TimedOut if the peer takes too long.
+    pub(crate) fn send<P: Pace, R: Wait + Clock>(
+        &self,
+        rt: &R,
+        pace: &P,
+    ) -> Result<bool, WireFault> {
+        let Ok(mut waiting) = self.waiting.try_borrow_mut() else {
+            return Err(WireFault::of(ErrorKind::ResourceBusy));
+        };
+        let due = self.due.lock(rt);
+        let Some(committed) = self.committed_for(rt, &due) else {
+            waiting.clear();
+            return Ok(false);
+        };
+        let mut departure = Departure {
+            outlet: &self.outlet,
+            pace,
+            due: &due,
+            committed: &committed,
+        };
+        let sent = departure.write_all(waiting.as_slice());
+        waiting.clear();
+        sent?;
+        Ok(true)
+    }
+
+    /// Returns whether as many entries are committed as are due, which are at least those that a pass has noted.
+    pub(crate) fn is_backed<R: Wait>(&self, rt: &R, share: &mut Share<D>) -> bool
+        ensures { result ≡ true → IsBacked K.had share.old.amount }
+    {
+        let mut due = self.due.lock(rt);
+        due.audit(share);
+        let Some(entries) = due.entries() else {
+            return false;
+        };
+        let Some(_committed) = self.backing.commits.reached(entries) else {
+            return false;
+        };
+        true
+    }
+
+    /// Sends an A-ABORT, without waiting. It rests on no entry.
+    ///
+    /// # Errors
+    ///
+    /// If memory runs out, or the connection fails.
+    pub(crate) fn abort(&self, alloc: Global) -> Result<(), WireFault> {
+        self.outlet.write_abort(alloc)
+    }
+}
