@@ -12,6 +12,8 @@ import subprocess
 import sys
 import time
 
+from best import best_of
+
 SOURCE = r'''//! Reads a representation, a key and a stored value, a line each, and prints whether the key matches the value.
 #![tactic(auto)]
 
@@ -67,23 +69,22 @@ def even(value):
     return value if len(value) % 2 == 0 else value + b" "
 
 
+def run(program, stdin):
+    """Returns the seconds of one run, which must not match."""
+    began = time.perf_counter()
+    done = subprocess.run([program], input=stdin, capture_output=True, timeout=LIMIT)
+    if done.returncode != 0 or done.stdout != b"false\n":
+        sys.exit(f"{program}: status {done.returncode}, {done.stderr}")
+    return time.perf_counter() - began
+
+
 def seconds(program, representation, key, value):
     """Returns the best time of three runs, or of one if it takes over 2 s; None if a run exceeds the limit."""
     stdin = b"\n".join((representation, even(key), even(value), b""))
-    least = None
-    for _ in range(3):
-        began = time.perf_counter()
-        try:
-            done = subprocess.run([program], input=stdin, capture_output=True, timeout=LIMIT)
-        except subprocess.TimeoutExpired:
-            return None
-        if done.returncode != 0 or done.stdout != b"false\n":
-            sys.exit(f"{program}: status {done.returncode}, {done.stderr}")
-        took = time.perf_counter() - began
-        least = took if least is None else min(least, took)
-        if least > 2:
-            break
-    return least
+    try:
+        return best_of(3, lambda: run(program, stdin), enough=2)
+    except subprocess.TimeoutExpired:
+        return None
 
 
 def uids(front, count):

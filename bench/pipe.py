@@ -8,6 +8,7 @@ import tempfile
 import time
 
 sys.path.insert(0, os.path.join(os.path.dirname(os.path.dirname(os.path.abspath(__file__))), "check/lib"))
+from best import best_of
 from dicom import (EXPLICIT, IMPLICIT, PULL, PUSH, RELEASE, VERIFICATION, associate, create, data, echo, find, get, items, pdu,
                    step)
 from machine import arguments
@@ -43,7 +44,7 @@ def peak(program, stdin):
 
 def best(program, stdin, times=5):
     """Returns the seconds of the best run, and the peak memory."""
-    return min(run(program, stdin)[0] for _ in range(times)), peak(program, stdin)
+    return best_of(times, lambda: run(program, stdin)[0]), peak(program, stdin)
 
 
 def echoes(program):

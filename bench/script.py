@@ -8,6 +8,7 @@ import sys
 import time
 
 sys.path.insert(0, os.path.join(os.path.dirname(os.path.dirname(os.path.abspath(__file__))), "check/lib"))
+from best import best_of
 from machine import arguments
 from pipe import timed
 
@@ -23,16 +24,18 @@ def run(program, stdin, before=()):
     return timed([*before, program, "script"], stdin)
 
 
-def best(program, stdin, wanted, times=5):
-    """Returns the seconds of the best run; each line of a run has to begin with the wanted status."""
-    least = None
-    for _ in range(times):
-        took, out, done = run(program, stdin)
-        lines = out.splitlines()
-        if done.returncode != 0 or len(lines) != stdin.count(b"\n") or not all(line.startswith(wanted) for line in lines):
-            sys.exit(f"{program}: status {done.returncode}, {done.stderr}")
-        least = took if least is None else min(least, took)
-    return least
+def seconds(program, stdin, wanted):
+    """Returns the seconds of one run, each line of which has to begin with the wanted status."""
+    took, out, done = run(program, stdin)
+    lines = out.splitlines()
+    if done.returncode != 0 or len(lines) != stdin.count(b"\n") or not all(line.startswith(wanted) for line in lines):
+        sys.exit(f"{program}: status {done.returncode}, {done.stderr}")
+    return took
+
+
+def best(program, stdin, wanted):
+    """Returns the seconds of the best of five runs."""
+    return best_of(5, lambda: seconds(program, stdin, wanted))
 
 
 def lines(program):
@@ -48,18 +51,19 @@ def lines(program):
         print_rate("find by wild card, 100 answers", count, best(program, made + finds, b"0000") - base)
 
 
-def run_seconds(program, stdin, peers, times=5):
-    """Returns the processor seconds of the best run of a script with these peers, which has to answer all lines."""
-    least = None
-    for _ in range(times):
-        before = resource.getrusage(resource.RUSAGE_CHILDREN)
-        done = subprocess.run([program, "script", *peers], input=stdin, stdout=subprocess.PIPE)
-        after = resource.getrusage(resource.RUSAGE_CHILDREN)
-        if done.returncode != 0 or done.stdout.count(b"\n") != stdin.count(b"\n"):
-            sys.exit(f"{program}: status {done.returncode}, {done.stdout[-40:]}")
-        took = after.ru_utime + after.ru_stime - before.ru_utime - before.ru_stime
-        least = took if least is None else min(least, took)
-    return least
+def processor_seconds(program, stdin, peers):
+    """Returns the processor seconds of one run of a script with these peers, which has to answer all lines."""
+    before = resource.getrusage(resource.RUSAGE_CHILDREN)
+    done = subprocess.run([program, "script", *peers], input=stdin, stdout=subprocess.PIPE)
+    after = resource.getrusage(resource.RUSAGE_CHILDREN)
+    if done.returncode != 0 or done.stdout.count(b"\n") != stdin.count(b"\n"):
+        sys.exit(f"{program}: status {done.returncode}, {done.stdout[-40:]}")
+    return after.ru_utime + after.ru_stime - before.ru_utime - before.ru_stime
+
+
+def run_seconds(program, stdin, peers):
+    """Returns the processor seconds of the best of five runs."""
+    return best_of(5, lambda: processor_seconds(program, stdin, peers))
 
 
 def watchers(program):

@@ -117,7 +117,7 @@ class Storescp(Measured):
     def __init__(self):
         self.port = free_port()
         # Without this it writes an answer in two parts, and the second waits 40 ms for the client's kernel.
-        self.begin(["storescp", str(self.port)], subprocess.DEVNULL, TCP_NODELAY="1")
+        self.begin(["storescp", str(self.port)], subprocess.DEVNULL, variables={"TCP_NODELAY": "1"})
         if not holds(lambda: listens(self.port), 10):
             sys.exit("storescp does not listen")
 

@@ -469,7 +469,7 @@ class Trial:
         finished = [it for it in self.plan.steps.values() if it.now and it.now.rank == 2 and not it.asked and not it.watches[SINGLE].asked]
         locked = {it.uid for it in finished if it.watches[SINGLE].lock}
         away = [it.replace(self.watchers[it[:2].encode()].place, "127.0.0.1:1") for it in self.peers]
-        with Stored(self.program, copy_of(self.file, folder), "--keep", "0", *away) as server:
+        with Stored(self.program, copy_of(self.file, folder), "--keep", "0", "--store-other-settings", *away) as server:
             client = Client(server.port, b"JUDGE")
             uids = {it.uid for it in finished}
 

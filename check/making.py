@@ -1,14 +1,22 @@
-"""Tries that `upsd init` makes a store, once and for its owner alone, and that nothing else makes one."""
+"""Tries that `upsd init` makes a store, once and for its owner alone, that nothing else makes one, and that a store of each earlier
+version is read."""
 
 from __future__ import annotations
 
 import os
+import shutil
 from typing import Optional
 
+from ledger import SOP_INSTANCE
+from machine import HERE
 from results import Results
-from stored import Client, Stored, a_step_of, bytes_in, compacted, files_of, folder_for, initialized, refused, rows_of, started_on, tried
+from stored import (Client, Stored, a_step_of, bytes_in, compacted, files_of, folder_for, initialized, refused, rows_of, runs_of, started_on,
+                    text_in, tried)
 
 NOT_MADE, ONCE, ALONE = "missing or blank: upsd init makes a store", "not blank", "emptied or replaced"
+EARLIER = os.path.join(HERE, "rows/stores/0.2.0/store")
+ITS_SETTINGS = ("--keep", "1", "--offset", "60", "WATCH1=127.0.0.1:1,lock")  # of its run, by the page next to it
+ITS_STEPS, REMOVED = {b"1.2.3.4.3", b"1.2.3.4.4"}, b"1.2.3.4.2"
 
 
 def run(program: list[str], results: Results) -> None:
@@ -21,6 +29,7 @@ def run(program: list[str], results: Results) -> None:
         in_no_folder = os.path.join(folder, "none", "store")
         results.tell("no store is made in no folder", refused(initialized(program, in_no_folder), "no such folder", {}, in_no_folder))
         refuse_alone(program, alone, results)
+        results.tell("a store of version 0.2.0 is read, continued and compacted", tried(fault_of_earlier, program, os.path.join(folder, "earlier")))
 
 
 def refuse_missing(program: list[str], file: str, results: Results) -> None:
@@ -65,3 +74,19 @@ def fault_of_first(program: list[str], file: str) -> Optional[str]:
         there, status = len(client.found()), client.create(b"1.2.3", a_step_of(b"P"))
     is_good = there == 0 and status == 0x0000 and len(rows_of(file)) == 1
     return None if is_good else f"{there} steps are there, a creation is answered {status:04X}, and {len(rows_of(file))} requests are kept"
+
+
+def fault_of_earlier(program: list[str], file: str) -> Optional[str]:
+    """Returns what is wrong with a server on a store of version 0.2.0, or with its compaction afterwards, or None."""
+    shutil.copyfile(EARLIER, file)
+    rows = rows_of(file)
+    for again in range(2):
+        with Stored(program, file, *ITS_SETTINGS) as server:
+            client = Client(server.port)
+            found = {text_in(it, SOP_INSTANCE) for it in client.found()}
+            used = client.create(REMOVED, a_step_of(b"P"))
+        if not ITS_STEPS <= found or used != 0x0111 or rows_of(file)[:len(rows)] != rows:
+            return f"start {again}: the steps {sorted(found)} are there, a used UID gets {used:04X}, and {len(rows_of(file))} requests are kept"
+    come, runs = compacted(program, file), runs_of(file)
+    is_good = come.status == 0 and runs[0][5] is None and runs[-1][5] == "keep=1\noffset=60\nlock=WATCH1\n" and len(rows_of(file)) < len(rows)
+    return None if is_good else f"a compaction ends with {come.status}: {come.said[-200:]!r}, and the runs are {runs}"

@@ -20,8 +20,6 @@ import contextlib
 import os
 import random
 import re
-import socket
-import struct
 import sys
 import threading
 import time
@@ -31,9 +29,10 @@ import dicom
 import rows
 import runs
 from machine import HERE
+from peer import HANGS_UP, READS_ON, RESETS, Speaker
 
 ASSOCIATIONS, GOOD = 16, 4
-WAYS = ("ends", "hangs up", "resets")
+WAYS = (READS_ON, HANGS_UP, RESETS)
 SEATS = ["--associations", str(ASSOCIATIONS)]
 # in addition to the names of rows/courses.rows: an N-GET request for the state and for what was performed, the response to it
 # if one of them is missing, and the data sets
@@ -69,54 +68,50 @@ def spelled(words, association=0, step=0):
     return dicom.bytes_of(NAMES, words).replace(b"1.2.3.4", b"1.2.%d.%d" % (4 + number // 10, number % 10))
 
 
-class Association:
-    """An association: what it has to send, how much of that it sends, how it ends then, and what was answered."""
+class Conversation(Speaker):
+    """An association: the messages that it has to send, and the place up to which it sends them."""
 
     def __init__(self, number, chance, is_good):
         self.number, self.chance = number, random.Random(chance.random())
-        self.said = [spelled("PUSH_AND_PULL"), *(spelled(it[1], number, it[0]) for it in REQUESTS), spelled("RELEASE")]
+        self.messages = [spelled("PUSH_AND_PULL"), *(spelled(it[1], number, it[0]) for it in REQUESTS), spelled("RELEASE")]
         self.due = [spelled("TWO_ACCEPTED"), *(spelled(it[2], number, it[0]) for it in REQUESTS), spelled("RELEASED")]
-        whole = sum(len(it) for it in self.said)
-        self.way = "ends" if is_good else chance.choice(WAYS)
-        self.place = whole if is_good else chance.randrange(whole)
-        self.answered = b""
+        whole = b"".join(self.messages)
+        way = READS_ON if is_good else chance.choice(WAYS)
+        self.place = len(whole) if is_good else chance.randrange(len(whole))
+        super().__init__(whole[:self.place], way)
 
     def talk(self, port, barrier):
         """Sends its bytes in pieces, and reads what is answered."""
-        given, at = b"".join(self.said)[:self.place], 0
+        at = 0
         with runs.connected(port) as connection, contextlib.suppress(ConnectionError):
             barrier.wait()
-            while at < len(given):
+            while at < len(self.said):
                 count = self.chance.randrange(1, 200)
-                connection.sendall(given[at:at + count])
+                connection.sendall(self.said[at:at + count])
                 at += count
                 time.sleep(self.chance.random() / 500)
             self.end(connection)
 
     def end(self, connection):
-        """Ends it in its way."""
-        if self.way == "ends":
-            connection.shutdown(socket.SHUT_WR)
-            self.answered = runs.rest_of(connection)
-            return
-        connection.setblocking(False)
-        with contextlib.suppress(BlockingIOError):
-            self.answered = connection.recv(65536)
-        if self.way == "resets":
-            connection.setsockopt(socket.SOL_SOCKET, socket.SO_LINGER, struct.pack("ii", 1, 0))
+        """Ends it in its way. Before it hangs up or resets, it hears what has come."""
+        if self.way != READS_ON:
+            connection.setblocking(False)
+            with contextlib.suppress(BlockingIOError):
+                self.heard = connection.recv(65536)
+        super().end(connection)
 
     def whole(self):
         """Returns how many of its messages were sent whole."""
         count, left = 0, self.place
-        while count < len(self.said) and left >= len(self.said[count]):
-            left -= len(self.said[count])
+        while count < len(self.messages) and left >= len(self.messages[count]):
+            left -= len(self.messages[count])
             count += 1
         return count
 
     def acknowledged(self):
         """Returns how many of its messages were answered whole."""
         count, at = 0, 0
-        while count < len(self.due) and self.answered.startswith(self.due[count], at):
+        while count < len(self.due) and self.heard.startswith(self.due[count], at):
             at += len(self.due[count])
             count += 1
         return count
@@ -130,10 +125,10 @@ class Association:
 
     def fault(self, told):
         """Returns what is wrong with what was answered, or with its steps in the end; None if nothing is."""
-        if self.way == "ends" and self.answered != b"".join(self.due[:self.whole()]):
-            return f"{self.acknowledged()} of {self.whole()} messages are answered, and {self.answered!r}"
-        if not b"".join(self.due).startswith(self.answered):
-            return f"it is answered {self.answered!r}"
+        if self.way == READS_ON and self.heard != b"".join(self.due[:self.whole()]):
+            return f"{self.acknowledged()} of {self.whole()} messages are answered, and {self.heard!r}"
+        if not b"".join(self.due).startswith(self.heard):
+            return f"it is answered {self.heard!r}"
         done = next((it for it in range(len(REQUESTS) + 1) if self.states(it) == told), None)
         if done is None:
             return f"of its steps is told {told}"
@@ -185,7 +180,7 @@ def is_idle(log, count):
 
 def tried(program, chance):
     """Runs a round, and returns its associations and the faults."""
-    associations = [Association(it, chance, it < GOOD) for it in range(ASSOCIATIONS)]
+    associations = [Conversation(it, chance, it < GOOD) for it in range(ASSOCIATIONS)]
     with runs.logging(program, SEATS) as (log, server):
         talk_at_once(server.port, associations)
         if not is_idle(log, ASSOCIATIONS):
@@ -212,7 +207,7 @@ def main():
     chance, faults, whole, count = random.Random(given.seed), [], 0, 0
     for number in range(1, given.rounds + 1):
         associations, more = tried(os.path.abspath(given.program), chance)
-        whole += sum(it.whole() == len(it.said) for it in associations)
+        whole += sum(it.whole() == len(it.messages) for it in associations)
         count += sum(it.whole() for it in associations)
         faults += [f"round {number}: {it}" for it in more]
     for fault in faults:

@@ -318,7 +318,7 @@ def tried_ending(passes: str, workers: int, associations: int) -> Optional[str]:
             guard = threading.Timer(runs.SECONDS, server.process.kill)
             guard.start()
             fault = Ending(server.port, watcher).serves()
-            told, status = server.process.stdout.read().splitlines(), server.process.wait()
+            told, status = server.output.read().splitlines(), server.process.wait()
             guard.cancel()
     orders = [(1, 1)] if workers == 1 else [(1, 2), (2, 1)]
     if fault or told in [history_of(*order, workers + 1) for order in orders] and status == 0:

@@ -7,6 +7,8 @@
                      reader and three watchers use
     cuts 2000        records the writes and syncs of a server with strace, and opens that many of the states that a disk may have
                      kept if the power is cut
+    later 1000       the same for the first start on a store of version 0.2.0, for servers that go on after a cut, and for servers
+                     whose syncs fail, if each failure loses pages
     full             fills a small tmpfs, and makes room again (as root)
     failing 6        makes the first, second and so on write and sync of a server fail, with strace
     million 1000000  starts a server on that many requests: how long that takes, and its memory
@@ -37,6 +39,7 @@ sys.path[:0] = [os.path.join(TOP, it) for it in ("check/lib", "trials", "bench")
 import cuts
 import disks
 import kills
+import later_cuts
 import restarts
 import store_cost
 import stored_days
@@ -74,6 +77,8 @@ def arguments() -> argparse.Namespace:
                positional=True, flags=(SELF_TEST,))
     options_of(trials, "cuts", cuts.run, ("cuts", 2_000, "how many states are tried"), ("requests", 200, "how many requests are recorded, about"),
                ("opened", 100, "how many of the states the program opens, beside sqlite3"), positional=True, flags=(SELF_TEST,))
+    options_of(trials, "later", later_cuts.run, ("cuts", 1_000, "of how many states these are parts"), ("requests", 100, "how many requests are recorded, about"),
+               ("opened", 60, "how many of the states the program opens, beside sqlite3"), positional=True)
     options_of(trials, "full", disks.run_full, ("size", 16, "MiB of the file system"), ("minutes", 1, "how often the log has to tell of it again"))
     options_of(trials, "failing", disks.run_failing, ("calls", 6, "how many writes, and how many syncs, fail in turn"), positional=True)
     options_of(trials, "million", stored_days.run_million, ("requests", 1_000_000, "how many requests the store has"),

@@ -12,6 +12,9 @@
     ups subscribe --ae WATCH1 --receiver WATCH1
     ups watch --ae WATCH1 --listen 11113
     ups check step.dcm
+    ups export --state SCHEDULED > steps.json
+    ups import steps.json
+    ups work --worklist READS -- ./reprocess.sh {}
     ups status
     ups board --port 8080 --ae BOARD --listen 11114
 
@@ -20,10 +23,15 @@ within a sequence has the way to it in front, as DCMTK writes it: (0040,4025)[0]
 Where a text isn't ASCII, the data set says that it is UTF-8 (ISO_IR 192), unless -k SpecificCharacterSet= says another set.
 
 The server is on 127.0.0.1, port 11112, and is called UPSD, unless --host, --port and --called say otherwise (of a board --port is
-the port of its page, and --server-port that of the server); this side is called CLIENT, or what --ae says. It needs Python 3.9
-and pydicom (apt-get install -y python3-pydicom: then /usr/bin/python3 has it). The exit status is 0 where the server answers
-with success or a warning, 1 where it answers with a failure, and 2 where there is no answer, or where what is asked can't be
-sent; `status --nagios` has those of a monitoring plugin.
+the port of its page, and --server-port that of the server); this side is called CLIENT, or what --ae says. The environment gives
+other defaults: UPS_SERVER=HOST:PORT, UPS_CALLED and UPS_AE. The address of a board has a token, a new one at each start or
+UPS_TOKEN; without it the board answers 403. It needs Python 3.9 and pydicom (apt-get install -y python3-pydicom: then
+/usr/bin/python3 has it).
+
+The exit status is 0 where the server answers with success or a warning, 1 where it answers with a failure, and 2 where there is
+no answer, or where what is asked can't be sent. That of `import` and `export` is 1 if a step was refused or could not be
+written, that of `work` 1 if a step was canceled, and 3 if there was none to do; `status --nagios` has those of a monitoring
+plugin.
 """
 
 from __future__ import annotations
@@ -31,9 +39,11 @@ from __future__ import annotations
 import argparse
 import collections
 import contextlib
+import copy
 import datetime
 import functools
 import heapq
+import hmac
 import http.server
 import itertools
 import json
@@ -42,9 +52,11 @@ import os
 import queue
 import re
 import secrets
+import shutil
 import signal
 import socket
 import struct
+import subprocess
 import sys
 import tempfile
 import threading
@@ -53,12 +65,12 @@ import urllib.parse
 import uuid
 import warnings
 from html import escape
-from typing import Any, Callable, Iterable, Iterator, Optional
+from typing import Any, Callable, Iterable, Iterator, NamedTuple, Optional
 
 try:
     from pydicom import dcmread
     from pydicom.datadict import dictionary_description, dictionary_VR, keyword_for_tag, tag_for_keyword
-    from pydicom.dataelem import DataElement
+    from pydicom.dataelem import DataElement, empty_value_for_VR
     from pydicom.dataset import Dataset
     from pydicom.filebase import DicomBytesIO
     from pydicom.filereader import read_dataset
@@ -82,11 +94,25 @@ IMPLEMENTATION = "2.25.7002"
 LONGEST = 16_384  # bytes of the longest P-DATA-TF that this side receives or sends
 UTF_8 = "ISO_IR 192"
 NUMBERS = {"SL", "SS", "UL", "US"}
-CHARACTER_SET = 0x0008_0005  # the tag of Specific Character Set
+CHARACTER_SET, PADDING = 0x0008_0005, 0xFFFC_FFFC  # the tags of Specific Character Set and Data Set Trailing Padding
+SOP_CLASS, SOP_INSTANCE, TRANSACTION = 0x0008_0016, 0x0008_0018, 0x0008_1195
+STATE, START, MODIFIED, READINESS = 0x0074_1000, 0x0040_4005, 0x0040_4010, 0x0040_4041
+PROGRESS, PERFORMED, BEGUN = 0x0074_1002, 0x0074_1216, 0x0040_4050
+LABEL, PATIENT, PATIENT_ID, PRIORITY, WORKLIST = 0x0074_1204, 0x0010_0010, 0x0010_0020, 0x0074_1200, 0x0074_1202
+STATION, PERFORMED_AT, PERFORMERS, PERFORMER = 0x0040_4025, 0x0040_4028, 0x0040_4035, 0x0040_4037
+CODE, MEANING = 0x0008_0100, 0x0008_0104
 TEXTS = {"LO", "LT", "PN", "SH", "ST", "UC", "UT"}  # these may have other characters than ASCII (PS3.5 section 6.1.2.2)
 
 PENDING = (0xFF00, 0xFF01)
+FIND = {"AffectedSOPClassUID": PULL, "CommandField": 0x0020, "Priority": 0}  # the command set of a C-FIND-RQ
 STATES = ("SCHEDULED", "IN PROGRESS", "COMPLETED", "CANCELED")
+PRIORITIES = ("HIGH", "MEDIUM", "LOW")
+
+# what a new step has if neither an option nor a file says otherwise
+NEW = {"InputReadinessState": "READY", "ScheduledProcedureStepPriority": "MEDIUM", "ProcedureStepLabel": "READ"}
+# what `find` shows besides the keys that it is given
+COLUMNS = ("PatientName", "PatientID", "ScheduledProcedureStepStartDateTime", "ProcedureStepState",
+           "ScheduledProcedureStepPriority", "ProcedureStepLabel")
 
 # PDU types (PS3.8 section 9.3.1)
 ASSOCIATE_RQ, ASSOCIATE_AC, ASSOCIATE_RJ, P_DATA_TF, RELEASE_RQ, RELEASE_RP, ABORT = range(1, 8)
@@ -111,10 +137,15 @@ STATUSES = {
     0xC309: "a new step has to be scheduled",
     0xC310: "the step is not claimed", 0xC311: "the step is completed", 0xC314: "not for this instance",
 }
+GONE = 0xC307
 
 
 class Refused(Exception):
     """A failure of the peer or of the given data, with a line that says why."""
+
+
+class Unwritable(Refused):
+    """A data set that JSON has no form for."""
 
 
 def item(kind: int, content: bytes) -> bytes:
@@ -178,11 +209,11 @@ EVENT_ROLE = item(0x54, struct.pack(">H", len(EVENT)) + EVENT.encode() + bytes([
 
 
 def made(attributes: dict[str, Any]) -> Dataset:
-    """Makes a data set from values by keyword; a sequence is a list of such dictionaries."""
+    """Makes a data set from values by keyword; a sequence is a list of such dictionaries, or of data sets."""
     found = Dataset()
     for keyword, value in attributes.items():
-        setattr(found, keyword, [made(each) for each in value] if isinstance(value, list) and keyword.endswith("Sequence")
-                else value)
+        setattr(found, keyword, [each if isinstance(each, Dataset) else made(each) for each in value]
+                if isinstance(value, list) and keyword.endswith("Sequence") else value)
     return found
 
 
@@ -425,6 +456,122 @@ def is_done(status: int) -> bool:
     return status == 0 or status == 1 or status >> 12 == 0xB
 
 
+def new_uid() -> str:
+    """Makes a UID from a random UUID (PS3.5 section B.2)."""
+    return f"2.25.{uuid.uuid4().int}"
+
+
+# steps as DICOM JSON (PS3.18 annex F) and in files
+
+NUMBER_TEXTS = ("DS", "IS")  # numbers as texts, which one number spells in several ways: 1.50, 007
+JSON_VALUES = ("Value", "InlineBinary", "BulkDataURI")
+
+
+def number_of(text: str) -> Any:
+    """Returns the number that JSON writes with this text, or the text if there is none (PS3.18 table F.2.3-1 has both)."""
+    with contextlib.suppress(ValueError):
+        number = json.loads(text)
+        if type(number) in (int, float) and math.isfinite(number) and json.dumps(number) == text:
+            return number
+    return text
+
+
+def number_texts(element: DataElement) -> list[str]:
+    values = [] if element.is_empty else element.value if element.VM > 1 else [element.value]
+    return [getattr(it, "original_string", None) or str("" if it is None else it) for it in values]
+
+
+def json_of_element(element: DataElement) -> dict[str, Any]:
+    if element.VR == "SQ":
+        return {"vr": "SQ", "Value": [json_of(one) for one in element.value]} if element.value else {"vr": "SQ"}
+    if element.VR in NUMBER_TEXTS:
+        texts = number_texts(element)
+        return {"vr": element.VR, **({"Value": [number_of(it) if it else None for it in texts]} if texts else {})}
+    return element.to_json_dict(None, 0)
+
+
+def json_of(given: Dataset) -> dict[str, Any]:
+    """Returns a data set as an object of DICOM JSON, from which `of_json` makes the same data set."""
+    return {f"{int(element.tag):08X}": json_of_element(element) for element in given}
+
+
+def element_of_json(name: str, said: dict[str, Any]) -> DataElement:
+    kind, found = said["vr"], [it for it in JSON_VALUES if it in said]
+    if "BulkDataURI" in found:
+        raise ValueError(f"{name} is bulk data elsewhere, which is not fetched")
+    if kind == "SQ":
+        return DataElement(int(name, 16), kind, [of_json(it or {}) for it in said.get("Value", [])])
+    if kind in NUMBER_TEXTS:
+        texts = ["" if it is None else str(it) for it in said.get("Value", [])]
+        return DataElement(int(name, 16), kind, texts[0] if len(texts) == 1 else texts or None)
+    if not found:
+        return DataElement(int(name, 16), kind, empty_value_for_VR(kind))
+    return DataElement.from_json(Dataset, name, kind, said[found[0]], found[0])
+
+
+def of_json(said: dict[str, Any]) -> Dataset:
+    """Returns the data set of an object of DICOM JSON. Raises an exception of any class if it isn't one."""
+    found = Dataset()
+    for name, each in said.items():
+        found.add(element_of_json(name, each))
+    return found
+
+
+def of_file(content: bytes) -> Dataset:
+    """Returns the data set of a DICOM file, or of a data set alone, without file meta information, group lengths and padding."""
+    found = Dataset()
+    for element in dcmread(DicomBytesIO(content), force=True):
+        if element.tag.group > 2 and element.tag.element and int(element.tag) != PADDING:
+            found.add(element)
+    return found
+
+
+def content_of(path: str) -> bytes:
+    """Reads a file, or standard input for `-`."""
+    if path == "-":
+        return sys.stdin.buffer.read()
+    with open(path, "rb") as opened:
+        return opened.read()
+
+
+def data_sets(path: str) -> list[Dataset]:
+    """Reads the data sets of a file: one in DICOM (PS3.10, or a data set alone), or one or an array in JSON (PS3.18 annex F)."""
+    try:
+        content = content_of(path)
+        if content.lstrip()[:1] in (b"[", b"{"):
+            said = json.loads(content)
+            return [of_json(each) for each in (said if isinstance(said, list) else [said])]
+        return [of_file(content)]
+    except Exception as fault:  # pydicom raises exceptions of many classes
+        raise Refused(f"{path} can't be read: {fault}") from None
+
+
+def as_json(found: Iterable[Dataset]) -> str:
+    """Returns data sets as an array of DICOM JSON, each on a line."""
+    return "[" + ",\n".join(json_line(each) for each in found) + "]"
+
+
+def json_line(given: Dataset) -> str:
+    try:
+        return json.dumps(json_of(given), ensure_ascii=False)
+    except Exception as fault:  # pydicom raises exceptions of many classes
+        raise Unwritable(f"this can't be written as JSON: {fault}") from None
+
+
+def is_scheduled(step: Dataset) -> bool:
+    return step.get("ProcedureStepState") in (None, "", STATES[0])
+
+
+def as_new(step: Dataset) -> Dataset:
+    """Makes a data set that of a new step: SCHEDULED, without its UIDs, and without what a performer has said of one that was
+    claimed (PS3.4 table CC.2.5-3)."""
+    said = () if is_scheduled(step) else (PROGRESS, PERFORMED)
+    for tag in (SOP_CLASS, SOP_INSTANCE, TRANSACTION, *said):
+        step.pop(tag, None)
+    step.ProcedureStepState = STATES[0]
+    return step
+
+
 # the commands: each takes an association and the arguments, and returns the status
 
 def echo(association: Association, _: argparse.Namespace) -> int:
@@ -432,18 +579,60 @@ def echo(association: Association, _: argparse.Namespace) -> int:
     return answer.Status
 
 
-def create(association: Association, asked: argparse.Namespace) -> int:
-    step = made({
-        "ScheduledProcedureStepStartDateTime": asked.start or now(), "InputReadinessState": asked.readiness,
-        "ProcedureStepState": "SCHEDULED", "ScheduledProcedureStepPriority": asked.priority, "ProcedureStepLabel": asked.label,
-    })
-    if asked.patient_id:
-        step.PatientID = asked.patient_id
-    if asked.patient_name:
-        step.PatientName = asked.patient_name
-    attributes_of(asked.attributes, step)
-    elements = {"AffectedSOPClassUID": PUSH, "CommandField": 0x0140, "AffectedSOPInstanceUID": asked.step}
+def create_step(association: Association, uid: str, step: Dataset) -> int:
+    """Sends an N-CREATE."""
+    elements = {"AffectedSOPClassUID": PUSH, "CommandField": 0x0140, "AffectedSOPInstanceUID": uid}
     return association.ask(PUSH, elements, step)[0][0].Status
+
+
+def template_of(path: Optional[str]) -> Dataset:
+    """Returns the only data set of a file as a new step; without a file an empty one."""
+    found = data_sets(path) if path else [Dataset()]
+    if len(found) != 1:
+        raise Refused(f"{path} has {len(found)} data sets: `ups import` creates several steps")
+    return as_new(found[0])
+
+
+def create(association: Association, asked: argparse.Namespace) -> int:
+    """Creates a step: of the file, then the options, and then the defaults for what neither has."""
+    step = template_of(asked.source)
+    given = {"PatientName": asked.patient_name, "PatientID": asked.patient_id, "WorklistLabel": asked.worklist,
+             "ScheduledProcedureStepStartDateTime": asked.start, "InputReadinessState": asked.readiness,
+             "ScheduledProcedureStepPriority": asked.priority, "ProcedureStepLabel": asked.label}
+    defaults = {**NEW, "ScheduledProcedureStepStartDateTime": now()}
+    for keyword, value in given.items():
+        if value or keyword in defaults and not step.get(keyword):
+            setattr(step, keyword, value or defaults[keyword])
+    attributes_of(asked.attributes, step)
+    uid = asked.step or new_uid()
+    if not asked.step:
+        print(uid, flush=True)
+    return create_step(association, uid, step)
+
+
+def import_one(association: Association, given: Dataset, asked: argparse.Namespace, name: str) -> str:
+    """Creates a step as SCHEDULED, and returns what became of it; one that was claimed or is final is left, without `--all`."""
+    uid, state = str(given.get("SOPInstanceUID") or ""), given.get("ProcedureStepState")
+    if not uid:
+        print(f"{name}: it has no SOP Instance UID", flush=True)
+        return "refused"
+    if not (asked.all or is_scheduled(given)):
+        print(f"{uid}: left, since it is {state}", flush=True)
+        return "left"
+    status = create_step(association, uid, as_new(given))
+    print(f"{uid}: {told(status)}", flush=True)
+    return "created" if is_done(status) else "refused"
+
+
+def import_steps(asked: argparse.Namespace) -> int:
+    """Creates the steps of files, after all of these have been read."""
+    steps = [(f"{path}, data set {number}", given) for path in asked.files for number, given in enumerate(data_sets(path), 1)]
+    became: collections.Counter[str] = collections.Counter()
+    with associated(asked, [PUSH]) as association:
+        for name, given in steps:
+            became[import_one(association, given, asked, name)] += 1
+    print(f"{became['created']} created, {became['left']} left, {became['refused']} refused")
+    return min(1, became["refused"])
 
 
 def shown(element: DataElement) -> str:
@@ -453,47 +642,73 @@ def shown(element: DataElement) -> str:
     return "{" + ", ".join(" ".join(shown(each) for each in one) for one in element.value) + "}" if element.value else "-"
 
 
-def as_json(found: Iterable[Dataset]) -> str:
-    """Returns data sets as an array of DICOM JSON, each on a line."""
-    try:
-        return "[" + ",\n".join(json.dumps(each.to_json_dict(), ensure_ascii=False) for each in found) + "]"
-    except Exception as fault:  # pydicom raises exceptions of many classes
-        raise Refused(f"this can't be written as JSON: {fault}") from None
-
-
-def keys_of(asked: argparse.Namespace, station: Optional[str]) -> Dataset:
-    """Returns the identifier of a query, for a station if one is given."""
-    keys = made({"SpecificCharacterSet": "", "SOPInstanceUID": "", "ProcedureStepState": asked.state,
-                 "ProcedureStepLabel": asked.label,
-                 "PatientID": asked.patient_id, "PatientName": "", "ScheduledProcedureStepPriority": "",
-                 "ScheduledProcedureStepStartDateTime": asked.start})
+def keys_of(asked: argparse.Namespace, station: Optional[str], columns: Iterable[str]) -> Dataset:
+    """Returns the identifier of a query, for a station if one is given: the keys that are asked for, and these columns."""
+    given = {"ProcedureStepState": asked.state, "ProcedureStepLabel": asked.label, "WorklistLabel": asked.worklist,
+             "PatientID": asked.patient_id, "PatientName": asked.name, "ScheduledProcedureStepStartDateTime": asked.start}
+    keys = made({**dict.fromkeys(("SpecificCharacterSet", "SOPInstanceUID", *columns), ""),
+                 **{keyword: value for keyword, value in given.items() if value}})
     if station is not None:
         keys.ScheduledStationNameCodeSequence = [made({"CodeValue": station})]
     return attributes_of(asked.attributes, keys)
 
 
-def query(association: Association, keys: Dataset) -> tuple[list[Dataset], int]:
-    """Returns the matches of a C-FIND and its last status."""
-    answers = association.ask(PULL, {"AffectedSOPClassUID": PULL, "CommandField": 0x0020, "Priority": 0}, keys)
-    return [found for _command, found in answers[:-1] if found is not None], answers[-1][0].Status
+def matched(association: Association, asked: argparse.Namespace, columns: Iterable[str]) -> tuple[dict[str, bytes], int]:
+    """Returns the data sets that answer a query, or one for each station, by UID, and the last status: a sequence key has one item,
+    a code one value (PS3.4 C.2.2.2)."""
+    found: dict[str, bytes] = {}
+    status = 0
+    for station in asked.station or [None]:
+        for command, data in association.answers(PULL, FIND, keys_of(asked, station, columns)):
+            status = command.Status
+            if data is not None:
+                found[value_at(plain(data, association.implicit), SOP_INSTANCE)] = data
+        if not is_done(status):
+            break
+    return found, status
 
 
 def find(association: Association, asked: argparse.Namespace) -> int:
-    """Prints the matches of a query, or of one for each station: a sequence key has one item, a code one value (PS3.4 C.2.2.2)."""
-    steps: dict[str, Dataset] = {}
-    status = 0
-    for station in asked.station or [None]:
-        found, status = query(association, keys_of(asked, station))
-        steps.update((str(each.get("SOPInstanceUID")), each) for each in found)
-        if not is_done(status):
-            break
+    """Prints the matches of a query, or the first of them: a server answers a whole query."""
+    steps, status = matched(association, asked, COLUMNS)
+    first = [read(data, association.implicit) for data in itertools.islice(steps.values(), asked.limit)]
     if asked.json:
-        print(as_json(steps.values()))
+        print(as_json(first))
     else:
-        for each in steps.values():
+        for each in first:
             print("  ".join(shown(element) for element in each if element.tag != CHARACTER_SET))
-    print(f"{len(steps)} found", file=asked.aside)
+    of = f"{len(first)} of " if len(first) < len(steps) else ""
+    print(f"{of}{len(steps)} found", file=asked.aside)
     return status
+
+
+def line_of(association: Association, uid: str) -> tuple[Optional[str], str]:
+    """Returns all attributes of a step as DICOM JSON, or None and why there are none."""
+    status, found = get_step(association, uid)
+    if found is None or not is_done(status):
+        return None, told(status)
+    try:
+        return json_line(found), ""
+    except Unwritable as fault:
+        return None, str(fault)
+
+
+def export(asked: argparse.Namespace) -> int:
+    """Prints all attributes of the steps that match, as an array of DICOM JSON, each on a line."""
+    count, left = 0, 0
+    with associated(asked, [PULL]) as association:
+        steps, status = matched(association, asked, ())
+        for uid in steps:
+            line, why = line_of(association, uid)
+            if line is None:
+                left += 1
+                print(f"{uid}: {why}", file=sys.stderr)
+            else:
+                sys.stdout.write(("," if count else "[") + ("\n" if count else "") + line)
+                count += 1
+    print("]" if count else "[]")
+    print(f"{count} exported, {left} left\n{told(status)}", file=sys.stderr)
+    return 0 if is_done(status) and not left else 1
 
 
 def get_step(association: Association, step: str) -> tuple[int, Optional[Dataset]]:
@@ -516,35 +731,106 @@ def act(association: Association, context: str, kind: int, instance: str, inform
     return association.ask(context, elements, information)[0][0].Status
 
 
-def change(association: Association, asked: argparse.Namespace, state: str) -> int:
-    return act(association, PULL, 1, asked.step, made({"ProcedureStepState": state, "TransactionUID": asked.transaction}))
+def change(association: Association, step: str, transaction: str, state: str) -> int:
+    return act(association, PULL, 1, step, made({"ProcedureStepState": state, "TransactionUID": transaction}))
 
 
 def claim(association: Association, asked: argparse.Namespace) -> int:
-    return change(association, asked, "IN PROGRESS")
+    """Claims a step. A Transaction UID that is made here is printed before the request: its answer may be lost."""
+    if not asked.transaction:
+        asked.transaction = new_uid()
+        print(asked.transaction, flush=True)
+    return change(association, asked.step, asked.transaction, STATES[1])
 
 
-def update(association: Association, asked: argparse.Namespace, given: Dataset) -> int:
+def update(association: Association, step: str, transaction: Optional[str], given: Dataset) -> int:
     """Sends an N-SET."""
-    if asked.transaction:
-        given.TransactionUID = asked.transaction
-    elements = {"RequestedSOPClassUID": PUSH, "CommandField": 0x0120, "RequestedSOPInstanceUID": asked.step}
+    if transaction:
+        given.TransactionUID = transaction
+    elements = {"RequestedSOPClassUID": PUSH, "CommandField": 0x0120, "RequestedSOPInstanceUID": step}
     return association.ask(PULL, elements, given)[0][0].Status
 
 
 def set_attributes(association: Association, asked: argparse.Namespace) -> int:
-    return update(association, asked, attributes_of(asked.attributes))
+    return update(association, asked.step, asked.transaction, attributes_of(asked.attributes))
+
+
+# what a final state needs (PS3.4 table CC.2.5-3)
+
+UNSPECIFIED = {"CodeValue": "110513", "CodingSchemeDesignator": "DCM", "CodeMeaning": "Discontinued for unspecified reason"}
+
+
+def moment_now() -> str:
+    """Returns this moment as a DT with its offset."""
+    return datetime.datetime.now().astimezone().strftime("%Y%m%d%H%M%S%z")
+
+
+def only_item(step: Dataset, keyword: str) -> Dataset:
+    """Returns the first item of a sequence, a new one if there is none."""
+    found = step.get(keyword)
+    return found[0] if found else Dataset()
+
+
+def add_missing(to: Dataset, values: dict[str, Any]) -> None:
+    """Sets each attribute that is absent."""
+    for element in made({keyword: value for keyword, value in values.items() if keyword not in to}):
+        to.add(element)
+
+
+def work_of(step: Dataset) -> list[Any]:
+    """Returns Performed Workitem Code Sequence: what was scheduled, or else a code for the label."""
+    if step.get("ScheduledWorkitemCodeSequence"):
+        return list(copy.deepcopy(step.ScheduledWorkitemCodeSequence))
+    return [{"CodeValue": "STEP", "CodingSchemeDesignator": "99LOCAL", "CodeMeaning": step.get("ProcedureStepLabel") or "step"}]
+
+
+def begun(step: Dataset, station: str) -> Dataset:
+    """Returns the item of the Performed Procedure Sequence with its beginning: that of the step, or now at this station."""
+    found = only_item(step, "UnifiedProcedureStepPerformedProcedureSequence")
+    here = {"CodeValue": station, "CodingSchemeDesignator": "99LOCAL", "CodeMeaning": socket.gethostname()[:64] or station}
+    add_missing(found, {"PerformedStationNameCodeSequence": [here], "PerformedProcedureStepStartDateTime": moment_now(),
+                        "PerformedWorkitemCodeSequence": work_of(step), "OutputInformationSequence": []})
+    return found
+
+
+def completed(step: Dataset, station: str) -> Dataset:
+    """Returns what an N-SET before COMPLETED has to say of a step, with what the step says already."""
+    found = begun(step, station)
+    add_missing(found, {"PerformedProcedureStepEndDateTime": moment_now()})
+    return in_characters_of(step, "UnifiedProcedureStepPerformedProcedureSequence", found)
+
+
+def canceled(step: Dataset, reason: Optional[str]) -> Dataset:
+    """Returns what an N-SET before CANCELED has to say of a step, with what the step says already."""
+    found = only_item(step, "ProcedureStepProgressInformationSequence")
+    add_missing(found, {"ProcedureStepCancellationDateTime": moment_now(), **({"ReasonForCancellation": reason} if reason else {}),
+                        "ProcedureStepDiscontinuationReasonCodeSequence": [UNSPECIFIED]})
+    return in_characters_of(step, "ProcedureStepProgressInformationSequence", found)
+
+
+def in_characters_of(step: Dataset, keyword: str, one: Dataset) -> Dataset:
+    """Returns a data set with a sequence of one item, in the character set of the step."""
+    found = Dataset()
+    if step.get("SpecificCharacterSet"):
+        found.SpecificCharacterSet = step.SpecificCharacterSet
+    setattr(found, keyword, [one])
+    return found
+
+
+def end_step(association: Association, uid: str, transaction: str, needed: Callable[[Dataset], Dataset], state: str) -> int:
+    """Sets what a final state needs and the step lacks, and changes the step to that state."""
+    status, step = get_step(association, uid)
+    if step is None or not is_done(status):
+        return status
+    status = update(association, uid, transaction, needed(step))
+    return change(association, uid, transaction, state) if is_done(status) else status
 
 
 def finish(association: Association, asked: argparse.Namespace) -> int:
-    """Sets the attributes that a final state needs (PS3.4 table CC.2.5-3), and changes the step to that state."""
     if asked.canceled:
-        needed = {"ProcedureStepProgressInformationSequence": [{"ProcedureStepCancellationDateTime": now()}]}
-    else:
-        needed = {"UnifiedProcedureStepPerformedProcedureSequence": [
-            {"PerformedProcedureStepStartDateTime": now(), "PerformedProcedureStepEndDateTime": now()}]}
-    status = update(association, asked, made(needed))
-    return change(association, asked, "CANCELED" if asked.canceled else "COMPLETED") if is_done(status) else status
+        return end_step(association, asked.step, asked.transaction, lambda step: canceled(step, asked.reason), STATES[3])
+    station = asked.as_station or asked.ae
+    return end_step(association, asked.step, asked.transaction, lambda step: completed(step, station), STATES[2])
 
 
 def cancel(association: Association, asked: argparse.Namespace) -> int:
@@ -567,6 +853,224 @@ def unsubscribe(association: Association, asked: argparse.Namespace) -> int:
 
 def suspend(association: Association, asked: argparse.Namespace) -> int:
     return act(association, WATCH, 5, GLOBAL, made({"ReceivingAE": asked.receiver or asked.ae}))
+
+
+# a performer, which does the steps of a worklist by a command
+
+TAKEN = (0xC300, 0xC302, GONE)  # another performer was quicker, or the step was canceled
+NO_STEP = 3  # the exit status of `work` if there is nothing to do
+
+
+class Claimed(NamedTuple):
+    """A step that this performer holds."""
+
+    uid: str
+    transaction: str
+    step: Dataset
+
+
+def place_of(step: bytes) -> tuple[int, float, str]:
+    """Returns what orders steps: by priority, then by scheduled start, then by UID, which is the last part."""
+    priority, start = value_at(step, PRIORITY), moment_of(value_at(step, START), None)
+    return (PRIORITIES.index(priority) if priority in PRIORITIES else len(PRIORITIES), math.inf if start is None else start,
+            value_at(step, SOP_INSTANCE))
+
+
+def waiting_steps(association: Association, asked: argparse.Namespace) -> list[str]:
+    """Returns the UIDs of the steps that match, are SCHEDULED and have their input, in the order in which they are to be done."""
+    asked.state = STATES[0]
+    columns = ("ScheduledProcedureStepPriority", "ScheduledProcedureStepStartDateTime", "InputReadinessState")
+    found, status = matched(association, asked, columns)
+    if not is_done(status):
+        raise Refused(told(status))
+    steps = (plain(each, association.implicit) for each in found.values())
+    places = sorted(place_of(step) for step in steps if value_at(step, READINESS) == "READY")
+    latest = time.time() if asked.due else math.inf
+    return [uid for _priority, start, uid in places if start <= latest]
+
+
+def claim_next(asked: argparse.Namespace) -> Optional[Claimed]:
+    """Claims the first step that no other performer takes before, and says in it that it has begun; None if there is none."""
+    with associated(asked, [PULL]) as association:
+        for uid in waiting_steps(association, asked):
+            transaction = new_uid()
+            try:
+                status = change(association, uid, transaction, STATES[1])
+                if status in TAKEN:
+                    continue
+                if not is_done(status):
+                    raise Refused(told(status))
+                return begin_step(association, Claimed(uid, transaction, Dataset()), asked.as_station or asked.ae)
+            except (OSError, Refused) as fault:
+                raise Refused(f"{uid}, to be claimed with {transaction}: {fault}") from None
+    return None
+
+
+def begin_step(association: Association, held: Claimed, station: str) -> Claimed:
+    """Reads a claimed step, and sets when and where it has begun, from which `ups status` tells the age of the claim."""
+    status, step = get_step(association, held.uid)
+    if step is None or not is_done(status):
+        raise Refused(told(status))
+    first = in_characters_of(step, "UnifiedProcedureStepPerformedProcedureSequence", begun(step, station))
+    status = update(association, held.uid, held.transaction, first)
+    if not is_done(status):
+        raise Refused(told(status))
+    step.UnifiedProcedureStepPerformedProcedureSequence = first.UnifiedProcedureStepPerformedProcedureSequence
+    step.TransactionUID = held.transaction
+    return held._replace(step=step)
+
+
+class Performer:
+    """Does one step after another, until it is told to stop."""
+
+    def __init__(self, asked: argparse.Namespace) -> None:
+        self.asked = asked
+        self.stopped = threading.Event()
+        self.process: Optional[subprocess.Popen[bytes]] = None
+        self.held = self.request = ""  # the step that is being done, and why others ask that it be canceled
+
+    def subscribe(self, kind: int, instance: str) -> int:
+        """Subscribes this performer to a step (3), or ends its subscription to a step or to all (4)."""
+        words = {"ReceivingAE": self.asked.ae, **({"DeletionLock": "FALSE"} if kind == 3 else {})}
+        with associated(self.asked, [WATCH]) as association:
+            return act(association, WATCH, kind, instance, made(words))
+
+    def follow(self, kind: int, uid: str) -> None:
+        """Subscribes to a step, or ends that, if this performer listens; it does the step also if that fails, and says so."""
+        if self.asked.listen is None:
+            return
+        try:
+            status = self.subscribe(kind, uid)
+            fault = "" if is_done(status) else told(status)
+        except (OSError, Refused) as it:
+            fault = str(it)
+        if fault:
+            print(f"{uid}: as a watcher: {fault}", file=sys.stderr, flush=True)
+
+    def listen(self) -> None:
+        """Takes reports from now on, if a port is given; subscriptions of an earlier performer of this title are ended."""
+        if self.asked.listen is None:
+            return
+        listener = socket.create_server((self.asked.address, self.asked.listen))
+        threading.Thread(target=self.accept, args=(listener,), daemon=True).start()
+        if not is_done(status := self.subscribe(4, GLOBAL)):
+            raise Refused(f"as a watcher: {told(status)}")
+
+    def accept(self, listener: socket.socket) -> None:
+        while True:
+            connection, _ = listener.accept()
+            threading.Thread(target=self.take, args=(connection,), daemon=True).start()
+
+    def take(self, connection: socket.socket) -> None:
+        connection.settimeout(self.asked.timeout)
+        with connection, contextlib.suppress(OSError, Refused, struct.error):
+            take_reports(Association(connection, self.asked.implicit), self.report)
+
+    def report(self, command: Dataset, data: Optional[bytes]) -> None:
+        """Ends the command if a report says that its step is to be canceled (PS3.4 section CC.2.4, event 2)."""
+        if command.EventTypeID == 2 and str(command.AffectedSOPInstanceUID) == self.held:
+            reason = value_at(plain(data or b"", self.asked.implicit), 0x0074_1238)
+            self.request = f"asked for{reason and f', {reason}'}"
+            if self.process is not None:
+                self.process.terminate()
+
+    def stop(self, *_: Any) -> None:
+        """Ends the command, so that its step is canceled, and takes no further step."""
+        self.stopped.set()
+        if self.process is not None:
+            self.process.terminate()
+
+    def ended(self, held: Claimed, line: str) -> str:
+        """Runs the command for a step, and returns why the step is to be canceled; empty if it is done."""
+        variables = {"UPS_STEP": held.uid, "UPS_TRANSACTION": held.transaction, "UPS_AE": self.asked.ae,
+                     "UPS_SERVER": f"{self.asked.host}:{self.asked.port}", "UPS_CALLED": self.asked.called}
+        with tempfile.NamedTemporaryFile("w+", prefix="ups.", suffix=".json", encoding="utf-8") as file:
+            file.write(line + "\n")
+            file.flush()
+            file.seek(0)
+            words = [word.replace("{}", file.name) for word in self.asked.command]
+            with subprocess.Popen(words, stdin=file, stdout=sys.stderr, env={**os.environ, **variables}) as self.process:
+                if self.stopped.is_set() or self.request:
+                    self.process.terminate()
+                status = self.process.wait()
+            self.process = None
+        return (self.request or f"{os.path.basename(words[0])} ended with {status}") if status else ""
+
+    def finish(self, held: Claimed, why: str) -> int:
+        """Completes a step, or cancels it for a reason; tries again while the server is not there."""
+        station, begin = self.asked.as_station or self.asked.ae, time.monotonic()
+        needed = functools.partial(canceled, reason=why) if why else functools.partial(completed, station=station)
+        while True:
+            try:
+                with associated(self.asked, [PULL]) as association:
+                    return end_step(association, held.uid, held.transaction, needed, STATES[3 if why else 2])
+            except (OSError, Refused) as fault:
+                if time.monotonic() - begin > self.asked.timeout:
+                    raise Refused(f"{held.uid}, claimed with {held.transaction}, was not finished: {fault}") from None
+                time.sleep(1)
+
+    def told(self, held: Claimed) -> tuple[str, str]:
+        """Prints a step as a line of JSON, and returns the line, and why the step can't be done, if so."""
+        line = ""
+        try:
+            line = json_line(held.step)
+            print(line, flush=True)
+        except Unwritable as fault:
+            return line, str(fault)
+        except OSError as fault:
+            self.stopped.set()
+            os.dup2(os.open(os.devnull, os.O_WRONLY), sys.stdout.fileno())  # which is flushed again at the end
+            return line, f"its performer can't write: {fault}"
+        return line, ""
+
+    def do(self, held: Claimed) -> int:
+        """Prints a step, does it if there is a command, and returns the exit status."""
+        line, why = self.told(held)
+        if not (self.asked.command or why):
+            return 0
+        self.held, self.request = held.uid, ""
+        self.follow(3, held.uid)
+        why = why or self.ended(held, line)
+        status = self.finish(held, why)
+        self.follow(4, held.uid)
+        print(f"{held.uid}: {STATES[3 if why else 2]}{why and f', {why}'}: {told(status)}", file=sys.stderr, flush=True)
+        return 1 if why or not is_done(status) else 0
+
+    def next(self) -> Optional[int]:
+        """Does the next step, and returns the exit status, or None if there is none. A performer that asks again and again goes on
+        if the server does not answer."""
+        try:
+            held = claim_next(self.asked)
+            return None if held is None else self.do(held)
+        except (OSError, Refused) as fault:
+            if self.asked.every is None:
+                raise
+            print(f"{now()} {fault}", file=sys.stderr, flush=True)
+            return None
+
+    def run(self) -> int:
+        """Does as many steps as are asked for, and returns the worst exit status, or NO_STEP."""
+        done: list[int] = []
+        while not self.stopped.is_set() and not 0 < self.asked.steps <= len(done):
+            status = self.next()
+            if status is not None:
+                done.append(status)
+            elif self.asked.every is None:
+                break
+            else:
+                self.stopped.wait(self.asked.every)
+        return max(done, default=NO_STEP)
+
+
+def work(asked: argparse.Namespace) -> int:
+    """Does the steps of a worklist by a command, which has to be there before a step is claimed."""
+    if asked.command and not shutil.which(asked.command[0]):
+        raise Refused(f"there is no command {asked.command[0]}")
+    performer = Performer(asked)
+    performer.listen()
+    for number in (signal.SIGTERM, signal.SIGINT):
+        signal.signal(number, performer.stop)
+    return performer.run()
 
 
 # data sets as bytes, for the board and the monitor, which read many steps, and for `check`
@@ -601,6 +1105,11 @@ def value_at(found: bytes, *path: int) -> str:
     for tag in outer:
         found = first_item(elements_of(found).get(tag, (b"", b""))[1])
     return elements_of(found).get(last, (b"", b""))[1].rstrip(b"\0 ").decode("utf8", "replace")
+
+
+def code_at(found: bytes, *path: int) -> str:
+    """Returns the Code Value at a path, or the Code Meaning if it is empty."""
+    return value_at(found, *path, CODE) or value_at(found, *path, MEANING)
 
 
 def character_set_of(found: bytes) -> bytes:
@@ -673,27 +1182,50 @@ def moment_of(text: str, offset: Optional[int]) -> Optional[float]:
 
 # the state of the server, for people and for monitors
 
-STATE, START, MODIFIED, READINESS = 0x0074_1000, 0x0040_4005, 0x0040_4010, 0x0040_4041
 AGES = {"start": START, "modification": MODIFIED}
 
 
+# what is asked of each step that is claimed: its claim began when its performer says so, or else at another moment
+CLAIM: dict[str, Any] = {
+    "SpecificCharacterSet": "", "SOPInstanceUID": "", "ProcedureStepState": STATES[1], "ProcedureStepLabel": "",
+    "ScheduledProcedureStepStartDateTime": "", "ScheduledProcedureStepModificationDateTime": "",
+    "UnifiedProcedureStepPerformedProcedureSequence": []}
+BEGINNINGS = {"begun": (PERFORMED, BEGUN), "modified": (MODIFIED,), "scheduled": (START,)}
+
+
 class Health:
-    """The result of `status`: steps by state, the moment and the text of the oldest, and how long it took."""
+    """The result of `status`: steps by state and by worklist, the moment and the text of the oldest, the claims, and how long it
+    took."""
 
     def __init__(self) -> None:
         self.counts = dict.fromkeys(STATES, 0)
         self.oldest: dict[tuple[str, str], tuple[float, str]] = {}
+        self.worklists: dict[tuple[str, str], list[tuple[float, str]]] = {}
+        self.claims: list[tuple[float, str, str]] = []  # the moment, how it is known, and the rest of the line
         self.look_up = self.total = 0.0
 
     def add(self, found: bytes, asked: argparse.Namespace) -> None:
         step = plain(found, asked.implicit)
-        state = value_at(step, STATE)
+        state, start = value_at(step, STATE), (math.inf, "")
         self.counts[state] = self.counts.get(state, 0) + 1
         for what, tag in AGES.items() if state in STATES[:2] else ():
             text = value_at(step, tag)
             moment = moment_of(text, asked.offset) if text else None
             if moment is not None:
                 self.oldest[state, what] = min(self.oldest.get((state, what), (math.inf, text)), (moment, text))
+                start = (moment, text) if what == "start" else start
+        if asked.worklists:
+            self.worklists.setdefault((value_at(step, WORKLIST), state), []).append(start)
+
+    def add_claim(self, found: bytes, asked: argparse.Namespace) -> None:
+        """Notes a claim that is as old as is asked for; one of an unknown age is."""
+        step = plain(found, asked.implicit)
+        texts = {how: value_at(step, *path) for how, path in BEGINNINGS.items()}
+        known = [(moment, how) for how, text in texts.items() if (moment := text and moment_of(text, asked.offset))]
+        moment, how = known[0] if known else (-math.inf, "at an unknown time")
+        if time.time() - moment >= asked.claimed:
+            holder = code_at(step, PERFORMED, PERFORMED_AT) or value_at(step, PERFORMED, PERFORMERS, PERFORMER) or "-"
+            self.claims.append((moment, how, f"{value_at(step, SOP_INSTANCE)}  {holder}  {value_at(step, LABEL)}"))
 
     def age(self, state: str, what: str = "start") -> Optional[float]:
         """Returns how many seconds ago the oldest was: 0 if it is yet to come, None if there is none."""
@@ -701,19 +1233,24 @@ class Health:
 
 
 def measured(association: Association, asked: argparse.Namespace) -> tuple[Health, int]:
-    """Queries a UID of no step, which is one look-up in the server's index, and then all steps; also returns the last status."""
-    health, elements = Health(), {"AffectedSOPClassUID": PULL, "CommandField": 0x0020, "Priority": 0}
-    nobody = made({"SOPInstanceUID": f"2.25.{uuid.uuid4().int}", "ProcedureStepState": ""})
-    begun = time.monotonic()
-    status = association.ask(PULL, elements, nobody)[-1][0].Status
-    health.look_up = time.monotonic() - begun
-    if is_done(status):
-        keys = made({"ScheduledProcedureStepStartDateTime": "", "ScheduledProcedureStepModificationDateTime": "",
-                     "ProcedureStepState": ""})
-        for command, data in association.answers(PULL, elements, keys):
+    """Queries a UID of no step, which is one look-up in the server's index, and then all steps, with no more attributes than are
+    needed; also returns the last status."""
+    health = Health()
+    nobody = made({"SOPInstanceUID": new_uid(), "ProcedureStepState": ""})
+    clock = time.monotonic()
+    status = association.ask(PULL, FIND, nobody)[-1][0].Status
+    health.look_up = time.monotonic() - clock
+    wanted = {"ScheduledProcedureStepStartDateTime": "", "ScheduledProcedureStepModificationDateTime": "", "ProcedureStepState": ""}
+    if asked.worklists:
+        wanted.update(SpecificCharacterSet="", WorklistLabel="")
+    queries = [(wanted, health.add), *([(CLAIM, health.add_claim)] if asked.claimed is not None else [])]
+    for keys, add in queries if is_done(status) else ():
+        for command, data in association.answers(PULL, FIND, made(keys)):
             status = command.Status
             if data is not None:
-                health.add(data, asked)
+                add(data, asked)
+        if not is_done(status):
+            break
     health.total = time.monotonic() - asked.begun
     return health, status
 
@@ -725,7 +1262,24 @@ def in_words(health: Health) -> str:
         oldest = [f"oldest {what} {health.oldest[state, what][1]}, {health.age(state, what):,.0f} s ago"
                   for what in AGES if (state, what) in health.oldest]
         lines.append("  ".join([f"{state:12} {count:7,}", *oldest]))
+    lines += lines_of_worklists(health) + lines_of_claims(health)
     return "\n".join([*lines, f"look-up by UID {1e3 * health.look_up:.1f} ms, all {1e3 * health.total:.1f} ms"])
+
+
+def lines_of_worklists(health: Health) -> list[str]:
+    """Returns a line for each worklist label and state."""
+    lines = []
+    for (worklist, state), starts in sorted(health.worklists.items(), key=lambda it: it[0]):
+        moment, text = min(starts)
+        oldest = [f"oldest start {text}, {max(0.0, time.time() - moment):,.0f} s ago"] if text else []
+        lines.append("  ".join([f"{worklist or '-':20} {state:12} {len(starts):7,}", *oldest]))
+    return lines
+
+
+def lines_of_claims(health: Health) -> list[str]:
+    """Returns a line for each claim, the oldest first."""
+    return [f"claimed: {rest}  {how}" + ("" if math.isinf(moment) else f" {max(0.0, time.time() - moment):,.0f} s ago")
+            for moment, how, rest in sorted(health.claims)]
 
 
 def level_of(value: Optional[float], asked: argparse.Namespace, place: int) -> int:
@@ -841,8 +1395,7 @@ ANY = ()
 CHECKED: dict[int, Optional[tuple[str, ...]]] = {
     START: None, READINESS: ("INCOMPLETE", "UNAVAILABLE", "READY"), 0x0074_1200: ("HIGH", "MEDIUM", "LOW"), 0x0074_1204: ANY}
 # what a final state needs: a sequence with one item, in which each of these attributes has a text
-NEEDED = {"COMPLETED": (0x0074_1216, (0x0040_4050, 0x0040_4051)), "CANCELED": (0x0074_1002, (0x0040_4052,))}
-SOP_CLASS, SOP_INSTANCE, TRANSACTION = 0x0008_0016, 0x0008_0018, 0x0008_1195
+NEEDED = {"COMPLETED": (PERFORMED, (BEGUN, 0x0040_4051)), "CANCELED": (PROGRESS, (0x0040_4052,))}
 Elements = dict[int, tuple[bytes, bytes]]
 Reason = tuple[Optional[int], str]  # no status if the association ends without an answer
 
@@ -939,18 +1492,6 @@ def reasons(given: Dataset, asked: argparse.Namespace) -> list[Reason]:
     return why
 
 
-def data_sets(path: str) -> list[Dataset]:
-    """Reads the data sets of a file: one in DICOM (PS3.10, or a data set alone), or one or an array in JSON (PS3.18 annex F)."""
-    found = sys.stdin.buffer.read() if path == "-" else open(path, "rb").read()
-    try:
-        if found.lstrip()[:1] in (b"[", b"{"):
-            sets = json.loads(found)
-            return [Dataset.from_json(each) for each in (sets if isinstance(sets, list) else [sets])]
-        return [dcmread(DicomBytesIO(found), force=True)]
-    except Exception as fault:  # pydicom raises exceptions of many classes
-        raise Refused(f"{path} can't be read: {fault}") from None
-
-
 def check(asked: argparse.Namespace) -> int:
     """Prints what the server would answer to each data set, and why; returns 1 if one would be refused."""
     warnings.simplefilter("ignore")  # pydicom warns of values that are reported here
@@ -995,13 +1536,45 @@ def take_reports(association: Association, tell: Callable[[Dataset, Optional[byt
                                    "AffectedSOPInstanceUID": command.AffectedSOPInstanceUID})
 
 
+def report_json(command: Dataset, information: Optional[Dataset]) -> str:
+    """Returns a report as an object of JSON in a line, with its attributes as DICOM JSON, or why these can't be written."""
+    report = {"moment": datetime.datetime.now().astimezone().isoformat(timespec="milliseconds"),
+              "step": str(command.AffectedSOPInstanceUID), "type": command.EventTypeID,
+              "event": EVENTS.get(command.EventTypeID, "")}
+    try:
+        report["information"] = json_of(information or Dataset())
+    except Exception as fault:  # pydicom raises exceptions of many classes
+        report["fault"] = str(fault)
+    return json.dumps(report, ensure_ascii=False)
+
+
+def run_for_report(asked: argparse.Namespace, command: Dataset, line: str) -> None:
+    """Runs the command of `--exec` in a shell, with the report as its standard input."""
+    variables = {"UPS_STEP": str(command.AffectedSOPInstanceUID), "UPS_EVENT": EVENTS.get(command.EventTypeID, "")}
+    ran = subprocess.run(["sh", "-c", asked.exec], input=f"{line}\n".encode(), stdout=sys.stderr, env={**os.environ, **variables},
+                         check=False)
+    if ran.returncode:
+        print(f"{now()} {asked.exec} ended with {ran.returncode}", file=sys.stderr, flush=True)
+
+
+def tell_report(asked: argparse.Namespace, command: Dataset, data: Optional[bytes]) -> None:
+    """Prints a report, and runs the command for it. Ends the program if nobody reads the line, so that the report isn't answered."""
+    information = None if data is None else read(data, asked.implicit)
+    line = report_json(command, information) if asked.json or asked.exec else ""
+    try:
+        print(line if asked.json else report_line(command, information), flush=True)
+    except OSError as fault:
+        os.dup2(os.open(os.devnull, os.O_WRONLY), sys.stdout.fileno())  # which is flushed again at the end
+        sys.exit(f"{NAME}: {fault}")
+    if asked.exec:
+        run_for_report(asked, command, line)
+
+
 def watch(asked: argparse.Namespace) -> int:
     """Prints the reports to a watcher, until it is interrupted, or over as many associations as `--associations` says."""
-    def tell(command: Dataset, data: Optional[bytes]) -> None:
-        print(report_line(command, None if data is None else read(data, asked.implicit)), flush=True)
-
+    tell = functools.partial(tell_report, asked)
     with socket.create_server((asked.address, asked.listen)) as listener:
-        print(f"{asked.ae} takes reports on {asked.address}:{listener.getsockname()[1]}", flush=True)
+        print(f"{asked.ae} takes reports on {asked.address}:{listener.getsockname()[1]}", file=asked.aside, flush=True)
         for number in itertools.count(1):
             if asked.associations and number > asked.associations:
                 return 0
@@ -1048,25 +1621,19 @@ def announce(asked: argparse.Namespace) -> int:
 
 FINAL = STATES[2:]
 SHOWN = 200  # steps of each state on the page
+LONGEST_WAITS = 5  # steps that wait longest on the page
 LIFE = 100  # kept reports of a step
 SETTLES = 3  # seconds that a report may take before a difference is shown
-LABEL, PATIENT, PATIENT_ID, PRIORITY, WORKLIST = 0x0074_1204, 0x0010_0010, 0x0010_0020, 0x0074_1200, 0x0074_1202
-STATION, PERFORMED, PERFORMED_AT, PERFORMERS, PERFORMER = 0x0040_4025, 0x0074_1216, 0x0040_4028, 0x0040_4035, 0x0040_4037
-CODE, MEANING = 0x0008_0100, 0x0008_0104
 ROW = {"state": STATE, "readiness": READINESS, "label": LABEL, "patient": PATIENT, "id": PATIENT_ID, "priority": PRIORITY,
        "worklist": WORKLIST, "start": START}
 SEARCHED = ("uid", "label", "patient", "id", "station", "worklist", "holder")
-
-
-def code_at(found: bytes, *path: int) -> str:
-    """Returns the Code Value at a path, or the Code Meaning if it is empty."""
-    return value_at(found, *path, CODE) or value_at(found, *path, MEANING)
 
 
 def row_of(uid: str, found: bytes) -> dict[str, Any]:
     """Returns what the page shows of a step: texts, by the names that the page uses."""
     elements = elements_of(found)
     row: dict[str, Any] = {"uid": uid, **{word: text_in(elements, tag) or "" for word, tag in ROW.items()}}
+    row["due"], row["begun"] = (moment_of(value_at(found, *path), None) for path in ((START,), (PERFORMED, BEGUN)))
     row["station"] = code_at(found, STATION)
     row["holder"] = code_at(found, PERFORMED, PERFORMED_AT) or value_at(found, PERFORMED, PERFORMERS, PERFORMER) or row["station"]
     return row
@@ -1187,9 +1754,18 @@ class Worklist:
 
 
 def drawn(worklist: Worklist, row: dict[str, Any]) -> dict[str, Any]:
-    """Returns a step as the page shows it, with what the reports say of it."""
+    """Returns a step as the page shows it, with what the reports say of it. Its claim began when its performer says so, or else
+    when it was reported."""
     fold = worklist.folds.get(row["uid"])
-    return {**row, "since": fold and fold.since, "mark": worklist.mark(row["uid"])}
+    return {**row, "since": fold and fold.since, "claimed": row["begun"] or fold and fold.held, "mark": worklist.mark(row["uid"])}
+
+
+def longest(worklist: Worklist) -> list[dict[str, Any]]:
+    """Returns the steps that have waited longest: SCHEDULED and READY, with a start that is past."""
+    moment = time.time()
+    waiting = (row for row in worklist.rows.values()
+               if row["state"] == STATES[0] and row["readiness"] == "READY" and (row["due"] or moment) < moment)
+    return heapq.nsmallest(LONGEST_WAITS, waiting, key=lambda row: row["due"])
 
 
 def matches(row: dict[str, Any], text: str) -> bool:
@@ -1211,7 +1787,7 @@ def snapshot(worklist: Worklist, text: str) -> dict[str, Any]:
         return {"version": worklist.version, "trouble": worklist.trouble, "notice": worklist.notice, "began": worklist.began,
                 "asked": worklist.asked, "took": worklist.took, "steps": len(worklist.rows), "told": len(worklist.folds),
                 "counts": counts, "toldCounts": told_counts, "found": {state: len(rows) for state, rows in by_state.items()},
-                "waiting": len(worklist.differing), "differing": differing[:20], "rows": rows}
+                "waiting": len(worklist.differing), "differing": differing[:20], "rows": rows, "longest": longest(worklist)}
 
 
 def attributes_shown(found: Dataset, deep: int = 0) -> Iterator[dict[str, Any]]:
@@ -1271,8 +1847,7 @@ class Watching:
         keys.ScheduledStationNameCodeSequence = []
         keys.UnifiedProcedureStepPerformedProcedureSequence = []
         found = {}
-        elements = {"AffectedSOPClassUID": PULL, "CommandField": 0x0020, "Priority": 0}
-        for command, data in association.answers(PULL, elements, keys):
+        for command, data in association.answers(PULL, FIND, keys):
             if data is not None:
                 step = plain(data, self.asked.implicit)
                 found[value_at(step, SOP_INSTANCE)] = step
@@ -1363,10 +1938,12 @@ class Watching:
 
 
 class Pages(http.server.BaseHTTPRequestHandler):
-    """The handler of the page and its requests: /state, which waits up to two seconds for a change, and /step."""
+    """The handler of the page and its requests: /state, which waits up to two seconds for a change, and /step. Each names the
+    token of the board, since any account of this machine can reach the port."""
 
     protocol_version = "HTTP/1.1"
     watching: Watching
+    token: str
 
     def log_message(self, *_: Any) -> None:
         """Logs nothing."""
@@ -1384,7 +1961,9 @@ class Pages(http.server.BaseHTTPRequestHandler):
     def put_page(self) -> None:
         asked, nonce = self.watching.asked, secrets.token_urlsafe(16)
         where = f"{asked.called} at {asked.host}:{asked.port}, watched as {asked.ae}"
-        text = PAGE.replace("{nonce}", nonce).replace("{title}", escape(asked.called)).replace("{where}", escape(where))
+        text = PAGE
+        for name, value in (("nonce", nonce), ("token", self.token), ("title", asked.called), ("where", where)):
+            text = text.replace(f"{{{name}}}", escape(value))
         policy = f"default-src 'none'; connect-src 'self'; img-src data:; style-src 'nonce-{nonce}'; script-src 'nonce-{nonce}'"
         self.put("text/html; charset=utf-8", text, policy)
 
@@ -1410,6 +1989,9 @@ class Pages(http.server.BaseHTTPRequestHandler):
         path, _, text = self.path.partition("?")
         words = urllib.parse.parse_qs(text)
         with contextlib.suppress(ConnectionError):
+            if not hmac.compare_digest(words.get("token", [""])[0].encode(), self.token.encode()):
+                self.put("text/plain", "use the address that the board printed when it began: its token is missing here\n", status=403)
+                return
             if path == "/":
                 self.put_page()
             elif path == "/state":
@@ -1420,16 +2002,25 @@ class Pages(http.server.BaseHTTPRequestHandler):
                 self.put("text/plain", "there is no such page\n", status=404)
 
 
+def token_of_board() -> str:
+    """Returns what each request to a board has to name: UPS_TOKEN, or a new one."""
+    token = os.environ.get("UPS_TOKEN") or secrets.token_urlsafe(24)
+    if not re.fullmatch(r"[\w-]{16,}", token, re.ASCII):
+        raise Refused("UPS_TOKEN has fewer than 16 letters and digits, or others")
+    return token
+
+
 def board(asked: argparse.Namespace) -> int:
     """Runs the board until it is interrupted."""
     signal.signal(signal.SIGTERM, lambda *_: sys.exit(0))
+    token = token_of_board()
     with socket.create_server((asked.address, asked.listen)) as listener:
         watching = Watching(asked, listener)
-        pages = type("PagesOfBoard", (Pages,), {"watching": watching})
+        pages = type("PagesOfBoard", (Pages,), {"watching": watching, "token": token})
         with http.server.ThreadingHTTPServer(("127.0.0.1", asked.page), pages) as server:
             for run in (watching.listen, watching.ask):
                 threading.Thread(target=run, daemon=True).start()
-            print(f"the board is at http://127.0.0.1:{server.server_address[1]}/", flush=True)
+            print(f"the board is at http://127.0.0.1:{server.server_address[1]}/?token={token}", flush=True)
             try:
                 server.serve_forever()
             finally:
@@ -1475,6 +2066,11 @@ h1 { font-size: 18px; font-weight: 600; }
 .verdict.differ::before { content: "\2260"; }
 #find { width: 250px; padding: 6px 10px; background: var(--page); border: 1px solid var(--line); border-radius: 6px; }
 #trouble { padding: 8px 16px; color: var(--bad); background: var(--card); border-bottom: 1px solid var(--line); }
+#longest { display: flex; align-items: center; gap: 10px; padding: 4px 16px; font-size: 12px; background: var(--card);
+  border-bottom: 1px solid var(--line); }
+#longest ol { display: flex; gap: 8px; min-width: 0; padding: 2px; overflow-x: auto; scrollbar-width: none; }
+#longest h2 { flex: none; font-size: 12px; font-weight: 600; color: var(--scheduled); }
+#longest button { padding: 1px 8px; white-space: nowrap; background: none; border: 1px solid var(--line); border-radius: 6px; cursor: pointer; }
 main { flex: 1; min-height: 0; display: flex; gap: 12px; padding: 12px 16px 16px; }
 #columns { flex: 1; min-width: 0; display: grid; grid-template-columns: repeat(4, minmax(0, 1fr)); gap: 12px; }
 .column { display: flex; flex-direction: column; min-height: 0; }
@@ -1539,6 +2135,7 @@ thead th { font-size: 12px; }
     <p id="asked" class="soft small"></p></div>
 </header>
 <p id="trouble" role="alert" hidden></p>
+<section id="longest" aria-labelledby="h-longest" hidden><h2 id="h-longest">Wait longest</h2><ol></ol></section>
 <main>
   <div id="columns"></div>
   <aside id="detail" aria-label="The chosen step" hidden>
@@ -1559,7 +2156,8 @@ const MARKS = {agree: ["=", "worklist and reports agree"], waiting: ["\u2026", "
   differ: ["\u2260", "worklist and reports differ"]};
 const at = id => document.getElementById(id);
 const many = n => n.toLocaleString("en");
-let seen = 0, began = 0, chosen = null, chosenMark = "", asking = null;
+const TOKEN = "{token}";
+let seen = 0, began = 0, chosen = null, chosenMark = "", asking = null, last = null;
 
 function make(name, of, text) {
   const made = document.createElement(name);
@@ -1573,6 +2171,12 @@ function clock(seconds) {
   return then.toDateString() === new Date().toDateString() ? time : then.toLocaleDateString("en-CA") + " " + time;
 }
 function since(seconds) { return seconds ? clock(seconds) : "before " + clock(began); }
+function age(seconds) {
+  const whole = Math.max(0, Math.floor(Date.now() / 1000 - seconds)), minutes = Math.floor(whole / 60), hours = Math.floor(minutes / 60);
+  if (whole < 60) return whole + " s";
+  if (minutes < 60) return minutes + " min";
+  return hours < 48 ? `${hours} h ${minutes % 60} min` : `${Math.floor(hours / 24)} d ${hours % 24} h`;
+}
 function moment(text) {  /* a DT, as 20240229120000+0100 */
   const part = text.match(/^(\d{4})(\d\d)(\d\d)(\d\d)?(\d\d)?/);
   if (!part) return text;
@@ -1616,8 +2220,8 @@ function newCard(uid) {
 }
 function whereOf(row) {
   if (row.state === "SCHEDULED") return [row.station, moment(row.start)].filter(Boolean).join(", ");
-  const when = since(row.since);
-  if (row.state === "IN PROGRESS") return `${row.holder || "held"} since ${when}`;
+  const when = since(row.since), held = row.claimed;
+  if (row.state === "IN PROGRESS") return `${row.holder || "held"} since ${since(held)}, ${held ? "" : "over "}${age(held || began)}`;
   return [row.holder, when].filter(Boolean).join(", ");
 }
 function fill(place, row) {
@@ -1630,7 +2234,7 @@ function fill(place, row) {
     if (row.readiness !== "READY") label.append(make("span", "flag", row.readiness));
   }
   if (mark.dataset.mark !== row.mark) setMark(mark, mark.dataset.mark = row.mark);
-  put(patient, [row.patient.replace(/\^+$/, "").replace(/\^/g, ", "), row.id].filter(Boolean).join("  \u00b7  ") || "no patient");
+  put(patient, patientOf(row));
   put(where, whereOf(row));
   const pressed = String(row.uid === chosen);
   if (card.getAttribute("aria-pressed") !== pressed) card.setAttribute("aria-pressed", pressed);
@@ -1664,11 +2268,39 @@ function drawTop(told) {
   put(at("trouble"), told.trouble);
   at("trouble").hidden = !told.trouble;
 }
+function patientOf(row) {
+  return [row.patient.replace(/\^+$/, "").replace(/\^/g, ", "), row.id].filter(Boolean).join("  \u00b7  ") || "no patient";
+}
+function drawLongest(told) {
+  at("longest").hidden = !told.longest.length;
+  const list = at("longest").querySelector("ol");
+  if (list.dataset.uids !== told.longest.map(row => row.uid).join()) {
+    list.dataset.uids = told.longest.map(row => row.uid).join();
+    list.replaceChildren(...told.longest.map(row => {
+      const place = make("li"), button = make("button");
+      button.type = "button";
+      button.addEventListener("click", () => choose(row.uid));
+      place.append(button);
+      return place;
+    }));
+  }
+  told.longest.forEach((row, place) => put(list.children[place].firstChild, `${age(row.due)}: ${row.label}, ${patientOf(row)}`));
+}
+function drawAges() {
+  if (!last) return;
+  drawLongest(last);
+  for (const row of last.rows["IN PROGRESS"] || []) {
+    const place = columns.get("IN PROGRESS").cards.get(row.uid);
+    if (place) put(place.firstChild.lastChild, whereOf(row));
+  }
+}
 function draw(told) {
   seen = told.version;
   if (!told.rows) return;
   began = told.began;
+  last = told;
   drawTop(told);
+  drawLongest(told);
   for (const state of STATES) drawColumn(state, told);
   document.body.dataset.version = told.version;
   const row = chosen && STATES.flatMap(state => told.rows[state] || []).find(row => row.uid === chosen);
@@ -1688,7 +2320,8 @@ function heldText(step) {
   if (!row) return "The worklist has it no more.";
   if (row.state === "SCHEDULED") return "Nobody holds it.";
   const who = row.holder || "A performer that has not said its station", held = told && told.held, changed = told && told.since;
-  if (row.state === "IN PROGRESS") return `${who} holds it since ${since(held)}.`;
+  const claimed = row.begun || held;
+  if (row.state === "IN PROGRESS") return `${who} holds it since ${since(claimed)}` + (claimed ? `, for ${age(claimed)}.` : ".");
   const holder = row.holder ? `, held by ${who}` + (held ? ` since ${clock(held)}` : "") : "";
   return `${row.state} ${changed ? "at " : ""}${since(changed)}${holder}.`;
 }
@@ -1717,7 +2350,7 @@ function showStep(step) {
 async function showChosen() {
   const uid = chosen;
   try {
-    const step = await (await fetch("/step?uid=" + encodeURIComponent(uid))).json();
+    const step = await (await fetch("/step?" + new URLSearchParams({token: TOKEN, uid}))).json();
     if (uid === chosen && step.uid) showStep(step);
   } catch (fault) { /* the next poll tells it */ }
 }
@@ -1734,7 +2367,7 @@ async function poll() {
   asking = new AbortController();
   let pause = 150;
   try {
-    const words = new URLSearchParams({seen, find: at("find").value});
+    const words = new URLSearchParams({token: TOKEN, seen, find: at("find").value});
     draw(await (await fetch("/state?" + words, {signal: asking.signal})).json());
   } catch (fault) {
     if (fault.name !== "AbortError") {
@@ -1751,6 +2384,7 @@ at("find").addEventListener("input", () => {
   clearTimeout(typing);
   typing = setTimeout(() => { seen = 0; asking.abort(); }, 120);
 });
+setInterval(drawAges, 1000);
 poll();
 </script>
 </body>
@@ -1772,6 +2406,12 @@ def status_word(word: str) -> int:
     return int(word, 16)
 
 
+def count(word: str) -> int:
+    if not re.fullmatch(r"\d{1,9}", word, re.ASCII):
+        raise argparse.ArgumentTypeError(f"{word!r} is no count")
+    return int(word)
+
+
 def seconds(word: str) -> float:
     if not re.fullmatch(r"\d+(\.\d+)?", word, re.ASCII):
         raise argparse.ArgumentTypeError(f"{word!r} is no number of seconds")
@@ -1787,14 +2427,37 @@ def peer(word: str) -> tuple[str, str, int]:
     return title(called_title), host, int(port)
 
 
+def server_word(word: str) -> tuple[str, int]:
+    """Reads a server as UPS_SERVER names it: a host and a port, after the last colon."""
+    host, _, port = word.rpartition(":")
+    if not host or not re.fullmatch("[0-9]{1,5}", port) or not 1 <= int(port) <= 65535:
+        raise argparse.ArgumentTypeError(f"{word!r} is no server: write it as 127.0.0.1:11112")
+    return host, int(port)
+
+
+def of_environment() -> dict[str, Any]:
+    """Returns the defaults that the environment gives: UPS_SERVER, UPS_CALLED and UPS_AE."""
+    found: dict[str, Any] = {}
+    for name, read_word in (("UPS_SERVER", server_word), ("UPS_CALLED", title), ("UPS_AE", title)):
+        try:
+            value = read_word(os.environ[name]) if os.environ.get(name) else None
+        except argparse.ArgumentTypeError as fault:
+            raise Refused(f"{name}: {fault}") from None
+        if isinstance(value, tuple):
+            found["host"], found["port"] = value
+        elif value:
+            found[name.removeprefix("UPS_").lower()] = value
+    return found
+
+
 def common(of_a_board: bool = False) -> argparse.ArgumentParser:
     """Returns a parser of the options of every command. `--port` of a board is that of its page."""
     found = argparse.ArgumentParser(add_help=False)
-    found.add_argument("--host", default="127.0.0.1", help="where the server is (127.0.0.1)")
+    found.add_argument("--host", default="127.0.0.1", help="where the server is; UPS_SERVER=HOST:PORT (127.0.0.1)")
     found.add_argument("--server-port" if of_a_board else "--port", dest="port", type=int, default=11112,
                        help="the server's port (11112)")
-    found.add_argument("--called", type=title, default="UPSD", help="the server's title (UPSD)")
-    found.add_argument("--ae", type=title, default="CLIENT", help="the title of this side (CLIENT)")
+    found.add_argument("--called", type=title, default="UPSD", help="the server's title; UPS_CALLED (UPSD)")
+    found.add_argument("--ae", type=title, default="CLIENT", help="the title of this side; UPS_AE (CLIENT)")
     found.add_argument("--timeout", type=float, default=30, help="seconds for an answer (30)")
     found.add_argument("--implicit", action="store_true", help="Implicit VR Little Endian in place of Explicit VR Little Endian")
     return found
@@ -1808,11 +2471,12 @@ class Commands:
         self.whole = argparse.ArgumentParser(prog=NAME, description=about, epilog=more,
                                              formatter_class=argparse.RawDescriptionHelpFormatter)
         self.commands = self.whole.add_subparsers(required=True, metavar="COMMAND")
+        self.defaults = of_environment()
 
     def add(self, name: str, run: Any, what: str, example: str) -> argparse.ArgumentParser:
         words = common(name == "board")
         added = self.commands.add_parser(name, parents=[words], help=what, description=what, epilog=f"example: ups {example}")
-        added.set_defaults(run=run, json=False, nagios=False, prometheus=False, health=None)
+        added.set_defaults(run=run, json=False, nagios=False, prometheus=False, health=None, **self.defaults)
         return added
 
 
@@ -1831,6 +2495,27 @@ def add_transaction(of: argparse.ArgumentParser, required: bool = True) -> argpa
     return of
 
 
+def add_performer(of: argparse.ArgumentParser) -> argparse.ArgumentParser:
+    of.add_argument("--as", dest="as_station", metavar="CODE",
+                    help="the Code Value of the performing station, if the step has none yet (that of --ae)")
+    return of
+
+
+def add_keys(of: argparse.ArgumentParser, state: bool = True) -> argparse.ArgumentParser:
+    """Adds the keys of a query."""
+    if state:
+        of.add_argument("--state", default="", help="Procedure Step State")
+    of.add_argument("--worklist", default="", metavar="LABEL", help="Worklist Label, with * and ? as wild cards")
+    of.add_argument("--label", default="", help="Procedure Step Label, with * and ? as wild cards")
+    of.add_argument("--patient-id", default="", help="Patient ID")
+    of.add_argument("--name", default="", help="Patient's Name, with * and ? as wild cards: DOE^*")
+    of.add_argument("--start", default="", help="Scheduled Procedure Step Start DateTime, or a range of it, as 20240229-")
+    of.add_argument("--station", action="append", metavar="CODE",
+                    help="the worklist of a station: a Code Value of Scheduled Station Name Code Sequence; several, of each of them")
+    add_attributes(of, "a further key")
+    return of
+
+
 def add_receiver(of: argparse.ArgumentParser, step: bool = True) -> argparse.ArgumentParser:
     if step:
         of.add_argument("--step", help="the SOP Instance UID of a step (all steps)")
@@ -1846,15 +2531,11 @@ def add_listening(of: argparse.ArgumentParser, port: int) -> None:
 def add_questions(to: Commands) -> None:
     """Adds the commands that change nothing."""
     to.add("echo", echo, "asks whether the server is there (C-ECHO)", "echo --port 11112")
-    it = to.add("find", find, "lists the steps that match (C-FIND)", "find --state SCHEDULED --label 'CT*'")
-    it.add_argument("--state", default="", help="Procedure Step State")
-    it.add_argument("--label", default="", help="Procedure Step Label, with * and ? as wild cards")
-    it.add_argument("--patient-id", default="", help="Patient ID")
-    it.add_argument("--start", default="", help="Scheduled Procedure Step Start DateTime, or a range of it, as 20240229-")
-    it.add_argument("--station", action="append", metavar="CODE",
-                    help="the worklist of a station: a Code Value of Scheduled Station Name Code Sequence; several, of each of them")
+    it = add_keys(to.add("find", find, "lists the steps that match (C-FIND)", "find --state SCHEDULED --label 'CT*'"))
+    it.add_argument("--limit", type=count, metavar="N", help="lists N of them at most, and says how many there are")
     it.add_argument("--json", action="store_true", help="an array of DICOM JSON; how many there are goes to standard error")
-    add_attributes(it, "a further key")
+    add_keys(to.add("export", export, "prints all attributes of the steps that match as DICOM JSON, which import reads",
+                    "export --state SCHEDULED > steps.json"))
     it = add_step(to.add("get", get, "shows a step (N-GET)", "get 1.2.3.1"))
     it.add_argument("--json", action="store_true",
                     help="an array of DICOM JSON with one data set; the status goes to standard error")
@@ -1874,6 +2555,9 @@ def add_status(to: Commands) -> None:
     form.add_argument("--nagios", action="store_true",
                       help="a line with performance data; exit status 0 OK, 1 WARNING, 2 CRITICAL, 3 UNKNOWN")
     form.add_argument("--prometheus", action="store_true", help="the text format of Prometheus, for a textfile collector")
+    it.add_argument("--worklists", action="store_true", help="also a line for each worklist label and state")
+    it.add_argument("--claimed", type=seconds, metavar="S",
+                    help="also a line for each step that has been IN PROGRESS for so many seconds, the oldest first")
     it.add_argument("--output", metavar="FILE", help="with --prometheus: writes this file, in one piece")
     what = "with --nagios: seconds for the look-up, and after a comma for the age of the oldest step SCHEDULED or IN PROGRESS"
     it.add_argument("--warning", type=limits, default=(math.inf, math.inf), metavar="SECONDS[,SECONDS]", help=what)
@@ -1882,27 +2566,54 @@ def add_status(to: Commands) -> None:
 
 def add_changes(to: Commands) -> None:
     """Adds the commands that change steps."""
-    it = add_step(to.add("create", create, "creates a step (N-CREATE)", 'create 1.2.3.1 --label "CT READ" --patient-id P1'))
-    it.add_argument("--label", default="READ", help="Procedure Step Label (READ)")
-    it.add_argument("--priority", default="MEDIUM", choices=["HIGH", "MEDIUM", "LOW"],
-                    help="Scheduled Procedure Step Priority (MEDIUM)")
-    it.add_argument("--readiness", default="READY", choices=["INCOMPLETE", "UNAVAILABLE", "READY"],
-                    help="Input Readiness State (READY)")
+    it = to.add("create", create, "creates a step (N-CREATE)", 'create 1.2.3.1 --label "CT READ" --patient-id P1')
+    it.add_argument("step", nargs="?", help="the SOP Instance UID of the step (a new one, which is printed)")
+    it.add_argument("--from", dest="source", metavar="FILE",
+                    help="the attributes of a step in DICOM or in JSON (- for standard input), which the options change")
+    it.add_argument("--label", help=f"Procedure Step Label ({NEW['ProcedureStepLabel']})")
+    it.add_argument("--worklist", metavar="LABEL", help="Worklist Label")
+    it.add_argument("--priority", choices=PRIORITIES,
+                    help=f"Scheduled Procedure Step Priority ({NEW['ScheduledProcedureStepPriority']})")
+    it.add_argument("--readiness", choices=["INCOMPLETE", "UNAVAILABLE", "READY"],
+                    help=f"Input Readiness State ({NEW['InputReadinessState']})")
     it.add_argument("--start", help="Scheduled Procedure Step Start DateTime (now)")
     it.add_argument("--patient-id", help="Patient ID")
     it.add_argument("--patient-name", help="Patient's Name")
     add_attributes(it, "a further attribute")
-    add_transaction(add_step(to.add("claim", claim, "changes a step to IN PROGRESS (N-ACTION)",
-                                    "claim 1.2.3.1 --transaction 2.25.7")))
+    it = to.add("import", import_steps, "creates the steps of files as SCHEDULED, and names those that are not", "import steps.json")
+    it.add_argument("files", metavar="FILE", nargs="+",
+                    help="a DICOM file, or JSON as export, find --json and get --json print it (- for standard input)")
+    it.add_argument("--all", action="store_true",
+                    help="also those that were claimed or are final, without what their performers have said")
+    it = add_step(to.add("claim", claim, "changes a step to IN PROGRESS (N-ACTION)", "claim 1.2.3.1 --transaction 2.25.7"))
+    it.add_argument("--transaction", metavar="UID", help="a Transaction UID for the claim (a new one, which is printed first)")
     it = to.add("set", set_attributes, "sets attributes of a step (N-SET)",
                 'set 1.2.3.1 --transaction 2.25.7 -k "ProcedureStepLabel=CT READ 2"')
     add_attributes(add_transaction(add_step(it), required=False), "an attribute")
-    it = to.add("finish", finish, "sets what a final state needs, and changes a step to COMPLETED",
+    it = to.add("finish", finish, "sets what a final state needs and a step lacks, and changes it to COMPLETED",
                 "finish 1.2.3.1 --transaction 2.25.7")
-    add_transaction(add_step(it)).add_argument("--canceled", action="store_true", help="changes it to CANCELED instead")
+    add_performer(add_transaction(add_step(it))).add_argument("--canceled", action="store_true",
+                                                              help="changes it to CANCELED instead")
+    it.add_argument("--reason", help="with --canceled: Reason For Cancellation")
     it = add_step(to.add("cancel", cancel, "asks for a step to be canceled (N-ACTION)",
                          "cancel 1.2.3.1 --reason 'patient has left'"))
     it.add_argument("--reason", help="Reason For Cancellation")
+    add_work(to)
+
+
+def add_work(to: Commands) -> None:
+    it = to.add("work", work, "claims the next step by priority and scheduled start, prints it as JSON, and finishes it by a command",
+                "work --worklist READS --steps 0 --every 5 -- ./reprocess.sh {}")
+    add_performer(add_keys(it, state=False))
+    it.add_argument("--steps", type=count, default=1, metavar="N", help="does so many steps, 0 for all that there are (1)")
+    it.add_argument("--every", type=seconds, metavar="S", help="asks again after so many seconds if there is none (ends)")
+    it.add_argument("--due", action="store_true", help="leaves steps whose scheduled start is yet to come")
+    it.add_argument("--listen", type=int, metavar="PORT",
+                    help="the port that the server has for this performer as a watcher: then a request to cancel ends the command")
+    it.add_argument("--address", default="127.0.0.1", help="the address to listen on (127.0.0.1)")
+    it.add_argument("command", nargs="*", metavar="COMMAND",
+                    help="completes the step if it ends with 0, and else cancels it; {} is a file with the step as JSON, which is also "
+                         "its standard input, and its output goes to standard error; without it the step is left claimed")
 
 
 def add_watching(to: Commands) -> None:
@@ -1918,6 +2629,10 @@ def add_watching(to: Commands) -> None:
     it = to.add("watch", watch, "takes the event reports of a watcher and prints them", "watch --ae WATCH1 --listen 11113")
     add_listening(it, 11113)
     it.add_argument("--associations", type=int, default=0, help="ends after so many associations (never)")
+    it.add_argument("--json", action="store_true", help="each report as a line of JSON, which is out before it is answered")
+    it.add_argument("--exec", metavar="COMMAND",
+                    help="runs this in a shell for each report, with its JSON as standard input, and then answers it; its output goes "
+                         "to standard error")
     it.add_argument("--status", type=status_word, default=0, metavar="HHHH",
                     help="the status of each response, in hex digits (0000)")
     it.add_argument("--delay", type=seconds, default=0, metavar="S", help="seconds that it waits before each response (0)")
@@ -1977,12 +2692,15 @@ def asked_of_server(asked: argparse.Namespace) -> int:
     return 0 if is_done(status) else 1
 
 
+ALONE = (watch, announce, check, board, export, import_steps, work)  # these open associations themselves, if any
+
+
 def main() -> int:
     for stream in (sys.stdout, sys.stderr):
         stream.reconfigure(errors="backslashreplace")  # a terminal may lack a character
-    asked = read_words()
     try:
-        return asked.run(asked) if asked.run in (watch, announce, check, board) else asked_of_server(asked)
+        asked = read_words()
+        return asked.run(asked) if asked.run in ALONE else asked_of_server(asked)
     except (OSError, Refused) as fault:
         print(f"{NAME}: {fault}", file=sys.stderr)
         return 2

@@ -59,7 +59,7 @@ sys.path.insert(0, os.path.join(os.path.dirname(os.path.dirname(os.path.abspath(
 import dicom
 from dicom import EXPLICIT, IMPLICIT, PULL, PUSH, VERIFICATION, pdu
 from machine import HERE, holds
-from peer import PULL_ON, PUSH_ON, Peer, told
+from peer import PULL_ON, PUSH_ON, Caller, connect, told
 from results import Results
 from server import Server
 
@@ -86,29 +86,9 @@ REQUEST = dicom.associate([(VERIFICATION, IMPLICIT), (PULL, EXPLICIT)])
 ECHO = dicom.echo(1)
 
 
-class Caller(Peer):
-    """An association with a time limit for each answer, and the same one or a shorter one to connect."""
-
-    def __init__(self, port, seconds, contexts=((VERIFICATION, IMPLICIT),), buffer=None, to_connect=None):
-        self.use(connect(port, to_connect or seconds, buffer))
-        self.socket.settimeout(seconds)
-        self.associate(contexts)
-
-
-def connect(port, seconds=LIMIT, buffer=None, source=None):
-    it = socket.socket()
-    if source:
-        it.bind((source, 0))
-    if buffer:
-        it.setsockopt(socket.SOL_SOCKET, socket.SO_RCVBUF, buffer)
-    it.settimeout(seconds)
-    it.connect(("127.0.0.1", port))
-    return it
-
-
 def begin(port, opened):
     """Returns a connection, with an association on it if `opened`."""
-    return Caller(port, LIMIT, ((VERIFICATION, IMPLICIT), (PULL, EXPLICIT))).socket if opened else connect(port)
+    return Caller(port, LIMIT, ((VERIFICATION, IMPLICIT), (PULL, EXPLICIT))).socket if opened else connect(port, LIMIT)
 
 
 def all_back(port, seconds):
@@ -139,7 +119,7 @@ def all_back(port, seconds):
 # the hostile peers: each function lets them say what they say; the stack closes what they hold
 
 def say_nothing(port, stack):
-    peers = [stack.enter_context(connect(port)) for _ in range(WORKERS)]
+    peers = [stack.enter_context(connect(port, LIMIT)) for _ in range(WORKERS)]
     deadline = time.monotonic() + SLOW
     closed = sum(hung_up(it, deadline) for it in peers)
     assert closed == len(peers), f"{closed} of {len(peers)} silent connections are closed after {SLOW} s"
@@ -441,7 +421,7 @@ def storm(port):
 
     def blow(source):
         while time.monotonic() < end:
-            with contextlib.suppress(OSError), connect(port, source=source) as peer:
+            with contextlib.suppress(OSError), connect(port, LIMIT, source=source) as peer:
                 if random.random() < 0.5:
                     peer.setsockopt(socket.SOL_SOCKET, socket.SO_LINGER, struct.pack("ii", 1, 0))
 

@@ -16,7 +16,9 @@ the exit status is 1 if any failed.
     a restart    the server is stopped: the page says so; it is started again, and both tellings agree on what it holds
     many         a server holds 10,000 steps: the page draws the newest 200 of a state within 2 seconds, while reports are coming
                  and at rest
-    elsewhere    a request that names another host gets no page, and the port is open to this machine alone
+    waiting      the page names the steps that have waited longest, and shows the age of a claim as its performer tells it
+    elsewhere    a request without the token of the board, or with another one, or that names another host gets nothing, and the
+                 port is open to this machine alone
     the console  has no error
 """
 
@@ -58,6 +60,7 @@ BATCH = 8  # steps that a workstation has at a time
 STATIONS = ("CT1", "CT2", "MR1")
 PATIENTS = ("DOE^JANE", "MÜLLER^JÜRGEN", "OKAFOR^ADA", "NOVÁK^PETR", "SILVA^ANA", "ROSSI^LUCA", "YILMAZ^ELIF", "LARSEN^NILS")
 LABELS = ("CT head", "CT thorax", "CT abdomen", "MR knee", "MR spine", "CT angiography")
+WAITING = 7  # steps of try_waiting
 ALL = 900  # seconds for all trials
 
 # notes when a card appears in the column of a state
@@ -158,13 +161,17 @@ class Board:
                    "--listen", str(listen), *words]
         self.process = subprocess.Popen(command, stdout=subprocess.PIPE, text=True)
         line = self.process.stdout.readline()
-        found = re.fullmatch(r"the board is at (http://127\.0\.0\.1:(\d+)/)\n", line)
+        found = re.fullmatch(r"the board is at ((http://127\.0\.0\.1:(\d+)/)\?token=([\w-]+))\n", line)
         if not found:
             sys.exit(f"the board printed {line!r}")
-        self.address, self.port = found[1], int(found[2])
+        self.address, self.top, self.port, self.token = found[1], found[2], int(found[3]), found[4]
+
+    def path(self, path: str, **words: str) -> str:
+        """Returns the address of a request."""
+        return f"{self.top}{path}?{urllib.parse.urlencode({'token': self.token, **words})}"
 
     def state(self, **words: str) -> dict[str, Any]:
-        with urllib.request.urlopen(f"{self.address}state?{urllib.parse.urlencode(words)}", timeout=30) as told:
+        with urllib.request.urlopen(self.path("state", **words), timeout=30) as told:
             return json.load(told)
 
     def agrees(self, steps: int) -> bool:
@@ -323,17 +330,56 @@ def try_announcement(board: Board, browser: Browser, listen: int, steps: int, re
                  else json.dumps(board.state())[:300])
 
 
-def try_elsewhere(board: Board, results: Results) -> None:
-    asked = urllib.request.Request(board.address + "state", headers={"Host": "elsewhere.example"})
+def code_of(address: str, **headers: str) -> int:
+    """Returns the status of the answer to a request."""
     try:
-        with urllib.request.urlopen(asked) as told:
-            fault: Optional[str] = f"{told.status}"
+        with urllib.request.urlopen(urllib.request.Request(address, headers=headers)) as told:
+            return told.status
     except urllib.error.HTTPError as refused:
-        fault = None if refused.code == 403 else f"{refused.code}"
-    results.tell("another host name gets nothing", fault)
+        return refused.code
+
+
+def try_elsewhere(board: Board, results: Results) -> None:
+    code = code_of(board.path("state"), Host="elsewhere.example")
+    results.tell("another host name gets nothing", None if code == 403 else f"{code}")
+    codes = {path: [code_of(board.path(path)), code_of(board.top + path), code_of(board.path(path, token=board.token[:-1] + "~")),
+                    code_of(board.path(path, token=""))] for path in ("", "state", "step", "none")}
+    wanted = {path: [404 if path == "none" else 200, 403, 403, 403] for path in codes}
+    results.tell("no request gets anything without the token", None if codes == wanted else str(codes))
     listeners = subprocess.run(["ss", "-Hltn", f"sport = :{board.port}"], capture_output=True, text=True).stdout.split()
     results.tell("the page is on 127.0.0.1 alone", None if f"127.0.0.1:{board.port}" in listeners and len(listeners) == 5
                  else str(listeners))
+
+
+def try_waiting(board: Board, browser: Browser, port: int, results: Results) -> None:
+    """Tries the steps that wait longest, and the age of a claim."""
+    wire = stock.open_association(port, [it.encode() for it in stock.CONTEXTS], stock.EXPLICIT)
+    moments = [time.strftime("%Y%m%d%H%M%S", time.localtime(time.time() - seconds))
+               for seconds in (7500, 90_000, 600, 30, 90, 3700)]
+    uids = [f"1.2.6.{number}" for number in range(len(moments))]
+    begun = {"UnifiedProcedureStepPerformedProcedureSequence": [{"PerformedProcedureStepStartDateTime": moments[0]}]}
+    requests = [stock.create(uid, ScheduledProcedureStepStartDateTime=moment, ProcedureStepLabel=f"wait {number}")
+                for number, (uid, moment) in enumerate(zip(uids, moments))]
+    requests += [stock.create("1.2.6.8", ScheduledProcedureStepStartDateTime="2020", InputReadinessState="INCOMPLETE"),
+                 stock.move(uids[0], "IN PROGRESS"), stock.change(uids[0], **stock.OWN, **begun)]
+    statuses = [wire.ask(*request)[-1][0].Status for request in requests]
+    texts = "[...document.querySelectorAll('#longest button')].map(each => each.textContent)"
+    wanted = ["25 h 0 min: wait 1", "1 h 1 min: wait 5", "10 min: wait 2", "1 min: wait 4"]
+    found = not any(statuses) and holds(lambda: [it.partition(",")[0] for it in browser.run(texts)][:4] == wanted, 10)
+    results.tell("the page names the steps that wait longest", None if found else f"{statuses}, {browser.run(texts)}")
+    claim = f"document.querySelector('[data-uid=\"{uids[0]}\"] .where').textContent"
+    found = holds(lambda: (browser.run(claim) or "").endswith(", 2 h 5 min"), 10)
+    results.tell("and the age of a claim", None if found else f"it says {browser.run(claim)!r}")
+    browser.run("document.querySelector('#longest button').click()")
+    found = holds(lambda: uids[1] in browser.run("document.getElementById('detail').innerText"), 5)
+    results.tell("and one of them at a click", None if found else "it doesn't")
+    browser.run("document.getElementById('close').click()")
+    for request in ([stock.cancel(stock.PUSH, uid) for uid in [*uids[1:], "1.2.6.8"]]
+                    + [stock.change(uids[0], **stock.OWN, **stock.GIVEN_UP), stock.move(uids[0], "CANCELED")]):
+        wire.ask(*request)
+    wire.release()
+    hidden = holds(lambda: browser.run("document.getElementById('longest').hidden"), 10)
+    results.tell("and none when none waits", None if hidden else str(browser.run(texts)))
 
 
 @contextlib.contextmanager
@@ -437,7 +483,8 @@ def try_all(asked: argparse.Namespace, browser: Browser, results: Results) -> No
         try_step(browser, next(uid for uid, state in stations[0].final.items() if state == "COMPLETED"), results)
         try_search(browser, results)
         try_elsewhere(board, results)
-        try_announcement(board, browser, listen, asked.steps, results)
+        try_waiting(board, browser, port, results)
+        try_announcement(board, browser, listen, asked.steps + WAITING, results)
     try_restart(asked.program, board, browser, port, listen, results)
     browser.go("about:blank", "document.readyState == 'complete'", 10)  # before the board ends, which the page would report as an error
     board.end()

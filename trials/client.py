@@ -15,12 +15,19 @@ failed. trials/stock.py has the life of steps through the client, and trials/boa
                  Prometheus, also in a file
     watch        with another status and with a delay: what the server's log says of it
     announce     what a watcher that listens here is told
+    moving       steps with every VR, nested sequences and three character sets go to another server by `export` and `import`, and
+                 are equal there, attribute by attribute; one that is claimed or final is left and named; templates
+    environment  UPS_SERVER, UPS_CALLED and UPS_AE in place of options
+    work         a step that is done, and the claims that `status` names
+    scripts      each line of `watch --json` is out, and each command of `--exec` has ended, before the report is answered; nothing
+                 is answered for a reader that is gone
 """
 
 from __future__ import annotations
 
 import argparse
 import dataclasses
+import datetime
 import json
 import os
 import re
@@ -40,12 +47,14 @@ from results import Results
 from server import Server
 from stock import DONE, GLOBAL, NO_ANSWER, OWN, PERFORMED, REFUSED, STEP, Watcher, made, open_association, plain
 
+CLIENT = [sys.executable, os.path.join(HERE, "examples/ups.py")]
 LIMIT = 60  # seconds for a command
 ALL = 600  # seconds for all trials
 A, B, C, D = (f"1.2.5.{number}" for number in range(1, 5))
 OLDEST, OLDEST_SECONDS = "20240229130000+0100", 1709208000  # by `date -d 2024-02-29T12:00Z +%s`
 MODIFIED = "20240301120000+0000"
 HOLDER = ["--transaction", "2.25.7"]
+NO_STEP = 3  # the exit status of `work` if there is nothing to do
 
 
 @dataclasses.dataclass
@@ -57,10 +66,10 @@ class Ran:
     error: str
 
 
-def run(*words: str, given: str = "") -> Ran:
-    """Runs the client. If it does not end, the status is -1."""
-    command = [sys.executable, os.path.join(HERE, "examples/ups.py"), *words]
-    environment = {**os.environ, "PYTHONIOENCODING": "utf-8"}
+def run(*words: str, given: str = "", **variables: str) -> Ran:
+    """Runs the client, with further variables of its environment. If it does not end, the status is -1."""
+    command = [*CLIENT, *words]
+    environment = {**os.environ, "PYTHONIOENCODING": "utf-8", **variables}
     try:
         ran = subprocess.run(command, input=given, capture_output=True, encoding="utf-8", timeout=LIMIT, env=environment)
     except subprocess.TimeoutExpired:
@@ -83,8 +92,8 @@ COMMANDS: list[tuple[str, list[str], int, list[str]]] = [
      DONE, ["0000"]),
     ("create in Implicit VR", ["create", B, "--implicit", "--label", "MR READ", "--start", OLDEST,
                                "-k", "(0040,4025)[0].(0008,0100)=R2"], DONE, ["0000"]),
-    ("create for two stations", ["create", C, "-k", "(0040,4025)[0].(0008,0100)=R1", "-k", "(0040,4025)[1].(0008,0100)=R2",
-                                 "-k", f"ScheduledProcedureStepModificationDateTime={MODIFIED}"], DONE, ["0000"]),
+    ("create for two stations", ["create", C, "--worklist", "READS", "-k", "(0040,4025)[0].(0008,0100)=R1",
+                                 "-k", "(0040,4025)[1].(0008,0100)=R2", "-k", f"ScheduledProcedureStepModificationDateTime={MODIFIED}"], DONE, ["0000"]),
     ("create for a third", ["create", D, "-k", "(0040,4025)[0].(0008,0100)=R3"], DONE, ["0000"]),
     ("find a station", ["find", "--station", "R1"], DONE, [A, C, "2 found"]),
     ("find several stations, each step once", ["find", "--station", "R1", "--station", "R2"], DONE, [A, B, C, "3 found"]),
@@ -93,7 +102,13 @@ COMMANDS: list[tuple[str, list[str], int, list[str]]] = [
     ("find in Implicit VR", ["find", "--implicit", "--label", "CT*"], DONE, [f"{A}  MÜLLER^JÜRGEN", "1 found"]),
     ("get in Implicit VR", ["get", "--implicit", A], DONE, ["LO: 'CT READ'", "0000 success"]),
     ("claim in Implicit VR", ["claim", "--implicit", A, *HOLDER], DONE, ["0000 success"]),
-    ("finish in Implicit VR", ["finish", "--implicit", A, *HOLDER], DONE, ["0000 success"]),
+    ("say when it began", ["set", A, *HOLDER, "-k", f"(0074,1216)[0].(0040,4050)={OLDEST}"], DONE, ["0000 success"]),
+    ("finish in Implicit VR", ["finish", "--implicit", A, *HOLDER, "--as", "CT1"], DONE, ["0000 success"]),
+    ("finish keeps what was said", ["get", A], DONE, [f"Performed Procedure Step Start Date DT: '{OLDEST}'", "SH: 'CT1'"]),
+    ("find one of several", ["find", "--limit", "1"], DONE, ["1 of 4 found"]),
+    ("find with a limit that is none", ["find", "--limit", "few"], NO_ANSWER, ["is no count"]),
+    ("find a name", ["find", "--name", "MÜLLER^*"], DONE, [A, "1 found"]),
+    ("find a worklist", ["find", "--worklist", "READ?"], DONE, [C, "READS", "1 found"]),
     ("subscribe", ["subscribe", "--receiver", "WATCHER"], DONE, ["0000 success"]),
     ("suspend", ["suspend", "--receiver", "WATCHER"], DONE, ["0000 success"]),
     ("suspend a stranger", ["suspend", "--receiver", "STRANGER"], REFUSED, ["C308"]),
@@ -331,6 +346,10 @@ def try_status(results: Results, port: int, folder: str) -> None:
     rows = {state: int(number) for state, number in re.findall(r"^([A-Z ]+?) +(\d+)", ran.out, re.MULTILINE) if state in COUNTS}
     oldest = [f"oldest start {OLDEST}, ", f"oldest modification {MODIFIED}, "]
     results.tell("status, counts", wrong(ran, DONE, "look-up by UID", *oldest) or (None if rows == COUNTS else ran.out))
+    ran = run("status", "--worklists", *place)
+    rows_of = re.findall(r"^(\S+) +(SCHEDULED|COMPLETED) +(\d+)", ran.out, re.MULTILINE)
+    wanted = [("-", "COMPLETED", "1"), ("-", "SCHEDULED", "2"), ("READS", "SCHEDULED", "1")]
+    results.tell("status, by worklist and state", None if sorted(rows_of) == wanted else ran.out)
     limits = [(["--warning", "30", "--critical", "60"], 0), (["--warning", "0", "--critical", "60"], 1),
               (["--warning", "0", "--critical", "0"], 2), (["--warning", ",0.001"], 1),
               (["--critical", "60,0.001"], 2), (["--warning", ",1e12"], 0)]
@@ -390,6 +409,189 @@ def try_watch(results: Results, program: list[str]) -> None:
         try_suspend(results, place, watch)
 
 
+# steps that move to another server: a value of each VR, by keyword
+CODES = [{"CodeValue": "KÖ1", "CodingSchemeDesignator": "99A", "CodeMeaning": "Köpfe"}]
+EVERY: dict[str, Any] = {
+    "RetrieveAETitle": "ARCHIVE", "PatientAge": "003Y", "DateTime": "20260101101500.5+0100", "DimensionIndexPointer": 0x0010_0020,
+    "PatientSex": "O",
+    "PatientBirthDate": "20010203", "PatientWeight": "0070.50", "PatientSize": "1.70", "SeriesNumber": "007", "ExposureTimeInms": 0.1,
+    "SelectorFLValue": [0.5, 0.25], "AdditionalPatientHistory": "  line\\one\r\ntwo", "IssuerOfPatientID": " KÖLN",
+    "EncapsulatedDocument": b"\0\1\2\3", "SelectorODValue": b"12345678", "SelectorOFValue": b"1234", "SelectorOLValue": b"1234",
+    "SelectorOVValue": b"12345678", "SelectorOWValue": b"12", "PatientName": "MÜLLER^JÜRGEN^^DR", "PatientAlternativeName": "A^B\\C",
+    "RequestedProcedureID": "R1", "SelectorSLValue": -5, "SelectorSSValue": [-5, 5], "PhysiciansOfRecord": "É^A\\B^C",
+    "InstitutionAddress": "Straße 1", "SelectorSVValue": -(2 ** 62) - 1, "StudyTime": "101500.123",
+    "LongCodeValue": "long\\code", "StudyInstanceUID": "1.2.3", "SelectorULValue": 2 ** 31, "SelectorUNValue": b"unknown!",
+    "URNCodeValue": "urn:x y", "SelectorUSValue": [1, 65535], "TextValue": "Ä text", "SelectorUVValue": 2 ** 63 + 1,
+    "ReferencedRequestSequence": [{"StudyInstanceUID": "1.2.4", "RequestedProcedureCodeSequence": CODES}, {}],
+    "ScheduledStationNameCodeSequence": [], "InputInformationSequence": nested(6), "ScheduledWorkitemCodeSequence": CODES,
+    "WorklistLabel": "KÖPFE"}
+JAPANESE = {"SpecificCharacterSet": ["", "ISO 2022 IR 87"], "PatientName": "Yamada^Tarou=山田^太郎=やまだ^たろう"}
+MOVED = {"1.2.10.1": {**EVERY, "SpecificCharacterSet": "ISO_IR 192"}, "1.2.10.2": {**EVERY, "SpecificCharacterSet": "ISO_IR 100"},
+         "1.2.10.3": JAPANESE}
+HELD, ENDED_STEP = "1.2.10.4", "1.2.10.5"
+
+
+def vrs_in(given: Any) -> set[str]:
+    return {each.VR for each in given.iterall()}
+
+
+def all_vrs() -> set[str]:
+    """Returns the VRs that the server knows."""
+    with open(os.path.join(HERE, "crates/ups_dataset/src/vr.rt"), encoding="utf-8") as source:
+        return {it.upper() for it in re.findall(r"(?m)^    ([A-Z][a-z]),$", source.read())}
+
+
+def bytes_of(wire: Any, uid: str) -> Optional[bytes]:
+    """Returns all attributes of a step as the server sends them, or None."""
+    command, found = wire.ask(*stock.get(stock.PULL, uid))[0]
+    return None if command.Status else stock.spelled(found, stock.EXPLICIT)
+
+
+def try_moving(results: Results, program: list[str], folder: str) -> None:
+    """Tries `export` and `import` from one server to another."""
+    path = os.path.join(folder, "moved.json")
+    missing = all_vrs() - vrs_in(made(EVERY))
+    results.tell("the steps that move have each VR", f"they lack {sorted(missing)}" if missing else None)
+    with Server(program, "--keep", "3600") as here, Server(program, "--keep", "3600") as there:
+        contexts = [each.encode() for each in stock.CONTEXTS]
+        wires = [open_association(it.port, contexts, stock.EXPLICIT, LIMIT) for it in (here, there)]
+        statuses = [created(wires[0], uid, {**STEP, **given}) for uid, given in MOVED.items()]
+        results.tell("they are created", str(statuses) if any(statuses) else None)
+        created(wires[0], HELD, STEP), status_of(wires[0], stock.move(HELD, "IN PROGRESS"))
+        finished(wires[0], ENDED_STEP, "COMPLETED", PERFORMED)
+        ran = run("export", "--port", str(here.port))
+        with open(path, "w", encoding="utf-8") as file:
+            file.write(ran.out)
+        results.tell("export", wrong(ran, DONE, "5 exported, 0 left"))
+        told = [f"{HELD}: left, since it is IN PROGRESS", f"{ENDED_STEP}: left, since it is COMPLETED",
+                "3 created, 2 left, 0 refused"]
+        results.tell("import", wrong(run("import", path, "--port", str(there.port)), DONE, *told))
+        for uid in MOVED:
+            pair = [bytes_of(wire, uid) for wire in wires]
+            results.tell(f"{uid} is equal there", None if pair[0] and pair[0] == pair[1] else f"{pair[0]!r}, and {pair[1]!r}")
+        results.tell("what was left is not there", None if bytes_of(wires[1], HELD) is None else "it is")
+        try_moving_all(results, there.port, path)
+        try_templates(results, there.port, path, folder)
+        for wire in wires:
+            wire.release()
+
+
+def try_moving_all(results: Results, port: int, path: str) -> None:
+    """Tries `import --all`, files that can't be imported, and `export` by keys."""
+    place = ["--port", str(port)]
+    results.tell("import, all of it", wrong(run("import", "--all", path, *place), REFUSED, "2 created, 0 left, 3 refused", "0111"))
+    found = json_of(run("export", "-k", f"SOPInstanceUID={HELD}\\{ENDED_STEP}", *place))
+    told = {uid: (step["00741000"]["Value"][0], "00741216" in step) for uid, step in found.items()}
+    wanted = dict.fromkeys((HELD, ENDED_STEP), ("SCHEDULED", False))
+    results.tell("as new steps", None if told == wanted else str(told))
+    found = json_of(run("export", "--worklist", "KÖPFE", "--state", "SCHEDULED", *place))
+    results.tell("export by keys", None if set(found) == {"1.2.10.1"} else str(set(found)))  # the other has its own bytes
+    run("create", "1.2.10.6", "--implicit", "-k", "(0032,1064)[0].(0008,0100)=C1", *place)
+    found = json_of(run("export", "-k", "SOPInstanceUID=1.2.10.6", *place))["1.2.10.6"]["00321064"]
+    results.tell("export of a sequence that the server has as UN", None if found["vr"] == "SQ" and "C1" in str(found) else str(found))
+    none = run("export", "--label", "nobody has it", *place)
+    results.tell("export of nothing", wrong(none, DONE, "0 exported") or (None if json.loads(none.out) == [] else none.out))
+    results.tell("import of nothing", wrong(run("import", "-", *place, given=none.out), DONE, "0 created, 0 left, 0 refused"))
+    results.tell("import without a UID", wrong(run("import", "-", *place, given="[{}]"), REFUSED, "-, data set 1: it has no SOP"))
+    results.tell("import of no file", wrong(run("import", path, path + ".none", *place), NO_ANSWER, "can't be read"))
+    results.tell("export of what can't be asked", wrong(run("export", "--start", "yesterday", *place), REFUSED, "A900"))
+
+
+def try_templates(results: Results, port: int, path: str, folder: str) -> None:
+    """Tries `create --from`: one of several, JSON of standard input, and a DICOM file."""
+    place = ["--port", str(port)]
+    results.tell("create from two steps", wrong(run("create", "1.2.11.1", "--from", path, *place), NO_ANSWER, "has 5 data sets"))
+    held = run("get", "--json", "1.2.10.2", *place).out
+    ran = run("create", "1.2.11.2", "--from", "-", "--label", "ANOTHER", "-k", "PatientID=P9", *place, given=held)
+    found = json_of(run("get", "--json", "1.2.11.2", *place))["1.2.11.2"]
+    wanted = {**json.loads(held)[0], "00080018": {"vr": "UI", "Value": ["1.2.11.2"]}, "00741204": {"vr": "LO", "Value": ["ANOTHER"]},
+              "00100020": {"vr": "LO", "Value": ["P9"]}}
+    results.tell("create from JSON, and change it", wrong(ran, DONE) or (None if found == wanted else f"{found}, and not {wanted}"))
+    dicom = os.path.join(folder, "template.dcm")
+    with open(dicom, "wb") as file:
+        file.write(stock.spelled(made({"PatientName": "DOE^JANE", "ProcedureStepState": "COMPLETED", **PERFORMED}), stock.EXPLICIT))
+    ran = run("create", "--from", dicom, *place)
+    uid = ran.out.split("\n")[0]
+    found = json_of(run("get", "--json", uid, *place)).get(uid, {})
+    told = [found.get(tag, {}).get("Value") for tag in ("00100010", "00741000", "00741204", "00741216")]
+    wanted = [[{"Alphabetic": "DOE^JANE"}], ["SCHEDULED"], ["READ"], None]
+    results.tell("create from a DICOM file, with a new UID", wrong(ran, DONE, "2.25.") or (None if told == wanted else str(told)))
+
+
+def try_environment(results: Results, port: int) -> None:
+    """Tries the variables of the environment, and a claim whose Transaction UID the client makes."""
+    server = {"UPS_SERVER": f"127.0.0.1:{port}"}
+    trials = [("UPS_SERVER", run("echo", **server), DONE, "0000"),
+              ("a wrong one", run("echo", UPS_SERVER="nowhere"), NO_ANSWER, "no server"),
+              ("UPS_CALLED", run("echo", **server, UPS_CALLED="OTHER"), NO_ANSWER, "rejected"),
+              ("an option before it", run("echo", "--called", "UPSD", **server, UPS_CALLED="OTHER"), DONE, "0000"),
+              ("UPS_AE", run("subscribe", **server, UPS_AE="WATCHER"), DONE, "0000"),
+              ("another UPS_AE", run("subscribe", **server, UPS_AE="STRANGER"), REFUSED, "C308"),
+              ("its end", run("unsubscribe", **server, UPS_AE="WATCHER"), DONE, "0000")]
+    for name, ran, status, told in trials:
+        results.tell(f"the environment, {name}", wrong(ran, status, told))
+    run("create", "1.2.12.1", **server)
+    ran = run("claim", "1.2.12.1", **server)
+    transaction = ran.out.split("\n")[0]
+    is_uid = re.fullmatch(r"2\.25\.\d+", transaction)
+    results.tell("claim makes a Transaction UID", wrong(ran, DONE) or (None if is_uid else ran.out))
+    ran = run("finish", "1.2.12.1", "--transaction", transaction, **server)
+    results.tell("with which the step is finished", wrong(ran, DONE, "0000"))
+
+
+def try_work(results: Results, port: int) -> None:
+    """Tries `work`, of which trials/performers.py has more, and what `status` tells of claims."""
+    place = ["--port", str(port)]
+    run("create", "1.2.12.2", "--worklist", "WORK", *place)
+    ran = run("work", "--worklist", "WORK", *place, "--", "sh", "-c", 'test "$UPS_STEP" = 1.2.12.2')
+    results.tell("work", wrong(ran, DONE, "1.2.12.2: COMPLETED: 0000 success"))
+    results.tell("work with nothing to do", wrong(run("work", "--worklist", "WORK", *place, "--", "true"), NO_STEP))
+    results.tell("work without its command", wrong(run("work", *place, "--", "no-such-command"), NO_ANSWER, "there is no command"))
+    run("create", "1.2.12.3", "--start", OLDEST, "--label", "HELD", *place)
+    run("claim", "1.2.12.3", *HOLDER, *place)
+    ran = run("status", "--claimed", "60", *place)
+    results.tell("status names a claim by its start", wrong(ran, DONE, "claimed: 1.2.12.3  -  HELD  scheduled "))
+    moment = datetime.datetime.now().astimezone() - datetime.timedelta(seconds=90)
+    begun = f"(0074,1216)[0].(0040,4050)={moment:%Y%m%d%H%M%S%z}"
+    run("set", "1.2.12.3", *HOLDER, *place, "-k", begun, "-k", "(0074,1216)[0].(0040,4028)[0].(0008,0100)=CT1")
+    ran = run("status", "--claimed", "60", *place)
+    results.tell("and by what its performer says", wrong(ran, DONE, "claimed: 1.2.12.3  CT1  HELD  begun 9"))
+    ran = run("status", "--claimed", "600", *place)
+    results.tell("and none that is younger", wrong(ran, DONE) or (ran.out if "claimed: " in ran.out else None))
+
+
+def started(*words: str) -> subprocess.Popen[str]:
+    """Starts the client, and returns it."""
+    return subprocess.Popen([*CLIENT, *words], stdout=subprocess.PIPE, stderr=subprocess.PIPE, encoding="utf-8")
+
+
+def try_scripts(results: Results, program: list[str], folder: str) -> None:
+    """Tries `watch --json` and `--exec`: what is out when the server has its answer."""
+    listen, path = free_port(), os.path.join(folder, "reports")
+    with Server(program, "--keep", "3600", f"WATCHER=127.0.0.1:{listen}") as server:
+        place = ["--port", str(server.port)]
+        watch = ["watch", "--ae", "WATCHER", "--listen", str(listen), "--associations", "1"]
+        for words in (["create", "1.2.13.1"], ["subscribe", "--receiver", "WATCHER"]):
+            run(*words, *place)
+        gone = started(*watch[:-2], "--json")
+        gone.stdout.close()
+        results.tell("a reader that is gone ends it", None if gone.wait(LIMIT) else "it ended with 0")
+        seen = len(server.log)
+        ran = run(*watch, "--json", "--exec", f'sleep 1; cat >> {path}; echo "$UPS_STEP $UPS_EVENT" >> {path}')
+        lines = [json.loads(line) for line in ran.out.splitlines()]
+        told = [(it["step"], it["type"], it["event"], it["information"]["00741000"]["Value"]) for it in lines]
+        results.tell("and leaves the report, which watch --json tells",
+                     wrong(ran, DONE) or (None if told == [("1.2.13.1", 1, "state", ["SCHEDULED"])] else ran.out + ran.error))
+        with open(path, encoding="utf-8") as file:
+            content = file.read()
+        results.tell("watch --exec", None if content == ran.out + "1.2.13.1 state\n" else content)
+        found = holds(lambda: any(re.search(r"deliver WATCHER: Released, 1 reports, 1\.", it) for it in server.log[seen:]), 5)
+        results.tell("which has ended before the answer", None if found else str(server.log[seen:]))
+        run("cancel", "1.2.13.1", *place)
+        ran = run(*watch, "--exec", "exit 3")
+        results.tell("a command that fails is told", wrong(ran, DONE, "exit 3 ended with 3", "1.2.13.1 state: "))
+
+
 def try_suspend(results: Results, place: list[str], watch: list[str]) -> None:
     """Tries whether a watcher that has suspended is told of the steps that it watched before, and of no others."""
     asked = [["suspend", "--receiver", "WATCHER"], ["create", "1.2.8.9"], ["claim", "1.2.8.0", *HOLDER]]
@@ -434,10 +636,14 @@ def main() -> None:
             try_commands(results, server.port)
             try_json(results, server.port)
             try_status(results, server.port, folder)
+            try_environment(results, server.port)
+            try_work(results, server.port)
         with Server(asked.program, "--keep", "3600") as server:
             wire = open_association(server.port, [each.encode() for each in stock.CONTEXTS], stock.EXPLICIT, LIMIT)
             try_check(results, wire, folder)
             wire.release()
+        try_moving(results, asked.program, folder)
+        try_scripts(results, asked.program, folder)
     try_watch(results, asked.program)
     try_announce(results)
     results.end("the client `ups`")

@@ -1,12 +1,12 @@
 #!/usr/bin/env python3
-"""Runs the snippets of docs/use/connect.md that say `# tried`, and compares what they print.
+"""Runs the snippets of docs/use/connect.md and examples/README.md that say `# tried`, and compares what they print.
 
     trials/connect.py [PROGRAM]      (crates/upsd/out/upsd, which `rt run` builds)
 
-The blocks run in order, at the top of the repository, against one server that has just started, as on the page but on free
-ports: sh with `sh`, python with Debian's Python, which has pydicom. What a block prints follows `# ->` in it. The script
-installs what is missing (`apt-get install -y dcmtk python3-pydicom`, which needs root), prints a line for each block, and then
-`N passed, M failed`. The exit status is 1 if any failed.
+The blocks run in order, at the top of the repository, against one server that has just started, as on the pages but on free
+ports: sh with `sh`, python with Debian's Python, which has pydicom and odil. What a block prints follows `# ->` in it. The script
+installs what is missing (`apt-get install -y dcmtk python3-pydicom python3-odil`, which needs root), prints a line for each block,
+and then `N passed, M failed`. The exit status is 1 if any failed.
 """
 
 from __future__ import annotations
@@ -23,15 +23,15 @@ from machine import HERE, free_port, install
 from results import Results
 from server import Server
 
-PAGE = os.path.join(HERE, "docs/use/connect.md")
+PAGES = ("docs/use/connect.md", "examples/README.md")
 SERVER, WATCHER = "11112", "11113"  # the ports of the page
 SHELLS = {"sh": ["sh"], "python": ["/usr/bin/python3", "-"]}
 SECONDS = 120  # for one block
 
 
-def blocks() -> list[tuple[str, str, list[str]]]:
-    """Returns the language, the words and the printed lines of each block that says `# tried`."""
-    with open(PAGE, encoding="utf-8") as page:
+def blocks(path: str) -> list[tuple[str, str, list[str]]]:
+    """Returns the language, the words and the printed lines of each block of a page that says `# tried`."""
+    with open(os.path.join(HERE, path), encoding="utf-8") as page:
         found = re.findall(r"(?ms)^```(sh|python)\n# tried\n(.*?)^```$", page.read())
     lines = [(language, text.split("\n")) for language, text in found]
     return [(language, "\n".join(it for it in text if not it.startswith("# -> ")),
@@ -39,13 +39,15 @@ def blocks() -> list[tuple[str, str, list[str]]]:
 
 
 def placed(words: str, server: int, watcher: int) -> str:
-    """Returns the words of a block with these ports in place of the page's; the client is told the server's."""
+    """Returns the words of a block with these ports in place of the page's, and the client in a Python that has pydicom."""
     words = words.replace(SERVER, str(server)).replace(WATCHER, str(watcher))
-    return re.sub(r"(?m)^examples/ups\.py (\w+)", rf"/usr/bin/python3 examples/ups.py \1 --port {server}", words)
+    return re.sub(r"(?m)^examples/ups\.py", "/usr/bin/python3 examples/ups.py", words)
 
 
 def fault_of(language: str, words: str, wanted: list[str], ports: tuple[int, int]) -> Optional[str]:
-    ran = subprocess.run(SHELLS[language], input=placed(words, *ports), cwd=HERE, capture_output=True, text=True, timeout=SECONDS, check=False)
+    variables = {**os.environ, "UPS_SERVER": f"127.0.0.1:{ports[0]}", "PYTHONIOENCODING": "utf-8"}
+    ran = subprocess.run(SHELLS[language], input=placed(words, *ports), cwd=HERE, capture_output=True, encoding="utf-8",
+                         timeout=SECONDS, check=False, env=variables)
     printed = ran.stdout.replace(str(ports[0]), SERVER).replace(str(ports[1]), WATCHER).split("\n")[:-1]
     return None if printed == wanted else f"it prints {printed}, and not {wanted}: {ran.stderr[-300:]}"
 
@@ -55,12 +57,16 @@ def main() -> None:
     asked = argparse.ArgumentParser(description=about, epilog=more, formatter_class=argparse.RawDescriptionHelpFormatter)
     asked.add_argument("program", nargs="?", default=os.path.join(HERE, "crates/upsd/out/upsd"), help="the program")
     given, results = asked.parse_args(), Results()
-    install({"echoscu": "dcmtk", "python3": "python3-pydicom"})
+    odil = subprocess.run(["/usr/bin/python3", "-c", "import odil"], stderr=subprocess.DEVNULL, check=False).returncode
+    install({"echoscu": "dcmtk", "python3": "python3-pydicom", **({"python3 with odil": "python3-odil"} if odil else {})})
     watcher = free_port()
     with Server([given.program], f"WATCH1=127.0.0.1:{watcher}") as server:
-        for number, (language, words, wanted) in enumerate(blocks(), 1):
-            results.tell(f"block {number}, {language}, {len(wanted)} lines", fault_of(language, words, wanted, (server.port, watcher)))
-    results.tell("the page has blocks", None if results.passed + results.failed else "it has none")
+        for page in PAGES:
+            found = blocks(page)
+            for number, (language, words, wanted) in enumerate(found, 1):
+                fault = fault_of(language, words, wanted, (server.port, watcher))
+                results.tell(f"{page}, block {number}, {language}, {len(wanted)} lines", fault)
+            results.tell(f"{page} has blocks", None if found else "it has none")
     results.end()
 
 

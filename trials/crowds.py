@@ -42,10 +42,11 @@ from typing import Optional
 
 sys.path.insert(0, os.path.join(os.path.dirname(os.path.dirname(os.path.abspath(__file__))), "check/lib"))
 import dicom
-from abuse import ABORT, CROWD, ECHO, FAULTS, REQUEST, Caller, Holder, connect, crowd, hung_up, served
+from abuse import ABORT, CROWD, ECHO, FAULTS, REQUEST, Holder, crowd, hung_up, served
 from dicom import EXPLICIT, IMPLICIT, PULL, VERIFICATION
 from ending import Visitor
 from machine import HERE, holds
+from peer import Caller, connect
 from results import Results
 from server import Server
 
@@ -216,7 +217,7 @@ def heard(peer: Caller) -> Optional[str]:
 def alone_trial(program: list[str], results: Results) -> None:
     """Tries whether the limits hold if nobody waits."""
     with Server(program, "--associations", "4", "--timeout", str(SHORT), "--idle", str(LONG)) as server:
-        half, idle = connect(server.port), Caller(server.port, LONG).socket
+        half, idle = connect(server.port, LONG), Caller(server.port, LONG).socket
         half.sendall(REQUEST[:3])
         began = time.monotonic()
         for name, peer, limit in (("half a header", half, SHORT), ("an idle association", idle, LONG)):

@@ -294,8 +294,9 @@ def shown_by(attributes: Attributes, uid: bytes) -> Key:
 class Station:
     """A workstation that does the same with each of its steps, in an association of its own for each burst."""
 
-    def __init__(self, number: int, asked: Asked) -> None:
-        self.number, self.asked, self.count, self.faults = number, asked, 0, []
+    def __init__(self, number: int, asked: Asked, subscribes: bool = True) -> None:
+        self.number, self.asked, self.subscribes = number, asked, subscribes
+        self.count, self.faults = 0, []
 
     def run(self, port: int, steps: int) -> None:
         try:
@@ -316,7 +317,7 @@ class Station:
             self.asked.requests[port, client.number] = key
 
         note(client.create(uid, a_step_of(b"P%d" % self.number)), b"create", uid)
-        if self.count % 2:
+        if self.subscribes and self.count % 2:
             note(client.subscribe(uid, b"W2", b"TRUE"), b"subscribe", uid)
         note(client.change(uid, b"IN PROGRESS", transaction), b"change", uid, b"IN PROGRESS")
         for version in range(1, 1 + self.count % 3):
@@ -349,24 +350,29 @@ class Recording:
     reports: int
     before: dict[str, bytes] = dataclasses.field(default_factory=dict)  # the files before the sequence, and their rows
     rows_before: Optional[list[Row]] = None
-    keep: str = "1000000"  # seconds for which its server keeps finished steps
+    settings: tuple[str, ...] = ("--keep", "1000000", *PEERS)  # of its server
     made: int = 0  # the point by which the store was made
+    base: int = 0  # how many rows must be there at each point
 
     def needed_at(self, point: int) -> int:
         """Returns how many rows must be there at a point: those on which what was sent before it rests."""
         at = bisect.bisect_left(self.points, point)
-        return self.needed[at - 1] if at else 0
+        return max(self.base, self.needed[at - 1] if at else 0)
+
+    def disks(self) -> dict[str, Disk]:
+        """Returns the disks of the files at the beginning."""
+        return {name: Disk(file, self.before.get(name, b"")) for name, file in self.trace.files.items()}
 
 
-def record(program: list[str], folder: str, given: argparse.Namespace) -> Recording:
-    """Records two lives of a server."""
-    file, log, watcher, other = os.path.join(folder, "store"), os.path.join(folder, "strace"), Hearing(), Hearing()
+def record(program: list[str], folder: str, given: argparse.Namespace, more: tuple[str, ...] = (), name: str = "store") -> Recording:
+    """Records two lives of a server, with more words for strace."""
+    file, log, watcher, other = os.path.join(folder, name), os.path.join(folder, "strace"), Hearing(), Hearing()
     asked = Asked({}, int(watcher.place.rsplit(":", 1)[1]))
     stations = [Station(it, asked) for it in range(STATIONS)]
     lines = record_init(program, file, log)
     made = len(lines)
     for life in range(LIVES):
-        words = [*STRACE, "-D", "-o", log, *program]
+        words = [*STRACE, *more, "-D", "-o", log, *program]
         with Stored(words, file, "--keep", "1000000", f"W1={watcher.place}", f"W2={other.place},lock", seconds=4 * SECONDS) as server:
             if life == 0:
                 client = Client(server.port)
@@ -491,7 +497,7 @@ class Cuts:
 
     def run(self, count: int, opened: int, most: int) -> None:
         """Tries `count` states, of which the program opens `opened` and any that sqlite3 finds wrong, until `most` are wrong."""
-        disks = {name: Disk(file, self.recording.before.get(name, b"")) for name, file in self.recording.trace.files.items()}
+        disks = self.recording.disks()
         by_program = set(self.chance.sample(range(count), min(opened, count)))
         for number, point in enumerate(self.points(count)):
             if len(self.faults) == most:
@@ -535,7 +541,7 @@ class Cuts:
         try:
             if point <= self.recording.made and (fault := self.fault_of_init(file)):
                 return fault
-            with Stored(self.program, file, "--keep", self.recording.keep, *PEERS):
+            with Stored(self.program, file, *self.recording.settings):
                 pass
             return self.judge_started(rows_at(file), point)
         except (*FAULTS, sqlite3.Error) as fault:
@@ -547,7 +553,10 @@ class Cuts:
         return None if come.status == 0 or "is not blank" in come.said else f"upsd init ends with {come.status}: {come.said[-300:]}"
 
     def judge_started(self, rows: list[Row], point: int) -> Optional[str]:
-        """Returns what is wrong after a start, which may have compacted, or None."""
+        """Returns what is wrong after a start, or None."""
+        if self.recording.base:  # its server sweeps, and so does one that starts on the state
+            needed = self.recording.needed_at(point)
+            return None if rows[:needed] == self.recording.rows[:needed] else f"of {len(rows)} requests the first {needed} are not those of before"
         if self.recording.rows_before is None:
             return self.judge(rows, point)
         return None if len(rows) in (len(self.recording.rows), len(self.recording.rows_before)) else f"there are {len(rows)} requests"
@@ -583,7 +592,7 @@ def record_compaction(program: list[str], folder: str) -> Recording:
     come = ended([*STRACE, "-o", log, *program, "compact", *words[:2], file, *PEERS])
     if come.status != 0:
         raise Fault(f"a compaction ends with {come.status}: {come.said[-300:]}")
-    return Recording(Trace(file, lines_of(log)), rows_of(file), [], [], 0, 0, before, rows, "0")
+    return Recording(Trace(file, lines_of(log)), rows_of(file), [], [], 0, 0, before, rows, tuple(words))
 
 
 def try_compaction(program: list[str], folder: str, given: argparse.Namespace, results: Results) -> None:

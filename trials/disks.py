@@ -10,6 +10,7 @@ import os
 import shutil
 import subprocess
 import tempfile
+import threading
 import time
 from collections.abc import Iterator
 from typing import Optional
@@ -28,6 +29,7 @@ AGAIN = 10.0  # seconds by which all goes on once there is room: two, on a machi
 LARGE = 20_000  # bytes of a step that fills a disk
 TAKES_NONE, TAKES_AGAIN = r"(ERROR|<3>).*serve: the store takes no requests: ", r"serve: the store takes requests again"
 SHARES = 4  # failures that are tried at the same time
+CLIENTS = 2  # associations that ask at the same time, so that a group that is tried again is a longer one
 COMMENT = (0x0040, 0x1400)
 SERVES, RESTS, STARTS = "in a server that serves", "in one that nobody asks anything", "in one that starts"  # the servers whose calls fail
 REST = 2.5  # seconds in which a server that nobody asks anything copies its log into the file
@@ -48,14 +50,16 @@ class Filling:
 
     asked: int = 0
     answered: set[bytes] = dataclasses.field(default_factory=set)
+    lock: threading.Lock = dataclasses.field(default_factory=threading.Lock)
 
     def unanswered(self) -> set[bytes]:
         return {uid_of(it) for it in range(self.asked)} - self.answered
 
     def create(self, client: Client, size: int) -> bool:
         """Asks for one more, and returns whether it is answered; if not, the association has ended."""
-        uid = uid_of(self.asked)
-        self.asked += 1
+        with self.lock:
+            uid = uid_of(self.asked)
+            self.asked += 1
         try:
             status = client.create(uid, large_step(size))
         except (OSError, EOFError, AssertionError):
@@ -223,30 +227,55 @@ def full_start(program: list[str], folder: str, file: str, filling: Filling, opt
 # single calls that fail
 
 @dataclasses.dataclass(frozen=True)
-class Failure:
-    """A system call that fails, at its nth time or from then on (`n+`), and in which server."""
+class Failing:
+    """A system call that fails, at its nth time or from then on (`n+`)."""
 
     call: str
     error: str
     when: str
+
+    def __str__(self) -> str:
+        return f"{self.call} fails with {self.error}, {self.when}"
+
+
+@dataclasses.dataclass(frozen=True)
+class Failure:
+    """System calls that fail, and in which server."""
+
+    calls: tuple[Failing, ...]
     where: str
 
     def __str__(self) -> str:
-        return f"{self.call} fails with {self.error}, {self.when} {self.where}"
+        return f"{', and '.join(map(str, self.calls))} {self.where}"
+
+    def lasts(self) -> bool:
+        return any("+" in it.when for it in self.calls)
 
     def words(self, file: str) -> list[str]:
         """Returns the words of strace that let calls on the files of a store and on their folder fail, and log them beside the
         store."""
-        inject = f"inject={self.call}:error={self.error}:when={self.when}"
         paths = [word for it in (file, file + "-wal", os.path.dirname(file)) for word in ("-P", it)]
-        return ["strace", "-f", *paths, "-o", file + ".strace", "-e", f"trace={self.call}", "-e", inject]
+        injected = [word for it in self.calls for word in ("-e", f"inject={it.call}:error={it.error}:when={it.when}")]
+        traced = ",".join(sorted({it.call for it in self.calls}))
+        return ["strace", "-f", *paths, "-o", file + ".strace", "-e", f"trace={traced}", *injected]
 
 
 def failures(count: int) -> list[Failure]:
+    def failure(kind: tuple[str, str], when: str, where: str) -> Failure:
+        return Failure((Failing(*kind, when),), where)
+
     kinds = [("pwrite64", "ENOSPC"), ("pwrite64", "EIO"), ("fdatasync", "EIO"), ("fdatasync", "ENOSPC")]
-    once = [Failure(*kind, str(at), where) for where in (SERVES, RESTS, STARTS) for kind in kinds for at in range(1, count + 1)]
-    lasting = [Failure(*kind, f"{at}+", where) for where in (SERVES, RESTS, STARTS) for kind in kinds for at in (1, count // 2 + 1)]
-    return once + lasting + [Failure(call, "EIO", str(at), STARTS) for call in ("fsync", "pread64") for at in (1, 2, 3)]
+    once = [failure(kind, str(at), where) for where in (SERVES, RESTS, STARTS) for kind in kinds for at in range(1, count + 1)]
+    lasting = [failure(kind, f"{at}+", where) for where in (SERVES, RESTS, STARTS) for kind in kinds for at in (1, count // 2 + 1)]
+    starting = [failure((call, "EIO"), str(at), STARTS) for call in ("fsync", "pread64") for at in (1, 2, 3)]
+    return once + lasting + starting + in_a_row(count)
+
+
+def in_a_row(count: int) -> list[Failure]:
+    """Returns failures of two syncs in a row, and of a sync and a write after it."""
+    syncs = [Failure((Failing("fdatasync", "EIO", f"{at}..{at + 1}"),), SERVES) for at in range(1, count + 1)]
+    return syncs + [Failure((Failing("fdatasync", "EIO", str(at)), Failing("pwrite64", "ENOSPC", str(write))), SERVES)
+                    for at in range(1, count // 2 + 1) for write in range(3 * at, 3 * at + count)]
 
 
 def attached(failure: Failure, file: str, pid: int) -> subprocess.Popen:
@@ -258,14 +287,20 @@ def attached(failure: Failure, file: str, pid: int) -> subprocess.Popen:
 
 
 def ask_some(server: Stored, filling: Filling, until: float) -> bool:
-    """Creates steps, in a new association whenever one ends, until ten more are answered or a time is reached: returns whether
-    they are."""
+    """Creates steps in two associations at a time, in a new one whenever one ends, until ten more are answered or a time is
+    reached: returns whether they are."""
     wanted = len(filling.answered) + 10
-    while time.monotonic() < until and server.process.poll() is None and len(filling.answered) < wanted:
-        with contextlib.suppress(OSError, EOFError, AssertionError):
-            client = Client(server.port, seconds=TIMEOUT + SLACK)
-            while len(filling.answered) < wanted and filling.create(client, 100):
-                pass
+
+    def ask() -> None:
+        while time.monotonic() < until and server.process.poll() is None and len(filling.answered) < wanted:
+            with contextlib.suppress(OSError, EOFError, AssertionError):
+                client = Client(server.port, seconds=TIMEOUT + SLACK)
+                while len(filling.answered) < wanted and filling.create(client, 100):
+                    pass
+
+    with concurrent.futures.ThreadPoolExecutor(CLIENTS) as pool:
+        for it in [pool.submit(ask) for _ in range(CLIENTS)]:
+            it.result()
     return len(filling.answered) >= wanted
 
 
@@ -304,7 +339,7 @@ def has_failing(server: Stored, failure: Failure, file: str, filling: Filling) -
     strace = attached(failure, file, server.pid)
     if failure.where == RESTS:
         time.sleep(REST)
-    went_on = ask_some(server, filling, time.monotonic() + (8 if "+" in failure.when else 30))
+    went_on = ask_some(server, filling, time.monotonic() + (8 if failure.lasts() else 30))
     strace.terminate()
     strace.wait()
     strace.stderr.close()
@@ -322,12 +357,12 @@ def starts_failing(program: list[str], file: str, failure: Failure, filling: Fil
     try:
         with Stored([*failure.words(file), "-D", *program], file, *options) as server:
             is_there = filling.fault_in(Client(server.port, seconds=TIMEOUT + SLACK))
-            went_on = ask_some(server, filling, time.monotonic() + (6 if "+" in failure.when else 30))
+            went_on = ask_some(server, filling, time.monotonic() + (6 if failure.lasts() else 30))
             if is_there:
                 return is_there
             if server.process.poll() is not None:
                 return "ends" if server.process.returncode == LOST else f"ends with {server.process.returncode}"
-            return "goes on" if went_on else "withholds" if "+" in failure.when else f"answers nothing any more: {server.log[-3:]}"
+            return "goes on" if went_on else "withholds" if failure.lasts() else f"answers nothing any more: {server.log[-3:]}"
     except Fault as refusal:
         return "is refused" if f"ended with {LOST}" in str(refusal) and "upsd: the store" in str(refusal) else str(refusal)
 

@@ -46,10 +46,11 @@ from typing import Optional
 
 sys.path.insert(0, os.path.join(os.path.dirname(os.path.dirname(os.path.abspath(__file__))), "check/lib"))
 import dicom
-from abuse import FAULTS, Caller, descriptors, is_left, threads
+from abuse import FAULTS, descriptors, is_left, threads
 from dicom import EXPLICIT, IMPLICIT, PULL, PUSH, VERIFICATION
 from ledger import Ledger
 from machine import HERE, free_port, holds, listens, processor
+from peer import Caller
 from results import Results
 from server import Server, Sink
 

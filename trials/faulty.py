@@ -38,11 +38,11 @@ from collections.abc import Callable
 from typing import Optional
 
 sys.path.insert(0, os.path.join(os.path.dirname(os.path.dirname(os.path.abspath(__file__))), "check/lib"))
-from abuse import ABORT, Caller
+from abuse import ABORT
 from dicom import EXPLICIT, PULL, PUSH, command, create, element, even, message, us
 from listeners import Incoming, Refusing
 from machine import HERE, holds
-from peer import GLOBAL, PUSH_ON, Asker, a_step, claim, subscribe
+from peer import GLOBAL, PUSH_ON, Asker, Caller, a_step, claim, subscribe
 from results import Results
 from server import Server
 from watchers import Paced, waited

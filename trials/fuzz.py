@@ -1,8 +1,8 @@
 #!/usr/bin/env python3
 """Runs `upsd pipe` on mutated associations, and on extreme requests.
 
-Each run must end by itself within ten seconds, with status 0 or 2, and write nothing but whole PDUs. The script prints
-how often each status came, and the first input that failed.
+Each run must end by itself within ten seconds, with status 0 or 2, and write nothing but whole PDUs. It prints how often each
+status came, each input that failed, and in the end how many runs passed. The status is 1 if any failed.
 """
 
 import collections
@@ -11,11 +11,15 @@ import random
 import struct
 import subprocess
 import sys
+from typing import Optional
 
 sys.path.insert(0, os.path.join(os.path.dirname(os.path.dirname(os.path.abspath(__file__))), "check/lib"))
 from dicom import (EXPLICIT, IMPLICIT, PULL, PUSH, RELEASE, VERIFICATION, act, associate, create, data, echo, find, get, give_up,
                    item, items, pdu, set_attributes, step)
 from machine import arguments
+from results import Results
+
+SECONDS = 10  # for one run
 
 
 def life(explicit):
@@ -109,28 +113,47 @@ def are_pdus(out):
     return True
 
 
+class Fuzzed:
+    """A run of a program on an input: how it ended, and what it wrote. The status is None if it did not end in time."""
+
+    def __init__(self, words, given):
+        self.given = given
+        self.status: Optional[int] = None
+        try:
+            done = subprocess.run(words, input=given, capture_output=True, timeout=SECONDS)
+            self.status, self.output = done.returncode, done.stdout
+        except subprocess.TimeoutExpired as ran:
+            self.output = ran.stdout or b""
+
+    def fault(self, is_right):
+        """Returns how it ended, unless it is right."""
+        return None if is_right else f"status {self.status}, input {self.given.hex()}, output {self.output.hex()}"
+
+
 def run(program, given):
-    return subprocess.run([program, "pipe", "--ae", "UPSD"], input=given, capture_output=True, timeout=10)
+    return Fuzzed([program, "pipe", "--ae", "UPSD"], given)
 
 
-def fuzz(program, count, seed):
+def statuses_of(statuses):
+    return ", ".join(f"status {status}: {count:,}" for status, count in sorted(statuses.items(), key=str))
+
+
+def fuzz(program, count, seed, results):
     chance = random.Random(seed)
     origins = list(seeds())
     statuses = collections.Counter()
     for number in range(count):
-        given = mutated(chance, chance.choice(origins), spoil_pdus)
-        done = run(program, given)
-        statuses[done.returncode] += 1
-        if done.returncode not in (0, 2) or not are_pdus(done.stdout):
-            sys.exit(f"number {number}: status {done.returncode}, input {given.hex()}, output {done.stdout.hex()}")
-    print(f"{count:,} mutated associations: " + ", ".join(f"status {s}: {n:,}" for s, n in sorted(statuses.items())))
+        ran = run(program, mutated(chance, chance.choice(origins), spoil_pdus))
+        statuses[ran.status] += 1
+        results.tell(f"mutated association {number}", ran.fault(ran.status in (0, 2) and are_pdus(ran.output)))
+    print(f"{count:,} mutated associations: {statuses_of(statuses)}")
 
 
 def proposed(ident, abstract, transfers):
     return item(0x20, bytes([ident, 0, 0, 0]) + item(0x30, abstract) + b"".join(item(0x40, t) for t in transfers))
 
 
-def largest(program):
+def largest(program, results):
     """Tries a request of 129,691 bytes, with 128 presentation contexts and an unknown sub-item that fills it up."""
     head = struct.pack(">HH", 1, 0) + b"UPSD".ljust(16) + b"BENCH".ljust(16) + bytes(32) + item(0x10, b"1.2.840.10008.3.1.1.1")
     others = [b"1.2.840.10008.1.2.4.%d" % n for n in range(30)]
@@ -139,29 +162,31 @@ def largest(program):
     fill = 129_691 - 6 - len(head) - len(contexts) - len(user) - 8
     request = pdu(1, head + contexts + item(0x50, user + item(0x59, bytes(fill))))
     assert len(request) == 129_691
-    done = run(program, request + RELEASE)
-    answer = done.stdout
+    ran = run(program, request + RELEASE)
     wanted = b"".join(item(0x21, bytes([2 * i + 1, 0, 0, 0]) + item(0x40, (EXPLICIT, IMPLICIT)[i % 2])) for i in range(128))
-    assert done.returncode == 0 and answer[0] == 2 and wanted in answer and answer.endswith(pdu(6, bytes(4)))
-    print(f"a request of {len(request):,} bytes with 128 contexts: each is answered, by the first syntax that is known")
+    is_right = ran.status == 0 and ran.output[:1] == b"\2" and wanted in ran.output and ran.output.endswith(pdu(6, bytes(4)))
+    results.tell(f"a request of {len(request):,} bytes with 128 contexts: each is answered, by the first syntax that is known", ran.fault(is_right))
 
 
-def padded(program):
+def padded(program, results):
     """Tries values with a million bytes of padding: nothing may be lost, or recursed into."""
     for value in (b" " * 1_000_000, bytes(1_000_000), b"X" + b" " * 999_999):
         texts = [(0x0040, 0x4005, b"DT", b"20240229120000"), (0x0040, 0x4041, b"CS", b"READY "), (0x0074, 0x1000, b"CS", b"SCHEDULED "), (0x0074, 0x1200, b"CS", b"MEDIUM"), (0x0074, 0x1204, b"LO", value)]
         made = create(1, 1, b"1.2.3.1", b"".join(data(False, *text) for text in texts))
-        done = run(program, associate([(PUSH, IMPLICIT)]) + made + RELEASE)
-        status = done.stdout.partition(b"\x00\x00\x00\x09\x02\x00\x00\x00")[2][:2]
-        assert done.returncode == 0 and status == (b"\x00\x00" if value.startswith(b"X") else b"\x21\x01"), (done.returncode, status)
-    print("a label of a million bytes of padding: it is empty, or one letter")
+        ran = run(program, associate([(PUSH, IMPLICIT)]) + made + RELEASE)
+        status = ran.output.partition(b"\x00\x00\x00\x09\x02\x00\x00\x00")[2][:2]
+        is_right = ran.status == 0 and status == (b"\x00\x00" if value.startswith(b"X") else b"\x21\x01")
+        why = None if is_right else f"the program ends with {ran.status}, and the answer has the status {status.hex()}"
+        results.tell(f"a label of a million bytes, {value[:2]!r} and padding: it is empty, or one letter", why)
 
 
 def main():
     given = arguments(__doc__, ("count", 10_000, "how many associations"), ("seed", 1, "the seed of chance"))
-    largest(given.program)
-    padded(given.program)
-    fuzz(given.program, given.count, given.seed)
+    results = Results(tells_passed=False)
+    largest(given.program, results)
+    padded(given.program, results)
+    fuzz(given.program, given.count, given.seed, results)
+    results.end()
 
 
 if __name__ == "__main__":

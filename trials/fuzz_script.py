@@ -2,20 +2,20 @@
 """Runs `upsd script` on mutated scripts.
 
 Each run must end by itself within ten seconds: with status 0 and a reply for each line, or with status 2, N - 1 replies
-and `bad line N` as the last line of the output. The script prints how often each status came, and the first input that
-failed.
+and `bad line N` as the last line of the output. It prints how often each status came, each input that failed, and in the end how
+many runs passed. The status is 1 if any failed.
 """
 
 import collections
 import os
 import random
 import re
-import subprocess
 import sys
 
 sys.path.insert(0, os.path.join(os.path.dirname(os.path.dirname(os.path.abspath(__file__))), "check/lib"))
-from fuzz import mutated
+from fuzz import Fuzzed, mutated, statuses_of
 from machine import arguments
+from results import Results
 
 STEP = b"00404005=20240229120000 00404041=READY 00741000=SCHEDULED 00741200=MEDIUM 00741204=CT%20READ"
 SEED = b"\n".join((
@@ -48,15 +48,15 @@ def spoil_lines(chance, given, at):
         given[at:at] = chance.choice((b".131072/", b".2/", b"/", b"%00", b"00081195=9 ", b"FFFEE000=", b"00080000=", b"\r"))
 
 
-def is_told(done, lines):
+def is_told(ran, lines):
     """Returns whether the output is a reply for each line, or for those before the bad one, which it names."""
-    told = done.stdout.split(b"\n")
+    told = ran.output.split(b"\n")
     if told.pop() != b"":
         return False
-    if done.returncode == 2:
-        if told.pop() != b"bad line %d" % (len(told) + 1):
+    if ran.status == 2:
+        if not told or told.pop() != b"bad line %d" % (len(told) + 1):
             return False
-    elif done.returncode != 0 or len(told) != lines:
+    elif ran.status != 0 or len(told) != lines:
         return False
     return all(re.fullmatch(rb"[0-9A-F]{4}( .*)?", line) for line in told)
 
@@ -65,15 +65,15 @@ def main():
     wanted = arguments(__doc__, ("count", 5_000, "how many scripts"), ("seed", 1, "the seed of chance"))
     program, count = wanted.program, wanted.count
     chance = random.Random(wanted.seed)
-    statuses = collections.Counter()
+    statuses, results = collections.Counter(), Results(tells_passed=False)
     for number in range(count):
         given = mutated(chance, SEED, spoil_lines)
         lines = given.count(b"\n") + (0 if given.endswith(b"\n") or not given else 1)
-        done = subprocess.run([program, "script"], input=given, capture_output=True, timeout=10)
-        statuses[done.returncode] += 1
-        if not is_told(done, lines):
-            sys.exit(f"number {number}: status {done.returncode}, script {given!r}, output {done.stdout!r}")
-    print(f"{count:,} mutated scripts: " + ", ".join(f"status {s}: {n:,}" for s, n in sorted(statuses.items())))
+        ran = Fuzzed([program, "script"], given)
+        statuses[ran.status] += 1
+        results.tell(f"mutated script {number}", ran.fault(is_told(ran, lines)))
+    print(f"{count:,} mutated scripts: {statuses_of(statuses)}")
+    results.end()
 
 
 if __name__ == "__main__":

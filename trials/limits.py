@@ -1,10 +1,8 @@
 #!/usr/bin/env python3
 """Gives `upsd` the longest lines and messages that it takes, in every shape, and checks that each ends by itself.
 
-Each run has a stack of 2 MiB, like a thread, and ten seconds of processor time; a run that needs more is killed and
-named. Prints the ten slowest, and ends with status 0 if none was killed.
-
-Usage: trials/limits.py [PROGRAM]        (crates/upsd/out/upsd, which `rt run` builds)
+Each run has a stack of 2 MiB, like a thread, and ten seconds of processor time; a run that needs more is killed. It prints the
+ten slowest, each run that was killed, and in the end how many passed. The status is 1 if any was killed.
 """
 
 import os
@@ -15,6 +13,8 @@ import tempfile
 
 sys.path.insert(0, os.path.join(os.path.dirname(os.path.dirname(os.path.abspath(__file__))), "check/lib"))
 from dicom import EXPLICIT, PULL, PUSH, RELEASE, act, associate, create, data, find, get, item, items, pdu, set_attributes, step
+from machine import arguments
+from results import Results
 
 STACK = 2 * 1024 * 1024
 SECONDS = 10
@@ -150,21 +150,16 @@ def messages():
 
 
 def main():
-    program = sys.argv[1] if len(sys.argv) > 1 else "crates/upsd/out/upsd"
-    took, killed = [], []
+    program, took, results = arguments(__doc__).program, [], Results(tells_passed=False)
     for words, inputs in (([program, "script"], scripts()), ([program, "pipe", "--ae", "UPSD"], messages())):
         for name, stdin in inputs:
             seconds, status = run(words, stdin)
             took.append((seconds, f"{words[1]}: {name}"))
-            if status < 0:
-                killed.append(f"{words[1]}: {name}: ended by signal {-status}")
+            results.tell(f"{words[1]}: {name}", f"it is ended by signal {-status}" if status < 0 else None)
     for seconds, name in sorted(took, reverse=True)[:10]:
         print(f"{seconds:6.2f} s  {name}")
-    print(f"{len(took)} inputs, {len(killed)} killed")
-    sys.exit("\n".join(killed) if killed else 0)
+    results.end()
 
 
 if __name__ == "__main__":
-    if sys.argv[1:] in (["-h"], ["--help"]):
-        sys.exit(__doc__)
     main()

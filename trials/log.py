@@ -24,7 +24,6 @@ import collections
 import dataclasses
 import os
 import re
-import socket
 import sys
 import threading
 import time
@@ -33,7 +32,7 @@ from typing import Optional
 sys.path.insert(0, os.path.join(os.path.dirname(os.path.dirname(os.path.abspath(__file__))), "check/lib"))
 from dicom import create, echo, find, get
 from machine import HERE, holds
-from peer import CONTEXTS, ECHO_ON, PULL_ON, PUSH_ON, Peer, a_step, claim, told
+from peer import CONTEXTS, ECHO_ON, PULL_ON, PUSH_ON, Caller, a_step, claim, told
 from results import Results
 from server import Server
 
@@ -66,15 +65,16 @@ def requests_on(step: str) -> list[Request]:
     ]
 
 
-class Caller(Peer):
+class Talk(Caller):
     """An association with a calling title and a number of requests of its own."""
 
     def __init__(self, port: int, number: int) -> None:
-        self.title, self.fault = f"CALLER{number}", None
+        self.title = f"CALLER{number}"
+        self.fault: Optional[str] = None
         steps = [f"1.2.{number}.{place}" for place in range(1 + number // 6)]
         self.requests = [it for step in steps for it in requests_on(step)][:number]
         self.began = time.monotonic()
-        self.use(socket.create_connection(("127.0.0.1", port), LIMIT))
+        super().__init__(port, LIMIT, None)
         self.address = f"127.0.0.1:{self.socket.getsockname()[1]}"
         self.seconds = 0.0
 
@@ -102,7 +102,7 @@ def lines_by_number(log: list[str]) -> dict[int, list[str]]:
     return found
 
 
-def lines_of(caller: Caller, found: dict[int, list[str]]) -> tuple[int, list[str]]:
+def lines_of(caller: Talk, found: dict[int, list[str]]) -> tuple[int, list[str]]:
     """Returns the number of an association, and its lines: those of the only number that has its title."""
     having = [number for number, lines in found.items() if any(f" {caller.title} " in line for line in lines)]
     if not having:
@@ -112,7 +112,7 @@ def lines_of(caller: Caller, found: dict[int, list[str]]) -> tuple[int, list[str
     return having[0], found[having[0]]
 
 
-def compare_end(caller: Caller, line: str) -> None:
+def compare_end(caller: Talk, line: str) -> None:
     """Raises ValueError if the last line differs from the association."""
     end = END.search(line)
     if not end:
@@ -133,7 +133,7 @@ def compare_requests(requests: list[Request], lines: list[str]) -> None:
             raise ValueError(f"the line of request {place} lacks {sorted(missing)}: {line!r}")
 
 
-def fault_of(caller: Caller, found: dict[int, list[str]], verbose: bool) -> Optional[str]:
+def fault_of(caller: Talk, found: dict[int, list[str]], verbose: bool) -> Optional[str]:
     """Returns how the log differs from what an association did, or None."""
     if caller.fault:
         return caller.fault
@@ -152,10 +152,10 @@ def fault_of(caller: Caller, found: dict[int, list[str]], verbose: bool) -> Opti
         return str(fault)
 
 
-def call_all(port: int) -> list[Caller]:
+def call_all(port: int) -> list[Talk]:
     """Runs all associations at the same time, and returns them."""
     barrier = threading.Barrier(COUNT)
-    callers = [Caller(port, number) for number in range(1, COUNT + 1)]
+    callers = [Talk(port, number) for number in range(1, COUNT + 1)]
     threads = [threading.Thread(target=it.run, args=(barrier,)) for it in callers]
     for it in threads:
         it.start()

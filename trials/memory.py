@@ -22,7 +22,6 @@ fails, and in the end how many passed. The status is 1 if any failed.
 import argparse
 import os
 import signal
-import struct
 import sys
 from typing import Callable, Optional
 
@@ -52,24 +51,6 @@ PERFORMED = told(0x0040, 0x4050, b"DT", b"20240229120100") + told(0x0040, 0x4051
 FAULTS = (OSError, EOFError, AssertionError)
 
 
-class Asker(Peer):
-    """An association that keeps the data sets of the answers."""
-
-    def answer(self) -> int:
-        """Returns the status of a response, and keeps its data set."""
-        elements, command = {}, self.fragments(True)
-        while command:
-            number, length = struct.unpack("<xxHI", command[:8])
-            elements[number], command = command[8:8 + length], command[8 + length:]
-        if struct.unpack("<H", elements[0x0800])[0] != 0x0101:
-            self.sets.append(self.fragments(False))
-        return struct.unpack("<H", elements[0x0900])[0]
-
-    def ask(self, message: bytes) -> int:
-        self.sets: list[bytes] = []
-        return super().ask(message)
-
-
 def uid_of(number: int) -> bytes:
     return b"1.2.0.%d" % number
 
@@ -94,14 +75,14 @@ def cancellation(number: int) -> bytes:
     return dicom.act(PUSH_ON, 1, uid_of(number), 2, told(0x0074, 0x1238, b"LT", b"FULL"))
 
 
-def found(peer: Asker) -> Optional[set[bytes]]:
+def found(peer: Peer) -> Optional[set[bytes]]:
     """Returns the UIDs of the steps that a query without keys finds, or None if it is refused."""
     if peer.ask(dicom.find(PULL_ON, 1, told(0x0008, 0x0018, b"UI", b""))) != DONE:
         return None
     return {it[8:].rstrip(b"\0") for it in peer.sets}
 
 
-def is_shown(peer: Asker, number: int, part: bytes) -> bool:
+def is_shown(peer: Peer, number: int, part: bytes) -> bool:
     """Returns whether a step is shown whole, with this part."""
     return peer.ask(dicom.get(PULL_ON, 1, uid_of(number))) == DONE and len(peer.sets[0]) > SIZE and part in peer.sets[0]
 
@@ -120,7 +101,7 @@ class Trials:
         """Does the work with that many associations at the same time, which must be served until they are released."""
         fault = None
         try:
-            peers = [Asker(self.server.port) for _ in range(count)]
+            peers = [Peer(self.server.port) for _ in range(count)]
             work(*peers)
             for peer in peers:
                 peer.release()
@@ -128,7 +109,7 @@ class Trials:
             fault = repr(it)
         self.results.tell(f"{self.name}: {what}, served", fault)
 
-    def create(self, peer: Asker) -> int:
+    def create(self, peer: Peer) -> int:
         """Creates the next step, and returns the status."""
         status = peer.ask(creation(self.next))
         if status == DONE:
@@ -136,34 +117,34 @@ class Trials:
         self.next += 1
         return status
 
-    def finds_all(self, peer: Asker) -> bool:
+    def finds_all(self, peer: Peer) -> bool:
         """Returns whether a query without keys finds exactly the steps that are there."""
         return found(peer) == set(map(uid_of, self.held))
 
-    def fill(self, *peers: Asker) -> None:
+    def fill(self, *peers: Peer) -> None:
         for it, peer in enumerate(peers):
             last: list[int] = []
             while last[-REFUSALS:] != [NO_ROOM] * REFUSALS and len(last) < MOST:
                 last.append(self.create(peer))
             self.tell(f"filling at worker {it}", set(last) <= {DONE, NO_ROOM} and len(last) < MOST, f"{set(last)} after {len(last)} creations")
 
-    def fill_at_first(self, *peers: Asker) -> None:
+    def fill_at_first(self, *peers: Peer) -> None:
         self.fill(*peers)
         self.tell("filling", len(self.held) >= FEWEST, f"{len(self.held)} steps are accepted")
         statuses = {self.create(peer) for peer in peers for _ in range(REFUSALS)}
         self.tell("further creations", statuses == {NO_ROOM}, f"{statuses}")
 
-    def look(self, *peers: Asker) -> None:
+    def look(self, *peers: Peer) -> None:
         for it, peer in enumerate(peers):
             self.tell(f"C-ECHO at worker {it}", peer.ask(dicom.echo(1, ECHO_ON)) == DONE, "it is not answered 0000")
             self.tell(f"N-GET at worker {it}", is_shown(peer, self.held[it], SCHEDULED), "the step is not shown whole")
             self.tell(f"C-FIND at worker {it}", self.finds_all(peer), "it doesn't find the steps accepted")
 
-    def ask_a_little(self, peer: Asker) -> None:
+    def ask_a_little(self, peer: Peer) -> None:
         is_so = peer.ask(dicom.echo(1, ECHO_ON)) == DONE and is_shown(peer, self.held[0], SCHEDULED)
         self.tell("C-ECHO and N-GET", is_so, "they are not answered")
 
-    def live(self, *peers: Asker) -> None:
+    def live(self, *peers: Peer) -> None:
         """Takes a step on each association through its life, to its end."""
         for peer in peers:
             step = self.held.pop(0)
@@ -172,7 +153,7 @@ class Trials:
             statuses.append(peer.ask(completion(step)))
             self.tell(f"the life of step {step}", statuses == [DONE] * 3, f"{[f'{it:04X}' for it in statuses]}")
 
-    def sweep(self, *peers: Asker) -> None:
+    def sweep(self, *peers: Peer) -> None:
         """Cancels the steps, AT_ONCE at a time, until they are swept."""
         while self.held:
             canceled, self.held = self.held[:AT_ONCE], self.held[AT_ONCE:]
@@ -182,7 +163,7 @@ class Trials:
                 self.tell("the sweep", False, f"steps that are final are held {SWEEP} s later")
                 return
 
-    def fill_again(self, *peers: Asker) -> None:
+    def fill_again(self, *peers: Peer) -> None:
         self.fill(*peers)
         self.tell("creations after the sweep", len(self.held) >= AGAIN, f"{len(self.held)} steps are accepted")
         self.tell("C-FIND after them", self.finds_all(peers[0]), "it doesn't find the steps accepted")

@@ -26,14 +26,14 @@ attribute of each step that they are shown, with their ledger; in the end they d
 The server must go on, and in the end have the threads and the descriptors that it had at the start. SIGTERM must end it. What
 is sent depends on --seed, the number of the mutator and that of the association, and not on the clock; with --count each
 mutator but the silent one sends that many associations, and the minutes don't count. It prints how many associations and
-mutations there were, by kind, how many replies agree with the ledgers, and each fault. The status is 1 if there is any.
+mutations there were, by kind, how many replies agree with the ledgers, each fault, and in the end how many trials passed: the
+associations, the replies to the ledgers, and what holds in the end. The status is 1 if any failed.
 """
 
 from __future__ import annotations
 
 import argparse
 import collections
-import contextlib
 import os
 import random
 import signal
@@ -50,6 +50,8 @@ from abuse import descriptors, is_left, status, threads
 from dicom import EXPLICIT, IMPLICIT, PULL, PUSH, RELEASE, act, associate, create, data, get, step
 from ledger import SHOWN, Ledger
 from machine import HERE, holds
+from peer import HANGS_UP, READS_ON, RESETS, STAYS_SILENT, Speaker
+from results import Results
 from server import Server
 
 MUTATORS, LEDGERS = 4, 2  # the last mutator stays silent
@@ -64,8 +66,7 @@ WATCH = b"1.2.840.10008.5.1.4.34.6.2"
 ALL_STEPS, SOME_STEPS = b"1.2.840.10008.5.1.4.34.5", b"1.2.840.10008.5.1.4.34.5.1"
 WATCHER = "WATCHER=127.0.0.1:9"  # nobody listens there
 EXTREMES = (0, 1, 2, 3, 5, 0xFF, 0x7FFF, 0xFFFF, 16384, 16385, 131072, 1_048_577, 0x7FFFFFFF, 0xFFFFFFFE, 0xFFFFFFFF)
-WAYS = {"reads on": 60, "hangs up": 20, "resets": 20}  # in percent
-SILENT = "stays silent"
+WAYS = {READS_ON: 60, HANGS_UP: 20, RESETS: 20}  # in percent
 SHARE = 20  # one in that many associations is not mutated
 
 Pdus = list[bytes]
@@ -181,7 +182,7 @@ KINDS = {"bytes": change_bytes, "order": change_order, "lengths": change_lengths
          "strangers": insert_stranger}
 
 
-class Association:
+class Mutated(Speaker):
     """What a mutator sends in an association, by the seed and the numbers of both, and what comes of it."""
 
     def __init__(self, seed: object, mutator: int, number: int) -> None:
@@ -193,10 +194,8 @@ class Association:
             self.kinds = self.chance.choices(list(KINDS), k=self.chance.randint(1, 4))
         for kind in self.kinds:
             KINDS[kind](self.chance, self.pdus)
-        self.said = b"".join(self.pdus)
-        self.way = self.chance.choices(list(WAYS), list(WAYS.values()))[0] if self.kinds else "reads on"
-        self.way = SILENT if mutator == MUTATORS - 1 else self.way
-        self.heard = b""
+        way = self.chance.choices(list(WAYS), list(WAYS.values()))[0] if self.kinds else READS_ON
+        super().__init__(b"".join(self.pdus), STAYS_SILENT if mutator == MUTATORS - 1 else way)
 
     def root(self, number: int) -> bytes:
         """Returns the root of its UIDs, of the same length. A new one comes only now and then, so that the steps don't become many."""
@@ -209,7 +208,8 @@ class Association:
         with socket.create_connection(("127.0.0.1", port), PATIENCE) as connection:
             try:
                 self.say(connection)
-                return self.end(connection)
+                self.end(connection)
+                return self.fault() if self.way in (READS_ON, STAYS_SILENT) else None
             except ConnectionError:
                 return None if self.kinds else "it is reset"
             except TimeoutError:
@@ -223,19 +223,8 @@ class Association:
         for at in range(0, len(self.said), size):
             connection.sendall(self.said[at:at + size])
 
-    def end(self, connection: socket.socket) -> Optional[str]:
-        """Ends it in its way, and returns what is wrong with what it hears, or None."""
-        if self.way == "resets":
-            connection.setsockopt(socket.SOL_SOCKET, socket.SO_LINGER, struct.pack("ii", 1, 0))
-        if self.way in ("resets", "hangs up"):
-            return None
-        if self.way == "reads on":
-            with contextlib.suppress(OSError):  # the server has reset it already
-                connection.shutdown(socket.SHUT_WR)
-        heard = []
-        while more := connection.recv(65536):
-            heard.append(more)
-        self.heard = b"".join(heard)
+    def fault(self) -> Optional[str]:
+        """Returns what is wrong with what it has heard, or None."""
         if not fuzz.are_pdus(self.heard):
             return f"it hears what is no whole PDUs: {self.heard[-100:].hex()}"
         if not self.kinds and (self.heard[:1] != b"\2" or not self.heard.endswith(b"\6\0\0\0\0\4\0\0\0\0")):
@@ -252,11 +241,11 @@ class Mutator:
         self.kinds: collections.Counter[str] = collections.Counter()
         self.ways: collections.Counter[str] = collections.Counter()
         self.faults: list[str] = []
-        self.now: Optional[Association] = None
+        self.now: Optional[Mutated] = None
 
     def run(self, over: threading.Event) -> None:
         while not over.is_set() and self.said != self.count:
-            self.now = Association(self.seed, self.number, self.said)
+            self.now = Mutated(self.seed, self.number, self.said)
             try:
                 fault = self.now.run(self.port)
             except OSError as it:
@@ -331,16 +320,25 @@ def tell(mutators: list[Mutator], ledgers: list[Ledger], log: list[str]) -> None
     print(f"{replies.total():,} replies to the ledgers, {sum(it.agreed for it in ledgers):,} agree: {listed(replies)}")
 
 
-def judge_end(server: Server, ledgers: list[Ledger], before: tuple[int, int], memory: int) -> list[str]:
-    """Prints what is there in the end, and returns the faults that the ledgers don't list."""
+def judge_end(server: Server, ledgers: list[Ledger], before: tuple[int, int], memory: int, results: Results) -> None:
+    """Prints and judges what is there in the end, but for what the ledgers list."""
     steps, good = sum(len(it.steps) for it in ledgers), sum(it.audit() for it in ledgers)
     lost = resources_fault(server, before)
     print(f"{steps:,} steps in the end, {good:,} agree; VmRSS {memory / 1024:.1f} MiB, and {status(server, 'VmRSS') / 1024:.1f} MiB in the end")
-    return [it for it in (lost, ended_fault(server)) if it]
+    results.tell("threads and descriptors in the end", lost)
+    results.tell("SIGTERM", ended_fault(server))
 
 
-def tried(server: Server, given: argparse.Namespace) -> list[str]:
-    """Runs everything, and returns the faults."""
+def judge(kind: str, count: int, faults: list[str], results: Results, shown: Optional[int] = None) -> None:
+    """Counts so many trials of a kind, of which those with these faults failed, and prints so many of these, or all."""
+    for fault in faults[:shown]:
+        results.tell(kind, fault)
+    results.failed += len(faults) - len(faults[:shown])
+    results.passed += max(count - len(faults), 0)
+
+
+def tried(server: Server, given: argparse.Namespace, results: Results) -> None:
+    """Runs everything."""
     ledgers = [Ledger(server.port, it, given.seed, PATIENCE) for it in range(LEDGERS)]
     for it in ledgers:
         it.begin()
@@ -348,9 +346,14 @@ def tried(server: Server, given: argparse.Namespace) -> list[str]:
     before, memory = (threads(server), descriptors(server)), status(server, "VmRSS")
     mutators = [Mutator(server.port, given.seed, it, given.count) for it in range(MUTATORS)]
     crash = talk(server, mutators, ledgers, given.minutes * 60 if given.count is None else sys.maxsize)
-    faults = [crash] if crash else judge_end(server, ledgers, before, memory)
+    results.tell("the server goes on", crash)
+    if not crash:
+        judge_end(server, ledgers, before, memory, results)
     tell(mutators, ledgers, list(server.log))
-    return faults + [fault for it in mutators for fault in it.faults] + [fault for it in ledgers for fault in it.faults[:SHOWN]]
+    for mutator in mutators:
+        judge(f"mutator {mutator.number}", mutator.said, mutator.faults, results)
+    for ledger in ledgers:
+        judge(f"ledger {ledger.number}", ledger.replies.total(), ledger.faults, results, SHOWN)
 
 
 def main() -> None:
@@ -364,11 +367,9 @@ def main() -> None:
     given = parser.parse_args()
     limits = ["--associations", str(WORKERS), "--timeout", str(LIMIT), "--idle", str(LIMIT), "--keep", "4000000"]
     with Server(given.program, *limits, WATCHER) as server:
-        faults = tried(server, given)
-    for fault in faults:
-        print(fault)
-    print(f"{len(faults)} faults")
-    sys.exit(1 if faults else 0)
+        results = Results(tells_passed=False)
+        tried(server, given, results)
+    results.end()
 
 
 if __name__ == "__main__":

@@ -8,9 +8,9 @@ ones that take the association and say nothing more, one for each number of `--n
 report, `--quick` ones that answer at once, and one that refuses the presentation context of events. Each subscribes to all
 steps. `--steps` steps are pushed, a second or more apart. It prints the longest time from a push to its report at the quick
 watchers, for the first step and the others; for how many steps a watcher that answers got no report, more than one, or one out
-of order; the most associations that one watcher had at once; and how often the one that refuses was asked. It ends with status
-1 if a quick one waited longer than `--limit`, a report is missing, came twice or out of order, or a watcher had two
-associations. `--timeout` is the server's `--delivery-timeout`.
+of order; the most associations that one watcher had at once; and how often the one that refuses was asked. A trial fails if a quick
+one waited longer than `--limit`, a report is missing, came twice or out of order, or a watcher had two associations; in the end
+it prints how many passed. The status is 1 if any failed. `--timeout` is the server's `--delivery-timeout`.
 """
 
 import argparse
@@ -27,6 +27,7 @@ from dicom import create
 from listeners import Counting, Mute, Refusing, Silent, Slow
 from machine import holds
 from peer import GLOBAL, PUSH_ON, Asker, a_step, subscribe
+from results import Results
 from server import Server
 
 PATIENCE = 15  # seconds to wait for the quick watchers at each step
@@ -90,7 +91,13 @@ def main():
           f"{missing} missing, {twice} twice, {disordered} in another order; at most {most} associations of one watcher; "
           f"the one that refuses was asked {refusing[0].asked} times")
     tell_log(server.log)
-    sys.exit(max(times) > given.limit or missing > 0 or twice > 0 or disordered > 0 or most > 1)
+    results = Results()
+    for number, took in enumerate(times):
+        results.tell(f"step {number}, at the quick ones", None if took <= given.limit else f"its report takes {took:.2f} s")
+    for name, count in (("reports missing", missing), ("reports that came twice", twice), ("reports in another order", disordered)):
+        results.tell(name, f"there are {count}" if count else None)
+    results.tell("associations of one watcher at once", None if most <= 1 else f"there are {most}")
+    results.end()
 
 
 if __name__ == "__main__":

@@ -14,12 +14,13 @@ from typing import Optional
 from ledger import SOP_INSTANCE, Fault
 from machine import holds
 from results import Results
-from stored import (FAULTS, REFUSED, Client, Ended, Row, Stored, a_step_of, bytes_in, compacted, copy_of, folder_for, is_sentence,
+from stored import (FAULTS, Client, Ended, Row, Stored, a_step_of, bytes_in, compacted, copy_of, folder_for, is_sentence,
                     performed, refused, rows_of, runs_of, started_on, text_in, tried)
 
 KEEP = ["--keep", "1000000"]
 W1, W1_PLAIN, W2 = "W1=127.0.0.1:1,lock", "W1=127.0.0.1:1", "W2=127.0.0.1:1"
 BOTH = [*KEEP, W1, W2]
+OTHER = "--store-other-settings"
 STEPS = 20
 TIDY = 10.0  # seconds by which an idle server has copied its log into the file
 OPERATION, RECEIVER = 3, 7  # columns of a row
@@ -63,26 +64,43 @@ def other_settings(program: list[str], folder: str, results: Results) -> None:
     file = os.path.join(folder, "settings")
     rows = make(program, file)
     left = [(number, row[OPERATION]) for number, row in enumerate(rows, 1) if row[RECEIVER] == "W2"]
+    less_is_refused(program, folder, file, results)
     before = bytes_in(file)
     number, operation = left[0]
-    come = started_on(program, file, *KEEP, W1)
+    come = started_on(program, file, *KEEP, W1, OTHER)
     named = rf"request {number} \({operation}\)"
-    results.tell("a peer is gone: status 2, with the number and the operation", refused(come, named, before, file, False))
-    results.tell("a peer is gone: both files are as they were", refused(come, "", before, file))
-    results.tell("a peer is gone: the requests are as they were", None if rows_of(file) == rows else "they are not")
+    results.tell("a peer may be gone, but its requests are there: status 2, with the number and the operation", refused(come, named, before, file, False))
+    results.tell("a peer may be gone: both files are as they were", refused(come, "", before, file))
+    results.tell("a peer may be gone: the requests are as they were", None if rows_of(file) == rows else "they are not")
     results.tell("a peer is gone, and may be left out", tried(leaves_out, program, file, rows, left))
     results.tell("all peers are there again", serves_all(program, file, BOTH, STEPS + 1))
-    for name, words in (("another time to keep", [*KEEP[:1], "3600", W1, W2]), ("a further peer", [*BOTH, "W3=127.0.0.1:1"]),
+    for name, words in (("a further peer", [*BOTH, "W3=127.0.0.1:1"]), ("a further right", [*KEEP, W1, W2 + ",lock"]),
                         ("other addresses", [*KEEP, "W1=127.0.0.1:2,lock", "W2=127.0.0.1:3"])):
         results.tell(name, serves_all(program, copy_of(file, folder), words, STEPS + 1))
-    for name, words in (("a right to lock that is gone", [*KEEP, W1_PLAIN, W2]), ("another offset", [*BOTH, "--offset", "+0200"])):
-        results.tell(f"{name}: a start or a sentence", starts_or_says(program, copy_of(file, folder), words, STEPS + 1))
+    for name, words in (("another time to keep", [*KEEP[:1], "3600", W1, W2]), ("a right to lock that is gone", [*KEEP, W1_PLAIN, W2]),
+                        ("another offset", [*BOTH, "--offset", "120"])):
+        results.tell(f"{name}, which may be", serves_all(program, copy_of(file, folder), [*words, OTHER], STEPS + 1))
     results.tell("the table of runs", tried(fault_of_runs, file))
+
+
+def less_is_refused(program: list[str], folder: str, file: str, results: Results) -> None:
+    """Tries starts and compactions with other settings than those of the last run, or fewer peers and rights."""
+    before = bytes_in(file)
+    for name, words, said in (("another time to keep", ["--keep", "86400", W1, W2], "kept for 1000000 seconds"),
+                              ("another offset", [*BOTH, "--offset", "120"], "offset from UTC was 0 minutes"),
+                              ("a peer is gone", [*KEEP, W1], "W2 was a peer"),
+                              ("a right to lock is gone", [*KEEP, W1_PLAIN, W2], "W1 had the right to lock")):
+        results.tell(f"{name}: a start is refused", refused(started_on(program, file, *words), said, before, file))
+        results.tell(f"{name}: a compaction is refused", refused(compacted(program, file, *words), said, before, file))
+    copy = copy_of(file, folder)
+    come = compacted(program, copy)
+    results.tell("a compaction takes the settings of the last run", None if come.status == 0 and come.output else f"{come}")
+    results.tell("a compaction with the settings of the last run keeps each step", serves_all(program, copy, BOTH, STEPS))
 
 
 def leaves_out(program: list[str], file: str, rows: list[Row], left: list[tuple[int, object]]) -> Optional[str]:
     """Returns why a server that may leave requests out doesn't do as it should, or None."""
-    with Stored(program, file, *KEEP, W1, "--store-leave-out") as server:
+    with Stored(program, file, *KEEP, W1, OTHER, "--store-leave-out") as server:
         client = Client(server.port)
         is_summed = holds(lambda: bool(server.lines(rf"store: {len(left)} requests? .*left out")), 5)
         untold = [it for it in left if not holds(lambda: bool(server.lines(rf"request {it[0]} \({it[1]}\) is left out")), 5)]
@@ -113,20 +131,14 @@ def serves_all(program: list[str], file: str, words: list[str], steps: int) -> O
     return None
 
 
-def starts_or_says(program: list[str], file: str, words: list[str], steps: int) -> Optional[str]:
-    fault = serves_all(program, file, words, steps)
-    if fault is None:
-        return None
-    come = started_on(program, file, *words)
-    return None if come.status == REFUSED and is_sentence(come.said, r"request \d+ \(") else fault
-
-
 def fault_of_runs(file: str) -> Optional[str]:
     """Returns what is wrong with the table of runs, or None: it must have three runs or more."""
     runs = runs_of(file)
     if [it[0] for it in runs] != list(range(1, len(runs) + 1)) or len(runs) < 3:
         return f"there are {runs}"
     good = all(isinstance(it[3], str) and "serve" in it[3] and it[1] > 0 and it[2] for it in runs) and "--store-leave-out" in runs[1][3]
+    terms = f"keep={KEEP[1]}\noffset=0\nlock=W1\n"
+    good = good and [it[5] for it in runs[:2]] == [terms + "peer=W2\n", terms]
     return None if good else f"they are {runs}"
 
 

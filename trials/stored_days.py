@@ -178,9 +178,9 @@ def await_quiet(watchers: dict[str, Hearing]) -> None:
             before, since = told_of(), time.monotonic()
 
 
-def picture_of(program: list[str], file: str, day: Day) -> Picture:
-    """Returns what a server shows that starts on a file, which is changed by this."""
-    with hearing() as watchers, Stored(program, file, "--keep", str(KEEP), *peers_of(watchers)) as server:
+def picture_of(program: list[str], file: str, day: Day, *more: str) -> Picture:
+    """Returns what a server shows that starts on a file, which is changed by this, with more options."""
+    with hearing() as watchers, Stored(program, file, "--keep", str(KEEP), *more, *peers_of(watchers)) as server:
         await_quiet(watchers)
         await_swept(server)
         client = Client(server.port)
@@ -264,8 +264,7 @@ def run_compact(program: list[str], given: argparse.Namespace, results: Results)
         day = spend_day(program, file, given)
         rows = rows_of(file)
         plain = picture_of(program, copy_of(file, folder, "plain"), day)
-        is_whole = plain.rows >= len(rows)
-        print(f"    {len(rows)} requests; a start on them {'does not compact' if is_whole else 'compacts'}", flush=True)
+        results.tell(f"a start on {len(rows)} requests has each of them", None if plain.rows >= len(rows) else f"it has {plain.rows}")
         check_good(plain, results)
         by_command(program, file, folder, day, rows, plain, results)
         cut_off(program, file, folder, given, rows, results)
@@ -346,7 +345,7 @@ def cut_off(program: list[str], file: str, folder: str, given: argparse.Namespac
 
 
 def at_a_start(program: list[str], file: str, day: Day, count: int, plain: Picture, results: Results) -> None:
-    """Tries a start that compacts, since most requests are about steps that are gone."""
+    """Tries a start that may compact, and does, since most requests are about steps that are gone."""
     with Stored(program, file, "--keep", str(KEEP), *peers_of(None)) as server:
         client = Client(server.port)
         for number in range(count):
@@ -357,7 +356,7 @@ def at_a_start(program: list[str], file: str, day: Day, count: int, plain: Pictu
         await_swept(server)
         time.sleep(1)
     before = len(rows_of(file))
-    picture = picture_of(program, file, day)
+    picture = picture_of(program, file, day, "--compact")
     results.tell(f"a start that compacts: {picture.rows} requests are left of {before}", None if picture.rows < before / 2 else "it does not")
     told_of = [line for line in picture.log if "compact" in line]
     results.tell("a start that compacts: the log tells of it", None if told_of else f"{picture.log[:5]}")

@@ -5,9 +5,13 @@ requests from the watcher W1 (`deliver`), or a script. Its rows are what is aske
 program `refusals` runs a course.
 """
 
+from __future__ import annotations
+
 import copy
 import functools
 import re
+from collections.abc import Callable, Iterable, Mapping, Sequence
+from typing import Optional
 
 import dicom
 import runs
@@ -17,52 +21,54 @@ ENDS = {"serve": "Released", "cut": "Closed", "deliver": "Released", "script": "
 ENTERED = ("create", "set", "change", "cancel", "subscribe", "unsubscribe", "suspend", "ack")
 TOLD = {"find": "A700", **dict.fromkeys(("get", "pending", "sweep", *ENTERED), "0213")}
 BATCH = 200
+Told = tuple[bytes, str, int]  # what is reported of a part: what was written, how it ended, how many requests the history has
 
 
 class Row:
     """What is asked, what is answered, what is answered for lack of memory (None if that never happens), and how many requests
     the history has then."""
 
-    def __init__(self, asked, answered, lacking, entries):
+    def __init__(self, asked: Callable[[int], bytes], answered: Callable[[int], bytes], lacking: Optional[Callable[[int], bytes]],
+                 entries: int) -> None:
         self.asked, self.answered, self.lacking, self.entries = asked, answered, lacking, entries
 
 
 class Part:
     """A part of a course: its kind, how many requests the history has before it, and its rows."""
 
-    def __init__(self, kind, before, rows=()):
+    def __init__(self, kind: str, before: int, rows: Iterable[Row] = ()) -> None:
         self.kind, self.before, self.rows = kind, before, list(rows)
 
-    def asked(self):
+    def asked(self) -> bytes:
         """Returns all that is asked."""
         return b"".join(it.asked(number) for number, it in enumerate(self.rows))
 
-    def answered(self):
+    def answered(self) -> bytes:
         """Returns all that is answered."""
         return b"".join(self.answers())
 
-    def answers(self):
+    def answers(self) -> list[bytes]:
         """Returns the answer to each row."""
         return [it.answered(number) for number, it in enumerate(self.rows)]
 
-    def entries(self):
+    def entries(self) -> int:
         """Returns how many requests the history has after it."""
         return self.rows[-1].entries if self.rows else self.before
 
-    def due(self):
+    def due(self) -> Told:
         """Returns what is reported of it if nothing is refused."""
         return self.answered(), ENDS[self.kind], self.entries()
 
-    def words(self):
+    def words(self) -> str:
         """Returns the word that asks for it."""
         kind = "serve" if self.kind == "cut" else self.kind
         return f"{kind}:{self.asked().hex()}"
 
-    def entries_before(self, place):
+    def entries_before(self, place: int) -> int:
         """Returns how many requests the history has before a row."""
         return self.rows[place - 1].entries if place else self.before
 
-    def from_row(self, place):
+    def from_row(self, place: int) -> Part:
         """Returns the part that asks for the rest, from a row on. An association begins anew, a delivery with that report."""
         if self.kind == "script":
             return Part(self.kind, self.entries_before(place), self.rows[place:])
@@ -74,35 +80,36 @@ class Part:
             return Part(self.kind, first.entries, [first, *self.rows[place:]])
         return self.from_report(place)
 
-    def from_report(self, place):
+    def from_report(self, place: int) -> Part:
         """Returns the delivery that begins with the report in the answer to a row."""
         first, agreed = copy.copy(self.rows[0]), copy.copy(self.rows[place])
         first.entries = agreed.entries
         agreed.asked = self.rows[1].asked
         return Part(self.kind, agreed.entries, [first, agreed, *self.rows[place + 1:]])
 
-    def twice(self, place):
+    def twice(self, place: int) -> Part:
         """Returns the part in which a row is asked twice, and is first answered with a lack of memory."""
         row = self.rows[place]
+        assert row.lacking
         refused = Row(row.asked, row.lacking, None, self.entries_before(place))
         return Part(self.kind, self.before, [*self.rows[:place], refused, *self.rows[place:]])
 
 
-def rows_of_part(names, kind, texts, before):
+def rows_of_part(names: Mapping[str, str], kind: str, texts: Iterable[str], before: int) -> list[Row]:
     """Returns the rows of a part."""
-    rows = []
+    rows: list[Row] = []
     for text in texts:
         rows.append(row_of_line(text, before) if kind == "script" else row_of_message(names, text))
         before = rows[-1].entries
     return rows
 
 
-def row_of_message(names, text):
+def row_of_message(names: Mapping[str, str], text: str) -> Row:
     """Returns the row of a message. ID is the Message ID of the report that is answered, which counts the reports."""
     asked, answered, lacking, entries = text.split(" | ")
 
     @functools.cache
-    def bytes_at(words, place):
+    def bytes_at(words: str, place: int) -> bytes:
         return dicom.bytes_of(names, re.sub(r"\bID\b", f"{place:02x}00", words))
 
     return Row(
@@ -113,12 +120,12 @@ def row_of_message(names, text):
     )
 
 
-def row_of_line(text, before):
+def row_of_line(text: str, before: int) -> Row:
     """Returns the row of a line of a script and its reply."""
     line, reply = text.split(" -> ")
     verb, status = line.split(" ")[2], reply.split(" ")[0]
     is_entered = verb in ENTERED and status in ("0000", "B301") or verb == "sweep" and reply > "0000 0"
-    told = f"{TOLD[verb]}\n".encode() if verb in TOLD else None
+    told = f"{TOLD[verb]}\n".encode() if verb in TOLD else b""
     return Row(
         lambda _: f"{line}\n".encode(),
         lambda _: f"{reply}\n".encode(),
@@ -127,23 +134,24 @@ def row_of_line(text, before):
     )
 
 
-def parts_of(names, rows, spelled):
+def parts_of(names: Mapping[str, str], rows: Iterable[str], spelled: Callable[[str], str]) -> list[Part]:
     """Returns the parts of rows: a word for the kind of each part precedes its rows. In a script, `spelled` replaces the words
     by what they stand for."""
-    parts = []
+    parts: list[tuple[str, list[str]]] = []
     for text in rows:
         if text in ENDS:
             parts.append((text, []))
         else:
             parts[-1][1].append(spelled(text) if parts[-1][0] == "script" else text)
-    before, found = 0, []
+    before = 0
+    found: list[Part] = []
     for kind, texts in parts:
         found.append(Part(kind, before, rows_of_part(names, kind, texts, before)))
         before = found[-1].entries()
     return found
 
 
-def run(program, courses):
+def run(program: str, courses: Iterable[tuple[int, Sequence[Part]]]) -> list[tuple[list[Told], bool]]:
     """Runs courses, and returns for each what the program reports of its parts, and whether the growth was refused."""
     lines = [" ".join([str(number), *(it.words() for it in parts)]) for number, parts in courses]
     ran = runs.run([program], "\n".join([*lines, ""]).encode())
@@ -152,7 +160,7 @@ def run(program, courses):
     return [told_in(line) for line in ran.output.decode().splitlines()]
 
 
-def told_in(line):
+def told_in(line: str) -> tuple[list[Told], bool]:
     """Returns what a line of output reports."""
     *parts, last = line.split(" | ")
     told = []
@@ -166,12 +174,12 @@ class Fault(Exception):
     """An outcome of a course that is not an expected one."""
 
 
-def different(parts, told):
+def different(parts: Sequence[Part], told: Sequence[Told]) -> Optional[int]:
     """Returns the place of the first part with another report than if nothing is refused; None if there is none."""
     return next((place for place, part in enumerate(parts) if told[place] != part.due()), None)
 
 
-def rest_of(parts, told):
+def rest_of(parts: Sequence[Part], told: Sequence[Told]) -> tuple[list[Part], list[Told]]:
     """Returns the parts to run with the same growth refused, after a report that differs from that without a refusal, and what
     each should then report. What was not done is asked once more: in the same part if it was answered with a lack of memory, or
     else in another one after it.
@@ -179,6 +187,7 @@ def rest_of(parts, told):
     Raises Fault if what is reported is not expected.
     """
     place = different(parts, told)
+    assert place is not None
     part, (written, end, entries) = parts[place], told[place]
     before, behind = parts[:place], parts[place + 1:]
     if part.kind != "deliver" and end != "Memory":
@@ -194,7 +203,7 @@ def rest_of(parts, told):
     return asked, due
 
 
-def answered_rows(part, written):
+def answered_rows(part: Part, written: bytes) -> tuple[int, int]:
     """Returns how many rows are answered as expected, and how many bytes that takes."""
     at = 0
     for place, answer in enumerate(part.answers()):
@@ -204,7 +213,7 @@ def answered_rows(part, written):
     return len(part.rows), at
 
 
-def row_told(part, written):
+def row_told(part: Part, written: bytes) -> int:
     """Returns the place of the row that is answered with a lack of memory."""
     place, at = answered_rows(part, written)
     if place == len(part.rows):
@@ -215,7 +224,7 @@ def row_told(part, written):
     return place
 
 
-def row_after_end(part, written, entries):
+def row_after_end(part: Part, written: bytes, entries: int) -> int:
     """Returns the row to go on with after a part ended for lack of memory: the unanswered one, or the next if that is entered."""
     place, at = answered_rows(part, written)
     if place == len(part.rows) or not part.answers()[place].startswith(written[at:]):
@@ -227,7 +236,7 @@ def row_after_end(part, written, entries):
     raise Fault(f"{part.kind}: it ends for lack of memory at row {place + 1} with {entries} requests in the history")
 
 
-def after_delivery(part, written, end, entries):
+def after_delivery(part: Part, written: bytes, end: str, entries: int) -> Part:
     """Returns the delivery of the reports that are not acknowledged, after one that ran out of memory or was released early."""
     place, at = answered_rows(part, written)
     is_released = end == "Released" and written[at:] in (b"", part.rows[-2].answered(0))
@@ -245,10 +254,10 @@ class Course:
 
     program = "refusals"
 
-    def __init__(self, name, parts):
+    def __init__(self, name: str, parts: list[Part]) -> None:
         self.name, self.parts = name, parts
 
-    def spoiled(self):
+    def spoiled(self) -> list[Course]:
         """Returns the same with another answer at its end, and with another number of entries."""
         answer, entry = copy.deepcopy(self), copy.deepcopy(self)
         last = answer.parts[-1].rows[-1].answered
@@ -256,18 +265,19 @@ class Course:
         entry.parts[-1].rows[-1].entries += 1
         return [answer, entry]
 
-    def difference(self, program):
+    def difference(self, program: str) -> Optional[str]:
         """Returns how the program's report differs from the course if nothing is refused; None if it doesn't."""
         told, _ = run(program, [(0, self.parts)])[0]
         place = different(self.parts, told)
         return None if place is None else f"of part {place + 1} is told {told[place]} and not {self.parts[place].due()}"
 
-    def failures(self, program):
+    def failures(self, program: str) -> tuple[int, dict[str, int]]:
         """Refuses each growth in turn, and returns how many there are, and how often each kind of outcome occurred.
 
         Raises Fault if an outcome is not expected.
         """
-        number, fates = 0, {}
+        number = 0
+        fates: dict[str, int] = {}
         while True:
             courses = [(number + it, self.parts) for it in range(1, BATCH + 1)]
             told = run(program, courses)
@@ -277,7 +287,7 @@ class Course:
             if left < BATCH:
                 return number, fates
 
-    def judge(self, program, before, told, fates):
+    def judge(self, program: str, before: int, told: Iterable[list[Told]], fates: dict[str, int]) -> None:
         """Checks the outcomes of growths, the first of which has the number after `before`, and asks once more for what was
         not done."""
         due = []

@@ -1,8 +1,12 @@
 """Encodes what DICOM sends: PDUs, command sets and data sets, and bytes written as words that a person can read."""
 
+from __future__ import annotations
+
 import os
 import re
 import struct
+from collections.abc import Iterable, Mapping, Sequence
+from typing import Optional
 
 from machine import HERE
 
@@ -18,15 +22,20 @@ UIDS = {"VERIFICATION": VERIFICATION, "PUSH": PUSH, "WATCH": WATCH, "PULL": PULL
 VECTORS = os.path.join(HERE, "crates/fixtures/src/vectors.rt")
 
 
-def item(kind, content):
+Tag = tuple[int, int]  # group and element
+Elements = Sequence[tuple[int, bytes]]  # of a command set: the number of each, and its value
+Contexts = Sequence[tuple[bytes, bytes]]  # the abstract and the transfer syntax of each presentation context
+
+
+def item(kind: int, content: bytes) -> bytes:
     return struct.pack(">BBH", kind, 0, len(content)) + content
 
 
-def pdu(kind, body):
+def pdu(kind: int, body: bytes) -> bytes:
     return struct.pack(">BBI", kind, 0, len(body)) + body
 
 
-def associate(contexts, calling=b"BENCH"):
+def associate(contexts: Contexts, calling: bytes = b"BENCH") -> bytes:
     """Returns an A-ASSOCIATE-RQ with a presentation context for each (abstract syntax, transfer syntax), IDs 1, 3, .."""
     body = struct.pack(">HH", 1, 0) + b"UPSD".ljust(16) + calling.ljust(16) + bytes(32)
     body += item(0x10, b"1.2.840.10008.3.1.1.1")
@@ -39,25 +48,25 @@ def associate(contexts, calling=b"BENCH"):
 RELEASE = pdu(5, bytes(4))
 
 
-def even(value, pad=b"\0"):
+def even(value: bytes, pad: bytes = b"\0") -> bytes:
     return value if len(value) % 2 == 0 else value + pad
 
 
-def element(number, value):
+def element(number: int, value: bytes) -> bytes:
     """Returns an element of a command set."""
     return struct.pack("<HHI", 0, number, len(value)) + value
 
 
-def command(elements):
+def command(elements: Elements) -> bytes:
     rest = b"".join(element(n, v) for n, v in elements)
     return element(0, struct.pack("<I", len(rest))) + rest
 
 
-def us(number):
+def us(number: int) -> bytes:
     return struct.pack("<H", number)
 
 
-def message(context, command_set, data_set=None):
+def message(context: int, command_set: bytes, data_set: Optional[bytes] = None) -> bytes:
     """Returns a message in PDUs of at most 16,384 bytes."""
     out = b""
     for control, last, part in ((1, 3, command_set), (0, 2, data_set)):
@@ -74,44 +83,44 @@ def message(context, command_set, data_set=None):
     return out
 
 
-def echo(number, context=1):
+def echo(number: int, context: int = 1) -> bytes:
     return message(context, command([(0x0002, even(VERIFICATION)), (0x0100, us(0x0030)), (0x0110, us(number)), (0x0800, us(0x0101))]))
 
 
-def create(context, number, instance, data_set):
+def create(context: int, number: int, instance: bytes, data_set: bytes) -> bytes:
     elements = [(0x0002, even(PUSH)), (0x0100, us(0x0140)), (0x0110, us(number)), (0x0800, us(1)), (0x1000, even(instance))]
     return message(context, command(elements), data_set)
 
 
-def get(context, number, instance):
+def get(context: int, number: int, instance: bytes) -> bytes:
     elements = [(0x0003, even(PUSH)), (0x0100, us(0x0110)), (0x0110, us(number)), (0x0800, us(0x0101)), (0x1001, even(instance))]
     return message(context, command(elements))
 
 
-def set_attributes(context, number, instance, data_set):
+def set_attributes(context: int, number: int, instance: bytes, data_set: bytes) -> bytes:
     """Returns an N-SET request."""
     elements = [(0x0003, even(PUSH)), (0x0100, us(0x0120)), (0x0110, us(number)), (0x0800, us(1)), (0x1001, even(instance))]
     return message(context, command(elements), data_set)
 
 
-def act(context, number, instance, action, data_set):
+def act(context: int, number: int, instance: bytes, action: int, data_set: bytes) -> bytes:
     """Returns an N-ACTION request of a type."""
     elements = [(0x0003, even(PUSH)), (0x0100, us(0x0130)), (0x0110, us(number)), (0x0800, us(1)), (0x1001, even(instance)), (0x1008, us(action))]
     return message(context, command(elements), data_set)
 
 
-def find(context, number, identifier):
+def find(context: int, number: int, identifier: bytes) -> bytes:
     """Returns a C-FIND request of medium priority."""
     elements = [(0x0002, even(PULL)), (0x0100, us(0x0020)), (0x0110, us(number)), (0x0700, us(0)), (0x0800, us(1))]
     return message(context, command(elements), identifier)
 
 
-def give_up(context, number):
+def give_up(context: int, number: int) -> bytes:
     """Returns a C-CANCEL request for a C-FIND."""
     return message(context, command([(0x0100, us(0x0FFF)), (0x0120, us(number)), (0x0800, us(0x0101))]))
 
 
-def data(explicit, group, number, vr, value):
+def data(explicit: bool, group: int, number: int, vr: bytes, value: bytes) -> bytes:
     """Returns an element of a data set."""
     tag = struct.pack("<HH", group, number)
     if not explicit:
@@ -121,13 +130,13 @@ def data(explicit, group, number, vr, value):
     return tag + vr + struct.pack("<H", len(value)) + value
 
 
-def items(elements):
+def items(elements: Iterable[bytes]) -> bytes:
     return b"".join(struct.pack("<HHI", 0xFFFE, 0xE000, len(e)) + e for e in elements)
 
 
-def step(explicit, more=()):
+def step(explicit: bool, more: Mapping[Tag, tuple[bytes, bytes]] = {}) -> bytes:
     """Returns the attributes of a step that is accepted: 20 of them, one a sequence, updated by `more`."""
-    row = {
+    row: dict[Tag, tuple[bytes, bytes]] = {
         (0x0010, 0x0010): (b"PN", b"DOE^JANE"),
         (0x0010, 0x0020): (b"LO", b"P1"),
         (0x0010, 0x0030): (b"DA", b"19700101"),
@@ -155,20 +164,20 @@ def step(explicit, more=()):
 
 # bytes written as words
 
-def stored():
+def stored() -> dict[str, str]:
     """Returns the stored PDUs that the tests of the crates use too, as texts by name."""
     with open(VECTORS, encoding="utf-8") as text:
         found = re.findall(r'pub const (\w+): &str =\s*"((?:[^"\\]|\\")*)";', text.read())
     return {name: spelled.replace('\\"', '"') for name, spelled in found}
 
 
-def bytes_of(names, text):
+def bytes_of(names: Mapping[str, str], text: str) -> bytes:
     """Returns the bytes of a text: those in quotes, and what each other word stands for."""
     parts = re.findall(r'"([^"]*)"|([^\s"]+)', text)
     return b"".join(bytes_of_word(names, word) if word else quoted.encode() for quoted, word in parts)
 
 
-def bytes_of_word(names, word):
+def bytes_of_word(names: Mapping[str, str], word: str) -> bytes:
     """Returns the bytes of a word: of a name, a UID or hex digits, as often as a number after `*` says."""
     name, _, count = word.partition("*")
     times = int(count or 1)
@@ -179,6 +188,6 @@ def bytes_of_word(names, word):
     return bytes_of(names, names[name]) * times
 
 
-def numbered(text, times):
+def numbered(text: str, times: int) -> list[str]:
     """Returns a text that many times, with two or more hex digits in place of a `#`: 01, 03, 05 and so on."""
     return [text.replace("#", f"{number:02x}") for number in range(1, 2 * times, 2)]

@@ -18,12 +18,16 @@ import re
 import shutil
 import sys
 import tempfile
+from collections.abc import Callable
+from typing import Any
 
 HEADING = re.compile(r"(?:(?:pub(?:\([a-z]+\))?|final|const|unsafe) +)*fn +(\w+)")
 OWNER = re.compile(r"(?:pub(?:\([a-z]+\))? +)?(?:unsafe +)?(?:impl|trait)\b(.*)")
 VERDICT = re.compile(r"fn \w+::(\S+): (.*)")
 NO_FUNCTION = re.compile(r"has no function `([^`]+)`")
 SEVERAL = re.compile(r"several functions are named `([^`]+)`: help: write one of (.*)")
+
+Results = dict[str, tuple[bool, str]]  # by the name of each edit: whether it is refused, and why or why not
 
 
 @dataclasses.dataclass
@@ -43,11 +47,13 @@ class Edit:
         return f"{self.crate}/{self.name}"
 
 
-def kit():
+def kit() -> Any:
     """Returns the program `rt` as a module: it knows the crates, their libraries, and the words of a check."""
     path = os.path.realpath(shutil.which("rt") or sys.exit("rt is not in PATH"))
     loader = importlib.machinery.SourceFileLoader("rt", path)
-    found = importlib.util.module_from_spec(importlib.util.spec_from_loader("rt", loader))
+    spec = importlib.util.spec_from_loader("rt", loader)
+    assert spec
+    found: Any = importlib.util.module_from_spec(spec)
     loader.exec_module(found)
     found.Crate.cuts_libraries = True
     return found
@@ -143,7 +149,8 @@ def read(root: str, crate: str, path: str) -> Edit:
 
 def changed(folder: str, edits: list[Edit]) -> tuple[list[Edit], dict[str, str]]:
     """Returns which of the edits can be made at once, each in a function of its own, and the texts of the files with them."""
-    made, texts = [], {}
+    made: list[Edit] = []
+    texts: dict[str, str] = {}
     for edit in edits:
         tried = applied(folder, edit, texts)
         if tried is not None and edit.function not in [it.function for it in made]:
@@ -169,8 +176,9 @@ def verdict_of(edit: Edit, told: dict[str, str]) -> str:
 class Trial:
     """The trial of a crate's edits: what each came to, by its name."""
 
-    def __init__(self, rt, crate, edits: list[Edit]) -> None:
-        self.rt, self.crate, self.left, self.results = rt, crate, edits, {}
+    def __init__(self, rt: Any, crate: Any, edits: list[Edit]) -> None:
+        self.rt, self.crate, self.left = rt, crate, edits
+        self.results: Results = {}
 
     def check(self, edits: list[Edit], texts: dict[str, str], kept: str) -> dict[str, str]:
         """Checks the functions that these edits break, and returns what the check says of each function."""
@@ -211,7 +219,7 @@ class Trial:
             elif len(edits) == 1:
                 self.results[edit.name] = (False, why or told.get("") or f"the check has no function {edit.function}")
 
-    def run(self) -> dict[str, tuple[bool, str]]:
+    def run(self) -> Results:
         """Tries the edits, as many at once as can be, and returns for each whether it is refused, and why or why not."""
         with tempfile.TemporaryDirectory(prefix="upsd-edits-") as kept:
             alone = False
@@ -226,7 +234,7 @@ class Trial:
         return self.results
 
 
-def libraries(rt, root: str, to: str, names: set[str]) -> dict:
+def libraries(rt: Any, root: str, to: str, names: set[str]) -> dict[str, Any]:
     """Copies the crates to a folder, with the libraries below those named as they were proved, and returns the crates by name."""
     rt.Crate.allowed = rt.handles_of(root)
     here = {it.name: it for it in rt.crates_of(root)}
@@ -245,7 +253,7 @@ def libraries(rt, root: str, to: str, names: set[str]) -> dict:
     return crates
 
 
-def tried(root: str, edits: list[Edit], lanes: int, tell) -> int:
+def tried(root: str, edits: list[Edit], lanes: int, tell: Callable[[str, Results], None]) -> int:
     """Tries edits, those of a crate together, and tells of each crate once it is done. Returns how many are not refused."""
     rt, failed, names = kit(), 0, sorted({it.crate for it in edits})
     # (its first call sets a signal's handler, which only the main thread may)
@@ -253,7 +261,7 @@ def tried(root: str, edits: list[Edit], lanes: int, tell) -> int:
     with tempfile.TemporaryDirectory(prefix="upsd-edits-") as room, concurrent.futures.ThreadPoolExecutor(lanes) as pool:
         crates = libraries(rt, root, f"{room}/tree", {*names})
         # (the largest crates first, as they take longest)
-        names.sort(key=lambda it: -crates[it].count(rb"\n"))
+        names.sort(key=lambda it: int(crates[it].count(rb"\n")), reverse=True)
         trials = [Trial(rt, crates[name], [it for it in edits if it.crate == name]) for name in names]
         begun = {pool.submit(it.run): it.crate.name for it in trials}
         for done in concurrent.futures.as_completed(begun):

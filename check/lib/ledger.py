@@ -13,14 +13,13 @@ import random
 import re
 import struct
 import threading
-from collections.abc import Iterable, Iterator
+from collections.abc import Callable, Iterable, Iterator
 from typing import Optional
 
-from dicom import (EXPLICIT, IMPLICIT, LONG, PULL, PUSH, act, command, create, data, even, find, items, message, set_attributes,
+from dicom import (EXPLICIT, IMPLICIT, LONG, PULL, PUSH, Tag, act, command, create, data, even, find, items, message, set_attributes,
                    step, us)
-from peer import FOLLOWS, PULL_ON, PUSH_ON, Peer
+from peer import FOLLOWS, PULL_ON, PUSH_ON, Peer, Reply
 
-Tag = tuple[int, int]
 Attributes = dict[Tag, tuple[bytes, bytes]]  # the value representation, which is empty in Implicit VR, and the value
 
 ROOT = 27182818284590452353602874713526  # UIDs are 2.25 and a number of 39 digits that begins with these
@@ -56,23 +55,11 @@ class Held:
         return self.attributes[STATE][1]
 
 
-@dataclasses.dataclass
-class Reply:
-    """A response: its command set, and its data set if one follows."""
-
-    elements: dict[int, bytes]
-    data_set: Optional[bytes]
-
-    @property
-    def status(self) -> int:
-        return struct.unpack("<H", self.elements[0x0900])[0]
-
-
 def read(explicit: bool, spelled: bytes) -> Attributes:
     """Returns the elements of a data set, in ascending order of tags. Sequences stay bytes."""
     found: Attributes = {}
     while spelled:
-        tag = struct.unpack("<HH", spelled[:4])
+        tag = int.from_bytes(spelled[:2], "little"), int.from_bytes(spelled[2:4], "little")
         vr, at, length = b"", 8, int.from_bytes(spelled[4:8], "little")
         if explicit:
             vr, length = spelled[4:6], int.from_bytes(spelled[6:8], "little")
@@ -92,13 +79,6 @@ class Association(Peer):
         self.number = 0
         syntax = EXPLICIT if explicit else IMPLICIT
         super().__init__(port, [(PUSH, syntax), (PULL, syntax)], title, seconds)
-
-    def reply(self) -> Reply:
-        elements, spelled = {}, self.fragments(True)
-        while spelled:
-            number, length = struct.unpack("<xxHI", spelled[:8])
-            elements[number], spelled = spelled[8:8 + length], spelled[8 + length:]
-        return Reply(elements, None if elements[0x0800] == us(0x0101) else self.fragments(False))
 
 
 class Ledger:
@@ -264,7 +244,7 @@ class Ledger:
 
     def get(self, held: Held) -> None:
         """Checks an N-GET of all attributes, or of some; these may include the Transaction UID, which is never there."""
-        asked = self.chance.choice([[], [], [LABEL, STATE], [SOP_INSTANCE, PERFORMED, STATE], [TRANSACTION, PATIENT]])
+        asked: list[Tag] = self.chance.choice([[], [], [LABEL, STATE], [SOP_INSTANCE, PERFORMED, STATE], [TRANSACTION, PATIENT]])
         wanted = {it: held.attributes[it] for it in sorted(asked) if it in held.attributes} if asked else held.attributes
         compare(f"N-GET of {held.uid.decode()}", self.got(held, asked), wanted)
 
@@ -285,11 +265,12 @@ class Ledger:
     def find(self, held: Held) -> None:
         """Checks a C-FIND of one step by its UID, of those of a patient, or of those of some patients by a wild card."""
         patient = held.attributes[PATIENT][1].rstrip()
-        key, value, found = self.chance.choice([
+        ways: list[tuple[Tag, bytes, Callable[[Held], bool]]] = [
             (SOP_INSTANCE, held.uid, lambda it: it is held),
             (PATIENT, patient, lambda it: it.attributes[PATIENT][1].rstrip() == patient),
             (PATIENT, patient[:-1] + b"?", lambda it: patient[:-1] == it.attributes[PATIENT][1].rstrip()[:-1]),
-        ])
+        ]
+        key, value, found = self.chance.choice(ways)
         self.found(key, value, [it for it in self.steps if found(it)])
 
     def found(self, key: Tag, value: bytes, wanted: Iterable[Held]) -> None:

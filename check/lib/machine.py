@@ -10,13 +10,15 @@ import socket
 import subprocess
 import sys
 import time
+from collections.abc import Callable
+from typing import Any
 
 HERE = os.path.dirname(os.path.dirname(os.path.dirname(os.path.abspath(__file__))))  # the top of the checkout
 PYTHON = "/usr/bin/python3"
 SHELLS = ("sh", "bash", "dash", "env", "strace", "nice", "time")
 
 
-def arguments(about, *numbers):
+def arguments(about: str, *numbers: tuple[str, int, str]) -> argparse.Namespace:
     """Returns the program and the numbers of the command line; each number is given here by name, default and meaning."""
     parser = argparse.ArgumentParser(description=about, formatter_class=argparse.RawDescriptionHelpFormatter)
     built = "crates/upsd/out/upsd"
@@ -39,7 +41,7 @@ def install(packages: dict[str, str]) -> None:
         os.execv(PYTHON, [PYTHON, *sys.argv])
 
 
-def holds(what, seconds):
+def holds(what: Callable[[], object], seconds: float) -> bool:
     """Waits until `what` holds; returns False if it does not in that many seconds."""
     deadline = time.monotonic() + seconds
     while not what():
@@ -52,7 +54,8 @@ def holds(what, seconds):
 def free_port() -> int:
     """Returns a free port of this machine."""
     with socket.create_server(("127.0.0.1", 0)) as listener:
-        return listener.getsockname()[1]
+        port: int = listener.getsockname()[1]
+        return port
 
 
 def listens(port: int) -> bool:
@@ -64,12 +67,12 @@ def listens(port: int) -> bool:
         return False
 
 
-def processor(pid):
+def processor(pid: int) -> float:
     """Returns the processor seconds of a process and all of its threads, by the clock that the system keeps for it."""
     return time.clock_gettime(~pid << 3 | 2)
 
 
-def used_by(pid, task):
+def used_by(pid: int, task: int) -> int:
     """Returns the nanoseconds that a thread has run; 0 if it has ended."""
     try:
         with open(f"/proc/{pid}/task/{task}/schedstat", encoding="ascii") as it:
@@ -78,12 +81,13 @@ def used_by(pid, task):
         return 0
 
 
-def resident(pid):
+def resident(pid: int) -> int:
+    """Returns the memory of a process, in bytes."""
     with open(f"/proc/{pid}/status", encoding="ascii") as lines:
         return next(int(line.split()[1]) * 1024 for line in lines if line.startswith("VmRSS"))
 
 
-def pid_of(started: subprocess.Popen) -> int:
+def pid_of(started: subprocess.Popen[Any]) -> int:
     """Returns the process ID of a program, which a script or strace may have started."""
     pid = started.pid
     for _ in range(500):

@@ -1,5 +1,7 @@
 """Runs a program whose input, output or memory runs out, or whose calls a signal interrupts; and runs it as a server."""
 
+from __future__ import annotations
+
 import contextlib
 import dataclasses
 import fcntl
@@ -14,7 +16,9 @@ import tempfile
 import termios
 import threading
 import time
+from collections.abc import Iterable, Iterator, Sequence
 from subprocess import TimeoutExpired
+from typing import IO, Any, Optional
 
 from server import Server
 
@@ -33,24 +37,27 @@ class Ran:
     said: bytes
 
 
-def run(words, given=b"", *, source=None, room=None, memory=None):
+def run(words: Sequence[str], given: bytes = b"", *, source: Optional[socket.socket] = None, room: Optional[int] = None,
+        memory: Optional[int] = None) -> Ran:
     """Runs a program on an input: the bytes `given`, or those of a source. If these are given, its output has room for `room`
     bytes, and its data for `memory` kilobytes."""
-    more = {"input": given} if source is None else {"stdin": source}
+    more: dict[str, Any] = {"input": given} if source is None else {"stdin": source}
     if memory is not None:
-        more["preexec_fn"] = lambda: resource.setrlimit(resource.RLIMIT_DATA, (memory * 1024, memory * 1024))
+        limits = memory * 1024, memory * 1024
+        more["preexec_fn"] = lambda: resource.setrlimit(resource.RLIMIT_DATA, limits)
     with tempfile.TemporaryFile() as output, files_of(room):
         ran = subprocess.run(words, **more, stdout=output, stderr=subprocess.PIPE, timeout=SECONDS, restore_signals=False)
         output.seek(0)
         return Ran(ran.returncode, output.read(), ran.stderr)
 
 
-def run_typed(words, lines):
+def run_typed(words: Sequence[str], lines: Iterable[bytes]) -> Ran:
     """Runs a program that is given each line after the reply to the one before has come."""
     with subprocess.Popen(words, stdin=subprocess.PIPE, stdout=subprocess.PIPE, stderr=subprocess.PIPE) as child:
         guard = threading.Timer(SECONDS, child.kill)
         guard.start()
         output = b""
+        assert child.stdin and child.stdout
         for line in lines:
             child.stdin.write(line)
             child.stdin.flush()
@@ -61,7 +68,7 @@ def run_typed(words, lines):
 
 
 @contextlib.contextmanager
-def files_of(room):
+def files_of(room: Optional[int]) -> Iterator[None]:
     """Lets programs that start within write files of `room` bytes. After these a write fails: Python, and so the program,
     ignores the signal for that."""
     soft, hard = resource.getrlimit(resource.RLIMIT_FSIZE)
@@ -73,7 +80,7 @@ def files_of(room):
 
 
 @contextlib.contextmanager
-def broken(given):
+def broken(given: bytes) -> Iterator[socket.socket]:
     """Yields a source of these bytes, after which a read fails: a socket is reset if the other end leaves something unread."""
     source, peer = socket.socketpair()
     with source:
@@ -84,7 +91,7 @@ def broken(given):
 
 
 @contextlib.contextmanager
-def lasting(given):
+def lasting(given: bytes) -> Iterator[socket.socket]:
     """Yields a source of these bytes that does not end as long as it is read."""
     source, peer = socket.socketpair()
     with source, peer:
@@ -92,7 +99,7 @@ def lasting(given):
         yield source
 
 
-def run_shaken(words, given):
+def run_shaken(words: Sequence[str], given: bytes) -> Ran:
     """Runs a program that gets its input byte by byte, and room for its output byte by byte. A signal interrupts each call
     that waits for either."""
     source, giver = timed_pair(socket.SO_RCVTIMEO)
@@ -101,21 +108,22 @@ def run_shaken(words, given):
     with source, giver, taker:
         with sink:
             before = fill(sink)
-            child = subprocess.Popen(words, stdin=source, stdout=sink, stderr=subprocess.PIPE)
+            child = subprocess.Popen(words, stdin=source.fileno(), stdout=sink.fileno(), stderr=subprocess.PIPE)
         with child:
+            assert child.stderr
             output = shake(child, given, source, giver, taker)
             said = child.stderr.read()
         return Ran(child.returncode, output[before:], said)
 
 
-def timed_pair(what):
+def timed_pair(what: int) -> tuple[socket.socket, socket.socket]:
     """Returns a socket with a time limit, and its peer. A call that a signal interrupts fails only if there is a limit."""
     one, other = socket.socketpair()
     one.setsockopt(socket.SOL_SOCKET, what, LIMIT)
     return one, other
 
 
-def fill(sink):
+def fill(sink: socket.socket) -> int:
     """Fills a socket so that it has no room, and returns how many bytes that took."""
     sink.setsockopt(socket.SOL_SOCKET, socket.SO_SNDBUF, 1)
     sink.setblocking(False)
@@ -127,7 +135,7 @@ def fill(sink):
     return count
 
 
-def shake(child, given, source, giver, taker):
+def shake(child: subprocess.Popen[bytes], given: bytes, source: socket.socket, giver: socket.socket, taker: socket.socket) -> bytes:
     """Stops a program each time that it waits, and lets it go on after giving it a byte, or the end; or after taking one from
     it, if it has not read the last one yet, and so waits for room. Returns its output."""
     output, place = b"", 0
@@ -141,12 +149,13 @@ def shake(child, given, source, giver, taker):
     return output + rest_of(taker)
 
 
-def unread(source):
+def unread(source: socket.socket) -> int:
     """Returns how many bytes wait to be read."""
-    return struct.unpack("i", fcntl.ioctl(source, termios.FIONREAD, bytes(4)))[0]
+    count: int = struct.unpack("i", fcntl.ioctl(source, termios.FIONREAD, bytes(4)))[0]
+    return count
 
 
-def stops(child):
+def stops(child: subprocess.Popen[bytes]) -> bool:
     """Waits until a program waits, and then stops it; returns False if it has ended."""
     end = time.monotonic() + SECONDS
     while state_of(child.pid) not in "SZ":
@@ -159,13 +168,13 @@ def stops(child):
     return how.si_code == os.CLD_STOPPED
 
 
-def state_of(pid):
+def state_of(pid: int) -> str:
     """Returns the state of a process, as the letter in /proc: S if it waits, Z if it has ended."""
     with open(f"/proc/{pid}/stat", encoding="utf-8") as told:
         return told.read().rpartition(") ")[2][0]
 
 
-def rest_of(connection):
+def rest_of(connection: socket.socket) -> bytes:
     """Returns all that comes over a connection until it is closed."""
     found = b""
     with contextlib.suppress(ConnectionResetError):
@@ -175,7 +184,7 @@ def rest_of(connection):
 
 
 @contextlib.contextmanager
-def serving(program, peers=()):
+def serving(program: str, peers: Sequence[str] = ()) -> Iterator[tuple[IO[bytes], Server]]:
     """Yields the log of a new server with these peers, and the server, which ends within SECONDS."""
     with logging(program, peers) as (log, server):
         guard = threading.Timer(SECONDS, server.process.kill)
@@ -187,20 +196,20 @@ def serving(program, peers=()):
 
 
 @contextlib.contextmanager
-def logging(program, words=()):
+def logging(program: str, words: Sequence[str] = ()) -> Iterator[tuple[IO[bytes], Server]]:
     """Yields the log of a new server, which goes to a file, and the server, which also gets these words."""
     with tempfile.NamedTemporaryFile() as log, open(log.name, "rb") as told, Server([program], *words, error=log) as server:
         yield told, server
 
 
-def serve(program, given, lasts=False):
+def serve(program: str, given: bytes, lasts: bool = False) -> tuple[bytes, str]:
     """Returns what a new server answers to these bytes, and how the association ended, by its log. The input ends after them,
     or lasts."""
     with serving(program) as (log, server), connected(server.port) as connection:
         return exchange(connection, given, lasts), end_in(log, server, "serve")
 
 
-def deliver(program, peers, host, asked, given):
+def deliver(program: str, peers: Sequence[str], host: str, asked: bytes, given: bytes) -> tuple[bytes, str]:
     """Returns what a watcher hears, and how its association ended, by the log. It listens at a host, on the port that PORT
     stands for in the words that name peers. A new server is first sent `asked`, and then `given` by the watcher."""
     with socket.create_server((host, 0)) as listener:
@@ -213,12 +222,12 @@ def deliver(program, peers, host, asked, given):
                 return exchange(connection, given), end_in(log, server, "deliver W1")
 
 
-def connected(port):
+def connected(port: int) -> socket.socket:
     """Returns a connection with a port of this machine."""
     return socket.create_connection(("127.0.0.1", port), SECONDS)
 
 
-def exchange(connection, given, lasts=False):
+def exchange(connection: socket.socket, given: bytes, lasts: bool = False) -> bytes:
     """Sends these bytes over a connection, and returns what comes until it is closed."""
     with contextlib.suppress(OSError):  # the other side may hang up before all is sent
         connection.sendall(given)
@@ -227,7 +236,7 @@ def exchange(connection, given, lasts=False):
     return rest_of(connection)
 
 
-def end_in(log, server, who):
+def end_in(log: IO[bytes], server: Server, who: str) -> str:
     """Waits until the log of a server says how an association of this kind ended, and returns how the first did. Lines of
     refused requests do not count."""
     while True:

@@ -9,6 +9,7 @@ import subprocess
 import sys
 import threading
 import time
+from collections.abc import Mapping
 from typing import IO, Callable, Optional, Union
 
 Sink = Union[int, IO[bytes]]  # where standard error goes
@@ -21,7 +22,7 @@ class Server:
 
     def __init__(self, program: list[str], *options: str, port: int = 0, error: Sink = subprocess.PIPE,
                  prepare: Optional[Callable[[], None]] = None, **variables: str) -> None:
-        self.begin([*program, "serve", "--ae", "UPSD", "--port", str(port), *options], error, prepare, **variables)
+        self.begin([*program, "serve", "--ae", "UPSD", "--port", str(port), *options], error, prepare, variables=variables)
         try:
             self.port = port or self.printed()
         except BaseException:
@@ -29,12 +30,14 @@ class Server:
             raise
 
     def begin(self, words: list[str], error: Sink = subprocess.PIPE, prepare: Optional[Callable[[], None]] = None,
-              is_group: bool = False, **variables: str) -> None:
+              is_group: bool = False, variables: Mapping[str, str] = {}) -> None:
         """Starts a process, in which `prepare` is called first, and which may be a group of its own. What it says on standard
         error is the log, unless that goes elsewhere."""
         self.began = time.monotonic()
         self.process = subprocess.Popen(words, stdin=subprocess.DEVNULL, stdout=subprocess.PIPE, stderr=error, text=True,
                                         preexec_fn=prepare, start_new_session=is_group, env={**os.environ, **variables})
+        assert self.process.stdout
+        self.output = self.process.stdout
         self.log: list[str] = []
         self.times: list[float] = []  # when each line of the log came
         self.reader = threading.Thread(target=self.read_log, daemon=True)
@@ -48,8 +51,8 @@ class Server:
     def printed(self) -> int:
         """Returns the port that it prints."""
         line = ""
-        if select.select([self.process.stdout], [], [], self.limit)[0]:
-            line = self.process.stdout.readline()
+        if select.select([self.output], [], [], self.limit)[0]:
+            line = self.output.readline()
         self.took = time.monotonic() - self.began
         return int(line) if re.fullmatch(r"\d+\s*", line) else self.without_port(line)
 
@@ -64,7 +67,7 @@ class Server:
         except subprocess.TimeoutExpired:
             self.process.kill()
             self.process.wait()
-        self.process.stdout.close()
+        self.output.close()
 
     def __enter__(self) -> Server:
         return self

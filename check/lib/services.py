@@ -4,8 +4,12 @@ The program `refusals` runs them, with failing devices, a full history and given
 the history holds, which events are pending, what the plain programs list, and how large a step is.
 """
 
+from __future__ import annotations
+
 import copy
 import re
+from collections.abc import Callable, Iterable, Iterator, Mapping, Sequence
+from typing import Optional, Union
 
 import dicom
 import runs
@@ -19,11 +23,15 @@ SHOWN = "00080018 00100010 00404005 00404041 00741000 00741002 00741200 00741202
 LISTS = "0 P1 held\n0 W1 watches\n0 W2 watches\n"
 ALL = "".join(f"0 P1 get {it} {SHOWN}\n0 P1 holder {it}\n" for it in STEPS) + LISTS + "0 W1 pending 99\n0 W2 pending 99\n"
 
+Befores = Mapping[str, list[str]]  # by the name of each: the texts of the associations before a service
+Report = tuple[bytes, str]  # what is written in a part, and what follows that
+
 
 class Heading:
     """The brackets of a heading: what is asked before, the kind of its rows, its settings, and the options of a part."""
 
-    def __init__(self, text, befores):
+    def __init__(self, text: str, befores: Befores) -> None:
+        self.before: list[str]
         self.before, self.kind, self.settings, self.options = [], "serve", "", ""
         for words in re.findall(r"\(([^()]*)\)", text):
             name, _, number = words.partition(" ")
@@ -41,12 +49,12 @@ class Heading:
                 raise ValueError(f"{text}: no option ({words})")
 
 
-def word_of(kind, given):
+def word_of(kind: str, given: bytes) -> str:
     """Returns the word of a part."""
     return f"{kind}:{given.hex()}"
 
 
-def told(program, lines):
+def told(program: str, lines: Iterable[str]) -> list[list[Report]]:
     """Returns what the program reports of lines: for each part what is written, and what follows that."""
     ran = runs.run([program], "".join(f"{it}\n" for it in lines).encode())
     if ran.status or ran.said:
@@ -54,7 +62,7 @@ def told(program, lines):
     return [[part_of(it) for it in line.split(" | ")[:-1]] for line in ran.output.decode().splitlines()]
 
 
-def part_of(text):
+def part_of(text: str) -> Report:
     """Returns what is written in a part, and what follows that."""
     digits, _, rest = text.partition(" ")
     return bytes.fromhex(digits), rest
@@ -66,7 +74,7 @@ class Service:
 
     program = "refusals"
 
-    def __init__(self, names, heading, row):
+    def __init__(self, names: Mapping[str, str], heading: Heading, row: str) -> None:
         short, bar, words = row.rpartition(" | ")
         asked, answered = words.split(" -> ")
         answered, self.ended = answered.split(" : ")
@@ -78,13 +86,13 @@ class Service:
         self.asked, self.answered = dicom.bytes_of(names, asked), dicom.bytes_of(names, answered)
         self.before = [word_of("serve,timed", dicom.bytes_of(names, it)) for it in heading.before]
 
-    def spoiled(self):
+    def spoiled(self) -> list[Service]:
         """Returns the same with another answer, and with another report after it."""
         answer, end = copy.copy(self), copy.copy(self)
         answer.answered, end.ended = b"X" + self.answered, f"{self.ended}X"
         return [answer, end]
 
-    def line(self, number):
+    def line(self, number: int) -> str:
         """Returns the line that asks for the row at a number."""
         more = {"break": ",fails", "room": f",room={number}"}.get(self.what, "")
         more += "" if self.heading.kind == "script" else ",timed"
@@ -93,7 +101,7 @@ class Service:
         last = word_of(f"{self.heading.kind}{self.heading.options}{more}", given)
         return " ".join([f"0{self.heading.settings}", *self.before, last])
 
-    def difference(self, program):
+    def difference(self, program: str) -> Optional[str]:
         """Returns how the program's report differs from the row, at the first number for which it does; None if there is none."""
         numbers = range(self.first, self.last + 1)
         for number, (*before, last) in zip(numbers, told(program, [self.line(it) for it in numbers]), strict=True):
@@ -111,24 +119,24 @@ class Lines:
 
     program = "refusals"
 
-    def __init__(self, name, heading, rows, spelled):
+    def __init__(self, name: str, heading: Heading, rows: Sequence[str], spelled: Callable[[str], str]) -> None:
         self.name, self.heading, self.lists = name, heading, LISTS
         self.rows = [spelled(row).split(" -> ") for row in rows]
 
-    def spoiled(self):
+    def spoiled(self) -> list[Lines]:
         """Returns the same with another last reply, and with one more list than the plain programs give."""
         answer, lists = copy.deepcopy(self), copy.copy(self)
         answer.rows[-1][1] += "X"
         lists.lists += "0 P1 held\n"
         return [answer, lists]
 
-    def line(self):
+    def line(self) -> str:
         """Returns the line that asks for the rows: before and after each one all is reported, and after the last the lists."""
         every = word_of("script", ALL.encode())
         parts = [it for line, _ in self.rows for it in (every, part_for(line))]
         return " ".join([f"0{self.heading.settings}", *parts, every, word_of("script", self.lists.encode()), "plain:"])
 
-    def difference(self, program):
+    def difference(self, program: str) -> Optional[str]:
         """Returns how the program's report differs from the rows; None if it doesn't."""
         *parts, lists, plain = told(program, [self.line()])[0]
         for place, (line, answer) in enumerate(self.rows):
@@ -140,7 +148,7 @@ class Lines:
         return None if lists == plain else f"the plain programs list {plain} and not {lists}"
 
 
-def part_for(line):
+def part_for(line: str) -> str:
     """Returns the part that a line of a row asks for. Each part reports how many requests are entered."""
     verb, _, rest = line.partition(" ")
     if verb in ("due", "size"):
@@ -148,7 +156,7 @@ def part_for(line):
     return word_of("script", b"" if line == "entries" else f"{line}\n".encode())
 
 
-def unlike(line, answer, found):
+def unlike(line: str, answer: str, found: Report) -> Optional[str]:
     """Returns how the report of a line differs from its answer; None if it doesn't."""
     written, ended = found
     end, _, entries = ended.partition(" ")
@@ -158,7 +166,8 @@ def unlike(line, answer, found):
     return f"{told_of!r} is answered, and it ends as {end}; {answer!r} is due"
 
 
-def rows_of(names, befores, heading, rows, spelled):
+def rows_of(names: Mapping[str, str], befores: Befores, heading: str, rows: Sequence[str],
+            spelled: Callable[[str], str]) -> Iterator[Union[Service, Lines]]:
     """Yields what is to be run of a section."""
     options = Heading(heading, befores)
     if options.kind == "line by line":

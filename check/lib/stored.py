@@ -18,10 +18,10 @@ from typing import NoReturn, Optional
 
 from dicom import EXPLICIT, PULL, PUSH, VERIFICATION, WATCH, act, create, data, echo, even, find, get, items, set_attributes, step
 from ledger import (CANCELLATION_TIME, LABEL, PERFORMED, PROGRESS, SOP_INSTANCE, STATE, TRANSACTION, VRS, Association, Attributes,
-                    Fault, Reply, read)
+                    Fault, read)
 from listeners import Counting, Incoming
 from machine import pid_of
-from peer import FOLLOWS, PULL_ON, PUSH_ON, Peer, subscribe, told, unsubscribe
+from peer import FOLLOWS, PULL_ON, PUSH_ON, Peer, Reply, subscribe, told, unsubscribe
 from server import Server
 
 SECONDS = 60.0  # for one answer, and for a start: a busy machine may need that long
@@ -64,7 +64,7 @@ class Stored(Server):
     def stop(self) -> None:
         self.kill()
         self.reader.join(5)
-        self.process.stdout.close()
+        self.output.close()
 
     def lines(self, words: str) -> list[str]:
         """Returns the lines of the log in which these words are found."""
@@ -126,7 +126,7 @@ class Client(Association):
 
     def found(self, *keys: tuple[tuple[int, int], bytes]) -> list[Attributes]:
         """Returns the matches of a C-FIND by these keys, with UIDs, states and labels."""
-        asked = {SOP_INSTANCE: b"", STATE: b"", LABEL: b""} | dict(keys)
+        asked: dict[tuple[int, int], bytes] = {SOP_INSTANCE: b"", STATE: b"", LABEL: b""} | dict(keys)
         self.socket.sendall(find(PULL_ON, self.next(), b"".join(told(*tag, VRS[tag], value) for tag, value in sorted(asked.items()))))
         return self.matches()
 
@@ -253,7 +253,7 @@ def rows_of(file: str) -> list[Row]:
 def runs_of(file: str) -> list[Row]:
     """Returns the runs that a store has recorded, by a copy of it."""
     with tempfile.TemporaryDirectory() as folder, contextlib.closing(sqlite3.connect(copy_of(file, folder))) as opened:
-        return opened.execute("SELECT number, moment, version, settings, requests FROM run ORDER BY number").fetchall()
+        return opened.execute("SELECT number, moment, version, settings, requests, terms FROM run ORDER BY number").fetchall()
 
 
 @dataclasses.dataclass

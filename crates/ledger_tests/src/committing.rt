@@ -48,6 +48,10 @@ impl Ledger for Slate {
 
     ghost recovers = { λ _ _. true ≢ true };
 
+    fn run(&self) -> u64 {
+        1
+    }
+
     fn append(&mut self, records: &[Record<Global>]) -> Result<(), LedgerFault> {
         if self.is_full {
             return Err(LedgerFault::Full);

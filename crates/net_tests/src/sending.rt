@@ -14,7 +14,7 @@ use std::time::Clock;
 use ups_assoc::Config;
 use ups_ledger::Commits;
 use ups_manager::Manager;
-use ups_net::{Account, ServerOptions, Tally, end_told, serve_one};
+use ups_net::{Account, ServerOptions, Tally, end_told, ends_of, serve_one};
 use ups_service::SharedService;
 use ups_session::{End, SessionFault};
 use ups_settings::ServerLimits;
@@ -71,7 +71,10 @@ fn told_by<M: SharedService<Global>, R: Wait + Clock + Log>(
     requires here { pass.table ≡ desk.now.table }
 {
     let none: Commits<Brand> = Commits::of_none();
-    let (_, ended, is_sent) = serve_one(rt, server, account, None, desk, pass, options, &none);
+    let (inlet, outlet) = ends_of(server, None);
+    let (_, ended, is_sent, _) = serve_one(
+        rt, inlet, outlet, account, None, desk, pass, options, &none,
+    );
     end_told(ended, is_sent)
 }
 

@@ -16,16 +16,19 @@ use ups_ledger::NoLedger;
 use ups_manager::Manager;
 use ups_net::Network;
 use ups_server::{RanServer, StoreOpener, Unopened, serve_words};
+use ups_terms::StartChoices;
 
 /// Opens no store: a server that ends keeps nothing.
 #[derive(Clone, Copy)]
 struct NoStores;
 
 impl<'a> StoreOpener<'a, NoLedger> for NoStores {
+    ghost begins = { λ _ _ _ _ _. Unit {0} };
+
     fn open(
         &self,
         _file: &'a str,
-        _may_leave_out: bool,
+        _choices: StartChoices,
         manager: &mut Manager<Global>,
     ) -> Result<(NoLedger, usize), Unopened> {
         Err(Unopened::Told)

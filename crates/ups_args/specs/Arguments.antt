@@ -1,5 +1,5 @@
 -- What the words of a command line say.
-use Rattle.std.specs.Prelude.{◌≡◌, ◌≢◌, ◌⊎◌, ℕ, ◌<◌, ◌≤◌, ◌^◌, ℤ, Bool, true, false, List, [], ◌∷◌, ◌++◌, length, slice_index, codes, string_bytes, Option, Some, None, option_map, unwrap_or}
+use Rattle.std.specs.Prelude.{◌≡◌, ◌≢◌, ◌⊎◌, ℕ, ◌<◌, ◌≤◌, ◌^◌, ℤ, Bool, true, false, ◌||◌, nat_lt, is_some, List, [], ◌∷◌, ◌++◌, length, slice_index, codes, string_bytes, Option, Some, None, option_map, unwrap_or}
 use Rattle.std.specs.Str.Parse.{IsNumeral, digits_value, signed_digits_value, without_leading_plus, without_leading_sign}
 use Rattle.clap.specs.declared.parser.matches.Found.{Found}
 use Rattle.clap.specs.Matches.{first_value, matched_of, one_text, raw_values}
@@ -164,6 +164,10 @@ FailToName words fault = ⊥
 -- the words of an argument that may be given several times
 abbrev pub argument_words : Found → List ℕ → List (List ℕ)
 argument_words found id = unwrap_or (option_map raw_values (matched_of found id)) []
+
+-- whether a word gives a setting of the service: `--keep`, `--offset` or a peer
+abbrev pub gives_settings : Found → Bool
+gives_settings found = is_some (first_value found (codes "keep")) || (is_some (first_value found (codes "offset")) || nat_lt 0 (length (argument_words found (codes "peer"))))
 
 -- the value of a flag, as the parser found it; false if it found none
 pub record IsFlag (found : Found) (id : List ℕ) (flag : Bool) : Type 0 where

@@ -23,6 +23,7 @@ use ups_pdu::Ae;
 use ups_settings::{
     DELIVERY_TIMEOUT, IDLE, MAX_WORKERS, ServerLimits, TIMEOUT, TURNS, WORKERS, Watcher,
 };
+use ups_terms::StartChoices;
 
 /// Adds the options for the address that a server listens on.
 fn with_door<'a>(alloc: Global, command: Command<'a>) -> Result<Command<'a>, AllocError> {
@@ -219,8 +220,8 @@ pub struct ServeArguments<'a> {
     pub limits: ServerLimits,
     /// The file in which accepted requests are kept, if there is one.
     pub store: Option<&'a str>,
-    /// Whether requests of the store that are not accepted with these settings are left out.
-    pub leave_out: bool,
+    /// What the start may do with the requests of the store.
+    pub choices: StartChoices,
     /// Whether to log how each association is answered, and each request.
     pub verbose: bool,
 }
@@ -247,7 +248,9 @@ pub fn serve_arguments<'a>(
     ensures timeout { IfOk result (λ asked. SaysTimeout (first_value (found_of matches.now) (codes "timeout")) asked.limits.timeout) }
     ensures delivery_timeout { IfOk result (λ asked. SaysDeliveryTimeout (first_value (found_of matches.now) (codes "delivery-timeout")) asked.limits.delivery_timeout) }
     ensures store { IfOk result (λ asked. option_map (λ w. w.now) asked.store ≡ first_value (found_of matches.now) (codes "store")) }
-    ensures leave_out { IfOk result (λ asked. IsFlag (found_of matches.now) (codes "store-leave-out") asked.leave_out) }
+    ensures leave_out { IfOk result (λ asked. IsFlag (found_of matches.now) (codes "store-leave-out") asked.choices.may_leave_out) }
+    ensures compact { IfOk result (λ asked. IsFlag (found_of matches.now) (codes "compact") asked.choices.may_compact) }
+    ensures other_settings { IfOk result (λ asked. IsFlag (found_of matches.now) (codes "store-other-settings") asked.choices.may_change_terms) }
     ensures verbose { IfOk result (λ asked. IsFlag (found_of matches.now) (codes "verbose") asked.verbose) }
     ensures some { IfOk result (λ asked. 1 ≤ asked.limits.workers) }
     ensures most { IfOk result (λ asked. asked.limits.workers ≤ workers_limit) }
@@ -270,7 +273,11 @@ pub fn serve_arguments<'a>(
         offset: service.offset,
         limits,
         store: matches.get_str("store"),
-        leave_out: matches.get_flag("store-leave-out"),
+        choices: StartChoices {
+            may_leave_out: matches.get_flag("store-leave-out"),
+            may_compact: matches.get_flag("compact"),
+            may_change_terms: matches.get_flag("store-other-settings"),
+        },
         verbose: matches.get_flag("verbose"),
     })
 }

@@ -1,4 +1,4 @@
-//! The store of accepted requests: its file, and what may be left out of it.
+//! The store of accepted requests: its file, and what a start may do with its requests.
 
 use crate::options::{flag, worded};
 use clap::builder::ValueParser;
@@ -12,9 +12,12 @@ pub(crate) fn with_store<'a>(
 ) -> Result<Command<'a>, AllocError> {
     let store =
         "the file that keeps accepted requests over a restart [default: none, memory alone]";
+    let compact = "compact the store at this start, if more than half of its requests then go";
     command
         .arg(naming_file(worded(alloc, "store", "FILE", store)))?
-        .arg(leave_out_flag(alloc).requires_arg("store")?)
+        .arg(leave_out_flag(alloc).requires_arg("store")?)?
+        .arg(other_settings_flag(alloc).requires_arg("store")?)?
+        .arg(flag(alloc, "compact", compact).requires_arg("store")?)
 }
 
 /// Returns the argument that names the file of a store.
@@ -36,4 +39,11 @@ pub(crate) fn leave_out_flag<'a>(alloc: Global) -> Arg<'a> {
     let leave_out =
         "leave out requests of the store that these settings do not accept, in place of ending at the first";
     flag(alloc, "store-leave-out", leave_out)
+}
+
+/// Returns the option that allows other settings than those of the last run.
+pub(crate) fn other_settings_flag<'a>(alloc: Global) -> Arg<'a> {
+    let other_settings =
+        "go on though --keep or --offset is not that of the store's last run, or a peer or a right is missing";
+    flag(alloc, "store-other-settings", other_settings)
 }

@@ -17,6 +17,16 @@ pub(crate) fn with_times<'a>(
 ) -> Result<Command<'a>, AllocError> {
     let keep = "for how many seconds a finished step is kept at least [default: 60]";
     let offset = "the offset of the local time from UTC, above 0 east of it [default: 0]";
+    with_helped_times(alloc, command, keep, offset)
+}
+
+/// Adds the same options with these help texts.
+pub(crate) fn with_helped_times<'a>(
+    alloc: Global,
+    command: Command<'a>,
+    keep: &'a str,
+    offset: &'a str,
+) -> Result<Command<'a>, AllocError> {
     let offset = worded(alloc, "offset", "MINUTES", offset).allow_negative_numbers(true);
     command.arg(worded(alloc, "keep", "N", keep))?.arg(offset)
 }

@@ -65,6 +65,12 @@ module _ {A : Type 0} where
       ap (take (length seen)) first.are
       ∙ (take-map recorded (length seen) (take count history) ∙ ap (λ (l : List (Entry A)). map recorded l) (take-take (length seen) count history few ∙ (ap (take (length seen)) (sym is) ∙ take_at seen rest (length seen) refl)))
 
+  -- the records of the first entries of a history begin with those of what was seen of it
+  pub rests_first : (records : List (Record A)) (history seen : List (Entry A)) (count rests : ℕ) → AreFirst records history count → BeginsHistory seen history → rests ≤ count → rests ≤ length seen → take rests records ≡ map recorded (take rests seen)
+  rests_first records history seen count rests first (rest, is) few within =
+      ap (take rests) first.are
+      ∙ (take-map recorded rests (take count history) ∙ ap (λ (l : List (Entry A)). map recorded l) (take-take rests count history few ∙ (ap (take rests) (sym is) ∙ take-append-le rests seen rest within)))
+
 -- records behind as many as were committed are as many more
 pub behind_counted : (all records : List (Record Global)) (committed : ℕ) → AreBehind all committed records → length all ≡ committed + length records
 behind_counted all records committed behind = ap length behind.are ∙ (length-append behind.front records ∙ ap (λ (n : ℕ). n + length records) behind.many)

@@ -1,3 +1,3 @@
 pub mod Growing
 pub mod Had
-mod Leaving
+pub mod Leaving

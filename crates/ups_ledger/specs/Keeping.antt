@@ -42,7 +42,38 @@ module _ {L : Type 0} (g : Ghosts L) where
   abbrev pub IsSafe : Keeper L g → List (Entry Global) → Type 0
   IsSafe keeper history = LeavesFirst keeper.ledger history keeper.committed
 
+  -- The records that the ledger has, and those that a crash would leave, begin with those of what a pass has seen, as far as
+  -- that is committed.
+  pub record KeepsSeen (keeper : Keeper L g) (seen : List (Entry Global)) : Type 0 where
+    pub has : (n : ℕ) → n ≤ keeper.committed → n ≤ length seen → g.is_sound keeper.ledger → take n (g.kept keeper.ledger) ≡ map recorded (take n seen)
+    pub leaves : (n : ℕ) → n ≤ keeper.committed → n ≤ length seen → g.is_first keeper.ledger → (rs : List (Record Global)) → g.recovers keeper.ledger rs → take n rs ≡ map recorded (take n seen)
+
   -- `IsKept`, if a ledger is kept
   abbrev pub AreKept : Option (Keeper L g) → List (Entry Global) → Type 0
   AreKept None history = ⊤
   AreKept (Some keeper) history = IsKept keeper history
+
+  -- `IsSafe`, if a ledger is kept
+  abbrev pub AreSafe : Option (Keeper L g) → List (Entry Global) → Type 0
+  AreSafe None history = ⊤
+  AreSafe (Some keeper) history = IsSafe keeper history
+
+  -- the ledger is sound, if one is kept
+  abbrev pub AreSound : Option (Keeper L g) → Type 0
+  AreSound None = ⊤
+  AreSound (Some keeper) = g.is_sound keeper.ledger
+
+  -- A ledger beside a history that goes on: if it had the first entries, and a crash would have left them, so it is
+  -- afterwards; no fewer are committed; and if it is sound afterwards, it was before.
+  pub record KeeperGoesOn (old : Keeper L g) (before : List (Entry Global)) (new : Keeper L g) (after : List (Entry Global)) : Type 0 where
+    pub kept : IsKept old before → IsKept new after
+    pub safe : IsKept old before → IsSafe old before → IsSafe new after
+    pub more : old.committed ≤ new.committed
+    pub sound : g.is_sound new.ledger → g.is_sound old.ledger
+
+  -- `KeeperGoesOn`, if a ledger is kept
+  abbrev pub KeepersGoOn : Option (Keeper L g) → List (Entry Global) → Option (Keeper L g) → List (Entry Global) → Type 0
+  KeepersGoOn None before None after = ⊤
+  KeepersGoOn None before (Some new) after = ⊥
+  KeepersGoOn (Some old) before None after = ⊥
+  KeepersGoOn (Some old) before (Some new) after = KeeperGoesOn old before new after

@@ -50,6 +50,8 @@ pub struct Commits<K: Keeping> {
     waiting: AtomicU64,
     /// The number that has to be asked for to wake the committing thread; 0 if it is awake.
     alarm: AtomicU64,
+    /// The number of the run, or 0 if nothing is kept.
+    run: u64,
 }
 
 impl<K: Keeping> Drop for Commits<K> {
@@ -60,6 +62,7 @@ impl<K: Keeping> Drop for Commits<K> {
             asked: _,
             waiting: _,
             alarm: _,
+            run: _,
         } = self;
     }
 }
@@ -93,6 +96,7 @@ impl<K: Keeping> Commits<K> {
             asked: AtomicU64::new(count),
             waiting: AtomicU64::new(0),
             alarm: AtomicU64::new(AWAKE),
+            run: keeper.ledger.run(),
         }
     }
 
@@ -106,6 +110,7 @@ impl<K: Keeping> Commits<K> {
             asked: AtomicU64::new(ALL),
             waiting: AtomicU64::new(0),
             alarm: AtomicU64::new(AWAKE),
+            run: 0,
         }
     }
 
@@ -122,6 +127,14 @@ impl<K: Keeping> Commits<K> {
             ALL => None,
             count => Some(count),
         }
+    }
+
+    /// Returns the number of the run whose entries are kept, or None if nothing is kept.
+    pub fn run(&self) -> Option<u64> {
+        if self.run == 0 {
+            return None;
+        }
+        Some(self.run)
     }
 
     /// Returns the highest number that was asked for.

@@ -60,6 +60,8 @@ impl<L: Ledger> Keeper<L> {
         ensures number { OnOk result (self.new.committed ≡ self.old.committed + length (take most (drop self.old.committed pass.new.seen))) }
         ensures behind { OnOk result (self.old.committed < self.new.committed → L.is_honest self.new.ledger → AreBehind (L.kept self.new.ledger) self.old.committed (map recorded (take most (drop self.old.committed pass.new.seen)))) }
         ensures safe { IsKept L.Ledger self.old pass.old.seen → IsSafe L.Ledger self.old pass.old.seen → IsSafe L.Ledger self.new pass.new.seen }
+        ensures more { self.old.committed ≤ self.new.committed }
+        ensures sound { L.is_sound self.new.ledger → L.is_sound self.old.ledger }
     {
         let committed = commit(
             rt,
@@ -78,6 +80,8 @@ impl<L: Ledger> Keeper<L> {
     pub fn tidy(&mut self)
         ensures kept { (history : List (Entry Global)) → IsKept L.Ledger self.old history → IsKept L.Ledger self.new history }
         ensures safe { (history : List (Entry Global)) → IsKept L.Ledger self.old history → IsSafe L.Ledger self.old history → IsSafe L.Ledger self.new history }
+        ensures more { self.old.committed ≤ self.new.committed }
+        ensures sound { L.is_sound self.new.ledger → L.is_sound self.old.ledger }
     {
         self.ledger.tidy();
     }

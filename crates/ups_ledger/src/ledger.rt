@@ -32,6 +32,9 @@ pub trait Ledger: Drop {
     /// That a crash can leave these records, if the disk has done what it is supposed to do.
     ghost recovers: { Self → List (Record Global) → Type 0 };
 
+    /// Returns the number of the run of the program that appends, which no compaction resets; 0 if nothing is kept.
+    fn run(&self) -> u64;
+
     /// Appends records, all or none, and returns once they are committed.
     ///
     /// # Errors

@@ -26,6 +26,10 @@ impl Ledger for NoLedger {
 
     ghost recovers = { λ _ rs. rs ≡ [] };
 
+    fn run(&self) -> u64 {
+        0
+    }
+
     fn append(&mut self, _records: &[Record<Global>]) -> Result<(), LedgerFault> {
         Err(LedgerFault::Full)
     }

@@ -1,7 +1,6 @@
--- A pass that looks at the history and sweeps, and a ledger that has the beginning of what it has seen.
-use Rattle.std.proofs.Common.{◌≡◌, ℕ, suc, Bool, true, false, nat_lt, List, [], ◌∷◌, ◌++◌, Option, Some, None, refl, sym, ap, ◌∙◌, subst, arith}
+-- A pass that looks at the history and sweeps.
+use Rattle.std.proofs.Common.{◌≡◌, ℕ, suc, Bool, true, false, nat_lt, List, [], ◌∷◌, ◌++◌, refl, sym, ap, ◌∙◌, subst, arith}
 use Rattle.std.specs.Prelude.{All, MatchBool}
-use Rattle.std.specs.Global.{Global}
 use Rattle.std.proofs.lemmas.List.{append_assoc, append-nil}
 use Rattle.std.proofs.lemmas.List.Elements.{All-nil, All-append}
 use Rattle.ups_life.specs.declared.entry.Entry.{Entry}
@@ -9,10 +8,7 @@ use Rattle.ups_life.specs.declared.request.Ask.{Ask}
 use Rattle.ups_life.specs.declared.request.Reply.{Reply}
 use Rattle.ups_service.specs.Law.{entered}
 use Rattle.ups_turn.specs.Pass.{PassView, most_calls, IsServed, IsSpent, IsCall}
-use Rattle.ups_ledger.specs.declared.keeper.Keeper.{Keeper}
-use Rattle.ups_ledger.specs.declared.ledger.Ledger.{Ghosts}
-use Rattle.ups_ledger.specs.Keeping.{AreKept, HasWatched, IsKept}
-use Rattle.ups_ledger.proofs.Growing.{first_again}
+use Rattle.ups_ledger.specs.Keeping.{HasWatched}
 use Rattle.ups_net.specs.Sweeping.{LooksIfKept, Sweeps, SweepsOnce}
 use Rattle.ups_net.specs.Working.{seen_last}
 
@@ -55,12 +51,3 @@ module _ {A : Type 0} where
   seen_behind [] last = refl
   seen_behind (p ∷ []) last = refl
   seen_behind (p ∷ q ∷ ps) last = seen_behind (q ∷ ps) last
-
-module _ {L : Type 0} (g : Ghosts L) where
-  -- a ledger has the beginning of a history that goes on too
-  pub kept_on : (keeper : Keeper L g) (old new more : List (Entry Global)) → new ≡ old ++ more → IsKept g keeper old → IsKept g keeper new
-  kept_on keeper old new more is kept = λ sound. first_again (g.kept keeper.ledger) old more new keeper.committed is (kept sound)
-
-  pub are_kept_on : (keeper : Option (Keeper L g)) (old new more : List (Entry Global)) → new ≡ old ++ more → AreKept g keeper old → AreKept g keeper new
-  are_kept_on None old new more is kept = tt
-  are_kept_on (Some keeper) old new more is kept = kept_on keeper old new more is kept

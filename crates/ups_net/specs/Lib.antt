@@ -1,5 +1,6 @@
 pub mod Delivering
 pub mod Journal
+pub mod Leaving
 pub mod Sending
 pub mod Serving
 pub mod Sharing

@@ -5,7 +5,7 @@ ghost use Rattle.ups_journal.specs.Columns.{recorded};
 ghost use Rattle.ups_ledger.specs.Backed.{Backs};
 ghost use Rattle.ups_ledger.specs.Behind.{AreBehind};
 ghost use Rattle.ups_ledger.specs.Grouping.{most_in};
-ghost use Rattle.ups_ledger.specs.Keeping.{HasWatched, IsKept};
+ghost use Rattle.ups_ledger.specs.Keeping.{KeeperGoesOn, HasWatched};
 
 use crate::clock::moment_of;
 use crate::journal::{tell_recovered, tell_uncommitted};
@@ -184,7 +184,7 @@ impl Committer {
         requires backs { Backs L.Ledger K.had }
         ensures stays { pass.new.table ≡ pass.old.table }
         ensures watched { HasWatched pass.old pass.new }
-        ensures kept { IsKept L.Ledger keeper.old pass.old.seen → IsKept L.Ledger keeper.new pass.new.seen }
+        ensures goes_on { KeeperGoesOn L.Ledger keeper.old pass.old.seen keeper.new pass.new.seen }
         ensures behind { IsTrue result → keeper.old.committed < keeper.new.committed → L.is_honest keeper.new.ledger → AreBehind (L.kept keeper.new.ledger) keeper.old.committed (map recorded (take (most_in self.old.group) (drop keeper.old.committed pass.new.seen))) }
     {
         let before = keeper.count();
@@ -223,7 +223,7 @@ impl Committer {
         requires backs { Backs L.Ledger K.had }
         ensures stays { pass.new.table ≡ pass.old.table }
         ensures watched { HasWatched pass.old pass.new }
-        ensures kept { IsKept L.Ledger keeper.old pass.old.seen → IsKept L.Ledger keeper.new pass.new.seen }
+        ensures goes_on { KeeperGoesOn L.Ledger keeper.old pass.old.seen keeper.new pass.new.seen }
     {
         if !is_more {
             return true;
@@ -250,7 +250,7 @@ impl Committer {
         requires backs { Backs L.Ledger K.had }
         ensures stays { pass.new.table ≡ pass.old.table }
         ensures watched { HasWatched pass.old pass.new }
-        ensures kept { IsKept L.Ledger keeper.old pass.old.seen → IsKept L.Ledger keeper.new pass.new.seen }
+        ensures goes_on { KeeperGoesOn L.Ledger keeper.old pass.old.seen keeper.new pass.new.seen }
     {
         for _ in rt.forever() {
             let left = left_of_round(rt, begun);
@@ -283,7 +283,7 @@ impl Committer {
         requires backs { Backs L.Ledger K.had }
         ensures stays { pass.new.table ≡ pass.old.table }
         ensures watched { HasWatched pass.old pass.new }
-        ensures kept { IsKept L.Ledger keeper.old pass.old.seen → IsKept L.Ledger keeper.new pass.new.seen }
+        ensures goes_on { KeeperGoesOn L.Ledger keeper.old pass.old.seen keeper.new pass.new.seen }
     {
         match Instant::now(rt) {
             Ok(begun) => self.keep_until(rt, premises, alloc, desk, pass, keeper, begun),
@@ -311,7 +311,7 @@ impl Committer {
         requires backs { Backs L.Ledger K.had }
         ensures stays { pass.new.table ≡ pass.old.table }
         ensures watched { HasWatched pass.old pass.new }
-        ensures kept { IsKept L.Ledger keeper.old pass.old.seen → IsKept L.Ledger keeper.new pass.new.seen }
+        ensures goes_on { KeeperGoesOn L.Ledger keeper.old pass.old.seen keeper.new pass.new.seen }
     {
         let committed = keeper.count();
         self.has_looked = false;

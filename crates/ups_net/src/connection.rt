@@ -2,11 +2,12 @@
 
 ghost use Rattle.std.specs.Prelude.{◌≤◌, length, IfOk};
 
+use crate::sink::Sink;
 use crate::socket;
 use crate::wire_fault::WireFault;
 use std::alloc::Global;
 use std::cell::Cell;
-use std::io::{Read, Write};
+use std::io::{self, ErrorKind, Read, Write};
 use std::net::{TcpListener, TcpStream};
 use std::time::Duration;
 use ups_ledger::{Committed, Due, Keeping, Noted};
@@ -54,36 +55,64 @@ pub(crate) fn is_shorter(one: Duration, other: Option<Duration>) -> bool {
     }
 }
 
+/// A connection with a peer. It is read and written by its two ends alone.
+#[derive(Drop)]
+pub struct Connection {
+    stream: TcpStream,
+}
+
+impl Connection {
+    /// Returns the connection of a stream.
+    pub fn of(stream: TcpStream) -> Connection {
+        Connection { stream }
+    }
+
+    /// Returns the two ends of the connection, which lets a read and a write wait for `limit`.
+    pub(crate) fn ends(&self, limit: Option<Duration>) -> (Inlet<'_>, Outlet<'_>) {
+        ends_of(&self.stream, limit)
+    }
+
+    /// Makes the connection let a read wait for `limit`.
+    pub(crate) fn set_read_limit(&self, limit: Option<Duration>) -> io::Result<()> {
+        self.stream.set_read_timeout(limit)
+    }
+
+    /// Returns whether the peer has said something, or has closed or lost the connection, so that there is something to
+    /// serve.
+    pub(crate) fn has_spoken(&self) -> bool {
+        match self.stream.peek(&mut [0]) {
+            Ok(_) => true,
+            Err(fault) => !matches!(
+                fault.kind(),
+                ErrorKind::WouldBlock | ErrorKind::TimedOut | ErrorKind::Interrupted
+            ),
+        }
+    }
+}
+
 /// The end of a connection from which bytes are read. Nothing can be written on it.
 #[derive(Drop)]
-pub(crate) struct Inlet<'a> {
+pub struct Inlet<'a> {
     stream: &'a TcpStream,
     /// How long the connection lets a read wait.
     limit: Cell<Option<Duration>>,
 }
 
-/// The end of a connection on which bytes are written: those behind which as many entries are committed as they rest on,
-/// and an A-ABORT, which rests on none. Nothing else can be written on it.
+/// The end of a connection on which bytes are written. Nothing can be written on it but as on each [`Sink`].
 #[derive(Drop)]
-pub(crate) struct Outlet<'a> {
+pub struct Outlet<'a> {
     stream: &'a TcpStream,
     /// How long the connection lets a write wait.
-    limit: Cell<Option<Duration>>,
+    limit: Option<Duration>,
 }
 
 /// Returns the two ends of a connection that lets a read and a write wait for `limit`.
-pub(crate) fn ends_of<'a>(
-    stream: &'a TcpStream,
-    limit: Option<Duration>,
-) -> (Inlet<'a>, Outlet<'a>) {
+pub fn ends_of<'a>(stream: &'a TcpStream, limit: Option<Duration>) -> (Inlet<'a>, Outlet<'a>) {
     let inlet = Inlet {
         stream,
         limit: Cell::new(limit),
     };
-    let outlet = Outlet {
-        stream,
-        limit: Cell::new(limit),
-    };
+    let outlet = Outlet { stream, limit };
     (inlet, outlet)
 }
 
@@ -148,34 +177,28 @@ impl<'a> Inlet<'a> {
     }
 }
 
-impl<'a> Outlet<'a> {
-    /// Makes the connection let a write wait for `limit`, or a little longer.
-    pub(crate) fn set_limit(&self, limit: Option<Duration>) -> Result<(), WireFault> {
-        let set = self.limit.get();
+impl<'a> Sink for Outlet<'a> {
+    fn set_limit(&mut self, limit: Option<Duration>) -> Result<(), WireFault> {
+        let set = self.limit;
         if set != limit && (is_too_long(set, limit) || is_too_short(set, limit)) {
             self.stream.set_write_timeout(limit)?;
-            self.limit.set(limit);
+            self.limit = limit;
         }
         Ok(())
     }
 
-    /// Writes once, while at least as many entries are committed as are due.
-    pub(crate) fn write_backed<D: Noted, K: Keeping>(
-        &self,
+    fn write_backed<D: Noted, K: Keeping>(
+        &mut self,
         due: &Due<D>,
         committed: &Committed<K>,
-        buf: &[u8],
-    ) -> Result<usize, WireFault>
-        requires backed { due.now.seen.total ≤ committed.now.count }
-        ensures { IfOk result (λ count. count ≤ length buf.now) }
-    {
+        bytes: &[u8],
+    ) -> Result<usize, WireFault> {
         let mut writer = self.stream;
-        Ok(writer.write(buf)?)
+        Ok(writer.write(bytes)?)
     }
 
-    /// Writes an A-ABORT by the service provider (PS3.8 section 9.3.8), as far as the connection takes it at once.
     #[cold]
-    pub(crate) fn write_abort(&self, alloc: Global) -> Result<(), WireFault> {
+    fn write_abort(&mut self, alloc: Global) -> Result<(), WireFault> {
         let abort = Pdu::Abort {
             source: BY_PROVIDER,
             reason: NOT_SPECIFIED,

@@ -133,6 +133,7 @@ impl Lookout {
         if self.numbers.is_due(now) {
             let numbers = Numbers {
                 entries,
+                run: premises.commits.run(),
                 committed: premises.commits.kept(),
                 taken: premises.door.taken(),
                 workers: options.limits.workers,

@@ -2,8 +2,10 @@
 
 ghost use Rattle.std.specs.Prelude.{◌≡◌, ◌≤◌, true, length, IfOk, IfSome};
 ghost use Rattle.ups_ledger.specs.Backed.{IsBacked};
+ghost use Rattle.ups_net.specs.Leaving.{HasLeft};
 
-use crate::connection::Outlet;
+use crate::outward::{Departing, Outward};
+use crate::sink::Sink;
 use crate::wire_fault::WireFault;
 use std::alloc::Global;
 use std::cell::RefCell;
@@ -11,7 +13,7 @@ use std::io::{self, ErrorKind, Write};
 use std::sync::ledger::Share;
 use std::sync::{Mutex, Wait};
 use std::time::{Clock, Duration};
-use ups_ledger::{Commits, Committed, Due, Keeping, Noted};
+use ups_ledger::{Commits, Committed, Due, Keeping};
 
 /// What answers wait for before they are sent: until as many entries are committed as they rest on, for at most
 /// `limit`.
@@ -33,8 +35,8 @@ pub(crate) trait Pace {
 
 /// The bytes that wait to be sent on a connection. All that is sent on it leaves here.
 #[derive(Drop)]
-pub(crate) struct Outbox<'a, D: Noted, K: Keeping> {
-    outlet: Outlet<'a>,
+pub(crate) struct Outbox<'a, D: Departing, K: Keeping, S: Sink> {
+    outward: RefCell<Outward<D, K, S>>,
     waiting: RefCell<Vec<u8>>,
     /// The number of entries that must be committed before anything is sent.
     due: Mutex<Due<D>>,
@@ -43,25 +45,25 @@ pub(crate) struct Outbox<'a, D: Noted, K: Keeping> {
 
 /// The sending of what waits. At least as many entries are committed as are due.
 #[derive(Drop)]
-struct Departure<'a, P: Pace, D: Noted, K: Keeping> {
-    outlet: &'a Outlet<'a>,
+struct Departure<'a, P: Pace, D: Departing, K: Keeping, S: Sink> {
+    outward: &'a mut Outward<D, K, S>,
     pace: &'a P,
     due: &'a Due<D>,
     committed: &'a Committed<K>,
     ghost backed: { due.now.seen.total ≤ committed.now.count },
 }
 
-impl<'a, P: Pace, D: Noted, K: Keeping> Departure<'a, P, D, K> {
+impl<'a, P: Pace, D: Departing, K: Keeping, S: Sink> Departure<'a, P, D, K, S> {
     // Writes once, in what is left of the time.
-    fn write_once(&self, buf: &[u8]) -> Result<usize, WireFault>
+    fn write_once(&mut self, buf: &[u8]) -> Result<usize, WireFault>
         ensures { IfOk result (λ count. count ≤ length buf.now) }
     {
-        self.outlet.set_limit(self.pace.left_to_write()?)?;
-        self.outlet.write_backed(self.due, self.committed, buf)
+        self.outward.set_limit(self.pace.left_to_write()?)?;
+        self.outward.write_backed(self.due, self.committed, buf)
     }
 }
 
-impl<'a, P: Pace, D: Noted, K: Keeping> Write for Departure<'a, P, D, K> {
+impl<'a, P: Pace, D: Departing, K: Keeping, S: Sink> Write for Departure<'a, P, D, K, S> {
     fn write(&mut self, buf: &[u8]) -> io::Result<usize> {
         match self.write_once(buf) {
             Ok(count) => Ok(count),
@@ -74,16 +76,18 @@ impl<'a, P: Pace, D: Noted, K: Keeping> Write for Departure<'a, P, D, K> {
     }
 }
 
-impl<'a, D: Noted, K: Keeping> Outbox<'a, D, K> {
+impl<'a, D: Departing, K: Keeping, S: Sink> Outbox<'a, D, K, S> {
     /// Creates an outbox in which nothing waits.
     pub(crate) fn new(
         alloc: Global,
-        outlet: Outlet<'a>,
+        sink: S,
         backing: Backing<'a, K>,
         due: Due<D>,
-    ) -> Outbox<'a, D, K> {
+    ) -> Outbox<'a, D, K, S>
+        requires left { S.left sink ≡ D.left }
+    {
         Outbox {
-            outlet,
+            outward: RefCell::new(Outward::new(sink)),
             waiting: RefCell::new(Vec::new(alloc)),
             due: Mutex::new(due),
             backing,
@@ -146,13 +150,16 @@ impl<'a, D: Noted, K: Keeping> Outbox<'a, D, K> {
         let Ok(mut waiting) = self.waiting.try_borrow_mut() else {
             return Err(WireFault::of(ErrorKind::ResourceBusy));
         };
+        let Ok(mut outward) = self.outward.try_borrow_mut() else {
+            return Err(WireFault::of(ErrorKind::ResourceBusy));
+        };
         let due = self.due.lock(rt);
         let Some(committed) = self.committed_for(rt, &due) else {
             waiting.clear();
             return Ok(false);
         };
         let mut departure = Departure {
-            outlet: &self.outlet,
+            outward: &mut outward,
             pace,
             due: &due,
             committed: &committed,
@@ -184,6 +191,17 @@ impl<'a, D: Noted, K: Keeping> Outbox<'a, D, K> {
     ///
     /// If memory runs out, or the connection fails.
     pub(crate) fn abort(&self, alloc: Global) -> Result<(), WireFault> {
-        self.outlet.write_abort(alloc)
+        match self.outward.try_borrow_mut() {
+            Ok(mut outward) => outward.write_abort(alloc),
+            Err(_) => Err(WireFault::of(ErrorKind::ResourceBusy)),
+        }
+    }
+
+    /// Returns the sink. All that has left it rests on what was committed then.
+    pub(crate) fn into_sink(self) -> S
+        ensures { ∥ HasLeft K.had D.left (S.left result) ∥₁ }
+    {
+        let Outbox { outward, .. } = self;
+        outward.into_inner().into_sink()
     }
 }

@@ -7,7 +7,7 @@ ghost use Rattle.ups_turn.specs.Pass.{PassView};
 ghost use Rattle.ups_net.specs.Serving.{ServesAssociations};
 ghost use Rattle.ups_net.specs.Sweeping.{Sweeps};
 ghost use Rattle.ups_ledger.specs.Backed.{Backs};
-ghost use Rattle.ups_ledger.specs.Keeping.{AreKept};
+ghost use Rattle.ups_ledger.specs.Keeping.{KeepersGoOn};
 ghost use Rattle.ups_net.specs.Working.{EndsThread, EndThreads, Ran, seen_last};
 ghost use Rattle.ups_net.specs.declared.options.ServerOptions.{ServerOptions};
 
@@ -20,6 +20,7 @@ use crate::network::Network;
 use crate::options::ServerOptions;
 use crate::premises::Premises;
 use crate::serving::serve_one;
+use crate::socket::limit_of;
 use crate::sweeping::sweep;
 use log::Log;
 use std::alloc::Global;
@@ -48,14 +49,19 @@ pub fn work<M: SharedService<Global>, K: Keeping, R: Wait + Clock + Log>(
     let mut pass = pass;
     let mut in_row = 0;
     for _ in 0..options.associations {
-        let Caller { stream, address } = door.next_connection(rt, options.limits.timeout);
+        let Caller {
+            connection,
+            address,
+        } = door.next_connection(rt, options.limits.timeout);
         let number = door.next_number();
         let account = Account::new(rt, options.alloc, number, address, options.verbose, tally);
         door.take_worker();
         let pressure = Some(Pressure { door, in_row });
-        let (after, ended, is_sent) = serve_one(
+        let (inlet, outlet) = connection.ends(limit_of(options.limits.timeout));
+        let (after, ended, is_sent, _) = serve_one(
             rt,
-            &stream,
+            inlet,
+            outlet,
             &account,
             pressure,
             desk,
@@ -130,7 +136,7 @@ where
     requires backs { Backs L.Ledger K.had }
     ensures sweeps { MatchBool begun (Sweeps options.now.config.ae (is_some keeper) options.now.rounds pass result.0) (result.0 ≡ pass) }
     ensures keeps { is_some result.1 ≡ is_some keeper }
-    ensures kept { AreKept L.Ledger keeper pass.seen → AreKept L.Ledger result.1 result.0.seen }
+    ensures goes_on { KeepersGoOn L.Ledger keeper pass.seen result.1 result.0.seen }
 {
     if !begun {
         return (pass, keeper);
@@ -258,7 +264,7 @@ where
     requires empty { (back.items ≡ []) × (unbegun.items ≡ []) }
     ensures ran { Ran options.now (is_some keeper) result.0 (passes.items ++ sweeper ∷ []) result.1.items }
     ensures keeps { is_some result.2 ≡ is_some keeper }
-    ensures kept { AreKept L.Ledger keeper sweeper.seen → AreKept L.Ledger result.2 (seen_last result.1.items) }
+    ensures goes_on { KeepersGoOn L.Ledger keeper sweeper.seen result.2 (seen_last result.1.items) }
 {
     let start = OnceLock::new();
     let start = &start;
@@ -277,7 +283,7 @@ where
             requires empty { (back.items ≡ []) × (unbegun.items ≡ []) }
             ensures ran { Ran options.entry.now (is_some keeper) result.0 (passes.items ++ sweeper ∷ []) result.1.items }
             ensures keeps { is_some result.2 ≡ is_some keeper }
-            ensures kept { AreKept L.Ledger keeper sweeper.seen → AreKept L.Ledger result.2 (seen_last result.1.items) }
+            ensures goes_on { KeepersGoOn L.Ledger keeper sweeper.seen result.2 (seen_last result.1.items) }
         {
             let Ok(mut handles) = Vec::with_capacity(options.alloc, passes.len()) else {
                 put_back(passes, &mut back);
@@ -351,7 +357,7 @@ where
     ensures all { length result.1.items ≡ length passes.items }
     ensures stay { All (λ p. p.table ≡ desk.now.table) result.1.items }
     ensures keeps { is_some result.2 ≡ is_some keeper }
-    ensures kept { AreKept L.Ledger keeper (seen_last passes.items) → AreKept L.Ledger result.2 (seen_last result.1.items) }
+    ensures goes_on { KeepersGoOn L.Ledger keeper (seen_last passes.items) result.2 (seen_last result.1.items) }
 {
     let Ok(back) = Vec::with_capacity(options.alloc, passes.len()) else {
         return (false, passes, keeper);

@@ -1,5 +1,5 @@
 -- A server that does what its command line asks.
-use Rattle.std.specs.Prelude.{◌≡◌, ℕ, ◌+◌, ◌-◌, min, max, Bool, false, List, [], codes, length, is_some, option_map, unwrap_or, Option, None, Some}
+use Rattle.std.specs.Prelude.{◌≡◌, ℕ, ◌+◌, ◌-◌, min, max, Bool, List, [], codes, length, is_some, option_map, unwrap_or, Option, None, Some, MatchOption}
 use Rattle.std.specs.Global.{Global}
 use Rattle.atomic_table.specs.Seated.{TableId}
 use Rattle.clap.specs.Matches.{first_value}
@@ -8,7 +8,7 @@ use Rattle.ups_args.specs.Arguments.{IsFlag, NamePeers, NameWatchers, SaysDelive
 use Rattle.ups_args.specs.declared.server.ServeArguments.{ServeArguments}
 use Rattle.ups_ledger.specs.declared.keeper.Keeper.{Keeper}
 use Rattle.ups_ledger.specs.declared.ledger.Ledger.{Ghosts}
-use Rattle.ups_ledger.specs.Keeping.{IsKept}
+use Rattle.ups_ledger.specs.Keeping.{IsKept, IsSafe}
 use Rattle.ups_life.specs.declared.entry.Entry.{Entry}
 use Rattle.ups_life.specs.Limits.{history_limit}
 use Rattle.ups_life.specs.Settings.{Settings}
@@ -17,6 +17,7 @@ use Rattle.ups_net.specs.declared.options.ServerOptions.{ServerOptions}
 use Rattle.ups_pdu.specs.Title.{SpellsAe}
 use Rattle.ups_service.specs.State.{State}
 use Rattle.ups_settings.specs.Limits.{turns_limit, workers_limit}
+use Rattle.ups_terms.specs.declared.choices.StartChoices.{StartChoices}
 use Rattle.ups_turn.specs.Pass.{PassView, passes_from}
 
 -- the number of deliverers of event reports beside that many workers: one for each watcher, at most eight; no more than the
@@ -44,10 +45,10 @@ pub record AreAsked (options : ServerOptions) (asked : ServeArguments) (to_serve
   pub rounds : options.rounds ≡ to_make
 
 -- A manager begins without history if no ledger is kept; otherwise its whole history is committed, and the ledger has the
--- records if it is sound.
+-- records if it is sound, and would leave them.
 abbrev pub HasBegun : {L : Type 0} → (g : Ghosts L) → Option (Keeper L g) → List (Entry Global) → Type 0
 HasBegun g None history = history ≡ []
-HasBegun g (Some keeper) history = IsKept g keeper history × (keeper.committed ≡ length history)
+HasBegun g (Some keeper) history = IsKept g keeper history × IsSafe g keeper history × (keeper.committed ≡ length history)
 
 -- the outcome for the passes of the server: its threads have all done what is asked, or none has begun
 abbrev pub RanAsAsked : {A : Type 0} → ServeArguments → ℕ → ℕ → Bool → List (PassView A) → List (PassView A) → Type 0
@@ -67,13 +68,20 @@ pub record AreWords (found : Found) (asked : ServeArguments) : Type 0 where
   pub delivery_timeout : SaysDeliveryTimeout (first_value found (codes "delivery-timeout")) asked.limits.delivery_timeout
   pub verbose : IsFlag found (codes "verbose") asked.verbose
   pub store : option_map (λ w. w.now) asked.store ≡ first_value found (codes "store")
-  pub leave_out : IsFlag found (codes "store-leave-out") asked.leave_out
+  pub leave_out : IsFlag found (codes "store-leave-out") asked.choices.may_leave_out
+  pub compact : IsFlag found (codes "compact") asked.choices.may_compact
+  pub other_settings : IsFlag found (codes "store-other-settings") asked.choices.may_change_terms
 
--- A server has run as the words of a command line ask: its manager opened with the settings that they ask for, and without
--- history if they name no store; and its threads have done what they ask for, or none has begun.
-pub record RanAsWords {A : Type 0} (found : Found) (associations rounds : ℕ) (begun : Bool) (table : TableId) (opening : State A) (news : List (PassView A)) : Type 0 where
+-- without a store a server begins with no history, and otherwise as one does on its file
+abbrev pub BeginsOn : {A : Type 0} → (List ℕ → StartChoices → Settings → List (Entry A) → Type 0) → ServeArguments → Settings → List (Entry A) → Type 0
+BeginsOn Begins asked settings history = MatchOption asked.store (history ≡ []) (λ file. Begins file.now asked.choices settings history)
+
+-- A server has run as the words of a command line ask: its manager opened with the settings that they ask for, without
+-- history if they name no store, and otherwise with that with which a server begins on it; and its threads have done what
+-- they ask for, or none has begun.
+pub record RanAsWords {A : Type 0} (found : Found) (associations rounds : ℕ) (begun : Bool) (Begins : List ℕ → StartChoices → Settings → List (Entry A) → Type 0) (table : TableId) (opening : State A) (news : List (PassView A)) : Type 0 where
   pub asked : ServeArguments
   pub words : AreWords found asked
   pub settings : opening.settings ≡ settings_asked asked
-  pub empty : is_some asked.store ≡ false → opening.history ≡ []
+  pub begins : BeginsOn Begins asked opening.settings opening.history
   pub ran : RanAsAsked asked associations rounds begun (passes_from table opening 1 (seats_of asked.limits.workers (length asked.watchers.items))) news

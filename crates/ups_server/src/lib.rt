@@ -7,4 +7,4 @@ mod serving;
 mod telling;
 
 pub use opener::{StoreOpener, Unopened};
-pub use serving::{RanServer, answer_network, serve_words};
+pub use serving::{ClosedServer, RanServer, answer_network, serve_words};

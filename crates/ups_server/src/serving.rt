@@ -1,16 +1,17 @@
 //! Associations over TCP, and event reports.
 
-ghost use Rattle.std.specs.Prelude.{◌≡◌, ◌≤◌, ◌+◌, ℕ, [], All, false, length, is_some, None, IfOk, IfSome};
+ghost use Rattle.std.specs.Prelude.{◌≡◌, ◌≢◌, ◌≤◌, ◌+◌, ℕ, [], All, false, length, is_some, None, IfErr, IfOk, IfSome};
 ghost use Rattle.clap.specs.Matches.{found_of};
 ghost use Rattle.ups_settings.specs.Limits.{workers_limit};
 ghost use Rattle.ups_settings.specs.Refusal.{refusal};
 ghost use Rattle.ups_life.specs.Limits.{history_limit, peer_limit};
 ghost use Rattle.ups_manager.specs.View.{shared_state};
 ghost use Rattle.ups_ledger.specs.Backed.{Backs};
-ghost use Rattle.ups_ledger.specs.Keeping.{AreKept};
+ghost use Rattle.ups_ledger.specs.Keeping.{AreKept, AreSafe, AreSound, KeepersGoOn, KeepsSeen};
 ghost use Rattle.ups_net.specs.Working.{seen_last};
-ghost use Rattle.ups_turn.specs.Pass.{passes_from};
-ghost use Rattle.ups_server.specs.Serving.{deliverers_of, seats_of, settings_asked, HasBegun, RanAsAsked, RanAsWords};
+ghost use Rattle.ups_service.specs.Law.{is_legal};
+ghost use Rattle.ups_turn.specs.Pass.{passes_from, EndsFor};
+ghost use Rattle.ups_server.specs.Serving.{deliverers_of, seats_of, settings_asked, BeginsOn, HasBegun, RanAsAsked, RanAsWords};
 
 use crate::opener::{StoreOpener, Unopened};
 use crate::telling::tell_settings;
@@ -42,6 +43,54 @@ pub struct RanServer<L: Ledger> {
     pub passes: Vec<Pass<Manager<Global>, Global>>,
     /// The ledger with its requests, if they are kept.
     pub keeper: Option<Keeper<L>>,
+}
+
+/// What a server leaves whose desk is closed.
+#[derive(Drop)]
+pub struct ClosedServer<L: Ledger> {
+    /// The manager, with the one history of all passes.
+    pub manager: Manager<Global>,
+    /// The ledger with its requests, if they are kept.
+    pub keeper: Option<Keeper<L>>,
+}
+
+impl<L: Ledger> RanServer<L> {
+    /// Closes the desk, and returns its manager and the ledger. The passes of the server have each seen a beginning of the
+    /// one history of the manager, and entered what is theirs in it. If requests are kept, the ledger has the first
+    /// entries of this history, as many as are committed, and a crash would leave at least as many: so both have, of what
+    /// any pass has seen, all that is committed.
+    ///
+    /// # Errors
+    ///
+    /// The server as it was, if these are not all passes of its desk.
+    pub fn close(self) -> Result<ClosedServer<L>, RanServer<L>>
+        requires here { All (λ p. p.table ≡ self.desk.table) self.passes.items }
+        ensures settings { IfOk result (λ closed. closed.manager.settings ≡ self.desk.opening.settings) }
+        ensures legal { IfOk result (λ closed. is_legal closed.manager.settings closed.manager.history) }
+        ensures passes { IfOk result (λ closed. EndsFor closed.manager.history self.passes.items) }
+        ensures same { IfOk result (λ closed. closed.keeper ≡ self.keeper) }
+        ensures kept { IfOk result (λ closed. AreKept L.Ledger self.keeper (seen_last self.passes.items) → AreKept L.Ledger closed.keeper closed.manager.history) }
+        ensures safe { IfOk result (λ closed. AreSafe L.Ledger self.keeper (seen_last self.passes.items) → AreSafe L.Ledger closed.keeper closed.manager.history) }
+        ensures seen { IfOk result (λ closed. AreKept L.Ledger self.keeper (seen_last self.passes.items) → AreSafe L.Ledger self.keeper (seen_last self.passes.items) → IfSome closed.keeper (λ keeper. All (λ p. KeepsSeen L.Ledger keeper p.seen) self.passes.items)) }
+        ensures refused { IfErr result (λ server. (server.begun ≡ self.begun) × (server.desk ≡ self.desk) × (server.passes.items ≡ self.passes.items) × (server.keeper ≡ self.keeper)) }
+        ensures missing { IfErr result (λ server. length self.passes.items ≢ self.desk.seats) }
+    {
+        let RanServer {
+            begun,
+            desk,
+            passes,
+            keeper,
+        } = self;
+        match desk.close(passes) {
+            Ok(manager) => Ok(ClosedServer { manager, keeper }),
+            Err((desk, passes, _)) => Err(RanServer {
+                begun,
+                desk,
+                passes,
+                keeper,
+            }),
+        }
+    }
 }
 
 /// A manager with the requests of its store, and the ledger that continues the store, if there is one.
@@ -146,6 +195,7 @@ fn begin<'a, L: Ledger, O: StoreOpener<'a, L>>(
     ensures settings { IfOk result (λ begun. IfSome begun (λ b. b.manager.settings ≡ settings_asked asked.now)) }
     ensures keeps { IfOk result (λ begun. IfSome begun (λ b. is_some b.keeper ≡ is_some asked.now.store)) }
     ensures kept { IfOk result (λ begun. IfSome begun (λ b. HasBegun L.Ledger b.keeper b.manager.history)) }
+    ensures begins { IfOk result (λ begun. IfSome begun (λ b. BeginsOn (λ file choices settings history. AreSound L.Ledger b.keeper → O.begins opener.now file choices settings history) asked.now b.manager.settings b.manager.history)) }
 {
     let mut manager = new_manager(alloc, asked)?;
     let Some(file) = asked.store else {
@@ -154,7 +204,7 @@ fn begin<'a, L: Ledger, O: StoreOpener<'a, L>>(
             keeper: None,
         }));
     };
-    match opener.open(file, asked.leave_out, &mut manager) {
+    match opener.open(file, asked.choices, &mut manager) {
         Ok((ledger, committed)) => {
             let keeper = Keeper { ledger, committed };
             Ok(Some(Begun {
@@ -200,7 +250,7 @@ where
     ensures opening { IfOk result (λ server. server.desk.opening ≡ shared_state begun.manager) }
     ensures ran { IfOk result (λ server. RanAsAsked asked.entry associations rounds server.begun (passes_from server.desk.table server.desk.opening 1 (seats_of asked.entry.limits.workers (length asked.entry.watchers.items))) server.passes.items) }
     ensures here { IfOk result (λ server. All (λ p. p.table ≡ server.desk.table) server.passes.items) }
-    ensures kept { AreKept L.Ledger begun.keeper begun.manager.history → IfOk result (λ server. AreKept L.Ledger server.keeper (seen_last server.passes.items)) }
+    ensures goes_on { IfOk result (λ server. KeepersGoOn L.Ledger begun.keeper begun.manager.history server.keeper (seen_last server.passes.items)) }
 {
     let alloc = rt.alloc();
     let Begun { manager, keeper } = begun;
@@ -245,7 +295,7 @@ where
     ensures opening { IfOk result (λ server. server.desk.opening ≡ shared_state begun.manager) }
     ensures ran { IfOk result (λ server. RanAsAsked asked.entry associations rounds server.begun (passes_from server.desk.table server.desk.opening 1 (seats_of asked.entry.limits.workers (length asked.entry.watchers.items))) server.passes.items) }
     ensures here { IfOk result (λ server. All (λ p. p.table ≡ server.desk.table) server.passes.items) }
-    ensures kept { AreKept L.Ledger begun.keeper begun.manager.history → IfOk result (λ server. AreKept L.Ledger server.keeper (seen_last server.passes.items)) }
+    ensures goes_on { IfOk result (λ server. KeepersGoOn L.Ledger begun.keeper begun.manager.history server.keeper (seen_last server.passes.items)) }
 {
     serve_kept::<Brand, L, R>(rt, door, asked, begun, associations, rounds)
 }
@@ -253,8 +303,8 @@ where
 /// Answers associations over TCP and delivers event reports until each worker has served `associations` associations,
 /// and the sweeper and each deliverer have made `rounds` rounds. Returns what the server leaves, whose passes are at
 /// its desk. If a store is requested, the manager begins with the requests of the store, and the ledger has the first
-/// entries of the history that the sweeper's pass has seen, as many as are committed. Returns None after printing why
-/// the store was not opened, or why it can't listen.
+/// entries of the history that the sweeper's pass has seen, as many as are committed; a crash would leave at least as
+/// many. Returns None after printing why the store was not opened, or why it can't listen.
 ///
 /// # Errors
 ///
@@ -273,10 +323,11 @@ where
     requires few { length asked.peers.items ≤ peer_limit }
     requires allowed { refusal asked.peers.items asked.offset history_limit ≡ None }
     ensures settings { IfOk result (λ left. IfSome left (λ server. server.desk.opening.settings ≡ settings_asked asked.entry)) }
-    ensures empty { IfOk result (λ left. IfSome left (λ server. is_some asked.entry.store ≡ false → server.desk.opening.history ≡ [])) }
+    ensures begins { IfOk result (λ left. IfSome left (λ server. BeginsOn (λ file choices settings history. AreSound L.Ledger server.keeper → O.begins opener.now file choices settings history) asked.entry server.desk.opening.settings server.desk.opening.history)) }
     ensures ran { IfOk result (λ left. IfSome left (λ server. RanAsAsked asked.entry associations rounds server.begun (passes_from server.desk.table server.desk.opening 1 (seats_of asked.entry.limits.workers (length asked.entry.watchers.items))) server.passes.items)) }
     ensures here { IfOk result (λ left. IfSome left (λ server. All (λ p. p.table ≡ server.desk.table) server.passes.items)) }
     ensures kept { IfOk result (λ left. IfSome left (λ server. AreKept L.Ledger server.keeper (seen_last server.passes.items))) }
+    ensures safe { IfOk result (λ left. IfSome left (λ server. AreSafe L.Ledger server.keeper (seen_last server.passes.items))) }
 {
     tell_settings(rt, &asked);
     let Some(begun) = begin(rt.alloc(), opener, &asked)? else {
@@ -308,9 +359,10 @@ pub fn serve_words<'a, L: Ledger, O: StoreOpener<'a, L>, R>(
 ) -> Result<Option<RanServer<L>>, ArgumentFault<'a>>
 where
     R: Threads + Wait + Clock + Log + Sync + AllocGlobal + Print + Eprint + Network,
-    ensures ran { IfOk result (λ left. IfSome left (λ server. RanAsWords (found_of matches.now) associations rounds server.begun server.desk.table server.desk.opening server.passes.items)) }
+    ensures ran { IfOk result (λ left. IfSome left (λ server. RanAsWords (found_of matches.now) associations rounds server.begun (λ file choices settings history. AreSound L.Ledger server.keeper → O.begins opener.now file choices settings history) server.desk.table server.desk.opening server.passes.items)) }
     ensures here { IfOk result (λ left. IfSome left (λ server. All (λ p. p.table ≡ server.desk.table) server.passes.items)) }
     ensures kept { IfOk result (λ left. IfSome left (λ server. AreKept L.Ledger server.keeper (seen_last server.passes.items))) }
+    ensures safe { IfOk result (λ left. IfSome left (λ server. AreSafe L.Ledger server.keeper (seen_last server.passes.items))) }
 {
     let asked = serve_arguments(rt.alloc(), matches)?;
     Ok(answer_network(rt, opener, asked, associations, rounds)?)

@@ -4,6 +4,7 @@ use log::{Log, info};
 use std::str;
 use ups_args::{ServeArguments, VERSION};
 use ups_settings::ServerLimits;
+use ups_terms::StartChoices;
 
 /// Logs the version, the settings of a server, and the address of each watcher; other peers are only counted.
 pub(crate) fn tell_settings<R: Log>(rt: &R, asked: &ServeArguments<'_>) {
@@ -14,7 +15,7 @@ pub(crate) fn tell_settings<R: Log>(rt: &R, asked: &ServeArguments<'_>) {
         offset,
         limits,
         store,
-        leave_out,
+        choices,
         verbose,
         ..
     } = asked;
@@ -25,9 +26,14 @@ pub(crate) fn tell_settings<R: Log>(rt: &R, asked: &ServeArguments<'_>) {
         delivery_timeout,
         ..
     } = limits;
+    let StartChoices {
+        may_leave_out,
+        may_compact,
+        may_change_terms,
+    } = choices;
     let title = str::from_utf8(asked.ae.as_bytes()).unwrap_or("");
     let (peers, watchers) = (asked.peers.len(), asked.watchers.len());
-    info!(rt; target: "upsd", "upsd {VERSION}: ae={title} bind={bind} port={port} associations={workers} idle={idle} timeout={timeout} delivery-timeout={delivery_timeout} keep={keep} offset={offset} verbose={verbose} peers={peers} watchers={watchers} store={} store-leave-out={leave_out}", store.unwrap_or("none"));
+    info!(rt; target: "upsd", "upsd {VERSION}: ae={title} bind={bind} port={port} associations={workers} idle={idle} timeout={timeout} delivery-timeout={delivery_timeout} keep={keep} offset={offset} verbose={verbose} peers={peers} watchers={watchers} store={} store-leave-out={may_leave_out} store-other-settings={may_change_terms} compact={may_compact}", store.unwrap_or("none"));
     for watcher in asked.watchers.iter() {
         let title = str::from_utf8(watcher.ae.as_bytes()).unwrap_or("");
         info!(rt; target: "upsd", "watcher {title} at {}, port {}", watcher.host, watcher.port);

@@ -1,7 +1,7 @@
 -- Records behind as many as were committed.
-use Rattle.std.proofs.Common.{◌≡◌, ℕ, ◌+◌, ◌-◌, List, ◌++◌, length, take, ap, ◌∙◌, append_assoc, arith}
+use Rattle.std.proofs.Common.{◌≡◌, ℕ, ◌-◌, List, ◌++◌, length, take, ap, ◌∙◌, append_assoc, arith}
 use Rattle.std.specs.Prelude.{drop}
-use Rattle.std.proofs.lemmas.List.{length-append, length-drop, take-append-drop, take_all}
+use Rattle.std.proofs.lemmas.List.{length-drop, take-append-drop, take_all}
 use Rattle.std.specs.declared.alloc.Global.{Global}
 use Rattle.ups_journal.specs.declared.record.Record.{Record}
 use Rattle.ups_ledger.specs.Behind.{AreBehind}

@@ -1,5 +1,6 @@
 mod Behind
 mod First
 mod Leaves
+mod Permitted
 mod Said
 mod Taken

@@ -1,5 +1,5 @@
 -- Records that were entered or left out one behind the other.
-use Rattle.std.proofs.Common.{◌≡◌, ◌⊎◌, ℕ, Bool, List, [], ◌∷◌, ◌++◌, map, refl, sym, subst, ap, ◌∙◌, arith, append_assoc}
+use Rattle.std.proofs.Common.{◌≡◌, ◌⊎◌, inl, inr, rules, ℕ, Bool, false, IsTrue, List, [], ◌∷◌, ◌++◌, map, refl, sym, subst, ap, ◌∙◌, arith, append_assoc}
 use Rattle.std.proofs.lemmas.List.{append-nil, map-append}
 use Rattle.ups_life.specs.declared.entry.Entry.{Entry}
 use Rattle.ups_life.specs.Settings.{Settings}
@@ -14,7 +14,8 @@ use Rattle.ups_restore.specs.declared.acknowledging.TheConstants.{COMPACTOR}
 use Rattle.ups_compact.specs.Compacting.{compacted}
 use Rattle.ups_life.specs.Steps.{past}
 use Rattle.std.specs.declared.alloc.Global.{Global}
-use Rattle.ups_start.specs.Started.{Begins}
+use Rattle.ups_terms.specs.declared.choices.StartChoices.{StartChoices}
+use Rattle.ups_start.specs.Started.{without_compaction, Begins}
 
 become_more : {A : Type 0} (s : Settings) (h : List (Entry A)) (rs : List (Record A)) (may : Bool) (os : List Restored) (now then : List (Entry A)) (r : Record A) (o : Restored)
     → BecomeAll s h rs may os now → Becomes s now r may o then → BecomeAll s h (rs ++ r ∷ []) may (os ++ o ∷ []) then
@@ -60,16 +61,35 @@ entered_all s h (r ∷ rs) may c (LeftOut ∷ os) after b none = let w = none_be
 entered_all s h [] may c (o ∷ os) after b none = absurd b
 entered_all s h (r ∷ rs) may c [] after b none = absurd b
 
+-- where none may be left out, all are entered
+pub all_kept : {A : Type 0} (s : Settings) (h : List (Entry A)) (rs : List (Record A)) (os : List Restored) (after : List (Entry A)) → BecomeAll s h rs false os after → map recorded after ≡ map recorded h ++ rs
+all_kept s h [] [] after b = ap (map recorded) b ∙ sym (append-nil (map recorded h))
+all_kept s h (r ∷ rs) (Entered ∷ os) after b = on_by h b.0 after r rs b.1 (all_kept s b.0 rs os after b.2)
+all_kept s h (r ∷ rs) (LeftOut ∷ os) after b = let allowed = b.1.0 in absurd (grind arith)
+all_kept s h [] (o ∷ os) after b = absurd b
+all_kept s h (r ∷ rs) [] after b = absurd b
+
 -- where none was left out, the history has gone on by the entries of these records
 pub all_entered : {A : Type 0} (s : Settings) (h : List (Entry A)) (rs : List (Record A)) (may : Bool) (c : Restoration) (after : List (Entry A)) → AreTaken s h rs may c after → c.left_out ≡ 0 → map recorded after ≡ map recorded h ++ rs
 all_entered s h rs may c after taken none = entered_all s h rs may (record { entered = 0; left_out = 0 }) taken.0 after taken.1 (sym (ap (λ (x : Restoration). x.left_out) taken.2) ∙ none)
 
 -- a start begins with what was taken, or with its compaction
-pub begins_taken : (s t : Settings) (first : List (Entry Global)) (found shown : List (Record Global)) (may : Bool) (moment : ℕ) (counts : Restoration) (entered after : List (Entry Global)) → first ≡ [] → t ≡ s → shown ≡ found
-    → AreTaken s first shown may counts entered → (after ≡ entered) ⊎ (past after ≡ compacted COMPACTOR moment t (past entered)) → Begins s found may moment after
-begins_taken s t first found shown may moment counts entered after new same all taken becomes = record {
+pub begins_taken : (s t : Settings) (first : List (Entry Global)) (found shown : List (Record Global)) (choices : StartChoices) (moment : ℕ) (counts : Restoration) (entered after : List (Entry Global)) → first ≡ [] → t ≡ s → shown ≡ found
+    → AreTaken s first shown choices.may_leave_out counts entered → (after ≡ entered) ⊎ (IsTrue choices.may_compact × (past after ≡ compacted COMPACTOR moment t (past entered))) → Begins s found choices moment after
+begins_taken s t first found shown choices moment counts entered after new same all taken becomes = record {
   entered = entered;
   counts = counts;
-  taken = subst (λ (rs : List (Record Global)). AreTaken s [] rs may counts entered) all (subst (λ (h : List (Entry Global)). AreTaken s h shown may counts entered) new taken);
-  becomes = subst (λ (u : Settings). (after ≡ entered) ⊎ (past after ≡ compacted COMPACTOR moment u (past entered))) same becomes;
+  taken = subst (λ (rs : List (Record Global)). AreTaken s [] rs choices.may_leave_out counts entered) all (subst (λ (h : List (Entry Global)). AreTaken s h shown choices.may_leave_out counts entered) new taken);
+  becomes = subst (λ (u : Settings). (after ≡ entered) ⊎ (IsTrue choices.may_compact × (past after ≡ compacted COMPACTOR moment u (past entered)))) same becomes;
 }
+
+-- a start that does not compact begins as one that may
+pub begins_without : (s t : Settings) (found : List (Record Global)) (choices fewer : StartChoices) (moment : ℕ) (after : List (Entry Global)) → t ≡ s → fewer ≡ without_compaction choices → Begins t found fewer moment after → Begins s found choices moment after
+begins_without s t found choices fewer moment after same is begins =
+    let begins = subst (λ (u : Settings). Begins u found (without_compaction choices) moment after) same (subst (λ (x : StartChoices). Begins t found x moment after) is begins) in
+    record {
+      entered = begins.entered;
+      counts = begins.counts;
+      taken = begins.taken;
+      becomes = elim begins.becomes [ inl same ↦ inl same | inr both ↦ absurd (search rules) ];
+    }

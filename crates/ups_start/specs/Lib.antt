@@ -1,5 +1,6 @@
 pub mod Faults
 pub mod Started
+pub mod Noted
 pub mod Shelved
 pub mod Anew
 pub mod Alike

@@ -1,5 +1,5 @@
 -- The requests of a store, entered again.
-use Rattle.std.specs.Prelude.{◌≡◌, ◌⊎◌, ℕ, min, List, map, ◌++◌, ◌∷◌, [], Option, None, Some, Bool}
+use Rattle.std.specs.Prelude.{◌≡◌, ◌⊎◌, ℕ, min, List, map, ◌++◌, ◌∷◌, [], Option, None, Some, Bool, false, IsTrue}
 use Rattle.std.specs.declared.alloc.Global.{Global}
 use Rattle.sqlite_trees.specs.declared.store.Store.{Ghosts}
 use Rattle.ups_journal.specs.declared.record.Record.{Record}
@@ -17,18 +17,23 @@ use Rattle.ups_life.specs.Limits.{last_moment}
 use Rattle.ups_store.specs.declared.reading.Replay.{Replay}
 use Rattle.ups_store.specs.declared.runs.Run.{Run}
 use Rattle.ups_store.specs.Shown.{all_of, given_out}
+use Rattle.ups_terms.specs.declared.choices.StartChoices.{StartChoices}
 
 -- the moment at which a run began, at most the last one that has a date
 abbrev pub moment_in : Run → ℕ
 moment_in about = min about.moment last_moment
 
--- A start enters the records that it found again, or leaves out what may be left out, and begins with these entries or with
--- their compaction.
-pub record Begins (s : Settings) (found : List (Record Global)) (may : Bool) (moment : ℕ) (after : List (Entry Global)) : Type 0 where
+-- A start enters the records that it found again, or leaves out what may be left out, and begins with these entries or, if
+-- it may compact, with their compaction.
+pub record Begins (s : Settings) (found : List (Record Global)) (choices : StartChoices) (moment : ℕ) (after : List (Entry Global)) : Type 0 where
   pub entered : List (Entry Global)
   pub counts : Restoration
-  pub taken : AreTaken s [] found may counts entered
-  pub becomes : (after ≡ entered) ⊎ (past after ≡ compacted COMPACTOR moment s (past entered))
+  pub taken : AreTaken s [] found choices.may_leave_out counts entered
+  pub becomes : (after ≡ entered) ⊎ (IsTrue choices.may_compact × (past after ≡ compacted COMPACTOR moment s (past entered)))
+
+-- these choices, but no compaction
+abbrev pub without_compaction : StartChoices → StartChoices
+without_compaction choices = record { may_leave_out = choices.may_leave_out; may_compact = false; may_change_terms = choices.may_change_terms }
 
 -- the records of requests, without their runs
 abbrev pub said : List StoredRequest → List (Record Global)

@@ -1,6 +1,6 @@
 //! The start of a server on a store.
 
-ghost use Rattle.std.specs.Prelude.{◌≡◌, ◌⊎◌, [], List, map, length, IfOk, IsTrue};
+ghost use Rattle.std.specs.Prelude.{◌≡◌, ◌⊎◌, ℕ, [], List, Option, map, length, false, IfOk, IsTrue};
 ghost use Rattle.sqlite_trees.specs.View.{IsClean};
 ghost use Rattle.ups_journal.specs.Columns.{recorded};
 ghost use Rattle.ups_compact.specs.Compacting.{compacted};
@@ -8,8 +8,9 @@ ghost use Rattle.ups_life.specs.Steps.{past};
 ghost use Rattle.ups_ledger.specs.Keeping.{IsKept, IsSafe};
 ghost use Rattle.ups_restore.specs.declared.acknowledging.TheConstants.{COMPACTOR};
 ghost use Rattle.ups_store.specs.declared.request.StoredRequest.{StoredRequest};
-ghost use Rattle.ups_store.specs.Shown.{requests_shown, requests, shown_by, all_of, given_out};
-ghost use Rattle.ups_start.specs.Started.{said, moment_in, Begins};
+ghost use Rattle.ups_store.specs.Shown.{requests_shown, requests, shown_by, all_of, given_out, last_terms_of};
+ghost use Rattle.ups_start.specs.Started.{said, moment_in, without_compaction, Begins};
+ghost use Rattle.ups_start.specs.Noted.{PermitsNoted};
 
 use crate::compacting::{compacted, emptied};
 use crate::fault::StartFault;
@@ -17,14 +18,16 @@ use crate::ledger::StoreLedger;
 use crate::place::StorePlace;
 use crate::rewriting::rewritten;
 use crate::taking::take_all;
+use crate::terms::check_terms;
 use log::{Log, info, warn};
-use sqlite_trees::store::Store;
+use sqlite_trees::store::{Alter, Store};
 use std::alloc::Global;
 use std::time::Clock;
 use ups_ledger::{Keeper, Ledger};
 use ups_manager::Manager;
 use ups_restore::compaction_pays;
 use ups_store::{Replay, RequestStore, Run, StoreFault};
+use ups_terms::StartChoices;
 
 /// A store in which a run has begun.
 #[derive(Drop)]
@@ -35,10 +38,10 @@ pub(crate) struct Begun<S: Store> {
     pub(crate) run: u64,
 }
 
-/// Begins a run in a store, all of whose requests were read.
+/// Begins a run in a store, all of whose requests were read, and gives it the present format.
 ///
 /// Errors: Write, with Short if requests that an earlier run had committed are lost; Read if not all were read.
-pub(crate) fn begin_run<S: Store + Drop>(
+pub(crate) fn begin_run<S: Alter + Drop>(
     replay: Replay<S>,
     about: &Run<'_>,
 ) -> Result<Begun<S>, StartFault>
@@ -49,6 +52,9 @@ pub(crate) fn begin_run<S: Store + Drop>(
     let Some(mut store) = replay.finish() else {
         return Err(StartFault::Read(StoreFault::Shut));
     };
+    if let Err(fault) = store.upgrade() {
+        return Err(StartFault::Write(fault));
+    }
     match store.begin_run(about) {
         Ok(run) => Ok(Begun { store, run }),
         Err(fault) => Err(StartFault::Write(fault)),
@@ -80,7 +86,9 @@ fn is_to_be_compacted<R: Log>(
     telling: &R,
     manager: &Manager<Global>,
     may_compact: bool,
-) -> bool {
+) -> bool
+    ensures { IsTrue result → IsTrue may_compact }
+{
     if !may_compact {
         return false;
     }
@@ -112,9 +120,12 @@ fn settled<S: Store + Drop, R: Log>(
     ensures kept { IfOk result (λ b. IsClean (requests_shown b.store) → said (requests b.store) ≡ map recorded manager.new.history) }
     ensures is_open { IfOk result (λ b. IsClean (requests_shown b.store) → IsTrue (requests_shown b.store).is_open) }
     ensures clean { IfOk result (λ b. IsClean (requests_shown b.store) → IsClean (requests_shown begun.store)) }
-    ensures becomes { IfOk result (λ _. (manager.new.history ≡ manager.old.history) ⊎ (past manager.new.history ≡ compacted COMPACTOR (moment_in about.now) manager.old.settings (past manager.old.history))) }
+    ensures becomes { IfOk result (λ _. (manager.new.history ≡ manager.old.history) ⊎ (IsTrue may_compact × (past manager.new.history ≡ compacted COMPACTOR (moment_in about.now) manager.old.settings (past manager.old.history)))) }
     ensures settings { manager.new.settings ≡ manager.old.settings }
 {
+    if left_out > 0 {
+        tell_left_out(telling, left_out);
+    }
     if is_to_be_compacted(alloc, telling, manager, may_compact) {
         return match compacted(alloc, telling, begun, about, manager) {
             Ok(begun) => Ok(begun),
@@ -122,7 +133,6 @@ fn settled<S: Store + Drop, R: Log>(
         };
     }
     if left_out > 0 {
-        tell_left_out(telling, left_out);
         return match rewritten(alloc, begun, about, manager) {
             Ok(begun) => Ok(begun),
             Err(fault) => Err(Unsettled::Failed(fault)),
@@ -131,28 +141,37 @@ fn settled<S: Store + Drop, R: Log>(
     Ok(begun)
 }
 
-/// Enters the requests of a store that was just opened, and begins a run in it; replaces them if some were left out, or
-/// if a compaction is allowed and pays.
+/// Enters the requests of a store that was just opened, and begins a run in it, if the settings permit as much as the
+/// terms of its last run; replaces the requests if some were left out, or if a compaction is allowed and pays.
 ///
-/// Errors: Uncompacted; Failed with Read, Restore, Write, Compact. The store keeps its requests, or may have the new ones
-/// if the commit failed.
-fn begin_over<S: Store + Drop, R: Clock + Log>(
+/// Errors: Uncompacted; Failed with Read, Terms, UnreadableTerms, Restore, Write, Compact. The store keeps its requests,
+/// or may have the new ones if the commit failed.
+fn begin_over<S: Alter + Drop, R: Clock + Log>(
     alloc: Global,
     telling: &R,
     mut replay: Replay<S>,
-    may_leave_out: bool,
+    choices: StartChoices,
     about: &Run<'_>,
     manager: &mut Manager<Global>,
-    may_compact: bool,
 ) -> Result<Begun<S>, Unsettled>
     requires new { manager.old.history ≡ [] }
-    requires first { given_out replay ≡ [] }
     ensures kept { IfOk result (λ b. IsClean (requests_shown b.store) → said (requests b.store) ≡ map recorded manager.new.history) }
     ensures is_open { IfOk result (λ b. IsClean (requests_shown b.store) → IsTrue (requests_shown b.store).is_open) }
-    ensures begins { IfOk result (λ b. IsClean (requests_shown b.store) → Begins manager.old.settings (said (all_of replay)) may_leave_out (moment_in about.now) manager.new.history) }
+    ensures begins { IfOk result (λ b. IsClean (requests_shown b.store) → Begins manager.old.settings (said (all_of replay)) choices (moment_in about.now) manager.new.history) }
+    ensures permits { IfOk result (λ b. choices.may_change_terms ≡ false → IsClean (requests_shown b.store) → PermitsNoted manager.old.settings (last_terms_of replay)) }
     ensures settings { manager.new.settings ≡ manager.old.settings }
 {
-    let counts = match take_all(telling, alloc, &mut replay, manager, may_leave_out) {
+    match check_terms(
+        alloc,
+        telling,
+        &mut replay,
+        manager,
+        choices.may_change_terms,
+    ) {
+        Ok(()) => {}
+        Err(fault) => return Err(Unsettled::Failed(fault)),
+    }
+    let counts = match take_all(telling, alloc, &mut replay, manager, choices.may_leave_out) {
         Ok(counts) => counts,
         Err(fault) => return Err(Unsettled::Failed(fault)),
     };
@@ -167,7 +186,7 @@ fn begin_over<S: Store + Drop, R: Clock + Log>(
         about,
         manager,
         counts.left_out,
-        may_compact,
+        choices.may_compact,
     )
 }
 
@@ -175,6 +194,7 @@ fn begin_over<S: Store + Drop, R: Clock + Log>(
 pub(crate) fn opened<P: StorePlace>(place: &P) -> Result<Replay<P::Store>, StartFault>
     ensures first { IfOk result (λ r. given_out r ≡ []) }
     ensures found { IfOk result (λ r. P.finds place.now (all_of r)) }
+    ensures noted { IfOk result (λ r. P.notes place.now (last_terms_of r)) }
 {
     match place.open() {
         Ok(replay) => Ok(replay),
@@ -189,30 +209,33 @@ fn begin_at<P: StorePlace, R: Clock + Log>(
     alloc: Global,
     telling: &R,
     place: &P,
-    may_leave_out: bool,
+    choices: StartChoices,
     about: &Run<'_>,
     manager: &mut Manager<Global>,
-    may_compact: bool,
 ) -> Result<Begun<P::Store>, Unsettled>
     requires new { manager.old.history ≡ [] }
     ensures kept { IfOk result (λ b. IsClean (requests_shown b.store) → said (requests b.store) ≡ map recorded manager.new.history) }
     ensures is_open { IfOk result (λ b. IsClean (requests_shown b.store) → IsTrue (requests_shown b.store).is_open) }
-    ensures begins { IfOk result (λ b. (found : List StoredRequest) × P.finds place.now found × (IsClean (requests_shown b.store) → Begins manager.old.settings (said found) may_leave_out (moment_in about.now) manager.new.history)) }
+    ensures begins { IfOk result (λ b. (found : List StoredRequest) × P.finds place.now found × (IsClean (requests_shown b.store) → Begins manager.old.settings (said found) choices (moment_in about.now) manager.new.history)) }
+    ensures permits { IfOk result (λ b. (noted : Option (List ℕ)) × P.notes place.now noted × (choices.may_change_terms ≡ false → IsClean (requests_shown b.store) → PermitsNoted manager.old.settings noted)) }
     ensures settings { manager.new.settings ≡ manager.old.settings }
 {
     let replay = match opened(place) {
         Ok(replay) => replay,
         Err(fault) => return Err(Unsettled::Failed(fault)),
     };
-    begin_over(
-        alloc,
-        telling,
-        replay,
-        may_leave_out,
-        about,
-        manager,
-        may_compact,
-    )
+    begin_over(alloc, telling, replay, choices, about, manager)
+}
+
+/// Returns these choices without a compaction.
+fn uncompacted(choices: StartChoices) -> StartChoices
+    ensures { result ≡ without_compaction choices }
+{
+    StartChoices {
+        may_leave_out: choices.may_leave_out,
+        may_compact: false,
+        may_change_terms: choices.may_change_terms,
+    }
 }
 
 /// Begins once more with a manager that has entered the requests of the store, without a compaction.
@@ -222,17 +245,19 @@ fn begin_uncompacted<P: StorePlace, R: Clock + Log>(
     alloc: Global,
     telling: &R,
     place: &P,
-    may_leave_out: bool,
+    choices: StartChoices,
     about: &Run<'_>,
     manager: &mut Manager<Global>,
 ) -> Result<Begun<P::Store>, StartFault>
     ensures kept { IfOk result (λ b. IsClean (requests_shown b.store) → said (requests b.store) ≡ map recorded manager.new.history) }
     ensures is_open { IfOk result (λ b. IsClean (requests_shown b.store) → IsTrue (requests_shown b.store).is_open) }
-    ensures begins { IfOk result (λ b. (found : List StoredRequest) × P.finds place.now found × (IsClean (requests_shown b.store) → Begins manager.old.settings (said found) may_leave_out (moment_in about.now) manager.new.history)) }
+    ensures begins { IfOk result (λ b. (found : List StoredRequest) × P.finds place.now found × (IsClean (requests_shown b.store) → Begins manager.old.settings (said found) choices (moment_in about.now) manager.new.history)) }
+    ensures permits { IfOk result (λ b. (noted : Option (List ℕ)) × P.notes place.now noted × (choices.may_change_terms ≡ false → IsClean (requests_shown b.store) → PermitsNoted manager.old.settings noted)) }
     ensures settings { manager.new.settings ≡ manager.old.settings }
 {
     *manager = emptied(alloc, manager)?;
-    match begin_at(alloc, telling, place, may_leave_out, about, manager, false) {
+    let again = uncompacted(choices);
+    match begin_at(alloc, telling, place, again, about, manager) {
         Ok(begun) => Ok(begun),
         Err(Unsettled::Uncompacted(fault) | Unsettled::Failed(fault)) => Err(fault),
     }
@@ -246,34 +271,44 @@ fn begin_in<P: StorePlace, R: Clock + Log>(
     alloc: Global,
     telling: &R,
     place: &P,
-    may_leave_out: bool,
+    choices: StartChoices,
     about: &Run<'_>,
     manager: &mut Manager<Global>,
 ) -> Result<Begun<P::Store>, StartFault>
     requires new { manager.old.history ≡ [] }
     ensures kept { IfOk result (λ b. IsClean (requests_shown b.store) → said (requests b.store) ≡ map recorded manager.new.history) }
     ensures is_open { IfOk result (λ b. IsClean (requests_shown b.store) → IsTrue (requests_shown b.store).is_open) }
-    ensures begins { IfOk result (λ b. (found : List StoredRequest) × P.finds place.now found × (IsClean (requests_shown b.store) → Begins manager.old.settings (said found) may_leave_out (moment_in about.now) manager.new.history)) }
+    ensures begins { IfOk result (λ b. (found : List StoredRequest) × P.finds place.now found × (IsClean (requests_shown b.store) → Begins manager.old.settings (said found) choices (moment_in about.now) manager.new.history)) }
+    ensures permits { IfOk result (λ b. (noted : Option (List ℕ)) × P.notes place.now noted × (choices.may_change_terms ≡ false → IsClean (requests_shown b.store) → PermitsNoted manager.old.settings noted)) }
     ensures settings { manager.new.settings ≡ manager.old.settings }
 {
-    match begin_at(alloc, telling, place, may_leave_out, about, manager, true) {
+    match begin_at(alloc, telling, place, choices, about, manager) {
         Ok(begun) => Ok(begun),
         Err(Unsettled::Failed(fault)) => Err(fault),
         Err(Unsettled::Uncompacted(fault)) => {
             tell_uncompacted(telling, &fault);
-            begin_uncompacted(alloc, telling, place, may_leave_out, about, manager)
+            begin_uncompacted(alloc, telling, place, choices, about, manager)
         }
     }
 }
 
-/// Opens or creates the store at a place, enters its requests into a manager, in their order, and begins a run in it.
-/// The manager then has the entries of these requests, or of those that were not left out, or their compaction. If a
-/// compaction pays but fails, the start logs that and goes on without it.
+/// Opens the store at a place, enters its requests into a manager, in their order, and begins a run in it. The manager
+/// then has the entries of these requests, or of those that were not left out, or, if that is allowed, their compaction.
+/// If a compaction pays but fails, the start logs that and goes on without it.
+///
+/// The settings of the manager have to permit as much as the terms that the last run noted, unless the choices allow
+/// other terms. The terms that this run notes, in `about`, should be those of these settings
+/// ([`terms_text`](ups_terms::terms_text)).
+///
+/// # Errors
+///
+/// Open, Read, Terms, UnreadableTerms, Restore, Write, Compact, Memory. The store keeps its requests, or may have those
+/// that replace them if the commit failed.
 pub fn begin<'a, P: StorePlace, R: Clock + Log>(
     alloc: Global,
     telling: &R,
     place: P,
-    may_leave_out: bool,
+    choices: StartChoices,
     about: Run<'a>,
     manager: &mut Manager<Global>,
 ) -> Result<Keeper<StoreLedger<'a, P>>, StartFault>
@@ -281,11 +316,15 @@ pub fn begin<'a, P: StorePlace, R: Clock + Log>(
     ensures settings { manager.new.settings ≡ manager.old.settings }
     ensures kept { IfOk result (λ k. IsKept ⟦<StoreLedger<'a, P> as Ledger>⟧ k manager.new.history) }
     ensures sound { IfOk result (λ k. ⟦<StoreLedger<'a, P> as Ledger>⟧.is_honest k.ledger → ⟦<StoreLedger<'a, P> as Ledger>⟧.is_sound k.ledger) }
+    ensures honest { IfOk result (λ k. ⟦<StoreLedger<'a, P> as Ledger>⟧.is_sound k.ledger → ⟦<StoreLedger<'a, P> as Ledger>⟧.is_honest k.ledger) }
     ensures safe { IfOk result (λ k. IsSafe ⟦<StoreLedger<'a, P> as Ledger>⟧ k manager.new.history) }
-    ensures begins { IfOk result (λ k. (found : List StoredRequest) × P.finds place found × (⟦<StoreLedger<'a, P> as Ledger>⟧.is_honest k.ledger → Begins manager.old.settings (said found) may_leave_out (moment_in about.entry) manager.new.history)) }
+    ensures begins { IfOk result (λ k. (found : List StoredRequest) × P.finds place found × (⟦<StoreLedger<'a, P> as Ledger>⟧.is_honest k.ledger → Begins manager.old.settings (said found) choices (moment_in about.entry) manager.new.history)) }
+    ensures permits { IfOk result (λ k. (noted : Option (List ℕ)) × P.notes place noted × (choices.may_change_terms ≡ false → ⟦<StoreLedger<'a, P> as Ledger>⟧.is_honest k.ledger → PermitsNoted manager.old.settings noted)) }
+    ensures resumes { IfOk result (λ k. (found : List StoredRequest) × P.finds place found × (noted : Option (List ℕ)) × P.notes place noted
+        × (⟦<StoreLedger<'a, P> as Ledger>⟧.is_sound k.ledger → Begins manager.old.settings (said found) choices (moment_in about.entry) manager.new.history × (choices.may_change_terms ≡ false → PermitsNoted manager.old.settings noted))) }
     ensures all { IfOk result (λ k. k.committed ≡ length manager.new.history) }
 {
-    let begun = begin_in(alloc, telling, &place, may_leave_out, &about, manager)?;
+    let begun = begin_in(alloc, telling, &place, choices, &about, manager)?;
     let committed = manager.history().len();
     Ok(Keeper {
         ledger: StoreLedger::of(place, about, begun, committed as u64),

@@ -8,6 +8,7 @@ use thiserror::Error;
 use ups_ledger::LedgerFault;
 use ups_restore::{CompactFault, RestoreFault};
 use ups_store::{OpenFault, StoreFault};
+use ups_terms::Difference;
 
 /// Why a start on a store failed. No request is lost: the file keeps its requests, or has those that replace them.
 #[derive(Clone, Copy, Debug, PartialEq, Eq, Error)]
@@ -27,6 +28,12 @@ pub enum StartFault {
     /// Its requests could not be replaced by those of a shorter history.
     #[error("its requests could not be replaced: {0}")]
     Compact(CompactFault),
+    /// The terms of the service are not those of the last run: this is what they lack.
+    #[error("the terms of the service are not those of the last run: {0}")]
+    Terms(Difference),
+    /// The terms that the last run noted can't be read.
+    #[error("the terms that the last run noted are unreadable")]
+    UnreadableTerms,
     /// Memory ran out.
     #[error("out of memory")]
     Memory,

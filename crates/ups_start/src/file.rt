@@ -34,9 +34,12 @@ impl StorePlace for FilePlace<'_> {
 
     ghost finds = { λ _ _. Unit {0} };
 
+    ghost notes = { λ _ _. Unit {0} };
+
     fn open(&self) -> Result<Replay<FileStore<File>>, OpenFault>
         ensures first { IfOk result (λ r. given_out r ≡ []) }
         ensures found { IfOk result (λ _. Unit {0}) }
+        ensures noted { IfOk result (λ _. Unit {0}) }
     {
         open(self.rt, self.path, Unknown)
     }

@@ -42,6 +42,7 @@ impl<'a, P: StorePlace> StoreLedger<'a, P> {
         requires { IsTrue (requests_shown begun.store).is_open → length (said (requests begun.store)) ≡ committed }
         ensures clean { IsSound result.shelf → IsClean (requests_shown begun.store) }
         ensures honest { IsHonest result.shelf → IsClean (requests_shown begun.store) }
+        ensures at_first { IsSound result.shelf → IsHonest result.shelf }
         ensures sound { IsTrue (requests_shown begun.store).is_open → IsSound result.shelf }
         ensures leaves { (rs : List (Record Global)) → Recovers result.shelf.held rs → LeavesRecords begun.store rs }
         ensures kept { kept_in result.shelf ≡ said (requests begun.store) }
@@ -54,6 +55,13 @@ impl<'a, P: StorePlace> StoreLedger<'a, P> {
             run,
             shelf: Shelf::first(store, committed),
         }
+    }
+
+    /// Returns the number of the run.
+    pub fn run(&self) -> u64
+        ensures { result ≡ self.now.run }
+    {
+        self.run
     }
 
     /// Reopens the store, and returns it with the number of these records that it already has. The ledger is without it.
@@ -120,6 +128,10 @@ impl<P: StorePlace> Ledger for StoreLedger<'_, P> {
     ghost is_first = { λ l. IsTrue l.shelf.is_first };
 
     ghost recovers = { λ l rs. Recovers l.shelf.held rs };
+
+    fn run(&self) -> u64 {
+        StoreLedger::run(self)
+    }
 
     fn append(&mut self, records: &[Record<Global>]) -> Result<(), LedgerFault> {
         match self.shelf.append(self.run, records) {

@@ -96,6 +96,10 @@ impl<S: Store + Drop> Ledger for Anew<S> {
 
     ghost recovers = { λ _ _. ⊥ };
 
+    fn run(&self) -> u64 {
+        self.run
+    }
+
     fn append(&mut self, records: &[Record<Global>]) -> Result<(), LedgerFault> {
         if !self.is_whole {
             return Err(LedgerFault::Shut);

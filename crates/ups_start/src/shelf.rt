@@ -97,6 +97,7 @@ impl<S: Store> Shelf<S> {
         requires { IsTrue (requests_shown store).is_open → length (said (requests store)) ≡ committed }
         ensures clean { IsSound result → IsClean (requests_shown store) }
         ensures honest { IsHonest result → IsClean (requests_shown store) }
+        ensures at_first { IsSound result → IsHonest result }
         ensures sound { IsTrue (requests_shown store).is_open → IsSound result }
         ensures leaves { (rs : List (Record Global)) → Recovers result.held rs → LeavesRecords store rs }
         ensures kept { kept_in result ≡ said (requests store) }

@@ -1,12 +1,14 @@
 //! Compacting a store on which no server runs.
 
-ghost use Rattle.std.specs.Prelude.{◌≡◌, [], map, length, IfOk, OnOk};
+ghost use Rattle.std.specs.Prelude.{◌≡◌, ℕ, [], List, Option, map, length, false, IfOk, OnOk};
 ghost use Rattle.sqlite_trees.specs.View.{IsClean};
 ghost use Rattle.ups_life.specs.Steps.{past};
 ghost use Rattle.ups_compact.specs.Compacting.{compacted};
 ghost use Rattle.ups_journal.specs.Columns.{recorded};
 ghost use Rattle.ups_restore.specs.declared.acknowledging.TheConstants.{COMPACTOR};
-ghost use Rattle.ups_store.specs.Shown.{requests_shown, requests, given_out};
+ghost use Rattle.ups_store.specs.declared.store.RequestStore.{RequestStore};
+ghost use Rattle.ups_store.specs.Shown.{requests_shown, requests, last_terms_of};
+ghost use Rattle.ups_start.specs.Noted.{PermitsNoted};
 ghost use Rattle.ups_start.specs.Started.{said, moment_in};
 
 use crate::beginning::{begin_run, opened};
@@ -14,12 +16,14 @@ use crate::compacting::compacted_to;
 use crate::fault::StartFault;
 use crate::place::StorePlace;
 use crate::taking::take_all;
+use crate::terms::check_terms;
 use log::Log;
-use sqlite_trees::store::Store;
+use sqlite_trees::store::{Alter, Store};
 use std::alloc::Global;
 use std::time::Clock;
 use ups_manager::Manager;
 use ups_store::{Replay, RequestStore, Run};
+use ups_terms::StartChoices;
 
 /// The number of requests of a store before and after a compaction.
 #[derive(Clone, Copy, Debug, PartialEq, Eq)]
@@ -37,27 +41,38 @@ struct Shrunk<S: Store> {
     before: u64,
 }
 
-/// Enters the requests of a store that was just opened into a manager, and replaces them by those of the compacted
-/// history, which the manager `fresh` gets.
+/// Enters the requests of a store that was just opened into a manager, if its settings permit as much as the terms of the
+/// last run, and replaces them by those of the compacted history, which the manager `fresh` gets.
 ///
-/// Errors: Read, Restore, Write, Compact. The store keeps its requests, or may have the new ones if the commit failed.
-fn compact_over<S: Store + Drop, R: Clock + Log>(
+/// Errors: Read, Terms, UnreadableTerms, Memory, Restore, Write, Compact. The store keeps its requests, or may have the
+/// new ones if the commit failed.
+fn compact_over<S: Alter + Drop, R: Clock + Log>(
     alloc: Global,
     telling: &R,
     mut replay: Replay<S>,
-    may_leave_out: bool,
+    choices: StartChoices,
     about: &Run<'_>,
     manager: &mut Manager<Global>,
     fresh: &mut Manager<Global>,
 ) -> Result<Shrunk<S>, StartFault>
-    requires first { given_out replay ≡ [] }
     requires settings { fresh.old.settings ≡ manager.old.settings }
     requires new { fresh.old.history ≡ [] }
     ensures compacted { OnOk result (past fresh.new.history ≡ compacted COMPACTOR (moment_in about.now) manager.new.settings (past manager.new.history)) }
     ensures kept { IfOk result (λ s. IsClean (requests_shown s.store) → said (requests s.store) ≡ map recorded fresh.new.history) }
+    ensures permits { IfOk result (λ s. choices.may_change_terms ≡ false → IsClean (requests_shown s.store) → PermitsNoted manager.old.settings (last_terms_of replay)) }
     ensures settings { manager.new.settings ≡ manager.old.settings }
 {
-    match take_all(telling, alloc, &mut replay, manager, may_leave_out) {
+    match check_terms(
+        alloc,
+        telling,
+        &mut replay,
+        manager,
+        choices.may_change_terms,
+    ) {
+        Ok(()) => {}
+        Err(fault) => return Err(fault),
+    }
+    match take_all(telling, alloc, &mut replay, manager, choices.may_leave_out) {
         Ok(_) => {}
         Err(fault) => return Err(fault),
     }
@@ -89,17 +104,18 @@ fn closed<P: StorePlace>(shrunk: Shrunk<P::Store>) -> Result<Compacted, StartFau
 
 /// Compacts the store at a place: enters its requests into a manager, in their order, as [`begin`](crate::begin) does,
 /// replaces them by those of the compacted history, in one transaction, and drops the store. The two managers are new,
-/// and have the same settings; the second is left with the compacted history.
+/// and have the same settings, which have to permit as much as the terms that the last run noted, unless the choices
+/// allow other terms; the second is left with the compacted history. Whether the choices allow a compaction is not asked.
 ///
 /// # Errors
 ///
-/// Open, Read, Restore, Write, Compact. The store keeps its requests, or may have the new ones if the commit, or what
-/// follows it, failed.
+/// Open, Read, Terms, UnreadableTerms, Memory, Restore, Write, Compact. The store keeps its requests, or may have the new
+/// ones if the commit, or what follows it, failed.
 pub fn compact<P: StorePlace, R: Clock + Log>(
     alloc: Global,
     telling: &R,
     place: &P,
-    may_leave_out: bool,
+    choices: StartChoices,
     about: &Run<'_>,
     manager: &mut Manager<Global>,
     fresh: &mut Manager<Global>,
@@ -107,9 +123,11 @@ pub fn compact<P: StorePlace, R: Clock + Log>(
     requires settings { fresh.old.settings ≡ manager.old.settings }
     requires new { fresh.old.history ≡ [] }
     ensures compacted { OnOk result (past fresh.new.history ≡ compacted COMPACTOR (moment_in about.now) manager.new.settings (past manager.new.history)) }
+    ensures permits { OnOk result ((noted : Option (List ℕ)) × P.notes place.now noted × (shrunk : RequestStore P.Store P.Store.Store) × (choices.may_change_terms ≡ false → IsClean (requests_shown shrunk) → PermitsNoted manager.old.settings noted)) }
     ensures settings { manager.new.settings ≡ manager.old.settings }
 {
     let replay = opened(place)?;
-    let shrunk = compact_over(alloc, telling, replay, may_leave_out, about, manager, fresh)?;
-    closed::<P>(shrunk)
+    let shrunk = compact_over(alloc, telling, replay, choices, about, manager, fresh)?;
+    let compacted = closed::<P>(shrunk)?;
+    Ok(compacted)
 }

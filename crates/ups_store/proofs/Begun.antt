@@ -94,7 +94,7 @@ would_keep old mid count held shut broken kept same sound =
 pub runs_table : (v : View) (count : ℕ) → Holds v count → IsOrdered v.shape v.trees → IsShaped Table (v.committed 1)
 runs_table v count holds ordered = subst (λ (db : Trees). IsShaped Table (db 1)) holds.same (subst (λ (s : Shape). IsShaped s (v.trees 1)) holds.tables.runs (ordered 1))
 
-either : {T E A B P : Type 0} (r : Result T E) → (A → P) → OnOk r A → (B → P) → OnErr r B → P
+pub either : {T E A B P : Type 0} (r : Result T E) → (A → P) → OnOk r A → (B → P) → OnErr r B → P
 either (Ok x) f a g b = f a
 either (Err e) f a g b = g b
 

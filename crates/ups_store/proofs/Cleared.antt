@@ -65,15 +65,22 @@ tables_as old new schema tables = record {
   requests = ap (λ (f : ℕ → Shape). f 0) schema.shape ∙ tables.requests;
   runs = ap (λ (f : ℕ → Shape). f 1) schema.shape ∙ tables.runs;
   alike = schema.committed_shape ∙ tables.alike ∙ sym schema.shape;
+  numbered = schema.numbered ∙ tables.numbered;
+  unreal = ap (λ (f : ℕ → ℕ). f 1) schema.reals ∙ tables.unreal;
+  typed = schema.committed_reals ∙ tables.typed ∙ sym schema.reals;
 }
 
 pub rolled_tables : (old new : View) → IsRolledBack old new → HasTables old → HasTables new
 rolled_tables old new back tables =
     let shape = back.shape (sym tables.alike) in
+    let reals = back.reals (sym tables.typed) in
     record {
       requests = ap (λ (f : ℕ → Shape). f 0) shape ∙ tables.requests;
       runs = ap (λ (f : ℕ → Shape). f 1) shape ∙ tables.runs;
       alike = back.committed_shape ∙ tables.alike ∙ sym shape;
+      numbered = back.numbered ∙ tables.numbered;
+      unreal = ap (λ (f : ℕ → ℕ). f 1) reals ∙ tables.unreal;
+      typed = back.committed_reals ∙ tables.typed ∙ sym reals;
     }
 
 pub committed_tables : (old new : View) → Commits old new → HasTables old → HasTables new
@@ -83,6 +90,9 @@ committed_tables old new done tables =
       requests = ap (λ (v : View). v.shape 0) is ∙ tables.requests;
       runs = ap (λ (v : View). v.shape 1) is ∙ tables.runs;
       alike = ap (λ (v : View). v.committed_shape) is ∙ sym (ap (λ (v : View). v.shape) is);
+      numbered = ap (λ (v : View). v.is_numbered) is ∙ tables.numbered;
+      unreal = ap (λ (v : View). v.reals 1) is ∙ tables.unreal;
+      typed = ap (λ (v : View). v.committed_reals) is ∙ sym (ap (λ (v : View). v.reals) is);
     }
 
 -- a row of the runs that was put, where the store is sound behind it

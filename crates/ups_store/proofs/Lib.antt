@@ -7,3 +7,4 @@ pub mod Behind
 pub mod Begun
 pub mod Cleared
 pub mod Dropped
+pub mod Relisted

@@ -7,7 +7,7 @@ use Rattle.sqlite_pool.specs.declared.pool.Pool.{Pool}
 use Rattle.sqlite_pool.specs.Pool as below
 use Rattle.sqlite_pool.specs.Pool.{files}
 use Rattle.sqlite_store.specs.declared.store.open.Unopened.{Unopened}
-use Rattle.sqlite_store.specs.Unopened.{state_of, files_of, wanted_by, image, HasFile, HasSomeFile, IsFullFile, StopsCreating}
+use Rattle.sqlite_store.specs.Unopened.{state_of, files_of, wanted_by, image, HasFileAs, HasSomeFile, IsFullFile, StopsCreating}
 use Rattle.sqlite_store.specs.Db.{rows_at, roots_of, IsKept, IsFile}
 use Rattle.sqlite_store.specs.Catalog.{roots_in}
 use Rattle.sqlite_btree.specs.Chain.{Layout}
@@ -28,7 +28,11 @@ use Rattle.sqlite_store.specs.declared.catalog.Wanted.{Wanted}
 use Rattle.sqlite_store.specs.declared.saved.Saved.{Saved}
 use Rattle.sqlite_store.specs.Catalog.{shape_at}
 use Rattle.sqlite_store.specs.Saved.{kept_schema}
-use Rattle.sqlite_store.specs.Listing.{all_shapes, file_trees}
+use Rattle.sqlite_store.specs.Listing.{all_shapes, all_reals, file_trees, IsOurs}
+use Rattle.sqlite_store.specs.Exact.{entries_of}
+use Rattle.ups_store.specs.declared.format.Format.{Format}
+use Rattle.ups_store.specs.declared.format.Format.TheVariants.{First, Second}
+use Rattle.ups_store.specs.Format.{tables_of, format_in, IsSchema}
 use Rattle.sqlite_store.specs.FileStore.{view, state, schema_of, IsReady}
 use Rattle.sqlite_disk.specs.declared.Files.{Files}
 use Rattle.sqlite_disk.specs.Disk.{MoreFaults}
@@ -47,7 +51,7 @@ use Rattle.sqlite_wal.specs.Opening.{RefusesLog}
 use Rattle.sqlite_wal.specs.Files.{IsHuge}
 use Rattle.sqlite_wal.specs.Recovery.{IsLogFor}
 use Rattle.sqlite_pool.specs.Opening.{IsBlankFile}
-use Rattle.ups_store.specs.Found.{whole_page, used_page, the_schema, image_of, HoldsTables, HoldsNone, IsUnused, ListsNothing, StandAlike, ReadAs}
+use Rattle.ups_store.specs.Found.{whole_page, used_page, image_of, HoldsAs, HoldsTables, HoldsOnly, HoldsNone, IsUnused, ListsNothing, StandAlike, ReadAs}
 use Rattle.ups_store.specs.Refused.{faults_in, AreCleanFiles, MeetsLimit, IsLongLog, HasLog, OpenReasons, because, HasOpenReason, reasons, fault_of_opening, refuses_log, fault_of_log, IsKind}
 
 shape_first : (schema : List Wanted) → shape_at schema 0 ≡ Table → all_shapes schema 0 ≡ Table
@@ -57,6 +61,10 @@ shape_first schema h = h
 shape_second : (schema : List Wanted) → shape_at schema 1 ≡ Table → all_shapes schema 1 ≡ Table
 unfolding all_shapes
 shape_second schema h = h
+
+unreal_second : (format : Format) → all_reals (tables_of format) 1 ≡ 0
+unfolding all_reals
+unreal_second format = refl
 
 pub ok_in : {T E : Type 0} (P : T → Type 0) (r : Result T E) (x : T) → r ≡ Ok x → IfOk r P → P x
 ok_in P r x is h = subst (λ (r : Result _ _). IfOk r P) is h
@@ -98,31 +106,52 @@ pages_once size image p q a b = sym a.shows ∙ ap (trimmed size) (recovers_once
 pub read_alike : (size : ℕ) (old new : Image) (schema : List Wanted) (db : Trees) → StandAlike size old new → ReadAs size new schema db → ReadAs size old schema db
 read_alike size old new schema db (pages, was, now) (p, found, is) = (p, subst (Recovers size old) (pages_once size new pages p now found) was, is)
 
-roots_none : (pages : PageMap) → rows_at used_page pages Table 1 ≡ [] → roots_of used_page the_schema pages ≡ 0 ∷ 0 ∷ []
+-- files that stand for the same database do not hold a store in the only format that it may have
+pub none_of_format : (old new : Image) (format : Format) → StandAlike used_page old new → HoldsOnly old format → ¬ HoldsAs new format → ¬ HoldsTables old
+none_of_format old new format (pages, was, now) only none (other, held) =
+    let h = subst (HoldsAs old) (only other held) held in
+    none (h.0, subst (Recovers used_page new) (pages_once used_page old pages h.0 was h.1) now, h.2)
+
+roots_none : (format : Format) (pages : PageMap) → rows_at used_page pages Table 1 ≡ [] → roots_of used_page (tables_of format) pages ≡ 0 ∷ 0 ∷ []
 unfolding roots_of
-roots_none pages none = ap (λ (rows : List Row). roots_in rows the_schema) none
+roots_none format pages none = ap (λ (rows : List Row). roots_in rows (tables_of format)) none
 
 owns_root : (layout : Layout) (root : ℕ) → IsKept used_page layout Table root → root ≡ 0 → Owns layout 0
 owns_root layout root (rows, table, each) is = inl (subst (λ (n : ℕ). layout.nodes n ≢ []) is (stored_root_live table.stored))
 
 -- Tables that are not listed would have one root.
-none_kept : (pages : PageMap) → rows_at used_page (in_use used_page pages) Table 1 ≡ [] → ¬ IsFile used_page the_schema pages
-none_kept pages none file =
-    let roots = roots_none (in_use used_page pages) none in
+none_kept : (format : Format) (pages : PageMap) → rows_at used_page (in_use used_page pages) Table 1 ≡ [] → ¬ IsFile used_page (tables_of format) pages
+none_kept format pages none file =
+    let roots = roots_none format (in_use used_page pages) none in
     let trees = file.db.trees in
     trees.apart 1 2 0 (λ (e : 1 ≡ 2). omega (arith, e)) (owns_root (file.db.layouts 1) _ (trees.kept 1) (ap (λ (r : List ℕ). slice_index r 0) roots)) (owns_root (file.db.layouts 2) _ (trees.kept 2) (ap (λ (r : List ℕ). slice_index r 1) roots))
 
 -- files that list nothing do not hold the tables
 pub nothing_held : (image : Image) → ListsNothing used_page image → ¬ HoldsTables image
-nothing_held image (p, found, none) (q, again, file) = none_kept q (subst (λ (x : PageMap). rows_at used_page (in_use used_page x) Table 1 ≡ []) (pages_once used_page image p q found again) none) file
+nothing_held image (p, found, none) (format, (q, again, ours)) = none_kept format q (subst (λ (x : PageMap). rows_at used_page (in_use used_page x) Table 1 ≡ []) (pages_once used_page image p q found again) none) ours.file
+
+-- the two rows under which a store of this format lists its tables
+entries_in : (format : Format) (pages : PageMap) (rows : List Row) → rows ≡ entries_of 1 (tables_of format) (roots_of used_page (tables_of format) pages) → format ≡ format_in rows
+unfolding roots_of
+entries_in First pages rows is = ap format_in (sym is)
+entries_in Second pages rows is = ap format_in (sym is)
+
+-- a store in the files has the format that the rows of its sqlite_schema tell
+pub only_format : (image : Image) (pages : PageMap) (rows : List Row) → Recovers used_page image pages → rows ≡ rows_at used_page (in_use used_page pages) Table 1 → HoldsOnly image (format_in rows)
+only_format image pages rows found lists format (q, again, ours) =
+    let same = pages_once used_page image pages q found again in
+    entries_in format (in_use used_page q) rows (lists ∙ ap (λ (x : PageMap). rows_at used_page (in_use used_page x) Table 1) same ∙ (ours.numbered refl).listed)
 
 module _ {D : Type 0} {g : Ghosts D} where
-  pub fresh_if_ready : (it : FileStore D g) → IsReady it → schema_of it ≡ the_schema → IsClean (view it) → IsFresh (view it)
-  fresh_if_ready it ready is clean = record {
+  pub fresh_if_ready : (it : FileStore D g) → IsReady it → IsSchema (schema_of it) → IsTrue (view it).is_numbered → IsClean (view it) → IsFresh (view it)
+  fresh_if_ready it ready (format, is) numbered clean = record {
     tables = record {
       requests = shape_first (schema_of it) (subst (λ (schema : List Wanted). shape_at schema 0 ≡ Table) (sym is) refl);
       runs = shape_second (schema_of it) (subst (λ (schema : List Wanted). shape_at schema 1 ≡ Table) (sym is) refl);
       alike = ap (λ (saved : Option Saved). all_shapes (kept_schema saved (schema_of it))) ready.unaltered;
+      numbered = numbered;
+      unreal = subst (λ (schema : List Wanted). all_reals schema 1 ≡ 0) (sym is) (unreal_second format);
+      typed = ap (λ (saved : Option Saved). all_reals (kept_schema saved (schema_of it))) ready.unaltered;
     };
     sound = ready.sound clean;
     same = ready.clean;
@@ -162,23 +191,22 @@ module _ {D : Type 0} {g : Ghosts D} where
   pub image_kept : (old new : Files D) → OnlyReads g old.log new.log → OnlyReads g old.db new.db → image_of g new ≡ image_of g old
   image_kept old new a b = ap (λ (l : List ℕ). let i : Image = record { log = l; db = g.seen new.db } in i) a.seen ∙ ap (λ (d : List ℕ). let i : Image = record { log = g.seen old.log; db = d } in i) b.seen
 
-  -- files whose open was refused held no such database before they were read
-  pub no_file : (it : Unopened D g) (old : Image) → StandAlike used_page old (image it) → (state_of it).page_size ≡ used_page → wanted_by it ≡ the_schema → ¬ HasFile it → ¬ HoldsTables old
-  no_file it old (pages, was, now) size wanted none held =
-      let same = pages_once used_page old pages held.0 was held.1 in
+  -- files whose open was refused hold no store of the format
+  pub no_file : (it : Unopened D g) (format : Format) (i : Image) → image it ≡ i → (state_of it).page_size ≡ used_page → wanted_by it ≡ tables_of format → ¬ HasFileAs it true → ¬ HoldsAs i format
+  no_file it format i same size wanted none held =
       none (
         held.0,
-        subst (λ (n : ℕ). Recovers n (image it) held.0) (sym size) (subst (Recovers used_page (image it)) same now),
-        subst (λ (n : ℕ). IsFile n (wanted_by it) held.0) (sym size) (subst (λ (s : List Wanted). IsFile used_page s held.0) (sym wanted) held.2),
+        subst (λ (n : ℕ). Recovers n (image it) held.0) (sym size) (subst (λ (x : Image). Recovers used_page x held.0) (sym same) held.1),
+        subst (λ (n : ℕ). IsOurs n true (wanted_by it) held.0) (sym size) (subst (λ (s : List Wanted). IsOurs used_page true s held.0) (sym wanted) held.2),
       )
 
   -- files that hold no database of any schema hold none of this one
   pub no_some_file : (it : Unopened D g) → (state_of it).page_size ≡ used_page → ¬ HasSomeFile it → ¬ HoldsTables (image it)
   no_some_file it size none held =
       none (
-        held.0,
-        subst (λ (n : ℕ). Recovers n (image it) held.0) (sym size) held.1,
-        (the_schema, subst (λ (n : ℕ). IsFile n the_schema held.0) (sym size) held.2),
+        held.1.0,
+        subst (λ (n : ℕ). Recovers n (image it) held.1.0) (sym size) held.1.1,
+        (tables_of held.0, subst (λ (n : ℕ). IsFile n (tables_of held.0) held.1.0) (sym size) held.1.2.file),
       )
 
   pub clean_from : (it : Unopened D g) (files : Files D) → files_of it ≡ (files.log, files.db) → IsTrue (state_of it).is_clean → AreCleanFiles g files

@@ -65,6 +65,9 @@ fresh_as old new is fresh = record {
     requests = ap (λ (v : View). v.shape 0) is ∙ fresh.tables.requests;
     runs = ap (λ (v : View). v.shape 1) is ∙ fresh.tables.runs;
     alike = ap (λ (v : View). v.committed_shape) is ∙ fresh.tables.alike ∙ sym (ap (λ (v : View). v.shape) is);
+    numbered = ap (λ (v : View). v.is_numbered) is ∙ fresh.tables.numbered;
+    unreal = ap (λ (v : View). v.reals 1) is ∙ fresh.tables.unreal;
+    typed = ap (λ (v : View). v.committed_reals) is ∙ fresh.tables.typed ∙ sym (ap (λ (v : View). v.reals) is);
   };
   sound = ap (λ (v : View). v.is_broken) is ∙ fresh.sound;
   same = ap (λ (v : View). v.trees) is ∙ fresh.same ∙ sym (ap (λ (v : View). v.committed) is);

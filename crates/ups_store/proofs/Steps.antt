@@ -147,12 +147,16 @@ held_undone old mid new count held clean kept schema back up =
     let h = held both.0 in
     let k = back.kept clean in
     let shape : new.shape ≡ mid.shape = back.shape (schema.shape ∙ sym h.tables.alike ∙ sym schema.committed_shape) in
+    let reals : new.reals ≡ mid.reals = back.reals (schema.reals ∙ sym h.tables.typed ∙ sym schema.committed_reals) in
     let trees : new.trees ≡ old.trees = (back.undone up).0 ∙ kept.committed (k.was_open up) ∙ sym h.same in
     record {
       tables = record {
         requests = ap (λ (f : ℕ → Shape). f 0) (shape ∙ schema.shape) ∙ h.tables.requests;
         runs = ap (λ (f : ℕ → Shape). f 1) (shape ∙ schema.shape) ∙ h.tables.runs;
         alike = back.committed_shape ∙ schema.committed_shape ∙ h.tables.alike ∙ sym (shape ∙ schema.shape);
+        numbered = back.numbered ∙ schema.numbered ∙ h.tables.numbered;
+        unreal = ap (λ (f : ℕ → ℕ). f 1) (reals ∙ schema.reals) ∙ h.tables.unreal;
+        typed = back.committed_reals ∙ schema.committed_reals ∙ h.tables.typed ∙ sym (reals ∙ schema.reals);
       };
       adding = adding_as old new count h.adding (back.undone up).1 trees;
       same = trees ∙ h.same ∙ sym both.1;
@@ -167,6 +171,9 @@ held_committed old mid new was count held up schema adding done =
         requests = ap (λ (v : View). v.shape 0) is ∙ ap (λ (f : ℕ → Shape). f 0) schema.shape ∙ h.tables.requests;
         runs = ap (λ (v : View). v.shape 1) is ∙ ap (λ (f : ℕ → Shape). f 1) schema.shape ∙ h.tables.runs;
         alike = ap (λ (v : View). v.committed_shape) is ∙ sym (ap (λ (v : View). v.shape) is);
+        numbered = ap (λ (v : View). v.is_numbered) is ∙ schema.numbered ∙ h.tables.numbered;
+        unreal = ap (λ (v : View). v.reals 1) is ∙ ap (λ (f : ℕ → ℕ). f 1) schema.reals ∙ h.tables.unreal;
+        typed = ap (λ (v : View). v.committed_reals) is ∙ sym (ap (λ (v : View). v.reals) is);
       };
       adding = adding_as mid new count adding (ap (λ (v : View). v.is_broken) is ∙ done.sound) (ap (λ (v : View). v.trees) is);
       same = ap (λ (v : View). v.trees) is ∙ sym (ap (λ (v : View). v.committed) is);

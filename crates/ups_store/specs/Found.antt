@@ -1,5 +1,5 @@
 -- What an open finds in the files.
-use Rattle.std.specs.Prelude.{◌≡◌, ◌⊎◌, ℕ, List, [], ◌∷◌, codes}
+use Rattle.std.specs.Prelude.{◌≡◌, ◌⊎◌, ℕ, true, List, []}
 use Rattle.sqlite_disk.specs.declared.Disk as disk
 use Rattle.sqlite_disk.specs.declared.Files.{Files}
 use Rattle.sqlite_pages.specs.PageMap.{PageMap}
@@ -7,13 +7,14 @@ use Rattle.sqlite_wal.specs.Recovery.{Image, Replays}
 use Rattle.sqlite_wal.specs.Files.{seen_image}
 use Rattle.sqlite_pool.specs.Stored.{Recovers}
 use Rattle.sqlite_pool.specs.Opening.{IsBlankFile}
-use Rattle.sqlite_value.specs.declared.value.Value.TheVariants.{Text}
 use Rattle.sqlite_trees.specs.Tree.{Trees}
 use Rattle.sqlite_trees.specs.declared.store.Shape.TheVariants.{Table}
 use Rattle.sqlite_store.specs.declared.catalog.Wanted.{Wanted}
-use Rattle.sqlite_store.specs.Listing.{file_trees}
-use Rattle.sqlite_store.specs.Db.{rows_at, IsFile}
+use Rattle.sqlite_store.specs.Listing.{file_trees, IsOurs}
+use Rattle.sqlite_store.specs.Db.{rows_at}
 use Rattle.sqlite_pool.specs.File.{in_use}
+use Rattle.ups_store.specs.declared.format.Format.{Format}
+use Rattle.ups_store.specs.Format.{tables_of}
 
 -- the bytes of a page of the file
 abbrev pub whole_page : ℕ
@@ -23,23 +24,6 @@ whole_page = 1024
 abbrev pub used_page : ℕ
 used_page = 1016
 
--- a table with this name and this SQL text
-abbrev pub table_of : List ℕ → List ℕ → Wanted
-table_of name sql = record { shape = Table; reals = 0; row = Text (codes "table") ∷ Text name ∷ Text name ∷ Text sql ∷ [] }
-
-abbrev pub request_table : Wanted
-request_table =
-    table_of (codes "request")
-    (codes "CREATE TABLE request (number INTEGER PRIMARY KEY, run INTEGER NOT NULL, caller INTEGER NOT NULL, moment INTEGER NOT NULL, title TEXT NOT NULL, operation TEXT NOT NULL, instance TEXT, transaction_uid TEXT, state TEXT, receiver TEXT, deletion_lock INTEGER, event INTEGER, utc_offset INTEGER, attributes BLOB) STRICT")
-
-abbrev pub run_table : Wanted
-run_table =
-    table_of (codes "run")
-    (codes "CREATE TABLE run (number INTEGER PRIMARY KEY, moment INTEGER NOT NULL, version TEXT NOT NULL, settings TEXT NOT NULL, requests INTEGER NOT NULL) STRICT")
-
-abbrev pub the_schema : List Wanted
-the_schema = request_table ∷ run_table ∷ []
-
 -- the two files as reads return them
 abbrev pub image_of : {D : Type 0} → disk.Ghosts D → Files D → Image
 image_of g files = seen_image g files.log files.db
@@ -48,9 +32,17 @@ image_of g files = seen_image g files.log files.db
 abbrev pub ReadAs : ℕ → Image → List Wanted → Trees → Type 0
 ReadAs size image schema db = (pages : PageMap) × Recovers size image pages × (db ≡ file_trees size schema pages)
 
--- The files recover to a sound database of the two tables.
+-- The files recover to a sound database of the two tables in this format, listed in their order and with no other.
+abbrev pub HoldsAs : Image → Format → Type 0
+HoldsAs image format = (pages : PageMap) × Recovers used_page image pages × IsOurs used_page true (tables_of format) pages
+
+-- The files recover to a sound database of the two tables, in one of the formats.
 abbrev pub HoldsTables : Image → Type 0
-HoldsTables image = (pages : PageMap) × Recovers used_page image pages × IsFile used_page the_schema pages
+HoldsTables image = (format : Format) × HoldsAs image format
+
+-- A store that the files hold has this format.
+abbrev pub HoldsOnly : Image → Format → Type 0
+HoldsOnly image format = (other : Format) → HoldsAs image other → other ≡ format
 
 -- the database has no request and no run
 abbrev pub HasNone : Trees → Type 0
@@ -76,9 +68,9 @@ HoldsNone image = IsBlankFile used_page image ⊎ (¬ HoldsTables image)
 abbrev pub StandAlike : ℕ → Image → Image → Type 0
 StandAlike size old new = (pages : PageMap) × Recovers size old pages × Recovers size new pages
 
--- The database is what the files hold, row by row.
+-- The database is what the files hold, row by row, in one of the formats.
 abbrev pub FindsIn : Image → Trees → Type 0
-FindsIn image db = ReadAs used_page image the_schema db
+FindsIn image db = (format : Format) × ReadAs used_page image (tables_of format) db
 
 -- The database has no rows, and there was none in the files.
 abbrev pub MakesIn : Image → Trees → Type 0

@@ -5,11 +5,14 @@ use Rattle.sqlite_trees.specs.View.{View}
 use Rattle.ups_store.specs.declared.request.StoredRequest.{StoredRequest}
 use Rattle.ups_store.specs.Rows.{rows_from, requests_in, IsNumbered}
 
--- trees 0 and 1 are the tables of the requests and of the runs
+-- trees 0 and 1 are the tables of the requests and of the runs, listed in this order; no column of a run is REAL
 pub record HasTables (v : View) : Type 0 where
   pub requests : v.shape 0 ≡ Table
   pub runs : v.shape 1 ≡ Table
   pub alike : v.committed_shape ≡ v.shape
+  pub numbered : IsTrue v.is_numbered
+  pub unreal : v.reals 1 ≡ 0
+  pub typed : v.committed_reals ≡ v.reals
 
 -- the transaction is sound and has `count` requests, numbered from 1
 pub record IsAdding (v : View) (count : ℕ) : Type 0 where

@@ -6,7 +6,9 @@ pub mod Held
 pub mod Taken
 pub mod Storing
 pub mod Shown
+pub mod Format
 pub mod Found
 pub mod Refused
 pub mod Runs
 pub mod Rewriting
+pub mod Upgrading

@@ -7,15 +7,15 @@ use Rattle.sqlite_value.specs.Order.{Row, column}
 use Rattle.sqlite_trees.specs.Tree.{rowid, put_row}
 use Rattle.sqlite_trees.specs.View.{View}
 use Rattle.ups_store.specs.declared.runs.Run.{Run}
-use Rattle.ups_store.specs.Cells.{number_cell, number_in}
+use Rattle.ups_store.specs.Cells.{number_cell, number_in, bytes_in}
 
--- a run: its number, when it began, its version and settings, and the number of requests then
-abbrev pub run_row : ℤ → ℕ → List ℕ → List ℕ → ℕ → Row
-run_row number moment version settings requests = Int number ∷ Null ∷ number_cell moment ∷ Text version ∷ Text settings ∷ number_cell requests ∷ []
+-- a run: its number, when it began, its version and settings, the number of requests then, and the terms of the service
+abbrev pub run_row : ℤ → ℕ → List ℕ → List ℕ → ℕ → List ℕ → Row
+run_row number moment version settings requests terms = Int number ∷ Null ∷ number_cell moment ∷ Text version ∷ Text settings ∷ number_cell requests ∷ Text terms ∷ []
 
 -- the row of the run with this number, written when there were that many requests
 abbrev pub row_of_run : ℕ → Run → ℕ → Row
-row_of_run number run requests = run_row (cast_signed w64 number) run.moment run.version.now run.settings.now requests
+row_of_run number run requests = run_row (cast_signed w64 number) run.moment run.version.now run.settings.now requests run.terms.now
 
 -- the last of these rows, or an empty one if there is none
 abbrev pub last_row : List Row → Row
@@ -36,6 +36,10 @@ last_number runs = number_in (rowid (last_row runs))
 -- the number of requests when the row of the last run was written, or 0 if there is none
 abbrev pub last_requests : List Row → ℕ
 last_requests runs = number_in (column (last_row runs) 5)
+
+-- the terms in the row of a run, or none: the row of a run of format 1 ends before them
+abbrev pub terms_in : Row → Option (List ℕ)
+terms_in row = bytes_in (column row 6)
 
 -- the number of a run that began a hundred runs or more before the run with the first number
 abbrev pub old_in : ℕ → Value → Option ℤ

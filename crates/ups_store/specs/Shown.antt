@@ -1,5 +1,5 @@
 -- What a store shows, and what was read from it.
-use Rattle.std.specs.Prelude.{◌≡◌, ℕ, Bool, true, false, List, [], ◌∷◌, ◌++◌, take, Option, Some, None}
+use Rattle.std.specs.Prelude.{◌≡◌, ◌≢◌, ℕ, Bool, true, false, List, [], ◌∷◌, ◌++◌, take, Option, Some, None}
 use Rattle.sqlite_value.specs.Order.{Row}
 use Rattle.sqlite_trees.specs.View.{View}
 use Rattle.sqlite_trees.specs.declared.store.Store.{Ghosts}
@@ -9,6 +9,7 @@ use Rattle.ups_store.specs.declared.reading.Replay.{Replay}
 use Rattle.ups_store.specs.declared.request.StoredRequest.{StoredRequest}
 use Rattle.ups_store.specs.declared.store.RequestStore.{RequestStore}
 use Rattle.ups_store.specs.Rows.{requests_in}
+use Rattle.ups_store.specs.Runs.{last_row, terms_in}
 
 -- the next request was given after the old ones; or they are all
 abbrev pub GivesRequest : List StoredRequest → List StoredRequest → List StoredRequest → Option StoredRequest → Type 0
@@ -47,6 +48,14 @@ module _ {S : Type 0} {g : Ghosts S} where
   -- the requests given so far
   abbrev pub given_out : Replay S g → List StoredRequest
   given_out it = take it.count (all_of it)
+
+  -- the terms in the row of the last run, or none
+  abbrev pub last_terms_of : Replay S g → Option (List ℕ)
+  last_terms_of it = terms_in (last_row ((shown_by it).committed 1))
+
+  -- an earlier call failed, or reading the requests has begun
+  abbrev pub IsUnderWay : Replay S g → Type 0
+  IsUnderWay it = it.phase ≢ Fresh
 
   -- an earlier call failed
   abbrev pub HasFailedToShow : Replay S g → Type 0

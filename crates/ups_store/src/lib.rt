@@ -4,6 +4,7 @@
 
 mod cells;
 mod fault;
+mod format;
 mod laws;
 mod opening;
 mod path;
@@ -13,6 +14,7 @@ mod request;
 mod rewriting;
 mod runs;
 mod store;
+mod upgrading;
 mod words;
 
 pub use fault::{OpenFault, StoreFault};

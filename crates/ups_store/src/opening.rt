@@ -1,47 +1,37 @@
 //! Opening the files of a store, and making one.
 
-ghost use Rattle.std.specs.Prelude.{◌≡◌, ◌⊎◌, ◌≤◌, ⊤, [], false, IsTrue, IfOk, IfErr, OnOk};
+ghost use Rattle.std.specs.Prelude.{◌≡◌, ◌⊎◌, ◌≤◌, ⊤, [], false, true, None, IsTrue, IfOk, IfErr, IfSome, OnOk};
 ghost use Rattle.sqlite_disk.specs.Disk.{MoreFaults};
 ghost use Rattle.sqlite_wal.specs.Files.{image_at};
 ghost use Rattle.sqlite_wal.specs.Reads.{AreClean, OnlyReads};
 ghost use Rattle.sqlite_wal.specs.Recovery.{Replays};
 ghost use Rattle.sqlite_pool.specs.Opening.{IsBlankFile};
 ghost use Rattle.sqlite_store.specs.FileStore.{view};
-ghost use Rattle.sqlite_store.specs.Unopened.{AreUsable, HasFile, HasSomeFile, IsFullFile, CanCreate, files_of, wanted_by, state_of, image};
-ghost use Rattle.sqlite_store.specs.Catalog.{wanted_of};
+ghost use Rattle.sqlite_store.specs.Unopened.{AreUsable, HasFileAs, HasSomeFile, IsFullFile, CanCreate, files_of, wanted_by, state_of, image};
 ghost use Rattle.sqlite_trees.specs.View.{IsClean};
 ghost use Rattle.ups_store.specs.Held.{IsFresh};
-ghost use Rattle.ups_store.specs.Found.{whole_page, used_page, table_of, the_schema, image_of, HasNone, HoldsTables, ListsNothing, AreNew, StandAlike, ReadAs, FindsIn, MakesIn};
+ghost use Rattle.ups_store.specs.Format.{tables_of, the_schema, IsSchema};
+ghost use Rattle.ups_store.specs.Found.{whole_page, used_page, image_of, HasNone, HoldsAs, HoldsTables, HoldsOnly, ListsNothing, AreNew, StandAlike, ReadAs, FindsIn, MakesIn};
 ghost use Rattle.ups_store.specs.Refused.{faults_in, AreCleanFiles, IsUnusable, HasLog, IsAlone, MeetsLimit, because, HasOpenReason, fault_of_opening, refuses_log, fault_of_log, reasons, creation_reasons, IsKind, IsLongLog, pair};
 ghost use Rattle.ups_store.specs.Shown.{shown_by, given_out};
 ghost use Rattle.ups_store.specs.declared.fault.OpenFault.TheVariants as faults;
 
 use crate::fault::OpenFault;
+use crate::format::{
+    CURRENT, Format, REQUEST, REQUEST_SQL, RUN, format_in, is_text_cell, request_table, run_table,
+};
 use crate::reading::Replay;
 use sqlite_disk::{Disk, Files, Start};
 use sqlite_pager::{Options, Pager};
 use sqlite_pool::probe_blank;
 use sqlite_store::{FileStore, OpenError as StoreOpenError, Unopened, name_fault};
 use sqlite_trees::error::StoreError;
-use sqlite_trees::schema::Object;
-use sqlite_trees::store::Shape;
 use sqlite_value::row::Row;
-use sqlite_value::value::ValueRef;
 use sqlite_wal::{PageSize, probe_frames};
 use std::alloc::Global;
 
 /// The page size of the file, in bytes: most records fit in one page, and a commit writes at least two.
 const PAGE: usize = 1024;
-
-const REQUEST: &str = "request";
-
-const REQUEST_SQL: &str =
-    "CREATE TABLE request (number INTEGER PRIMARY KEY, run INTEGER NOT NULL, caller INTEGER NOT NULL, moment INTEGER NOT NULL, title TEXT NOT NULL, operation TEXT NOT NULL, instance TEXT, transaction_uid TEXT, state TEXT, receiver TEXT, deletion_lock INTEGER, event INTEGER, utc_offset INTEGER, attributes BLOB) STRICT";
-
-const RUN: &str = "run";
-
-const RUN_SQL: &str =
-    "CREATE TABLE run (number INTEGER PRIMARY KEY, moment INTEGER NOT NULL, version TEXT NOT NULL, settings TEXT NOT NULL, requests INTEGER NOT NULL) STRICT";
 
 /// Files that were not opened, and why.
 #[derive(Drop)]
@@ -66,28 +56,16 @@ fn fault_of_open(error: StoreOpenError, named: StoreError) -> OpenFault
     }
 }
 
-fn table(name: &'static str, sql: &'static str) -> Object<'static>
-    ensures { wanted_of result ≡ table_of name.now sql.now }
-{
-    Object {
-        shape: Shape::Table,
-        kind: "table",
-        name,
-        table: name,
-        reals: 0,
-        sql: Some(sql),
-    }
-}
-
-/// Returns the files as a database that should have the tables, before anything is read from it.
+/// Returns the files as a database that should have the tables of this format, before anything is read from it.
 fn unopened<D: Disk + Drop>(
     alloc: Global,
     files: Files<D>,
     seed: u64,
+    format: Format,
 ) -> Result<Unopened<D>, Refusal<D>>
     ensures files { IfOk result (λ it. files_of it ≡ (files.log, files.db)) }
     ensures size { IfOk result (λ it. (state_of it).page_size ≡ used_page) }
-    ensures table { IfOk result (λ it. wanted_by it ≡ the_schema) }
+    ensures table { IfOk result (λ it. wanted_by it ≡ tables_of format) }
     ensures fault { IfErr result (λ r. r.fault ≡ faults.Memory) }
     ensures back { IfErr result (λ r. pair r.files ≡ pair files) }
 {
@@ -101,7 +79,7 @@ fn unopened<D: Disk + Drop>(
             });
         }
     };
-    let tables = [table(REQUEST, REQUEST_SQL), table(RUN, RUN_SQL)];
+    let tables = [request_table(), run_table(format)];
     match Unopened::with_sums(alloc, pager, &tables, true) {
         Ok(unopened) => Ok(unopened),
         Err(failed) => Err(Refusal {
@@ -231,29 +209,31 @@ fn made<D: Disk + Drop>(files: Unopened<D>) -> Result<FileStore<D>, Refusal<D>>
     }
 }
 
-/// Opens files that have the tables.
+/// Opens files that have the tables of a format.
 fn attached<D: Disk + Drop>(files: Unopened<D>) -> Result<FileStore<D>, Refusal<D>>
     requires usable { AreUsable files }
-    requires table { wanted_by files ≡ the_schema }
+    requires table { IsSchema (wanted_by files) }
     ensures fresh { IfOk result (λ store. IsClean (view store) → IsFresh (view store)) }
-    ensures found { IfOk result (λ store. IsClean (view store) → ReadAs (state_of files).page_size (image files) the_schema (view store).committed) }
+    ensures found { IfOk result (λ store. IsClean (view store) → ReadAs (state_of files).page_size (image files) (wanted_by files) (view store).committed) }
     ensures honest { IfOk result (λ store. IsClean (view store) → IsTrue (state_of files).is_clean) }
-    ensures cause { IfErr result (λ r. AreCleanFiles D.Disk r.files → HasOpenReason (because (MoreFaults (state_of files).faults (faults_in D.Disk r.files)) (MeetsLimit D.Disk r.files) (¬ HasFile files)) r.fault) }
-    ensures falls { IfErr result (λ r. AreCleanFiles D.Disk r.files → IsTrue (state_of files).is_clean × ((state_of files).faults ≤ faults_in D.Disk r.files)) }
+    ensures cause { IfErr result (λ r. AreCleanFiles D.Disk r.files → HasOpenReason (because (MoreFaults (state_of files).faults (faults_in D.Disk r.files)) (MeetsLimit D.Disk r.files) (¬ HasFileAs files true)) r.fault) }
+    ensures falls { IfErr result (λ r. AreCleanFiles D.Disk r.files → IsTrue (state_of files).is_clean) }
 {
     let before = files.tally();
-    match files.open() {
+    match files.open_numbered() {
         Ok(store) => Ok(store),
         Err((error, left)) => Err(refused(error, name_fault(before, left.tally()), left)),
     }
 }
 
-/// Returns whether the files recover to a database with an empty catalog, which an interrupted creation leaves when it
-/// got no further than the first page.
-fn lists_nothing<D: Disk + Drop>(files: &mut Unopened<D>) -> Result<bool, OpenFault>
-    requires { AreUsable files.old }
-    ensures nothing { IfOk result (λ none. IsTrue (state_of files.new).is_clean → IsTrue none → ListsNothing (state_of files.old).page_size (image files.old)) }
-    ensures alike { OnOk result (IsTrue (state_of files.new).is_clean → StandAlike (state_of files.old).page_size (image files.old) (image files.new)) }
+/// Returns the format of a store that the files recover to, or None if they recover to a database with an empty
+/// catalog, which an interrupted creation leaves when it got no further than the first page.
+fn format_of<D: Disk + Drop>(files: &mut Unopened<D>) -> Result<Option<Format>, OpenFault>
+    requires usable { AreUsable files.old }
+    requires size { (state_of files.old).page_size ≡ used_page }
+    ensures nothing { IfOk result (λ found. IsTrue (state_of files.new).is_clean → found ≡ None → ListsNothing used_page (image files.old)) }
+    ensures format { IfOk result (λ found. IsTrue (state_of files.new).is_clean → IfSome found (HoldsOnly (image files.old))) }
+    ensures alike { OnOk result (IsTrue (state_of files.new).is_clean → StandAlike used_page (image files.old) (image files.new)) }
     ensures usable { OnOk result (AreUsable files.new) }
     ensures table { wanted_by files.new ≡ wanted_by files.old }
     ensures size { IsTrue (state_of files.new).is_clean → (state_of files.new).page_size ≡ (state_of files.old).page_size }
@@ -262,7 +242,8 @@ fn lists_nothing<D: Disk + Drop>(files: &mut Unopened<D>) -> Result<bool, OpenFa
 {
     let before = files.tally();
     match files.read_catalog() {
-        Ok(rows) => Ok(rows.is_empty()),
+        Ok(rows) if rows.is_empty() => Ok(None),
+        Ok(rows) => Ok(Some(format_in(rows.as_slice()))),
         Err(error) => Err(fault_of_open(error, name_fault(before, files.tally()))),
     }
 }
@@ -285,9 +266,9 @@ fn completed<D: Disk + Drop>(mut files: Unopened<D>) -> Result<FileStore<D>, Ref
     }) r.fault) }
     ensures falls { IfErr result (λ r. AreCleanFiles D.Disk r.files → IsTrue (state_of files).is_clean) }
 {
-    match lists_nothing(&mut files) {
-        Ok(true) => made(files),
-        Ok(false) | Err(OpenFault::NotStore) => Err(Refusal {
+    match format_of(&mut files) {
+        Ok(None) => made(files),
+        Ok(Some(_)) | Err(OpenFault::NotStore) => Err(Refusal {
             fault: OpenFault::Exists,
             files: files.close(),
         }),
@@ -311,7 +292,7 @@ fn made_in<D: Disk + Drop>(
     ensures honest { IfOk result (λ store. IsClean (view store) → AreCleanFiles D.Disk files) }
     ensures cause { IfErr result (λ r. AreCleanFiles D.Disk r.files → HasOpenReason (because (MoreFaults (faults_in D.Disk files) (faults_in D.Disk r.files)) (MeetsLimit D.Disk r.files) ⊤) r.fault) }
 {
-    match unopened(alloc, files, seed) {
+    match unopened(alloc, files, seed, CURRENT) {
         Ok(it) => made(it),
         Err(refusal) => Err(refusal),
     }
@@ -337,7 +318,7 @@ fn completed_in<D: Disk + Drop>(
     }) r.fault) }
     ensures falls { IfErr result (λ r. AreCleanFiles D.Disk r.files → AreCleanFiles D.Disk files) }
 {
-    match unopened(alloc, files, seed) {
+    match unopened(alloc, files, seed, CURRENT) {
         Ok(it) => completed(it),
         Err(refusal) => Err(refusal),
     }
@@ -361,13 +342,21 @@ fn new_store_over<D: Disk + Drop>(
     }
 }
 
-/// Opens files that do not have an empty catalog.
-fn opened<D: Disk + Drop>(mut files: Unopened<D>) -> Result<FileStore<D>, Refusal<D>>
+/// Files that recover to a database, and the format that it has if it is a store.
+#[derive(Drop)]
+struct Known<D: Disk> {
+    files: Files<D>,
+    format: Format,
+}
+
+/// Returns the files, which are not blank, with the format of the store in them.
+fn recognized<D: Disk + Drop>(mut files: Unopened<D>) -> Result<Known<D>, Refusal<D>>
     requires usable { AreUsable files }
-    requires table { wanted_by files ≡ the_schema }
     requires size { (state_of files).page_size ≡ used_page }
-    ensures fresh { IfOk result (λ store. IsClean (view store) → IsFresh (view store)) }
-    ensures found { IfOk result (λ store. IsClean (view store) → FindsIn (image files) (view store).committed) }
+    ensures usable { IfOk result (λ k. IsTrue (D.Disk.is_usable k.files.log) × IsTrue (D.Disk.is_usable k.files.db)) }
+    ensures alike { IfOk result (λ k. AreCleanFiles D.Disk k.files → StandAlike used_page (image files) (image_of D.Disk k.files)) }
+    ensures format { IfOk result (λ k. AreCleanFiles D.Disk k.files → HoldsOnly (image files) k.format) }
+    ensures counts { IfOk result (λ k. AreCleanFiles D.Disk k.files → (state_of files).faults ≤ faults_in D.Disk k.files) }
     ensures cause { IfErr result (λ r. AreCleanFiles D.Disk r.files → HasOpenReason (record {
       Failed = MoreFaults (state_of files).faults (faults_in D.Disk r.files);
       AtLimit = MeetsLimit D.Disk r.files;
@@ -377,12 +366,15 @@ fn opened<D: Disk + Drop>(mut files: Unopened<D>) -> Result<FileStore<D>, Refusa
       IsThere = ⊥;
     }) r.fault) }
 {
-    match lists_nothing(&mut files) {
-        Ok(true) => Err(Refusal {
+    match format_of(&mut files) {
+        Ok(None) => Err(Refusal {
             fault: OpenFault::Missing,
             files: files.close(),
         }),
-        Ok(false) => attached(files),
+        Ok(Some(format)) => Ok(Known {
+            files: files.close(),
+            format,
+        }),
         Err(fault) => Err(Refusal {
             fault,
             files: files.close(),
@@ -390,7 +382,48 @@ fn opened<D: Disk + Drop>(mut files: Unopened<D>) -> Result<FileStore<D>, Refusa
     }
 }
 
-/// Opens files that are not blank.
+/// The same, before anything is read from the files.
+fn recognized_in<D: Disk + Drop>(
+    alloc: Global,
+    files: Files<D>,
+    seed: u64,
+) -> Result<Known<D>, Refusal<D>>
+    requires log { IsTrue (D.Disk.is_usable files.log) }
+    requires db { IsTrue (D.Disk.is_usable files.db) }
+    ensures usable { IfOk result (λ k. IsTrue (D.Disk.is_usable k.files.log) × IsTrue (D.Disk.is_usable k.files.db)) }
+    ensures alike { IfOk result (λ k. AreCleanFiles D.Disk k.files → StandAlike used_page (image_of D.Disk files) (image_of D.Disk k.files)) }
+    ensures format { IfOk result (λ k. AreCleanFiles D.Disk k.files → HoldsOnly (image_of D.Disk files) k.format) }
+    ensures counts { IfOk result (λ k. AreCleanFiles D.Disk k.files → faults_in D.Disk files ≤ faults_in D.Disk k.files) }
+    ensures cause { IfErr result (λ r. AreCleanFiles D.Disk r.files → HasOpenReason (reasons D.Disk files r.files) r.fault) }
+{
+    match unopened(alloc, files, seed, CURRENT) {
+        Ok(it) => recognized(it),
+        Err(refusal) => Err(refusal),
+    }
+}
+
+/// Opens files that hold a store of this format.
+fn opened<D: Disk + Drop>(
+    alloc: Global,
+    files: Files<D>,
+    seed: u64,
+    format: Format,
+) -> Result<FileStore<D>, Refusal<D>>
+    requires log { IsTrue (D.Disk.is_usable files.log) }
+    requires db { IsTrue (D.Disk.is_usable files.db) }
+    ensures fresh { IfOk result (λ store. IsClean (view store) → IsFresh (view store)) }
+    ensures found { IfOk result (λ store. IsClean (view store) → ReadAs used_page (image_of D.Disk files) (tables_of format) (view store).committed) }
+    ensures honest { IfOk result (λ store. IsClean (view store) → AreCleanFiles D.Disk files) }
+    ensures cause { IfErr result (λ r. AreCleanFiles D.Disk r.files → HasOpenReason (because (MoreFaults (faults_in D.Disk files) (faults_in D.Disk r.files)) (MeetsLimit D.Disk r.files) (¬ HoldsAs (image_of D.Disk files) format)) r.fault) }
+    ensures falls { IfErr result (λ r. AreCleanFiles D.Disk r.files → AreCleanFiles D.Disk files) }
+{
+    match unopened(alloc, files, seed, format) {
+        Ok(it) => attached(it),
+        Err(refusal) => Err(refusal),
+    }
+}
+
+/// Opens files that are not blank, in the format that the store in them has.
 fn held_in<D: Disk + Drop>(
     alloc: Global,
     files: Files<D>,
@@ -402,8 +435,8 @@ fn held_in<D: Disk + Drop>(
     ensures found { IfOk result (λ store. IsClean (view store) → FindsIn (image_of D.Disk files) (view store).committed) }
     ensures cause { IfErr result (λ r. AreCleanFiles D.Disk r.files → HasOpenReason (reasons D.Disk files r.files) r.fault) }
 {
-    match unopened(alloc, files, seed) {
-        Ok(it) => opened(it),
+    match recognized_in(alloc, files, seed) {
+        Ok(Known { files, format }) => opened(alloc, files, seed, format),
         Err(refusal) => Err(refusal),
     }
 }
@@ -429,28 +462,29 @@ fn store_over<D: Disk + Drop>(
     }
 }
 
-fn is_text(cell: ValueRef<'_>, text: &str) -> bool {
-    match cell {
-        ValueRef::Text(bytes) => bytes == text.as_bytes(),
-        _ => false,
-    }
-}
-
 /// Returns whether the first row of `sqlite_schema` with this name has this SQL text, or None if no row has the name.
 fn lists(rows: &[Row], name: &str, sql: &str) -> Option<bool> {
     for row in rows {
-        if is_text(row.get(2), name) {
-            return Some(is_text(row.get(5), sql));
+        if is_text_cell(row.get(2), name) {
+            return Some(is_text_cell(row.get(5), sql));
         }
     }
     None
+}
+
+/// Returns whether the table of runs is listed as one of the formats has it, or None if no table has its name.
+fn lists_runs(rows: &[Row]) -> Option<bool> {
+    match lists(rows, RUN, Format::First.run_sql()) {
+        Some(false) => lists(rows, RUN, Format::Second.run_sql()),
+        found => found,
+    }
 }
 
 /// Returns the fault for a database that was not opened and has these rows of `sqlite_schema`.
 fn kind_in(rows: &[Row]) -> OpenFault
     ensures { IsKind result }
 {
-    match (lists(rows, REQUEST, REQUEST_SQL), lists(rows, RUN, RUN_SQL)) {
+    match (lists(rows, REQUEST, REQUEST_SQL), lists_runs(rows)) {
         (None, None) => OpenFault::NotStore,
         (Some(true), Some(true)) => OpenFault::Damaged,
         _ => OpenFault::OtherFormat,
@@ -484,7 +518,7 @@ fn told_apart<D: Disk + Drop>(alloc: Global, refusal: Refusal<D>, seed: u64) -> 
         return refusal;
     }
     let Refusal { fault: _, files } = refusal;
-    match unopened(alloc, files, seed) {
+    match unopened(alloc, files, seed, CURRENT) {
         Ok(mut again) => {
             let fault = kind_of(&mut again);
             Refusal {
@@ -496,11 +530,13 @@ fn told_apart<D: Disk + Drop>(alloc: Global, refusal: Refusal<D>, seed: u64) -> 
     }
 }
 
-/// Opens the files for reading their requests. The key of the log is derived from `seed`.
+/// Opens the files for reading their requests, whichever of the known formats they have: a store keeps its format until
+/// [`RequestStore::upgrade`](crate::RequestStore::upgrade). The key of the log is derived from `seed`.
 ///
 /// Errors: Memory; Missing if there is no database in the files, or one with an empty catalog, which an interrupted
 /// creation leaves; LogAlone if there is none but the log has commits; Disk, Full and Damaged if a call of the disk
-/// failed; AtLimit; Damaged, OtherFormat and NotStore if the files have no sound database of the two tables.
+/// failed; AtLimit; Damaged, OtherFormat and NotStore if the files have no sound database of the two tables in a known
+/// format.
 pub fn open_files<D: Disk + Drop>(
     alloc: Global,
     files: Files<D>,

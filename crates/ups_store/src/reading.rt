@@ -11,11 +11,13 @@ ghost use Rattle.ups_store.specs.Rows.{requests_in, IsNumbered};
 
 use crate::fault::StoreFault;
 use crate::request::{self, StoredRequest};
+use crate::runs::last_terms;
 use crate::store::RequestStore;
 use sqlite_trees::error::StoreError;
 use sqlite_trees::store::{Direction, Store};
 use sqlite_value::row::Row;
 use std::alloc::Global;
+use ups_pdu::Bytes;
 
 /// The number of the tree of requests.
 pub(crate) const REQUESTS: u32 = 0;
@@ -108,7 +110,7 @@ pub struct Replay<S: Store> {
 }
 
 impl<S: Store> Replay<S> {
-    ghost use Rattle.ups_store.specs.Shown.{shown_by, all_of, given_out, GivesRequest, HasFailedToShow, has_ended, requests_shown};
+    ghost use Rattle.ups_store.specs.Shown.{shown_by, all_of, given_out, last_terms_of, GivesRequest, IsUnderWay, HasFailedToShow, has_ended, requests_shown};
 
     /// Returns the requests of a store that was just opened, before the first is read.
     pub(crate) fn over(alloc: Global, store: S) -> Replay<S>
@@ -124,6 +126,34 @@ impl<S: Store> Replay<S> {
             count: 0,
             phase: Phase::Fresh,
         }
+    }
+
+    /// Returns the terms of the service in the row of the last run, or None if there is no run, or only one that a
+    /// version without terms began. Call it before the first request is read; the reading then goes on as if it had not
+    /// been called.
+    ///
+    /// Errors: Memory, Disk, Damaged, Full; Shut after an error, or once a request was asked for.
+    pub fn last_terms(&mut self) -> Result<Option<Bytes<Global>>, StoreFault>
+        ensures terms { IfOk result (λ terms. IsClean (shown_by self.new) → terms ≡ last_terms_of self.old) }
+        ensures same { OnOk result (IsClean (shown_by self.new) → (shown_by self.new).committed ≡ (shown_by self.old).committed) }
+        ensures first { OnOk result (given_out self.new ≡ []) }
+        ensures cause { IsClean (shown_by self.new) → IfErr result (HasReason (record {
+          Failed = MoreFaults (S.Store.faults self.old.store) (S.Store.faults self.new.store);
+          WasShut = IsUnderWay self.old;
+          IsTooLarge = ⊥;
+          AreTooMany = ⊥;
+          IsNotRequest = ⊥;
+        })) }
+        ensures quiet { IsQuiet S.Store.view S.Store.faults S.Store.recovers S.Store.is_shielded self.old.store self.new.store }
+    {
+        match self.phase {
+            Phase::Fresh => {}
+            _ => return Err(StoreFault::Shut),
+        }
+        self.phase = Phase::Failed;
+        let terms = last_terms(self.alloc, &mut self.store, &mut self.row)?;
+        self.phase = Phase::Fresh;
+        Ok(terms)
     }
 
     /// Moves the cursor to the first request.

@@ -9,7 +9,7 @@ ghost use Rattle.sqlite_value.specs.Order.{column};
 ghost use Rattle.std.specs.Int.{w64};
 ghost use Rattle.ups_store.specs.Cells.{number_in};
 ghost use Rattle.ups_store.specs.Faults.{HasReason, HasRunReason};
-ghost use Rattle.ups_store.specs.Runs.{row_of_run, old_in, first_old, DropsRuns, last_row, last_number, last_requests, IsFirst, Enters};
+ghost use Rattle.ups_store.specs.Runs.{row_of_run, old_in, first_old, DropsRuns, last_row, last_number, last_requests, terms_in, IsFirst, Enters};
 
 use crate::cells;
 use crate::fault::StoreFault;
@@ -17,10 +17,14 @@ use sqlite_trees::error::StoreError;
 use sqlite_trees::store::{Direction, Store};
 use sqlite_value::row::Row;
 use sqlite_value::value::ValueRef;
-use std::alloc::AllocError;
+use std::alloc::{AllocError, Global};
+use ups_pdu::Bytes;
 
 /// The number of the tree of runs.
 pub(crate) const RUNS: u32 = 1;
+
+/// The column of the terms in the row of a run.
+const TERMS: usize = 6;
 
 /// The highest number that a run may have.
 const LAST: u64 = (1 << 63) - 1;
@@ -37,6 +41,8 @@ pub struct Run<'a> {
     pub version: &'a str,
     /// The settings with which it was started.
     pub settings: &'a str,
+    /// The terms of the service, under which its requests were accepted: keep, offset, titles and rights, as lines.
+    pub terms: &'a str,
 }
 
 /// Makes `row` the row of the run `number`, written when there were `requests` requests.
@@ -49,7 +55,8 @@ fn lay(row: &mut Row, number: u64, run: &Run<'_>, requests: u64) -> Result<(), A
     cells::lay_number(row, run.moment)?;
     row.push(ValueRef::Text(run.version.as_bytes()))?;
     row.push(ValueRef::Text(run.settings.as_bytes()))?;
-    cells::lay_number(row, requests)
+    cells::lay_number(row, requests)?;
+    row.push(ValueRef::Text(run.terms.as_bytes()))
 }
 
 /// Puts the row of the run `number` in a transaction, replacing the row with the same number if there is one.
@@ -121,6 +128,21 @@ fn read_last<S: Store>(store: &mut S, row: &mut Row) -> Result<(), StoreError>
 {
     seek_last(store, row)?;
     take_row(store, row)
+}
+
+/// Returns the terms in the row of the last run, or None if there is no run or its row has none.
+pub(crate) fn last_terms<S: Store>(
+    alloc: Global,
+    store: &mut S,
+    row: &mut Row,
+) -> Result<Option<Bytes<Global>>, StoreError>
+    ensures terms { IfOk result (λ terms. IsClean (S.Store.view store.new) → terms ≡ terms_in (last_row ((S.Store.view store.old).trees 1))) }
+    ensures same { OnOk result (IsClean (S.Store.view store.new) → S.Store.view store.new ≡ record (S.Store.view store.old) { cursors = (S.Store.view store.new).cursors }) }
+    ensures cause { IsClean (S.Store.view store.new) → IfErr result (HasCause (S.Store.view store.old) (MoreFaults (S.Store.faults store.old) (S.Store.faults store.new)) ⊥) }
+    ensures quiet { IsQuiet S.Store.view S.Store.faults S.Store.recovers S.Store.is_shielded store.old store.new }
+{
+    read_last(store, row)?;
+    Ok(cells::bytes_in(alloc, row.get(TERMS))?)
 }
 
 /// Returns the number of the run with this row if it began a hundred runs or more before the run `number`.

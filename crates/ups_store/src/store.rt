@@ -182,16 +182,18 @@ impl<S: Store> RequestStore<S> {
     ghost use Rattle.std.specs.Prelude.{IfSome};
     ghost use Rattle.sqlite_trees.specs.Tree.{put_row};
     ghost use Rattle.ups_store.specs.Faults.{HasRunReason};
+    ghost use Rattle.ups_store.specs.Format.{IsCurrent};
     ghost use Rattle.ups_store.specs.Runs.{row_of_run, last_runs, last_number, last_requests};
     ghost use Rattle.ups_store.specs.Shown.{requests_shown, requests, runs, count_of};
 
     /// Appends a run of the program, with the current number of requests, and returns the number of the run: the first
-    /// is 1. The last hundred runs are kept, and those before them are deleted. The requests stay as they are, also
+    /// is 1. The store has to be of the format of this version: call `upgrade` before. The last hundred runs are kept, and those before them are deleted. The requests stay as they are, also
     /// after a crash.
     ///
     /// Errors: Short if the row of the last run counts more requests than there are; those of `append`, with TooLarge
     /// and TooMany for the row of the run. An error that leaves the store open changes nothing.
     pub fn begin_run(&mut self, run: &Run<'_>) -> Result<u64, StoreFault>
+        requires format { IsClean (requests_shown self.old) → IsCurrent (requests_shown self.old).committed }
         ensures number { IfOk result (λ number. IsClean (requests_shown self.new) → (number ≡ last_number (runs self.old) + 1) × (number < 2 ^ 63)) }
         ensures enough { OnOk result (IsClean (requests_shown self.new) → last_requests (runs self.old) ≤ length (requests self.old)) }
         ensures begun { IfOk result (λ number. IsClean (requests_shown self.new) → runs self.new ≡ last_runs number (runs self.old ++ row_of_run number run.now (length (requests self.old)) ∷ [])) }

@@ -16,7 +16,7 @@ mod storing;
 
 use crate::ending::{refuse, server_status};
 use crate::scripting::answer_script;
-use crate::storing::{Stores, perform_compact, perform_init};
+use crate::storing::{Stores, perform_compact, perform_init, terms_asked};
 use clap::ArgMatches;
 pub use ending::{Status, parse_status, script_status, session_status};
 pub use hexing::DigitFault;
@@ -192,6 +192,16 @@ fn text_of(alloc: Global, words: &[String]) -> Result<String, AllocError> {
     Ok(text)
 }
 
+/// Returns the terms of the service that a command line of `serve` asks for; empty if it is another, or invalid.
+///
+/// Errors: lack of memory.
+fn terms_of(alloc: Global, words: &[String]) -> Result<String, AllocError> {
+    let Ok(matches) = command(alloc)?.try_get_matches_from(words) else {
+        return Ok(String::new(alloc));
+    };
+    terms_asked(alloc, &matches)
+}
+
 /// Returns whether the command line asks for something that logs: a server, or a compaction.
 fn asks_for_log(words: &[String]) -> bool {
     match words.get(1) {
@@ -231,8 +241,12 @@ fn main(rt: HostRuntime) -> ExitCode {
         Ok(text) => text,
         Err(fault) => return ExitCode::from(end_of(&rt, Err(fault))),
     };
+    let terms = match terms_of(rt.alloc(), &words) {
+        Ok(terms) => terms,
+        Err(fault) => return ExitCode::from(end_of(&rt, Err(fault))),
+    };
     let serving = Logged::new(rt, LevelFilter::Info, log);
-    let stores = Stores::new(&rt, &serving, text.as_str());
+    let stores = Stores::new(&rt, &serving, text.as_str(), terms.as_str());
     let status = run(&rt, &serving, &stores, &words);
     serving.flush();
     ExitCode::from(status)

@@ -1,27 +1,31 @@
 //! Stores: made, opened for a server, and compacted.
 
-ghost use Rattle.std.specs.Prelude.{◌≡◌, ◌≤◌, [], length, None, IfOk};
-ghost use Rattle.ups_ledger.specs.Keeping.{IsKept};
-ghost use Rattle.ups_settings.specs.Refusal.{refusal};
-ghost use Rattle.ups_life.specs.Limits.{history_limit, peer_limit};
-ghost use Rattle.upsd.specs.Storing.{compact_settings};
+ghost use Rattle.std.specs.Prelude.{◌≡◌, ◌≤◌, [], length, IfOk, IfSome};
+ghost use Rattle.ups_ledger.specs.Keeping.{IsKept, IsSafe};
+ghost use Rattle.ups_life.specs.Limits.{peer_limit};
+ghost use Rattle.upsd.specs.Storing.{compaction_settings, Resumes};
 
 use crate::ending::{Status, refuse};
 use clap::ArgMatches;
 use log::{Log, info};
 use std::alloc::{AllocError, Global};
 use std::time::Clock;
-use ups_args::{CompactArguments, InitArguments, VERSION, compact_arguments, init_arguments};
+use ups_args::{
+    ArgumentFault, CompactArguments, InitArguments, ScriptArguments, VERSION, compact_arguments,
+    init_arguments, script_arguments,
+};
 use ups_journal::Record;
 use ups_ledger::{Keeper, Ledger, LedgerFault};
-use ups_life::MAX_HISTORY;
+use ups_life::{MAX_HISTORY, MAX_PEERS, Peer};
 use ups_manager::Manager;
 use ups_net::moment_of;
 use ups_server::{StoreOpener, Unopened};
+use ups_settings::ManagerFault;
 use ups_start::{
     CompactFault, FileLedger, FilePlace, OpenFault, Run, StartFault, StoreFault, StoreLedger,
-    StorePlace, begin, compact, create,
+    StorePlace, begin, compact, create, last_terms,
 };
+use ups_terms::{StartChoices, Terms, terms_text};
 
 /// The ledger of a server of this program, in a store in a file. It is a type of its own: with the place as a type
 /// parameter, the proof of a server exceeds the prover's limit of steps.
@@ -43,6 +47,10 @@ impl<'a> Ledger for ServerLedger<'a> {
 
     ghost recovers = { λ l. ⟦<FileLedger<'a> as Ledger>⟧.recovers l.ledger };
 
+    fn run(&self) -> u64 {
+        self.ledger.run()
+    }
+
     fn append(&mut self, records: &[Record<Global>]) -> Result<(), LedgerFault> {
         self.ledger.append(records)
     }
@@ -61,9 +69,14 @@ pub(crate) struct Stores<'a, R: Clock + Log> {
 }
 
 impl<'a, R: Clock + Log> Stores<'a, R> {
-    /// Returns the stores of a run of the program that begins now, with these words on its command line, and a log for
-    /// the reading of stores.
-    pub(crate) fn new(rt: &'a HostRuntime, telling: &'a R, words: &'a str) -> Stores<'a, R> {
+    /// Returns the stores of a run of the program that begins now, with these words on its command line, under these
+    /// terms of its service, and a log for the reading of stores.
+    pub(crate) fn new(
+        rt: &'a HostRuntime,
+        telling: &'a R,
+        words: &'a str,
+        terms: &'a str,
+    ) -> Stores<'a, R> {
         Stores {
             rt,
             telling,
@@ -71,14 +84,30 @@ impl<'a, R: Clock + Log> Stores<'a, R> {
                 moment: moment_of(telling),
                 version: VERSION,
                 settings: words,
+                terms,
             },
         }
     }
 }
 
-/// Logs the number of requests with which a server begins.
-fn tell_opened<R: Log>(telling: &R, requests: u64) {
-    info!(telling; target: "upsd", "store: a server begins with {requests} requests");
+/// Returns the terms of the service that the words of `serve` ask for; empty if they are other or invalid words.
+///
+/// Errors: lack of memory.
+pub(crate) fn terms_asked(alloc: Global, matches: &ArgMatches<'_>) -> Result<String, AllocError> {
+    let asked = match matches.subcommand() {
+        Some(("serve", matches)) => script_arguments(alloc, matches),
+        _ => return Ok(String::new(alloc)),
+    };
+    match asked {
+        Ok(asked) => terms_text(alloc, asked.keep, asked.offset, &asked.peers),
+        Err(ArgumentFault::Memory) => Err(AllocError),
+        Err(_) => Ok(String::new(alloc)),
+    }
+}
+
+/// Logs the number of the run, and the number of requests with which a server begins.
+fn tell_opened<R: Log>(telling: &R, run: u64, requests: u64) {
+    info!(telling; target: "upsd", "store: run {run} begins with {requests} requests");
 }
 
 /// Returns whether a start ended because memory ran out.
@@ -88,7 +117,7 @@ fn is_memory(fault: &StartFault) -> bool {
         StartFault::Open(fault) => matches!(fault, OpenFault::Memory),
         StartFault::Read(fault) | StartFault::Write(fault) => matches!(fault, StoreFault::Memory),
         StartFault::Compact(fault) => matches!(fault, CompactFault::Memory),
-        StartFault::Restore(_) => false,
+        StartFault::Restore(_) | StartFault::Terms(_) | StartFault::UnreadableTerms => false,
     }
 }
 
@@ -119,24 +148,26 @@ fn open_at<'a, P: StorePlace, R: Clock + Log>(
     stores: &Stores<'a, R>,
     place: P,
     file: &str,
-    may_leave_out: bool,
+    choices: StartChoices,
     manager: &mut Manager<Global>,
 ) -> Result<Keeper<StoreLedger<'a, P>>, Unopened>
     requires new { manager.old.history ≡ [] }
     ensures settings { manager.new.settings ≡ manager.old.settings }
     ensures kept { IfOk result (λ keeper. IsKept ⟦<StoreLedger<'a, P> as Ledger>⟧ keeper manager.new.history) }
+    ensures safe { IfOk result (λ keeper. IsSafe ⟦<StoreLedger<'a, P> as Ledger>⟧ keeper manager.new.history) }
+    ensures resumes { IfOk result (λ keeper. ⟦<StoreLedger<'a, P> as Ledger>⟧.is_sound keeper.ledger → Resumes choices manager.old.settings manager.new.history) }
     ensures all { IfOk result (λ keeper. keeper.committed ≡ length manager.new.history) }
 {
     match begin(
         stores.rt.alloc(),
         stores.telling,
         place,
-        may_leave_out,
+        choices,
         stores.run,
         manager,
     ) {
         Ok(keeper) => {
-            tell_opened(stores.telling, keeper.count());
+            tell_opened(stores.telling, keeper.ledger.run(), keeper.count());
             Ok(keeper)
         }
         Err(fault) => Err(tell_unopened(stores.rt, file, &fault)),
@@ -144,32 +175,44 @@ fn open_at<'a, P: StorePlace, R: Clock + Log>(
 }
 
 impl<'a, R: Clock + Log> StoreOpener<'a, ServerLedger<'a>> for Stores<'a, R> {
+    ghost begins = { λ _ _ choices settings history. Resumes choices settings history };
+
     fn open(
         &self,
         file: &'a str,
-        may_leave_out: bool,
+        choices: StartChoices,
         manager: &mut Manager<Global>,
     ) -> Result<(ServerLedger<'a>, usize), Unopened> {
         let place = FilePlace::new(self.rt, file);
-        let keeper = open_at(self, place, file, may_leave_out, manager)?;
+        let keeper = open_at(self, place, file, choices, manager)?;
         let Keeper { ledger, committed } = keeper;
         Ok((ServerLedger { ledger }, committed))
     }
 }
 
-/// Returns a manager without requests, with the settings of `compact`.
+/// Returns a manager without requests, with these settings.
 ///
-/// Errors: lack of memory.
-fn new_manager(alloc: Global, asked: &CompactArguments<'_>) -> Result<Manager<Global>, AllocError>
-    requires few { length asked.now.peers.items ≤ peer_limit }
-    requires allowed { refusal asked.now.peers.items asked.now.offset history_limit ≡ None }
-    ensures settings { IfOk result (λ manager. manager.settings ≡ compact_settings asked.now) }
+/// Errors: those of the settings; Memory.
+fn new_manager(
+    alloc: Global,
+    keep: u32,
+    offset: i16,
+    peers: &[Peer],
+) -> Result<Manager<Global>, ManagerFault>
+    requires few { length peers.now ≤ peer_limit }
+    ensures settings { IfOk result (λ manager. manager.settings ≡ compaction_settings keep offset peers.now) }
     ensures empty { IfOk result (λ manager. manager.history ≡ []) }
 {
-    match Manager::new(alloc, &asked.peers, asked.keep, asked.offset, MAX_HISTORY) {
-        Ok(manager) => Ok(manager),
-        Err(_) => Err(AllocError),
-    }
+    Manager::new(alloc, peers, keep, offset, MAX_HISTORY)
+}
+
+/// A compaction as the command line asks for it.
+#[derive(Clone, Copy)]
+struct Compaction<'a> {
+    /// The file of the store.
+    file: &'a str,
+    /// What it may do with the requests.
+    choices: StartChoices,
 }
 
 /// Compacts the store at a place with two managers without requests, prints the result, and returns how the program
@@ -178,7 +221,8 @@ fn new_manager(alloc: Global, asked: &CompactArguments<'_>) -> Result<Manager<Gl
 /// Errors: lack of memory, if `compact` returns Memory.
 fn compacted_at<P: StorePlace, R: Clock + Log>(
     stores: &Stores<'_, R>,
-    asked: &CompactArguments<'_>,
+    asked: Compaction<'_>,
+    terms: &str,
     place: &P,
     manager: &mut Manager<Global>,
     fresh: &mut Manager<Global>,
@@ -186,17 +230,21 @@ fn compacted_at<P: StorePlace, R: Clock + Log>(
     requires settings { fresh.old.settings ≡ manager.old.settings }
     requires new { fresh.old.history ≡ [] }
 {
-    let (file, run) = (asked.store, stores.run);
+    let Compaction { file, choices } = asked;
+    let Run {
+        moment,
+        version,
+        settings,
+        terms: _,
+    } = stores.run;
+    let run = Run {
+        moment,
+        version,
+        settings,
+        terms,
+    };
     let alloc = stores.rt.alloc();
-    match compact(
-        alloc,
-        stores.telling,
-        place,
-        asked.leave_out,
-        &run,
-        manager,
-        fresh,
-    ) {
+    match compact(alloc, stores.telling, place, choices, &run, manager, fresh) {
         Ok(compacted) => {
             let (after, before) = (compacted.after, compacted.before);
             let _ = println!(stores.rt; "{file}: {after} requests, {before} before");
@@ -206,21 +254,111 @@ fn compacted_at<P: StorePlace, R: Clock + Log>(
     }
 }
 
-/// Makes the two managers of a compaction, and compacts the store.
+/// Returns how a compaction ends for which no manager was made.
+///
+/// Errors: lack of memory, if that is the fault.
+fn unmade<R: Eprint>(rt: &R, file: &str, fault: ManagerFault) -> Result<Status, AllocError> {
+    match fault {
+        ManagerFault::Memory => Err(AllocError),
+        _ => stopped(rt, file, &StartFault::UnreadableTerms),
+    }
+}
+
+/// Makes the two managers of a compaction with these settings, and compacts the store.
 ///
 /// Errors: lack of memory before the store is opened; those of `compacted_at`.
 fn compacted<R: Clock + Log>(
     stores: &Stores<'_, R>,
-    asked: &CompactArguments<'_>,
+    asked: Compaction<'_>,
+    keep: u32,
+    offset: i16,
+    peers: &[Peer],
 ) -> Result<Status, AllocError>
-    requires few { length asked.now.peers.items ≤ peer_limit }
-    requires allowed { refusal asked.now.peers.items asked.now.offset history_limit ≡ None }
+    requires few { length peers.now ≤ peer_limit }
 {
     let alloc = stores.rt.alloc();
-    let mut manager = new_manager(alloc, asked)?;
-    let mut fresh = new_manager(alloc, asked)?;
-    let place = FilePlace::new(stores.rt, asked.store);
-    compacted_at(stores, asked, &place, &mut manager, &mut fresh)
+    let terms = terms_text(alloc, keep, offset, peers)?;
+    let mut manager = match new_manager(alloc, keep, offset, peers) {
+        Ok(manager) => manager,
+        Err(fault) => return unmade(stores.rt, asked.file, fault),
+    };
+    let mut fresh = match new_manager(alloc, keep, offset, peers) {
+        Ok(manager) => manager,
+        Err(fault) => return unmade(stores.rt, asked.file, fault),
+    };
+    let place = FilePlace::new(stores.rt, asked.file);
+    compacted_at(
+        stores,
+        asked,
+        terms.as_str(),
+        &place,
+        &mut manager,
+        &mut fresh,
+    )
+}
+
+/// Compacts a store under these terms of its last run.
+///
+/// Errors: those of `compacted`.
+fn compacted_under<R: Clock + Log>(
+    stores: &Stores<'_, R>,
+    asked: Compaction<'_>,
+    terms: &Terms<Global>,
+) -> Result<Status, AllocError> {
+    if terms.peers.len() > MAX_PEERS {
+        return stopped(stores.rt, asked.file, &StartFault::UnreadableTerms);
+    }
+    compacted(stores, asked, terms.keep, terms.offset, &terms.peers)
+}
+
+/// Compacts a store under the terms of its last run. A store whose last run noted none has to be given its settings.
+///
+/// Errors: those of `compacted`.
+fn compacted_as_before<R: Clock + Log>(
+    stores: &Stores<'_, R>,
+    asked: Compaction<'_>,
+) -> Result<Status, AllocError> {
+    let place = FilePlace::new(stores.rt, asked.file);
+    match last_terms(stores.rt.alloc(), &place) {
+        Ok(Some(terms)) => compacted_under(stores, asked, &terms),
+        Ok(None) => {
+            let _ = eprintln!(stores.rt;
+                "upsd: the store {}: its last run noted no settings: give --keep, --offset and the peers of the server",
+                asked.file
+            );
+            Ok(Status::Stopped)
+        }
+        Err(fault) => stopped(stores.rt, asked.file, &fault),
+    }
+}
+
+/// Compacts the store that the command line names, with the settings that it gives, or else those of the last run.
+///
+/// Errors: those of `compacted`.
+fn compacted_as_asked<R: Clock + Log>(
+    stores: &Stores<'_, R>,
+    arguments: &CompactArguments<'_>,
+) -> Result<Status, AllocError>
+    requires few { IfSome arguments.now.settings (λ s. length s.peers.items ≤ peer_limit) }
+{
+    let asked = Compaction {
+        file: arguments.store,
+        choices: StartChoices {
+            may_leave_out: arguments.leave_out,
+            may_compact: true,
+            may_change_terms: arguments.other_settings,
+        },
+    };
+    match &arguments.settings {
+        Some(
+            ScriptArguments {
+                peers,
+                keep,
+                offset,
+            },
+        ) => compacted(stores, asked, *keep, *offset, peers),
+        None => compacted_as_before(stores, asked),
+    }
 }
 
 /// Runs `init`: makes the store that the command line names, and returns how the program ends.
@@ -245,7 +383,7 @@ pub(crate) fn perform_compact<R: Clock + Log>(
     matches: &ArgMatches<'_>,
 ) -> Result<Status, AllocError> {
     match compact_arguments(stores.rt.alloc(), matches) {
-        Ok(asked) => compacted(stores, &asked),
+        Ok(asked) => compacted_as_asked(stores, &asked),
         Err(fault) => refuse(stores.rt, fault),
     }
 }

@@ -4,7 +4,7 @@ use Rattle.std.specs.Prelude.{All}
 use Rattle.ups_turn.specs.Pass.{PassView, passes_from}
 use Rattle.ups_manager.specs.View.{shared_state}
 use Rattle.ups_manager.proofs.Crosses.{manager_send}
-use Rattle.ups_ledger.specs.Keeping.{AreKept}
+use Rattle.ups_ledger.specs.Keeping.{KeepersGoOn}
 use Rattle.ups_net.specs.Working.{Ran, seen_last}
 use Rattle.ups_server.specs.Serving.{seats_of}
 use Rattle.ups_server.proofs.Seating.{all_here, as_many, seen_at_first}
@@ -34,12 +34,12 @@ returns-clause-ran g c =
           (subst (λ b. Ran c.options_of-options.result b c.run-begun.result.0 c.in-Ok-open.passes.items c.run-begun.result.1.items) c.requires.keeps c.run-begun.ensures.ran),
     )
 
-pub returns-clause-kept : goal.returns-clause-kept
-returns-clause-kept g c = λ first.
+pub returns-clause-goes_on : goal.returns-clause-goes_on
+returns-clause-goes_on g c =
     let seats = c.args.asked.limits.workers + c.deliverers_of-deliverers.result + 1 in
     let some : 1 ≤ seats = omega arith in
     let seen = ap seen_last c.in-Ok-open.ensures.passes ∙ seen_at_first c.in-Ok-open.desk (shared_state c.args.begun.manager) seats some in
-    c.run-begun.ensures.kept (subst (AreKept g.L.Ledger c.args.begun.keeper) (sym seen) first)
+    subst (λ l. KeepersGoOn g.L.Ledger c.args.begun.keeper l c.run-begun.result.2 (seen_last c.run-begun.result.1.items)) seen c.run-begun.ensures.goes_on
 
 pub run-begun-requires-send-M : goal.run-begun-requires-send-M
 run-begun-requires-send-M g c κs within = search (sendable, manager_send) depth 30

@@ -1,5 +1,6 @@
 use Rattle.std.proofs.Common.{refl}
 use Rattle.clap.specs.Matches.{found_of}
+use Rattle.ups_ledger.specs.Keeping.{AreSound}
 use Rattle.ups_server.specs.Serving.{AreWords}
 use Rattle.ups_server.proofs.Words.{by_words}
 use Rattle.ups_server.proofs.serving.serve_words.Goals as goal
@@ -21,9 +22,12 @@ returns-clause-ran g c =
       verbose = e.verbose;
       store = e.store;
       leave_out = e.leave_out;
+      compact = e.compact;
+      other_settings = e.other_settings;
     } in
     let left = c.in_ok-answer_network.ensures in
-    by_words g.L.Ledger (found_of c.args.matches.now) c.args.associations c.args.rounds c.in_ok-asked.asked words c.in_ok-answer_network.field-0 left.settings left.empty left.ran
+    by_words g.L.Ledger (found_of c.args.matches.now) c.args.associations c.args.rounds c.in_ok-asked.asked words c.in_ok-answer_network.field-0
+    (λ server file leave settings history. AreSound g.L.Ledger server.keeper → g.O.StoreOpener.begins c.args.opener.now file leave settings history) left.settings left.begins left.ran
 
 pub answer_network-requires-sync-R : goal.answer_network-requires-sync-R
 answer_network-requires-sync-R g c κs within =

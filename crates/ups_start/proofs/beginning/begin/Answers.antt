@@ -1,4 +1,4 @@
-use Rattle.std.proofs.Common.{◌≡◌, ◌≤◌, List, length, map, sym, ap, ◌∙◌, arith}
+use Rattle.std.proofs.Common.{◌≡◌, ◌≤◌, length, map, sym, ap, ◌∙◌, arith}
 use Rattle.std.proofs.lemmas.List.{length-map}
 use Rattle.sqlite_trees.specs.Tree.{Trees}
 use Rattle.ups_journal.specs.Columns.{recorded}
@@ -24,6 +24,9 @@ returns-clause-kept g c sound =
 pub returns-clause-sound : goal.returns-clause-sound
 returns-clause-sound g c = λ honest. c.of.ensures.sound (c.in_ok-begun.ensures.is_open (c.of.ensures.honest honest))
 
+pub returns-clause-honest : goal.returns-clause-honest
+returns-clause-honest g c = λ sound. c.of.ensures.at_first sound
+
 pub returns-clause-safe : goal.returns-clause-safe
 returns-clause-safe g c = λ first rs recovers.
     let store = c.in_ok-begun.begun.store in
@@ -37,6 +40,17 @@ pub returns-clause-begins : goal.returns-clause-begins
 returns-clause-begins g c =
     let begins = c.in_ok-begun.ensures.begins in
     (begins.0, begins.1, λ honest. begins.2 (c.of.ensures.honest honest))
+
+pub returns-clause-permits : goal.returns-clause-permits
+returns-clause-permits g c =
+    let permits = c.in_ok-begun.ensures.permits in
+    (permits.0, permits.1, λ keeps honest. permits.2 keeps (c.of.ensures.honest honest))
+
+pub returns-clause-resumes : goal.returns-clause-resumes
+returns-clause-resumes g c =
+    let begins = c.in_ok-begun.ensures.begins in
+    let permits = c.in_ok-begun.ensures.permits in
+    (begins.0, begins.1, permits.0, permits.1, λ sound. (begins.2 (c.of.ensures.clean sound), λ keeps. permits.2 keeps (c.of.ensures.clean sound)))
 
 pub invariant_of-result : goal.invariant_of-result
 invariant_of-result g c =

@@ -1,4 +1,4 @@
-use Rattle.std.proofs.Common.{◌≡◌, ◌+◌, length, sym, subst, arith}
+use Rattle.std.proofs.Common.{sym, subst, arith}
 use Rattle.ups_store.specs.Shown.{requests_shown, requests}
 use Rattle.ups_store.proofs.Steps.{open_clean}
 use Rattle.ups_ledger.specs.Behind.{AreBehind}

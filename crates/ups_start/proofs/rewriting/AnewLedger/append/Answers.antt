@@ -1,4 +1,4 @@
-use Rattle.std.proofs.Common.{◌≡◌, ◌≤◌, arith}
+use Rattle.std.proofs.Common.{arith}
 use Rattle.sqlite_trees.specs.View.{IsClean}
 use Rattle.ups_store.specs.Rewriting.{seen, written_anew}
 use Rattle.ups_start.specs.Anew.{put_so_far}

@@ -1,5 +1,6 @@
 use Rattle.std.proofs.Common.{rules, ◌≡◌, ◌++◌, ◌∷◌, [], All, length, map, is_some, refl, sym, ap, ◌∙◌, subst}
-use Rattle.ups_ledger.specs.Keeping.{AreKept}
+use Rattle.ups_ledger.specs.Keeping.{KeepersGoOn}
+use Rattle.ups_ledger.proofs.Leaving.{go_same}
 use Rattle.ups_net.proofs.Watching.{seen_behind}
 use Rattle.std.proofs.lemmas.List.{length-append, length-map, append-nil}
 use Rattle.std.proofs.lemmas.List.Elements.{All-tail, All-push, All-same}
@@ -111,14 +112,14 @@ returns g c =
       ran = ran c.captures.options.now (is_some c.captures.keeper) c.value-begun.result.now (map (λ h. h.promise.pass.value) c.loop-pass.handles.items) c.loop-pass.unbegun.items rest c.captures.passes.items c.push_reserved-2.new.self.items c.captures.sweeper c.sweep_begun-swept.result.0
           all ended back (λ b. unless_off c.loop-pass.off (λ t. t.value) c.settle-token.result.value _ _ c.settle-token.ensures.told was.told (sym begun ∙ b)) c.sweep_begun-swept.ensures.sweeps;
       keeps = c.sweep_begun-swept.ensures.keeps;
-      kept = λ first. subst (AreKept g.L.Ledger c.sweep_begun-swept.result.1) (sym (ap seen_last c.push_reserved-2.ensures.items ∙ seen_behind c.put_back-2.new.passes.items c.sweep_begun-swept.result.0)) (c.sweep_begun-swept.ensures.kept first);
+      goes_on = subst (KeepersGoOn g.L.Ledger c.captures.keeper c.captures.sweeper.seen c.sweep_begun-swept.result.1) (sym (ap seen_last c.push_reserved-2.ensures.items ∙ seen_behind c.put_back-2.new.passes.items c.sweep_begun-swept.result.0)) c.sweep_begun-swept.ensures.goes_on;
     }
 
 pub returns-in_default : goal.returns-in_default
 returns-in_default g c = record {
   ran = c.push_reserved.ensures.items ∙ ap (λ l. l ++ c.captures.sweeper ∷ []) (c.put_back.ensures.all ∙ ap (λ l. l ++ c.captures.passes.items) c.requires.empty.0);
   keeps = refl;
-  kept = λ first. subst (AreKept g.L.Ledger c.captures.keeper) (sym (ap seen_last c.push_reserved.ensures.items ∙ seen_behind c.put_back.new.passes.items c.captures.sweeper)) first;
+  goes_on = subst (KeepersGoOn g.L.Ledger c.captures.keeper c.captures.sweeper.seen c.captures.keeper) (sym (ap seen_last c.push_reserved.ensures.items ∙ seen_behind c.put_back.new.passes.items c.captures.sweeper)) (go_same g.L.Ledger c.captures.keeper c.captures.sweeper.seen);
 }
 
 -- what is captured, in its order, each reference at its lifetime: by hand, since a search does not find it with premises over a

@@ -1,0 +1,79 @@
+#!/usr/bin/env python3
+"""Checks the types of check/lib with mypy, as mypy.ini says: each function there has them.
+
+    check/typed.py [FILE..]     from the top of the checkout (default: check/lib)
+    check/typed.py --self-test  spoils a type in a copy of check/lib, and checks that this is found
+
+If mypy is missing, it is installed from the Debian package `mypy`. If that fails, it says so in a line, and nothing is checked. The
+status is 1 if a type is wrong.
+"""
+
+from __future__ import annotations
+
+import argparse
+import os
+import shutil
+import subprocess
+import sys
+import tempfile
+
+HERE = os.path.dirname(os.path.dirname(os.path.abspath(__file__)))
+CHECKED = "check/lib"
+SECONDS = 180  # in which mypy has to be installed
+SPOILED = ("dicom.py", "def us(number: int) -> bytes:", "def us(number: int) -> str:")
+
+
+def is_installed() -> bool:
+    """Returns whether mypy is there; installs it if it is missing."""
+    for words in (["update"], ["install", "-y", "mypy"]):
+        if shutil.which("mypy"):
+            return True
+        try:
+            ran = subprocess.run(["apt-get", *words], stdout=subprocess.DEVNULL, stderr=subprocess.PIPE, text=True, timeout=SECONDS)
+        except (OSError, subprocess.TimeoutExpired) as fault:
+            print(f"no types are checked: mypy is missing, and {fault}")
+            return False
+        if ran.returncode and words[0] == "install":
+            print(f"no types are checked: `apt-get install -y mypy` ends with {ran.returncode}: {ran.stderr.strip()[-200:]}")
+    return bool(shutil.which("mypy"))
+
+
+def check(files: list[str], folder: str) -> subprocess.CompletedProcess[str]:
+    """Checks files in a folder that has mypy.ini."""
+    return subprocess.run(["mypy", "--cache-dir", os.devnull, *files], cwd=folder, stdout=subprocess.PIPE, stderr=subprocess.STDOUT, text=True)
+
+
+def self_test() -> int:
+    """Spoils a type in a copy, and returns 1 if that is not found."""
+    name, old, new = SPOILED
+    with tempfile.TemporaryDirectory() as folder:
+        shutil.copy(os.path.join(HERE, "mypy.ini"), folder)
+        shutil.copytree(os.path.join(HERE, CHECKED), os.path.join(folder, CHECKED))
+        path = os.path.join(folder, CHECKED, name)
+        with open(path, encoding="utf-8") as it:
+            text = it.read()
+        assert text.count(old) == 1, f"{name} lacks {old!r}"
+        with open(path, "w", encoding="utf-8") as it:
+            it.write(text.replace(old, new))
+        is_found = f"{CHECKED}/{name}" in check([CHECKED], folder).stdout
+    print(f"1 spoiled type, {'found' if is_found else 'not found'}")
+    return 0 if is_found else 1
+
+
+def main() -> int:
+    about, _, more = (__doc__ or "").partition("\n\n")
+    asked = argparse.ArgumentParser(description=about, epilog=more, formatter_class=argparse.RawDescriptionHelpFormatter)
+    asked.add_argument("files", nargs="*", default=[CHECKED], metavar="FILE")
+    asked.add_argument("--self-test", action="store_true", help="spoil a type, and see that it is found")
+    given = asked.parse_args()
+    if not is_installed():
+        return 0
+    if given.self_test:
+        return self_test()
+    ran = check(given.files, HERE)
+    print(ran.stdout, end="")
+    return ran.returncode
+
+
+if __name__ == "__main__":
+    sys.exit(main())

@@ -1,0 +1,22 @@
+//! A law of starts: the contract of a function that changes nothing.
+
+ghost use Rattle.std.specs.Prelude.{◌≡◌, ◌⊎◌, ℕ, List, map, take, false, IsTrue};
+ghost use Rattle.std.specs.declared.alloc.Global.{Global};
+ghost use Rattle.ups_compact.specs.Compacting.{compacted};
+ghost use Rattle.ups_journal.specs.Columns.{recorded};
+ghost use Rattle.ups_journal.specs.declared.record.Record.{Record};
+ghost use Rattle.ups_life.specs.declared.entry.Entry.{Entry};
+ghost use Rattle.ups_life.specs.Settings.{Settings};
+ghost use Rattle.ups_life.specs.Steps.{past};
+ghost use Rattle.ups_restore.specs.declared.acknowledging.TheConstants.{COMPACTOR};
+ghost use Rattle.ups_terms.specs.declared.choices.StartChoices.{StartChoices};
+ghost use Rattle.ups_start.specs.Started.{Begins};
+
+/// A start that may leave nothing out enters all records that it finds, in their order. So if the first of these are the
+/// first entries of an earlier history, the first entries are the same again; it begins with all of them, or, if it may
+/// compact, with their compaction.
+pub fn a_start_has_what_answers_rest_on()
+    ensures { (s : Settings) → (found : List (Record Global)) → (choices : StartChoices) → (moment rests : ℕ) → (after seen : List (Entry Global)) → choices.may_leave_out ≡ false → Begins s found choices moment after → take rests found ≡ map recorded (take rests seen)
+        → (entered : List (Entry Global)) × (map recorded entered ≡ found) × (map recorded (take rests entered) ≡ map recorded (take rests seen))
+        × ((after ≡ entered) ⊎ (IsTrue choices.may_compact × (past after ≡ compacted COMPACTOR moment s (past entered)))) }
+{}

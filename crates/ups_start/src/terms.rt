@@ -1,0 +1,129 @@
+//! The terms of the service that the last run on a store noted.
+
+ghost use Rattle.std.specs.Prelude.{◌≡◌, [], ℕ, List, Option, Some, false, IfOk, OnOk};
+ghost use Rattle.sqlite_trees.specs.View.{IsClean};
+ghost use Rattle.ups_store.specs.declared.reading.Replay.{Replay};
+ghost use Rattle.ups_store.specs.Shown.{shown_by, all_of, given_out, last_terms_of};
+ghost use Rattle.ups_start.specs.Noted.{IsTextOf, PermitsNoted, AreNoted};
+
+use crate::beginning::opened;
+use crate::fault::StartFault;
+use crate::place::StorePlace;
+use log::{Log, info, warn};
+use sqlite_trees::store::Store;
+use std::alloc::Global;
+use ups_manager::Manager;
+use ups_pdu::Bytes;
+use ups_store::Replay;
+use ups_terms::{Terms, TermsFault, difference, parse_terms};
+
+/// Logs that there are no terms to compare with.
+fn tell_none<R: Log>(telling: &R) {
+    info!(telling; target: "upsd", "store: no run has noted the terms of the service yet");
+}
+
+/// Logs that a start goes on with other terms.
+fn tell_allowed<R: Log>(telling: &R, fault: &StartFault) {
+    warn!(telling; target: "upsd", "store: {fault}");
+}
+
+/// Reads the terms that a run noted.
+///
+/// Errors: UnreadableTerms; Memory.
+fn terms_of(alloc: Global, text: &[u8]) -> Result<Terms<Global>, StartFault>
+    ensures { IfOk result (IsTextOf text.now) }
+{
+    match parse_terms(alloc, text) {
+        Ok(terms) => Ok(terms),
+        Err(TermsFault::Unreadable) => Err(StartFault::UnreadableTerms),
+        Err(TermsFault::Memory) => Err(StartFault::Memory),
+    }
+}
+
+/// Checks that the settings of a manager permit as much as the terms that a run noted.
+///
+/// Errors: Terms; UnreadableTerms; Memory.
+fn check_text(alloc: Global, text: &[u8], manager: &Manager<Global>) -> Result<(), StartFault>
+    ensures { OnOk result (PermitsNoted manager.now.settings (Some text.now)) }
+{
+    let old = match terms_of(alloc, text) {
+        Ok(old) => old,
+        Err(fault) => return Err(fault),
+    };
+    match difference(&old, manager.keep(), manager.offset(), manager.peers()) {
+        Some(lack) => Err(StartFault::Terms(lack)),
+        None => Ok(()),
+    }
+}
+
+/// Reads the terms that the last run on a store noted. The store was just opened.
+///
+/// Errors: Read.
+fn noted_in<S: Store>(replay: &mut Replay<S>) -> Result<Option<Bytes<Global>>, StartFault>
+    ensures noted { IfOk result (λ noted. IsClean (shown_by replay.new) → noted ≡ last_terms_of replay.old) }
+    ensures same { OnOk result (IsClean (shown_by replay.new) → all_of replay.new ≡ all_of replay.old) }
+    ensures first { OnOk result (given_out replay.new ≡ []) }
+    ensures clean { IsClean (shown_by replay.new) → IsClean (shown_by replay.old) }
+{
+    match replay.last_terms() {
+        Ok(noted) => Ok(noted),
+        Err(fault) => Err(StartFault::Read(fault)),
+    }
+}
+
+/// Checks that the settings of a manager permit as much as the terms of the last run on a store that was just opened, or
+/// logs that they do not if that is allowed.
+///
+/// Errors: Read; Terms; UnreadableTerms; Memory.
+pub(crate) fn check_terms<S: Store, R: Log>(
+    alloc: Global,
+    telling: &R,
+    replay: &mut Replay<S>,
+    manager: &Manager<Global>,
+    may_change: bool,
+) -> Result<(), StartFault>
+    ensures permits { OnOk result (may_change ≡ false → IsClean (shown_by replay.new) → PermitsNoted manager.now.settings (last_terms_of replay.old)) }
+    ensures same { OnOk result (IsClean (shown_by replay.new) → all_of replay.new ≡ all_of replay.old) }
+    ensures first { OnOk result (given_out replay.new ≡ []) }
+    ensures clean { IsClean (shown_by replay.new) → IsClean (shown_by replay.old) }
+{
+    let noted = match noted_in(replay) {
+        Ok(noted) => noted,
+        Err(fault) => return Err(fault),
+    };
+    let Some(text) = noted else {
+        tell_none(telling);
+        return Ok(());
+    };
+    match check_text(alloc, text.as_slice(), manager) {
+        Ok(()) => Ok(()),
+        Err(fault) if may_change && fault != StartFault::Memory => {
+            tell_allowed(telling, &fault);
+            Ok(())
+        }
+        Err(fault) => Err(fault),
+    }
+}
+
+/// Opens the store at a place, and returns the terms of the service that the last run on it noted, or None if it noted
+/// none.
+///
+/// # Errors
+///
+/// Open, Read, UnreadableTerms, Memory.
+pub fn last_terms<P: StorePlace>(
+    alloc: Global,
+    place: &P,
+) -> Result<Option<Terms<Global>>, StartFault>
+    ensures { IfOk result (λ terms. (noted : Option (List ℕ)) × P.notes place.now noted × (read : Replay P.Store P.Store.Store) × (IsClean (shown_by read) → AreNoted terms noted)) }
+{
+    let mut replay = opened(place)?;
+    let noted = noted_in(&mut replay)?;
+    match noted {
+        Some(text) => {
+            let terms = terms_of(alloc, text.as_slice())?;
+            Ok(Some(terms))
+        }
+        None => Ok(None),
+    }
+}

@@ -1,0 +1,67 @@
+-- The formats of a store: its two tables, as they are listed in sqlite_schema.
+use Rattle.std.specs.Prelude.{◌≡◌, ℕ, Bool, false, List, [], ◌∷◌, codes, if◌then◌else◌}
+use Rattle.std.specs.Str.{bytes_eq}
+use Rattle.sqlite_value.specs.declared.value.Value.{Value}
+use Rattle.sqlite_value.specs.declared.value.Value.TheVariants.{Text}
+use Rattle.sqlite_value.specs.Order.{Row, column}
+use Rattle.sqlite_trees.specs.Tree.{Trees, with_tree, put_row}
+use Rattle.sqlite_trees.specs.Objects.{catalog_tree, version_tree, version_rows, with_version, row_for, listing}
+use Rattle.sqlite_trees.specs.declared.store.Shape.TheVariants.{Table}
+use Rattle.sqlite_store.specs.declared.catalog.Wanted.{Wanted}
+use Rattle.ups_store.specs.declared.format.Format.{Format}
+use Rattle.ups_store.specs.declared.format.Format.TheVariants.{First, Second}
+
+-- a table with this name and this SQL text
+abbrev pub table_of : List ℕ → List ℕ → Wanted
+table_of name sql = record { shape = Table; reals = 0; row = Text (codes "table") ∷ Text name ∷ Text name ∷ Text sql ∷ [] }
+
+abbrev pub request_table : Wanted
+request_table =
+    table_of (codes "request")
+    (codes "CREATE TABLE request (number INTEGER PRIMARY KEY, run INTEGER NOT NULL, caller INTEGER NOT NULL, moment INTEGER NOT NULL, title TEXT NOT NULL, operation TEXT NOT NULL, instance TEXT, transaction_uid TEXT, state TEXT, receiver TEXT, deletion_lock INTEGER, event INTEGER, utc_offset INTEGER, attributes BLOB) STRICT")
+
+-- a new column comes last
+abbrev pub run_sql : Format → List ℕ
+run_sql First = codes "CREATE TABLE run (number INTEGER PRIMARY KEY, moment INTEGER NOT NULL, version TEXT NOT NULL, settings TEXT NOT NULL, requests INTEGER NOT NULL) STRICT"
+run_sql Second = codes "CREATE TABLE run (number INTEGER PRIMARY KEY, moment INTEGER NOT NULL, version TEXT NOT NULL, settings TEXT NOT NULL, requests INTEGER NOT NULL, terms TEXT) STRICT"
+
+abbrev pub run_table : Format → Wanted
+run_table format = table_of (codes "run") (run_sql format)
+
+-- the two tables of a store of this format
+abbrev pub tables_of : Format → List Wanted
+tables_of format = request_table ∷ run_table format ∷ []
+
+-- the tables of a store in one of the formats
+abbrev pub IsSchema : List Wanted → Type 0
+IsSchema schema = (format : Format) × (schema ≡ tables_of format)
+
+-- the format of this version
+abbrev pub current_format : Format
+current_format = Second
+
+-- the tables as this version makes them
+abbrev pub the_schema : List Wanted
+the_schema = tables_of current_format
+
+abbrev pub is_text_cell : Value → List ℕ → Bool
+is_text_cell (Text bytes) text = bytes_eq bytes text
+is_text_cell _ text = false
+
+-- the format of a store by the rows of its sqlite_schema: a rowid, type, name, table, root page and SQL text
+abbrev pub format_in : List Row → Format
+format_in (requests ∷ (runs ∷ others)) = if is_text_cell (column runs 5) (run_sql First) then First else Second
+format_in _ = Second
+
+-- the table of runs, as this version lists it
+abbrev pub run_listing : Row
+run_listing = listing 1 (run_table current_format).row Table 0
+
+-- the database is of the format of this version
+pub record IsCurrent (db : Trees) : Type 0 where
+  pub runs : row_for (db catalog_tree) 1 ≡ run_listing
+  pub version : db version_tree ≡ version_rows 2
+
+-- the same rows, as a database of the format of this version
+abbrev pub upgraded : Trees → Trees
+upgraded db = with_version (with_tree db catalog_tree (put_row run_listing (db catalog_tree))) 2
