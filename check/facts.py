@@ -10,7 +10,9 @@ milliseconds. The mark `status` precedes the code of a status: a page that marks
 no other. A `[default: N]` in a help text of the program is compared by its option, as is the default in the docstring that names
 the option, and the man page of the program has to have each option with the same word and the same default, and no other. The
 client in examples has to have a text for each status except the one that more answers follow, and its options the defaults that
-their help states, and those of the sources. The implementation version name is the same in sources, specs and statement.
+their help states, and those of the sources. Each `ups COMMAND --option` in the code of a page has to have a command of the client
+and options of this command; an option without a command, in a page for users, is one of the client or of the program. The
+implementation version name is the same in sources, specs and statement.
 
 A paragraph and a cell of a table have at most PARAGRAPH and CELL letters without marks, docs (without pictures) and README.md at
 most DOCS and README bytes; CONTRIBUTING.md says so with these numbers.
@@ -22,14 +24,21 @@ from __future__ import annotations
 
 import argparse
 import ast
+import functools
 import glob
 import os
 import re
+import shlex
 import sys
+import types
 from collections.abc import Iterator
 from typing import Optional, Union
+from unittest import mock
 
 HERE = os.path.dirname(os.path.dirname(os.path.abspath(__file__)))
+sys.path.insert(0, os.path.join(HERE, "packaging"))
+from pages import commands_of_parser
+
 Value = Union[int, str]
 Texts = dict[str, str]  # by path
 MILLISECONDS = {"short"}
@@ -55,6 +64,9 @@ OPTIONS = {"keep": "keep", "offset": "offset", "associations": "workers", "idle"
            "delivery-timeout": "delivery_timeout", "bind": "address"}  # the fact that is the default of each option
 STATUS_FILE = "crates/ups_cycle/src/status.rt"
 MAN_PAGE = "packaging/man/upsd.8"
+CLIENT = "examples/ups.py"
+PAGE = "planted.md"  # of the self-test
+FOR_USERS = ("docs/use/", "README.md", PAGE)  # pages in which each option without a command is one of the program or the client
 VERSION_NAMES = {  # where the implementation version name stands, and how
     "crates/ups_assoc/src/negotiating.rt": r'b"(UPSD_[^"]*)"', "crates/ups_assoc/specs/Negotiation.antt": r'codes "(UPSD_[^"]*)"',
     "docs/use/conformance.md": r"\| implementation version name \| (UPSD_\w*)",
@@ -67,6 +79,10 @@ OPTION = re.compile(r'\b(?:worded|flag)\(\s*alloc,\s*"([\w-]+)",\s*(?:"(\w+)",)?
 ENTRY = re.compile(r"(?m)^\.It Fl -([\w-]+)(?: Ar (\w+))?\n((?:(?!\.It|\.El).*\n)*)")  # in the man page: the same, and its text
 DEFAULT = re.compile(r"\[default: ([^\]]+)\]")
 DOCSTRING = re.compile(r"after `--([\w-]+)`, or ([\w.,]+)[\s/]+without[\s/]+one\b")  # the option, and its default
+CODE = re.compile(r"(?ms)^```\w*\n(.*?)^```|`([^`\n]+)`")  # in a page: the lines of a block, or a span
+CALLED = re.compile(r"(?<![\w.=-])(?:[\w./-]*/)?ups(?:\.py)? ([a-z]+|--?[a-z]+)\b(.*)")  # of the client: the command, and its words
+ENDS = re.compile(r"--|#|\d?>|[|;&]")  # how a word begins that ends the words of a command
+NAMED = re.compile(r"--[a-z][\w-]*|-[a-z]\b")  # how a word begins that is an option
 BREAK = re.compile(r" {4}|[|#]|\s*(?:[-*]|\d+\.) ")  # begins another paragraph, or what is none
 
 
@@ -231,6 +247,62 @@ def faults_of_option(path: str, call: ast.Call, values: dict[str, Value]) -> Ite
         yield f"{path}:{call.lineno}: the default of --host is {default}, and a server listens on {values.get('address')}"
 
 
+@functools.lru_cache(maxsize=None)
+def commands_of(client: str) -> dict[str, set[str]]:
+    """Returns the options of each command of the client, and those without a command under the empty name. Its text is run, with
+    nothing in the place of pydicom, of which its parser needs nothing."""
+    module = types.ModuleType("ups")
+    stubs = {name: mock.MagicMock() for name in re.findall(r"from (pydicom[\w.]*) import", client)}
+    with mock.patch.dict(sys.modules, stubs), mock.patch.dict(os.environ, clear=True):
+        exec(compile(client, CLIENT, "exec"), module.__dict__)
+        parser = module.parser()
+    found = {it.name: {name for option in it.options for name in option.names} for it in commands_of_parser(parser)}
+    return {**found, "": set(parser._option_string_actions)}
+
+
+def calls_in(page: str) -> Iterator[tuple[int, str, list[str]]]:
+    """Yields where each call of the client stands in the code of a page, its command and its options. A span that begins with an
+    option has the command `-`."""
+    for code in CODE.finditer(page):
+        for line in re.finditer(".+", page[code.start():code.end()].strip("`")):
+            at = code.start() + line.start()
+            for call in CALLED.finditer(line[0]):
+                yield at, call[1], list(options_in(call[2]))
+            if code[2] and code[2].startswith("--"):
+                yield at, "-", list(options_in(code[2]))
+
+
+def options_in(words: str) -> Iterator[str]:
+    """Yields the options among the words of a command."""
+    try:
+        split = shlex.split(words)
+    except ValueError:  # a quotation mark of the page, around the call
+        split = words.split()
+    for word in split:
+        if option := NAMED.match(word):
+            yield option[0]
+        elif ENDS.match(word):
+            return
+
+
+def faults_of_calls(files: Texts) -> Iterator[str]:
+    """Yields each command or option of the client that a page names and the client lacks, and each option in a page for users that
+    neither the client nor the program has."""
+    commands = commands_of(files[CLIENT])
+    sources = "".join(text for path, text in files.items() if path.startswith("crates/ups_args/"))
+    known = set.union(*commands.values()) | {f"--{it[1]}" for it in OPTION.finditer(sources)} | {"--version"}
+    for path, text in ((path, text) for path, text in files.items() if path.endswith(".md")):
+        for at, name, options in calls_in(text):
+            if name == "-":
+                missing = set(options) - known if path.startswith(FOR_USERS) else set()
+            elif name.startswith("-"):
+                missing = {name} - commands[""]
+            else:
+                missing = set(options) - commands[name] if name in commands else {f"the command {name}"}
+            told = "neither ups nor upsd has" if name == "-" else f"ups {name} has no" if name in commands else "ups has no"
+            yield from (f"{place(path, text, at)}: {told} {it}" for it in sorted(missing))
+
+
 def faults_of_version_names(files: Texts) -> Iterator[str]:
     """Yields a fault for each place that has the implementation version name not once, or another one than the first place."""
     told = {path: re.findall(form, files.get(path, "")) for path, form in VERSION_NAMES.items()}
@@ -279,7 +351,7 @@ def faults(files: Texts) -> set[str]:
     codes = codes_of(files)
     found |= {*faults_of_marks(files, values), *faults_of_statuses(files, codes), *faults_of_help(files, values)}
     found |= {*faults_of_man_page(files), *faults_of_client(files, codes, values), *faults_of_version_names(files)}
-    found |= {*faults_of_docstrings(files, values), *faults_of_layout(files)}
+    found |= {*faults_of_docstrings(files, values), *faults_of_layout(files), *faults_of_calls(files)}
     return found if codes else found | {f"{STATUS_FILE}: no codes"}
 
 
@@ -291,21 +363,26 @@ def page_of(values: dict[str, Value], codes: set[int]) -> str:
     lines += [f"| <!--=status-->{it:04X} | a status |" for it in sorted(codes)]
     in_mib = spelled("longest_message", values["longest_message"], "MiB")
     lines.append(f"\nas <!--=short-->{values['short']} ms, <!--=longest_message-->{in_mib} MiB")
+    lines += ["", "`ups find --state READY -k 'A=--B' | grep --color R`, `--worklists`, `--keep 60`, `ups --help`", ""]
+    lines += ["```sh", 'UPS_AE=A examples/ups.py work --steps 0 -- sh -c "x --y"  # --z', "```"]
     lines += ["", "x" * PARAGRAPH, "", f"- {'y' * (PARAGRAPH - 2)}", "", f"| {'z' * CELL} |", "", "```", "w" * (PARAGRAPH + 1), "```"]
     return "\n".join(lines) + "\n"
 
 
-PAGE = "planted.md"
 IN_PAGE = {  # what is spoiled in it: a pattern and its replacement
     "an amount in MiB": (r"\d MiB", "77 MiB"), "an amount in ms": (r"\d ms", "7 ms"), "a name": ("<!--=keep-->", "<!--=kept-->"),
     "the form of a mark": ("<!--=keep-->", "<!-- =keep -->"), "what is behind a mark": ("<!--=keep-->", "<!--=keep--> about "),
     "a status that is not marked": (".*C311.*\n", ""), "a marked status": ("C311", "C312"),
     "a paragraph": ("xx\n", "xxx\n"), "a paragraph of two lines": ("xx\n", "x\nx\n"), "an item of a list": ("yy\n", "yyy\n"),
-    "a cell": ("zz ", "zzz "),
+    "a cell": ("zz ", "zzz "), "a command of the client": ("ups find", "ups seek"), "its option": ("--state", "--station-name"),
+    "a short option": ("find --state", "find -s"), "a command in a block": ("py work", "py works"),
+    "an option in a block": ("--steps 0", "--step 0"), "an option alone": ("--worklists", "--worklist-labels"),
+    "an option of the program": ("--keep 60", "--keeps 60"), "an option without a command": ("ups --help", "ups --helped"),
 }
 IN_CLIENT = {
     "a status": ("0xC311:", "0xC312:"), "a default": (r'("--host", default="[0-9.]*)"', r'\g<1>1"'),
     "a help text": (r"port \(\d+\)", "port (1)"), "the longest PDU": (r"LONGEST = [\d_]+", "LONGEST = 1"),
+    "an option that pages name": (r'"--claimed", ', '"--held", '), "a command that pages name": (r'add\("claim"', 'add("hold"'),
 }
 IN_MAN_PAGE = {
     "a default": (r"\[default: 16\]", "[default: 4]"), "a default that is none": (r"(It Fl -verbose\n)", r"\1[default: 1]\n"),

@@ -16,6 +16,7 @@
     ups import steps.json
     ups work --worklist READS -- ./reprocess.sh {}
     ups status
+    ups health
     ups board --port 8080 --ae BOARD --listen 11114
 
 Each command has its own --help with an example. A key or an attribute (-k) is a keyword, or the tag, with `=` and a value; one
@@ -30,8 +31,8 @@ UPS_TOKEN; without it the board answers 403. It needs Python 3.9 and pydicom (ap
 
 The exit status is 0 where the server answers with success or a warning, 1 where it answers with a failure, and 2 where there is
 no answer, or where what is asked can't be sent. That of `import` and `export` is 1 if a step was refused or could not be
-written, that of `work` 1 if a step was canceled, and 3 if there was none to do; `status --nagios` has those of a monitoring
-plugin.
+written, that of `work` 1 if a step was canceled, and 3 if there was none to do; `health` and `status --nagios` have those of a
+monitoring plugin.
 """
 
 from __future__ import annotations
@@ -1282,6 +1283,9 @@ def lines_of_claims(health: Health) -> list[str]:
             for moment, how, rest in sorted(health.claims)]
 
 
+LEVELS = ("OK", "WARNING", "CRITICAL")  # by the exit status of a plugin
+
+
 def level_of(value: Optional[float], asked: argparse.Namespace, place: int) -> int:
     """Returns 2 if a value is above its critical limit, 1 if it is above that of a warning, and 0 otherwise."""
     if value is None:
@@ -1309,7 +1313,7 @@ def by_nagios(health: Health, asked: argparse.Namespace) -> int:
         data.append(f"oldest_{word_of(state)}={'U' if age is None else f'{age:.0f}s;{limits[1]}'}")
     oldest = ", ".join(f"oldest {state} {age:.0f} s" for state, age in ages.items() if age is not None)
     told_of = ", ".join([*words, f"look-up {1e3 * health.look_up:.1f} ms", *([oldest] if oldest else [])])
-    print(f"UPS {('OK', 'WARNING', 'CRITICAL')[level]} - {told_of} | {' '.join(data)}")
+    print(f"UPS {LEVELS[level]} - {told_of} | {' '.join(data)}")
     return level
 
 
@@ -1371,6 +1375,36 @@ def ended_by_nagios(asked: argparse.Namespace, status: Optional[int], fault: Opt
         return by_nagios(asked.health, asked)
     print(f"UPS CRITICAL - {fault if status is None else told(status)}")
     return 2
+
+
+def out_of_time(*_: Any) -> None:
+    raise TimeoutError("no answer came in time")
+
+
+def asked_for_nobody(asked: argparse.Namespace) -> int:
+    """Returns the status of an N-GET of a step that nobody has. Raises OSError if its association takes longer than --within."""
+    signal.signal(signal.SIGALRM, out_of_time)
+    signal.setitimer(signal.ITIMER_REAL, asked.within)
+    try:
+        with associated(asked, [PULL]) as association:
+            return get_step(association, new_uid())[0]
+    finally:
+        signal.setitimer(signal.ITIMER_REAL, 0)
+
+
+def server_health(asked: argparse.Namespace) -> int:
+    """Prints a plugin's line, and returns a plugin's status. The answer to an N-GET waits until all changes before it are on the
+    disk: none comes once a change waits for a store that takes none, while a C-ECHO is answered."""
+    try:
+        status = asked_for_nobody(asked)
+    except (OSError, Refused) as fault:
+        print(f"UPS CRITICAL - {fault}")
+        return 2
+    took = time.monotonic() - asked.begun
+    level = 2 if status != GONE else 1 if took > asked.warning else 0
+    answer = f"the service answers after {1e3 * took:.1f} ms" if status == GONE else told(status)
+    print(f"UPS {LEVELS[level]} - {answer} | answer={took:.6f}s;{limit_of(asked.warning)};{limit_of(asked.within)};0")
+    return level
 
 
 def limits(word: str) -> tuple[float, float]:
@@ -2418,6 +2452,13 @@ def seconds(word: str) -> float:
     return float(word)
 
 
+def duration(word: str) -> float:
+    """Reads a number of seconds above 0."""
+    if not seconds(word):
+        raise argparse.ArgumentTypeError(f"{word!r} is no duration: seconds are more than 0")
+    return seconds(word)
+
+
 def peer(word: str) -> tuple[str, str, int]:
     """Reads a watcher as the server's command line names it: its title, host and port."""
     called_title, _, address = word.partition("=")
@@ -2564,6 +2605,13 @@ def add_status(to: Commands) -> None:
     it.add_argument("--critical", type=limits, default=(math.inf, math.inf), metavar="SECONDS[,SECONDS]", help=what)
 
 
+def add_health(to: Commands) -> None:
+    it = to.add("health", server_health, "asks whether the service and its store answer (N-GET of no step); a monitoring plugin",
+                "health --within 10 --warning 1")
+    it.add_argument("--within", type=duration, default=10, metavar="S", help="seconds for all of it, beyond which it is CRITICAL (10)")
+    it.add_argument("--warning", type=duration, default=math.inf, metavar="S", help="seconds beyond which it is a WARNING (never)")
+
+
 def add_changes(to: Commands) -> None:
     """Adds the commands that change steps."""
     it = to.add("create", create, "creates a step (N-CREATE)", 'create 1.2.3.1 --label "CT READ" --patient-id P1')
@@ -2657,17 +2705,18 @@ def add_watching(to: Commands) -> None:
 
 def parser() -> argparse.ArgumentParser:
     commands = Commands()
-    for add in (add_questions, add_status, add_changes, add_watching):
+    for add in (add_questions, add_status, add_health, add_changes, add_watching):
         add(commands)
     return commands.whole
 
 
 def read_words() -> argparse.Namespace:
-    """Parses the command line. With `--nagios` invalid arguments end the program with 3, UNKNOWN."""
+    """Parses the command line. For a plugin invalid arguments end the program with 3, UNKNOWN."""
+    is_plugin = "--nagios" in sys.argv or sys.argv[1:2] == ["health"]
     try:
         asked = parser().parse_args()
     except SystemExit as ended:
-        raise SystemExit(3 if ended.code and "--nagios" in sys.argv else ended.code) from None
+        raise SystemExit(3 if ended.code and is_plugin else ended.code) from None
     asked.begun = time.monotonic()
     asked.aside = sys.stderr if asked.json or asked.prometheus else sys.stdout
     return asked
@@ -2692,7 +2741,7 @@ def asked_of_server(asked: argparse.Namespace) -> int:
     return 0 if is_done(status) else 1
 
 
-ALONE = (watch, announce, check, board, export, import_steps, work)  # these open associations themselves, if any
+ALONE = (watch, announce, check, board, export, import_steps, work, server_health)  # these open associations themselves, if any
 
 
 def main() -> int:

@@ -13,6 +13,8 @@ failed. trials/stock.py has the life of steps through the client, and trials/boa
     json         what `find --json` and `get --json` print is DICOM JSON with the attributes that were sent
     status       counts what was created; the line, the performance data and the exit status of a plugin; the text format of
                  Prometheus, also in a file
+    health       the line and the exit status of a plugin: of a server that answers, of one that does not in time, of nobody, of
+                 another title, and of one whose store takes no change, while it answers an echo
     watch        with another status and with a delay: what the server's log says of it
     announce     what a watcher that listens here is told
     moving       steps with every VR, nested sequences and three character sets go to another server by `export` and `import`, and
@@ -31,6 +33,7 @@ import datetime
 import json
 import os
 import re
+import resource
 import signal
 import stat
 import subprocess
@@ -387,6 +390,49 @@ def try_prometheus(results: Results, place: list[str], path: str) -> None:
     results.tell("no file is left beside it", str(left) if left else None)
 
 
+HEALTHY = re.compile(r"UPS (OK|WARNING) - the service answers after [0-9.]+ ms \| answer=[0-9.]+s;[0-9.]*;[0-9.]+;0\n")
+
+
+def try_health(results: Results, program: list[str], folder: str) -> None:
+    """Tries `health`: with servers that answer and others, and with wrong words."""
+    with Server(program) as server:
+        place = ["--port", str(server.port)]
+        for words, status in (([], 0), (["--warning", "30"], 0), (["--warning", "0.0001"], 1), (["--implicit"], 0)):
+            ran = run("health", *words, *place)
+            fault = wrong(ran, status) or (None if HEALTHY.fullmatch(ran.out) else f"this is no line of a plugin: {ran.out!r}")
+            results.tell(" ".join(["health", *words]), fault)
+        results.tell("health of another title", wrong(run("health", "--called", "OTHER", *place), 2, "UPS CRITICAL - ", "rejected"))
+        server.process.send_signal(signal.SIGSTOP)
+        ran = run("health", "--within", "1", *place)
+        server.process.send_signal(signal.SIGCONT)
+        results.tell("health of a server that stands still", wrong(ran, 2, "UPS CRITICAL - no answer came in time"))
+        results.tell("health of a server that goes on", wrong(run("health", *place), 0))
+    results.tell("health of nobody", wrong(run("health", "--port", "1"), 2, "UPS CRITICAL - ", "refused"))
+    results.tell("health with wrong words", wrong(run("health", "--within", "0"), 3, "is no duration"))
+    try_health_of_store(results, program, os.path.join(folder, "store"))
+
+
+def no_file_grows() -> None:
+    """Lets writes beyond the limit of a file fail, in place of ending the program."""
+    signal.signal(signal.SIGXFSZ, signal.SIG_IGN)
+
+
+def try_health_of_store(results: Results, program: list[str], file: str) -> None:
+    """Tries `health` of a server while a limit of its files lets each write of its store fail, and afterwards."""
+    subprocess.run([*program, "init", file], check=True)
+    with Server(program, "--store", file, "--timeout", "2", prepare=no_file_grows) as server:
+        place, pid = ["--port", str(server.port)], server.process.pid
+        results.tell("health of a store", wrong(run("health", *place), 0))
+        resource.prlimit(pid, resource.RLIMIT_FSIZE, (1, resource.RLIM_INFINITY))
+        results.tell("a creation without room for it", wrong(run("create", "1.2.14.1", *place), NO_ANSWER))
+        results.tell("health of a store that takes no change", wrong(run("health", "--within", "8", *place), 2, "UPS CRITICAL - "))
+        results.tell("an echo meanwhile", wrong(run("echo", *place), DONE, "0000"))
+        resource.prlimit(pid, resource.RLIMIT_FSIZE, (resource.RLIM_INFINITY, resource.RLIM_INFINITY))
+        healthy = holds(lambda: run("health", "--within", "1", *place).status == 0, 10)
+        results.tell("health of a store that takes changes again", None if healthy else str(server.log[-3:]))
+        results.tell("the creation is there", wrong(run("get", "1.2.14.1", *place), DONE))
+
+
 def try_watch(results: Results, program: list[str]) -> None:
     """Tries a watcher that answers with a failure, and one that is slow."""
     listen = free_port()
@@ -644,6 +690,7 @@ def main() -> None:
             wire.release()
         try_moving(results, asked.program, folder)
         try_scripts(results, asked.program, folder)
+        try_health(results, asked.program, folder)
     try_watch(results, asked.program)
     try_announce(results)
     results.end("the client `ups`")

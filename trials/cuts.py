@@ -13,6 +13,7 @@ import argparse
 import bisect
 import collections
 import dataclasses
+import itertools
 import os
 import random
 import re
@@ -196,6 +197,23 @@ class Disk:
         return bytes(found)
 
 
+    def each_kept(self, point: int) -> list[Optional[bytes]]:
+        """Returns what the disk may have of the file at this point, if it has the first of the writes since the last sync, the
+        last of these torn; or all but one of them. None if the file may be missing."""
+        found: list[Optional[bytes]] = [None] if self.file.made and point <= self.file.made[1] else []
+        if self.file.made and point <= self.file.made[0]:
+            return found
+        some = [self.pending[:count] + torn for count in range(len(self.pending)) for torn in beginnings_of(self.pending[count])]
+        some += [[*self.pending[:at], *self.pending[at + 1:]] for at in range(len(self.pending))]
+        for writes in [self.pending, *some]:
+            content = bytearray(self.content)
+            for it in writes:
+                put(content, it)
+            if bytes(content) not in found:
+                found.append(bytes(content))
+        return found
+
+
 def put(content: bytearray, it: Write) -> None:
     if it.data is None:
         del content[it.at:]
@@ -228,12 +246,25 @@ def chosen(chance: random.Random, pending: list[Write]) -> list[Write]:
     return some
 
 
+def sectors_of(it: Write) -> list[Write]:
+    """Returns the parts of a write, sector by sector."""
+    if it.data is None:
+        return [it]
+    ends = [it.at, *range((it.at // SECTOR + 1) * SECTOR, it.at + len(it.data), SECTOR), it.at + len(it.data)]
+    return [Write(begin, it.data[begin - it.at:end - it.at], it.begin, it.end) for begin, end in zip(ends, ends[1:])]
+
+
+def beginnings_of(it: Write) -> list[list[Write]]:
+    """Returns what may be there of a write of which the first sectors were written: none of them, up to all but the last."""
+    parts = sectors_of(it)
+    return [parts[:count] for count in range(len(parts))]
+
+
 def parts_of(chance: random.Random, it: Write) -> list[Write]:
     """Returns the sectors of a torn write that were written: the first ones, the last ones, or any."""
     if it.data is None:
         return [it]
-    ends = [it.at, *range((it.at // SECTOR + 1) * SECTOR, it.at + len(it.data), SECTOR), it.at + len(it.data)]
-    parts = [Write(begin, it.data[begin - it.at:end - it.at], it.begin, it.end) for begin, end in zip(ends, ends[1:])]
+    parts = sectors_of(it)
     way, at = chance.random(), chance.randint(0, len(parts))
     return parts[:at] if way < 0.3 else parts[at:] if way < 0.6 else [part for part in parts if chance.random() < 0.5]
 
@@ -516,6 +547,22 @@ class Cuts:
             if fault:
                 self.faults.append(f"state {number}, at {point} of {self.recording.trace.length}: {fault}")
 
+    def run_each(self, most: int) -> None:
+        """Tries, around each write, each state that a disk may have kept if no write is reordered or lost inside of the others,
+        until `most` are wrong; the program opens each."""
+        disks, seen = self.recording.disks(), set()
+        for point in sorted({point for file in self.recording.trace.files.values() for it in file.writes for point in (it.begin + 1, it.end + 1)}):
+            for it in disks.values():
+                it.go_to(point)
+            for contents in itertools.product(*(it.each_kept(point) for it in disks.values())):
+                if len(self.faults) == most:
+                    return
+                if (state := (contents, point <= self.recording.made)) not in seen:
+                    seen.add(state)
+                    self.counts["states"] += 1
+                    if fault := self.fault_by_program(dict(zip(disks, contents)), point):
+                        self.faults.append(f"a state at {point} of {self.recording.trace.length}: {fault}")
+
     def laid(self, kept: dict[str, Optional[bytes]]) -> str:
         """Writes the files of a state, and returns the path of the store."""
         file = os.path.join(self.folder, "state")
@@ -610,6 +657,13 @@ def tried(program: list[str], recording: Recording, given: argparse.Namespace, c
     with tempfile.TemporaryDirectory(prefix="cuts", dir="/dev/shm" if os.path.isdir("/dev/shm") else None) as folder:
         cuts = Cuts(program, recording, folder, random.Random(f"{given.seed} cuts"))
         cuts.run(count, opened, most)
+    return cuts
+
+
+def tried_each(program: list[str], recording: Recording, most: int = 20) -> Cuts:
+    with tempfile.TemporaryDirectory(prefix="cuts", dir="/dev/shm" if os.path.isdir("/dev/shm") else None) as folder:
+        cuts = Cuts(program, recording, folder, random.Random(0))
+        cuts.run_each(most)
     return cuts
 
 

@@ -1,5 +1,5 @@
-"""Simulates power cuts of servers whose syncs fail, of servers that go on after a cut, and of the first start on a store of an
-earlier version."""
+"""Simulates power cuts of servers whose syncs fail, of servers that go on after a cut, of making a store, and of the first start
+on a store of an earlier version."""
 
 from __future__ import annotations
 
@@ -12,7 +12,7 @@ import signal
 import subprocess
 from typing import Optional
 
-from cuts import STATIONS, STRACE, Asked, Cuts, Recording, Station, Trace, await_end, judged_by, lines_of, record, tried
+from cuts import STATIONS, STRACE, Asked, Cuts, Recording, Station, Trace, await_end, judged_by, lines_of, record, record_init, tried, tried_each
 from ledger import Fault
 from machine import HERE
 from making import EARLIER, ITS_SETTINGS
@@ -103,9 +103,18 @@ def try_upgrade(program: list[str], folder: str, given: argparse.Namespace, resu
     shutil.copyfile(EARLIER, file)
     rows = rows_of(file)
     recording = record_on(program, file, len(rows), 0, ITS_SETTINGS)
-    cuts = tried(program, recording, given, max(1, given.cuts // 4), given.opened)
-    results.tell(f"the first start on a store of version 0.2.0: each of {cuts.counts['states']:,} states has its {len(rows)} requests",
-                 f"{len(cuts.faults)} have not: {cuts.faults[:3]}" if cuts.faults else None)
+    for name, cuts in (("", tried(program, recording, given, max(1, given.cuts // 4), given.opened)), (", around each write", tried_each(program, recording))):
+        results.tell(f"the first start on a store of version 0.2.0{name}: each of {cuts.counts['states']:,} states has its {len(rows)} requests",
+                     f"{len(cuts.faults)} have not: {cuts.faults[:3]}" if cuts.faults else None)
+
+
+def try_init(program: list[str], folder: str, results: Results) -> None:
+    """Tries power cuts of making a store, around each write."""
+    file = os.path.join(folder, "made")
+    lines = record_init(program, file, file + ".strace")
+    cuts = tried_each(program, Recording(Trace(file, lines), [], [], [], 0, 0, made=len(lines)))
+    results.tell(f"upsd init, around each write: each of {cuts.counts['states']:,} states is a store, or one can be made",
+                 f"{len(cuts.faults)} are not: {cuts.faults[:3]}" if cuts.faults else None)
 
 
 def run(program: list[str], given: argparse.Namespace, results: Results) -> None:
@@ -114,6 +123,7 @@ def run(program: list[str], given: argparse.Namespace, results: Results) -> None
         print("skipped: strace is not here (apt-get install -y strace)", flush=True)
         return
     with folder_for(given.folder) as folder:
+        try_init(program, folder, results)
         try_upgrade(program, folder, given, results)
         try_second_cuts(program, record(program, folder, given), folder, given, results)
         try_failed_syncs(program, folder, given, results)

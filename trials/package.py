@@ -10,7 +10,10 @@ Two builds must be equal, `lintian` may find no error and no warning, `systemd-a
 synopsis of upsd(8) must have the options of each --help. Then `debootstrap` makes a Debian 12 with systemd (some 300 MB from
 deb.debian.org), and `systemd-nspawn` boots it, with a network of its own. There the package is installed with what it depends
 on; the unit, as it is but for the words in /etc/default/upsd, runs the tour of README.md through `ups`; a restart, an upgrade,
-a wrong word, a removal and a purge must do what the package says. In the end nothing of it may be left.
+a hangup, a wrong word, a removal and a purge must do what the package says. `systemd-analyze verify` may say nothing of the units.
+The unit of the backup makes one, which is restored, and leaves a server that goes on if it is killed. With the lines for a
+cluster the unit starts on a mounted volume alone, and the resource agent starts, asks and stops it (without a cluster). In the
+end nothing of the package may be left.
 
 It installs what is missing (lintian, debootstrap, systemd-container, man-db, python3-pydicom) and needs root. It prints a line
 for each trial, and then `N passed, M failed`. The exit status is 1 if any failed.
@@ -28,6 +31,7 @@ import subprocess
 import sys
 import tempfile
 from typing import Iterator, Optional
+from xml.etree import ElementTree
 
 sys.path.insert(0, os.path.join(os.path.dirname(os.path.dirname(os.path.abspath(__file__))), "check/lib"))
 from machine import HERE, holds, install
@@ -39,6 +43,12 @@ TOOLS = {"lintian": "lintian", "debootstrap": "debootstrap", "systemd-nspawn": "
 MIRROR = "http://deb.debian.org/debian"
 MOST_EXPOSED = 2.0
 STORE = "/var/lib/upsd/upsd.db"
+BACKUPS = "/var/backups/upsd"
+UNITS = ("upsd-backup.service", "upsd-backup.timer", "upsd.service")
+BESIDES = ("dbus", "iproute2")  # what a Debian has: `systemctl freeze` calls the one, and a cluster's unit has `ss` of the other
+AGENT = "/usr/lib/ocf/resource.d/upsd/upsd"
+DROP_INS = "/etc/systemd/system/{}.d"
+RUNS, FAILS, RUNS_NOT = 0, 1, 7  # exit statuses of a resource agent
 PORTS = {port: port for port in (tour.SERVER_PORT, tour.WATCHER_PORT)}  # all are free: the booted Debian has its own network
 BOOT = 60  # seconds until it has booted
 QUIET = {**os.environ, "LC_ALL": "C.UTF-8", "DEBIAN_FRONTEND": "noninteractive", "PATH": "/usr/sbin:/usr/bin:/sbin:/bin"}
@@ -104,7 +114,7 @@ def synopsis(program: str) -> Optional[str]:
 def man_pages(root: str) -> Optional[str]:
     """Returns what `man` warns about in the pages that are installed below a root, or None."""
     faults = []
-    for page in ("man1/ups.1.gz", "man5/upsd-script.5.gz", "man8/upsd.8dicom.gz"):
+    for page in ("man1/ups.1.gz", "man5/upsd-script.5.gz", "man8/upsd.8dicom.gz", "man8/upsd-backup.8.gz"):
         ran = run("man", "--warnings", "-l", "-Tutf8", "-Z", os.path.join(root, "usr/share/man", page))
         faults += [f"{page}: {tour.last_line(ran.stderr)}"] if ran.stderr or ran.returncode else []
     return unless(not faults, "; ".join(faults))
@@ -172,7 +182,8 @@ class Machine:
     def booted(self) -> Iterator[None]:
         words = ["systemd-nspawn", "--boot", "--private-network", "--register=no", "--keep-unit", "--console=pipe"]
         silent = {it: subprocess.DEVNULL for it in ("stdin", "stdout", "stderr")}
-        with subprocess.Popen([*words, f"--directory={self.root}"], **silent) as process:
+        unified = {**os.environ, "SYSTEMD_NSPAWN_UNIFIED_HIERARCHY": "1"}  # as a Debian 12 has it: its units can be frozen
+        with subprocess.Popen([*words, f"--directory={self.root}"], **silent, env=unified) as process:
             try:
                 holds(lambda: process.poll() is not None or self.has_booted(process.pid), BOOT)
                 if not self.leader or process.poll() is not None:
@@ -196,7 +207,7 @@ def depend(machine: Machine, package: str) -> None:
     """Installs what the package depends on."""
     depends = re.findall(r"([a-z][\w.-]*)", re.sub(r"\([^)]*\)|:any", "", run("dpkg-deb", "-f", package, "Depends").stdout))
     shutil.copy("/etc/resolv.conf", machine.path("etc/resolv.conf"))
-    ran = machine.run("apt-get", "install", "-y", "--no-install-recommends", *depends)
+    ran = machine.run("apt-get", "install", "-y", "--no-install-recommends", *depends, *BESIDES)
     if ran.returncode:
         sys.exit(f"package.py: {' '.join(depends)}: {tour.last_line(ran.stderr)}")
     shutil.copy(package, machine.path("root/upsd.deb"))
@@ -205,8 +216,10 @@ def depend(machine: Machine, package: str) -> None:
 def try_installation(machine: Machine, results: Results) -> None:
     """Installs the package."""
     results.tell("install", fault_of(machine.run("dpkg", "--install", "/root/upsd.deb")))
-    states = machine.says("systemctl", "is-enabled", "upsd.service"), machine.of_unit("ActiveState")
-    results.tell("nothing is enabled or started", unless(states == ("disabled", "inactive"), " ".join(states)))
+    states = [*machine.says("systemctl", "is-enabled", *UNITS[1:]).split(), machine.of_unit("ActiveState")]
+    results.tell("nothing is enabled or started", unless(states == ["disabled", "disabled", "inactive"], " ".join(states)))
+    ran = machine.run("systemd-analyze", "verify", "--man=no", *UNITS)
+    results.tell("systemd-analyze verify", fault_of(ran) or unless(not ran.stderr, ran.stderr))
     results.tell("the system user", fault_of(machine.run("id", "upsd")))
     results.tell("the man pages", man_pages(machine.root))
     owner = owners(machine)
@@ -285,6 +298,11 @@ def try_ends(machine: Machine, commands: list[tour.Command], results: Results) -
     killed = machine.run("systemctl", "kill", "--signal=KILL", "upsd.service")
     begins = holds(lambda: machine.of_unit("NRestarts") == "1", 20)
     results.tell("a crash is mended", fault_of(killed) or unless(begins, "no restart") or listens(machine))
+    killed = machine.run("systemctl", "kill", "--signal=HUP", "upsd.service")
+    begins = holds(lambda: machine.of_unit("NRestarts") == "2", 20)
+    results.tell("and so is a hangup", fault_of(killed) or unless(begins, "no restart") or listens(machine))
+    limit = re.search(r"Max core file size +(\d+|unlimited)", machine.says("cat", f"/proc/{machine.of_unit('MainPID')}/limits"))
+    results.tell("no core file", unless(bool(limit) and limit[1] == "0", str(limit)))
     results.tell("stop", fault_of(machine.run("systemctl", "stop", "upsd.service")) or comes_to(machine, "inactive"))
     strange = f"--ae UPSD --port {tour.SERVER_PORT} --bind 192.0.2.1"
     for name, words, status, restarts in (("a wrong word ends it for good", "--ae UPSD", "1", False),
@@ -301,6 +319,93 @@ def try_ends(machine: Machine, commands: list[tour.Command], results: Results) -
     try_missing(machine, results)
     machine.run("systemctl", "start", "upsd.service")
     results.tell("start again", listens(machine))
+
+
+# backups
+
+def service_of_backup(machine: Machine) -> str:
+    return machine.says("systemctl", "show", "--property=Result", "--value", "upsd-backup.service")
+
+
+def try_backup(machine: Machine, results: Results) -> None:
+    """Makes a backup by its unit, restores it, and kills the program that makes one."""
+    held = machine.says("ups", "find")
+    results.tell("a backup", fault_of(machine.run("systemctl", "start", "upsd-backup.service")))
+    made = machine.says("ls", BACKUPS).split()
+    results.tell("there is one", unless(len(made) == 1, " ".join(made)))
+    backup = f"{BACKUPS}/{made[0] if made else 'none'}"
+    modes = machine.says("stat", "--format=%U %a", backup, f"{backup}/upsd.db")
+    results.tell("which is root's alone", unless(modes == "root 700\nroot 600", modes))
+    machine.run("ups", "create", "1.2.9.9")
+    before = machine.of_unit("MainPID")
+    machine.run("sh", "-c", f"cp -a {backup} {BACKUPS}/damaged && dd if=/dev/zero of={BACKUPS}/damaged/upsd.db bs=100 count=9 conv=notrunc")
+    ran = machine.run("upsd-backup", "restore", f"{BACKUPS}/damaged")
+    results.tell("a damaged backup is refused", unless(ran.returncode == 1 and "does not take" in ran.stderr, ran.stderr))
+    results.tell("and the server goes on", unless(machine.of_unit("MainPID") == before, "it was restarted") or listens(machine))
+    results.tell("restore", fault_of(machine.run("upsd-backup", "restore", backup)) or listens(machine))
+    found = machine.says("ups", "find")
+    results.tell("what was backed up is there, and nothing else", unless(found == held, f"{found!r} and not {held!r}"))
+    owner = owners(machine)
+    results.tell("the restored store is the user's alone", unless(owner == "upsd 600\nupsd 700", owner))
+    try_killed_backup(machine, results)
+    machine.run("sh", "-c", f"rm -r {BACKUPS} {STORE}.before-* {STORE}-wal.before-*")
+    results.tell("the timer", fault_of(machine.run("systemctl", "enable", "--now", "upsd-backup.timer")))
+
+
+def try_killed_backup(machine: Machine, results: Results) -> None:
+    """Kills the program that makes a backup while the server stands still, with a `cp` that takes long."""
+    folder = DROP_INS.format("upsd-backup.service").replace("/etc/", "/run/")
+    slow = "mkdir -p /run/slow && printf '#!/bin/sh\\nsleep 60\\n' > /run/slow/cp && chmod 755 /run/slow/cp"
+    lines = r"[Service]\nEnvironment=PATH=/run/slow:/usr/sbin:/usr/bin\n"
+    machine.run("sh", "-c", f"{slow} && mkdir -p {folder} && printf '{lines}' > {folder}/slow.conf")
+    machine.run("systemctl", "daemon-reload")
+    machine.run("systemctl", "start", "--no-block", "upsd-backup.service")
+    stands = holds(lambda: machine.run("ups", "health", "--within", "1").returncode == 2, 10)
+    results.tell("a backup freezes the unit", unless(machine.of_unit("FreezerState") == "frozen", machine.of_unit("FreezerState")))
+    machine.run("systemctl", "kill", "--signal=KILL", "upsd-backup.service")
+    goes_on = holds(lambda: machine.run("ups", "health", "--within", "1").returncode == 0, 10)
+    results.tell("a backup that is killed lets the server go on", unless(stands and goes_on, f"it stood still: {stands}, it goes on: {goes_on}"))
+    results.tell("and has failed", unless(service_of_backup(machine) != "success", service_of_backup(machine)))
+    machine.run("sh", "-c", f"rm -r {folder} /run/slow && systemctl daemon-reload && systemctl reset-failed upsd-backup.service")
+
+
+# a cluster's lines
+
+def agent(machine: Machine, action: str, within: int = 20) -> int:
+    """Returns the exit status of the resource agent."""
+    return machine.run("env", f"OCF_RESKEY_within={within}", AGENT, action).returncode
+
+
+def try_cluster(machine: Machine, commands: list[tour.Command], results: Results) -> None:
+    """Tries the unit with the lines for a cluster, and the resource agent, without a cluster."""
+    said = machine.says(AGENT, "meta-data")
+    results.tell("the agent's metadata", unless(ElementTree.fromstring(said).get("name") == "upsd", said))
+    folder, volume = DROP_INS.format("upsd.service"), os.path.dirname(STORE)
+    machine.run("systemctl", "stop", "upsd.service")
+    has_words(machine, "--ae UPSD")  # which would end a start: the options are those of the volume
+    machine.run("sh", "-c", f"mkdir -p {folder} && cp /usr/share/doc/upsd/examples/cluster/cluster.conf {folder} && systemctl daemon-reload")
+    ran = machine.run("systemd-analyze", "verify", "--man=no", "upsd.service")
+    results.tell("a cluster's lines: systemd-analyze verify", fault_of(ran) or unless(not ran.stderr, ran.stderr))
+    statuses = agent(machine, "monitor"), agent(machine, "start"), agent(machine, "stop")
+    results.tell("no start without the volume", unless(statuses == (RUNS_NOT, FAILS, RUNS), str(statuses)))
+    ran = machine.run("sh", "-c", f"mkdir /root/away && cp -a {volume}/. /root/away && mount -t tmpfs -o mode=700 none {volume} && "
+                      f"cp -a /root/away/. {volume} && chown upsd: {volume} && rm -r /root/away")
+    results.tell("the volume is mounted", fault_of(ran))
+    write(machine.path("root/upsd.options"), f'UPSD_OPTIONS="{serve_words(commands)}"\n')
+    machine.run("cp", "/root/upsd.options", f"{volume}/upsd.options")
+    statuses = agent(machine, "start"), agent(machine, "monitor")
+    results.tell("a start on the volume", unless(statuses == (RUNS, RUNS), f"{statuses}"))
+    machine.run("systemctl", "kill", "--signal=STOP", "upsd.service")
+    found = agent(machine, "monitor", 2)
+    machine.run("systemctl", "kill", "--signal=CONT", "upsd.service")
+    results.tell("a server that stands still fails its monitor", unless(found == FAILS, f"status {found}"))
+    results.tell("one that goes on does not", unless(agent(machine, "monitor") == RUNS, "it does"))
+    machine.run("systemctl", "kill", "--signal=KILL", "upsd.service")
+    is_down = holds(lambda: agent(machine, "monitor") == RUNS_NOT, 10)
+    results.tell("systemd does not restart it", unless(is_down, machine.of_unit("ActiveState")))
+    statuses = agent(machine, "start"), agent(machine, "stop"), agent(machine, "monitor")
+    results.tell("the agent does, and stops it", unless(statuses == (RUNS, RUNS, RUNS_NOT), str(statuses)))
+    machine.run("sh", "-c", f"umount {volume}; rm -r {folder} /root/upsd.options; systemctl daemon-reload; systemctl reset-failed upsd.service")
 
 
 def try_missing(machine: Machine, results: Results) -> None:
@@ -334,8 +439,9 @@ def try_removal(machine: Machine, before: set[str], results: Results) -> None:
     """Removes the package, and purges it."""
     results.tell("remove", fault_of(machine.run("dpkg", "--remove", "upsd")))
     left = machine.paths() - before
-    kept = {"etc/default/upsd", "var/lib/upsd", "var/lib/upsd/upsd.db", "var/lib/upsd/upsd.db-wal"}
-    results.tell("a removal keeps words and store alone", unless(left == kept, f"{sorted(left ^ kept)}"))
+    kept = {"etc/default/upsd", "var/lib/upsd", "var/lib/upsd/upsd.db", "var/lib/upsd/upsd.db-wal",
+            "etc/systemd/system/timers.target.wants/upsd-backup.timer"}
+    results.tell("a removal keeps words, store and what was enabled alone", unless(left == kept, f"{sorted(left ^ kept)}"))
     runs = "upsd" in machine.says("sh", "-c", "cat /proc/[0-9]*/comm").split()
     results.tell("a removal ends the server", unless(not runs, "it runs"))
     results.tell("purge", fault_of(machine.run("dpkg", "--purge", "upsd")))
@@ -356,7 +462,11 @@ def try_in(root: str, package: str, is_checked: bool, results: Results) -> None:
         before = machine.paths()
         try_installation(machine, results)
         try_unit(machine, commands, results)
+        try_backup(machine, results)
         try_ends(machine, commands, results)
+        try_cluster(machine, commands, results)
+        has_words(machine, serve_words(commands))
+        results.tell("start without the cluster's lines", fault_of(machine.run("systemctl", "start", "upsd.service")) or listens(machine))
         try_removal(machine, before, results)
 
 

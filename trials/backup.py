@@ -1,0 +1,265 @@
+#!/usr/bin/env python3
+"""Tries backups of a running server: `packaging/upsd-backup`, without systemd.
+
+    trials/backup.py [PROGRAM] [--rounds 20] [--seed 1]
+
+Four workstations, a reader and three watchers use a server, as in `check/store.py kills`, while backups are made of it. Each has
+to be taken by a check, and each association goes on over them. The last of each round is made with a `cp` that kills the server
+once both files are copied, while it still stands still; it is then restored in the place of the store. So what was answered before
+is in the backup, and the checks of `kills` on the next server hold for it. Then backups fail: a `cp` that takes too long, a signal,
+another backup at the same time, a missing log, damaged files, a store that is open; each has to leave a server that goes on, and
+the store as it was.
+
+It prints a line for each kind of check, and then `N passed, M failed`. The exit status is 1 if any failed.
+"""
+
+from __future__ import annotations
+
+import argparse
+import contextlib
+import os
+import re
+import shutil
+import signal
+import subprocess
+import sys
+import tempfile
+import time
+from typing import Iterator, Optional
+
+TOP = os.path.dirname(os.path.dirname(os.path.abspath(__file__)))
+sys.path[:0] = [os.path.join(TOP, it) for it in ("check/lib", "check")]
+import kills
+from machine import HERE, holds
+from results import Results
+from stored import FAULTS, Client, Stored, a_step_of, bytes_in
+
+BACKUP = [sys.executable, os.path.join(HERE, "packaging/upsd-backup")]
+KEEP = ["--keep", kills.KEEP]
+LIVES = 0.4  # seconds of a server before, between and after its backups, at most
+BACKUPS = 3  # how many are made while a server serves, at most
+AWAY = 60.0  # seconds for a command
+
+
+class Place:
+    """A folder for backups and for a `cp` in place of that of the system, which may do something besides."""
+
+    def __init__(self, program: list[str], folder: str) -> None:
+        self.program, self.folder, self.commands = program, os.path.join(folder, "backups"), os.path.join(folder, "commands")
+        os.makedirs(self.commands, exist_ok=True)
+
+    @contextlib.contextmanager
+    def copying(self, lines: str) -> Iterator[None]:
+        """Lets `cp` run these lines of shell, in which $last is the target, until it is left."""
+        path = os.path.join(self.commands, "cp")
+        with open(path, "w", encoding="utf-8") as opened:
+            opened.write(f'#!/bin/sh\nfor last; do :; done\n{lines}\n')
+        os.chmod(path, 0o755)
+        try:
+            yield
+        finally:
+            os.remove(path)
+
+    def words(self, *words: str) -> list[str]:
+        more = ["--folder", self.folder] if words[0] == "make" else []
+        return [*BACKUP, words[0], "--program", self.program[0], *more, *words[1:]]
+
+    def environment(self) -> dict[str, str]:
+        return {**os.environ, "PATH": f"{self.commands}:{os.environ['PATH']}"}
+
+    def run(self, *words: str) -> subprocess.CompletedProcess[str]:
+        return subprocess.run(self.words(*words), capture_output=True, text=True, timeout=AWAY, env=self.environment())
+
+    def made(self) -> list[str]:
+        """Returns the backups, the oldest first."""
+        return sorted(os.path.join(self.folder, it) for it in os.listdir(self.folder) if not it.startswith("."))
+
+    def remove(self) -> None:
+        """Removes all backups: their names are seconds."""
+        shutil.rmtree(self.folder, ignore_errors=True)
+
+
+class BackedUp(Stored):
+    """A server on a store that ends by a backup of it, which is restored."""
+
+    def __init__(self, trial: Trial, waits: bool) -> None:
+        self.trial, self.is_ending, self.port = trial, False, 0
+        super().__init__(trial.program, trial.file, *KEEP, *trial.peers, waits=waits)
+
+    def kill(self) -> None:
+        if self.process.poll() is None and self.port and not self.is_ending:
+            self.is_ending = True
+            self.trial.told("a backup of a server that is killed is restored", self.trial.ended_by_backup(self))
+        super().kill()
+
+
+class Trial(kills.Trial):
+    """A store whose server is killed while it stands still, and whose files are then those of the backup."""
+
+    def __init__(self, place: Place, file: str, seed: int, given: argparse.Namespace) -> None:
+        super().__init__(place.program, file, seed, given)
+        self.place = place
+        self.stood: list[float] = []
+
+    def server(self, waits: bool = True) -> BackedUp:
+        return BackedUp(self, waits)
+
+    def back_up(self, server: Stored) -> Optional[str]:
+        """Makes a backup, and returns why it fails, or None."""
+        self.place.remove()
+        ran = self.place.run("make", "--pid", str(server.pid))
+        if found := re.search(r"the server stood still for ([\d.]+) s", ran.stdout):
+            self.stood.append(float(found[1]))
+        return None if ran.returncode == 0 and found else f"status {ran.returncode}: {ran.stdout}{ran.stderr}"
+
+    def ended_by_backup(self, server: Stored) -> Optional[str]:
+        """Makes backups of a server, the last by a `cp` that kills it, and restores that one; returns why that fails, or None."""
+        for _ in range(self.chance.randrange(BACKUPS)):
+            self.told("a backup of a server that goes on is taken", self.back_up(server))
+            time.sleep(self.chance.random() * LIVES)
+            self.told("and the server goes on", None if server.process.poll() is None else f"it ended: {server.log[-3:]}")
+        with self.place.copying(f'/bin/cp "$@" || exit 1\ncase $last in *-wal) kill -9 {server.pid} ;; esac'):
+            fault = self.back_up(server)
+        server.process.wait(kills.SECONDS)
+        if fault:
+            return fault
+        ran = self.place.run("restore", self.place.made()[-1], "--store", self.file)
+        for it in (self.file, self.file + "-wal"):
+            for old in [old for old in os.listdir(os.path.dirname(self.file)) if old.startswith(os.path.basename(it) + ".before-")]:
+                os.remove(os.path.join(os.path.dirname(self.file), old))
+        return None if ran.returncode == 0 else f"restore, status {ran.returncode}: {ran.stdout}{ran.stderr}"
+
+
+def run_rounds(place: Place, folder: str, given: argparse.Namespace, results: Results) -> None:
+    """Reports what comes of that many servers on one store that end by a backup."""
+    trial = Trial(place, os.path.join(folder, "store"), given.seed, given)
+    for _ in range(given.rounds):
+        try:
+            trial.live(trial.chance.random() * LIVES + 0.05, 0.0)
+        except FAULTS as fault:
+            trial.told("each server serves", repr(fault))
+        if trial.faults:
+            break
+    try:
+        trial.counts["starts"] = 0  # so all steps are checked
+        trial.live(0.0, 0.0)
+    except FAULTS as fault:
+        trial.told("each server serves", repr(fault))
+    for kind, count in trial.counts.items():
+        if kind != "starts":
+            faults = trial.faults[kind]
+            results.tell(f"{kind}, {count} times", f"{len(faults)} are wrong: {faults[0]}" if faults else None)
+    plan = trial.plan
+    print(f"{given.rounds} rounds, seed {given.seed}: {plan.asked:,} requests asked and {plan.answered:,} answered, {len(plan.steps):,} steps; "
+          f"{len(trial.stood)} backups, for which servers stood still for up to {max(trial.stood, default=0):.2f} s", flush=True)
+
+
+# what fails
+
+def goes_on(client: Client, number: int) -> Optional[str]:
+    """Returns why an association does not go on with a creation, or None."""
+    try:
+        status = client.create(b"1.2.15.%d" % number, a_step_of(b"P1"))
+    except FAULTS as fault:
+        return repr(fault)
+    return None if status == 0x0000 else f"a creation is answered {status:04X}"
+
+
+def failed(ran: subprocess.CompletedProcess[str], words: str) -> Optional[str]:
+    """Returns why a command did not fail with these words, or None."""
+    is_so = ran.returncode == 1 and words in ran.stderr
+    return None if is_so else f"status {ran.returncode}, and not {words!r}: {ran.stdout}{ran.stderr}"
+
+
+def run_faults(place: Place, folder: str, results: Results) -> None:
+    """Tries backups that fail, each of a server that goes on."""
+    file = os.path.join(folder, "other")
+    with Stored(place.program, file, *KEEP) as server:
+        client, pid = Client(server.port), ["--pid", str(server.pid)]
+        results.tell("the association begins", goes_on(client, 1))
+        place.remove()
+        with place.copying("exec sleep 5"):
+            results.tell("a copy that takes too long", failed(place.run("make", *pid, "--within", "1"), "takes longer than 1 s"))
+        results.tell("and the server goes on", goes_on(client, 2))
+        with place.copying("exit 1"):
+            results.tell("a copy that fails", failed(place.run("make", *pid), "can't be copied"))
+        results.tell("and the server goes on again", goes_on(client, 3))
+        results.tell("a signal", ended_by_signal(place, server))
+        results.tell("and the server goes on after it", goes_on(client, 4))
+        results.tell("nothing is left of these", None if not place.made() and not os.listdir(place.folder) else str(os.listdir(place.folder)))
+        ran = place.run("make", *pid)
+        results.tell("a backup", None if ran.returncode == 0 and "requests" in ran.stdout else ran.stdout + ran.stderr)
+        results.tell("and the server goes on after that", goes_on(client, 5))
+        ran = place.run("check", place.made()[0])
+        results.tell("a check", None if ran.returncode == 0 and re.search(r": [1-9]\d* requests$", ran.stdout.strip()) else ran.stdout + ran.stderr)
+        results.tell("a store that is open is not replaced", failed(place.run("restore", place.made()[0], "--store", file), "open"))
+        results.tell("and its server goes on", goes_on(client, 6))
+    results.tell("without a server", failed(place.run("make", "--unit", "no-such.service"), "does not run"))
+    run_damages(place, file, results)
+
+
+def ended_by_signal(place: Place, server: Stored) -> Optional[str]:
+    """Ends the program by SIGTERM while a copy is made, after trying a second one beside it; returns what is wrong, or None."""
+    with place.copying("exec sleep 20"):
+        words = place.words("make", "--pid", str(server.pid), "--within", "30")
+        with subprocess.Popen(words, stderr=subprocess.PIPE, text=True, env=place.environment()) as first:
+            stands = holds(lambda: os.path.isdir(place.folder) and state_of(server.pid) == "T", 5)
+            fault = failed(place.run("make", "--pid", str(server.pid)), "another backup")
+            still = state_of(server.pid)
+            first.send_signal(signal.SIGTERM)
+            first.wait(AWAY)
+    if fault or not stands or still != "T":
+        return fault or f"the server stood still: {stands}, and is {still} after another backup"
+    return None if first.returncode == 1 else f"it ended with {first.returncode}"
+
+
+def state_of(pid: int) -> str:
+    with open(f"/proc/{pid}/stat", encoding="utf-8") as told:
+        return told.read().rpartition(") ")[2][0]
+
+
+def run_damages(place: Place, file: str, results: Results) -> None:
+    """Tries to restore backups that are none any more, in the place of a store that nobody has open."""
+    good, before = place.made()[0], bytes_in(file)
+    for name, words in (("without its log", "is no backup"), ("with a damaged file", "does not take"), ("with an empty file", "does not take")):
+        bad = os.path.join(place.folder, "bad")
+        shutil.copytree(good, bad)
+        store = os.path.join(bad, os.path.basename(file))
+        if "without" in name:
+            os.remove(store + "-wal")
+        elif "damaged" in name:
+            with open(store, "r+b") as opened:
+                opened.write(bytes(1000))
+        else:
+            os.truncate(store, 0)
+        ran = place.run("restore", bad, "--store", file)
+        results.tell(f"a backup {name} is refused", failed(ran, words))
+        results.tell("and the store is as it was", None if bytes_in(file) == before else "it is not")
+        shutil.rmtree(bad)
+    ran = place.run("restore", good, "--store", file)
+    aside = [it for it in os.listdir(os.path.dirname(file)) if ".before-" in it]
+    results.tell("a good one is restored", None if ran.returncode == 0 and len(aside) == 2 else f"{ran.stdout}{ran.stderr}, {aside}")
+    with Stored(place.program, file, *KEEP) as server:
+        client = Client(server.port)
+        there = [client.got(b"1.2.15.%d" % it) is not None for it in range(1, 7)]
+        results.tell("it has what was answered before it, and nothing else", None if there == [True] * 4 + [False] * 2 else str(there))
+
+
+def main() -> None:
+    about, _, more = (__doc__ or "").partition("\n\n")
+    asked = argparse.ArgumentParser(description=about, epilog=more, formatter_class=argparse.RawDescriptionHelpFormatter)
+    asked.add_argument("program", nargs="?", default=os.path.join(HERE, "crates/upsd/out/upsd"),
+                       help="the program (default: crates/upsd/out/upsd, which `rt run` builds)")
+    asked.add_argument("--rounds", type=int, default=20, help="how many servers end by a backup (20)")
+    asked.add_argument("--seed", type=int, default=1, help="by which what is random is chosen (1)")
+    given = asked.parse_args()
+    results = Results()
+    with tempfile.TemporaryDirectory(prefix="upsd-backup-") as folder:
+        place = Place([os.path.abspath(given.program)], folder)
+        run_faults(place, folder, results)
+        run_rounds(place, folder, given, results)
+    results.end()
+
+
+if __name__ == "__main__":
+    main()
