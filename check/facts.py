@@ -51,8 +51,8 @@ RULES = {  # how CONTRIBUTING.md says these
 # the constant of each fact: its crate, and its name in the sources
 CONSTANTS = {
     "keep": ("ups_args", "KEEP"), "offset": ("ups_args", "OFFSET"),
-    "max_workers": ("ups_settings", "MAX_WORKERS"), "workers": ("ups_settings", "WORKERS"),
-    "idle": ("ups_settings", "IDLE"), "timeout": ("ups_settings", "TIMEOUT"), "delivery_timeout": ("ups_settings", "DELIVERY_TIMEOUT"),
+    "max_workers": ("ups_peers", "MAX_WORKERS"), "workers": ("ups_peers", "WORKERS"),
+    "idle": ("ups_peers", "IDLE"), "timeout": ("ups_peers", "TIMEOUT"), "delivery_timeout": ("ups_peers", "DELIVERY_TIMEOUT"),
     "version": ("ups_args", "VERSION"), "address": ("ups_args", "LOOPBACK"),
     "short": ("ups_net", "QUICK_OPENING"), "crowd": ("ups_net", "CROWD"), "group": ("ups_ledger", "MOST"),
     "longest_pdu": ("ups_pdu", "MAX_DATA_LENGTH"), "longest_message": ("ups_assoc", "LONGEST_MESSAGE"),

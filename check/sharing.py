@@ -15,11 +15,11 @@ the step is canceled and no longer kept, it has to be gone.
 
 If an association has the only worker and three connections wait, the log has to say how many.
 
-The program `passes` runs a server that ends: with one worker for two associations, and with two workers for one each. In the
-first association W1 is subscribed to all steps and a step is created, of which W1 hears; in the second one the subscription
-ends and the step is canceled, and it is no longer kept. Once the desk is closed, the history has to have, in order, the
-requests of these associations by the passes of the workers, the acknowledgement by that of the deliverer, and the sweep by
-that of the sweeper.
+The program `passes` runs a server that ends: with one worker for two associations, with two workers for one each, and with one
+worker again and a ledger. In the first association W1 is subscribed to all steps and a step is created, of which W1 hears; in
+the second one the subscription ends and the step is canceled, and it is no longer kept. Once the desk is closed, the history
+has to have, in order, the requests of these associations by the passes of the workers, the acknowledgement by that of the
+deliverer, and the sweep by that of the sweeper. The ledger has to have the records of all of them.
 
 A line reports each of these, and the last line is `N passed, M failed`. The status is 1 if one failed.
 """
@@ -308,31 +308,44 @@ def history_of(first: int, second: int, deliverer: int) -> list[str]:
     ]
 
 
-def tried_ending(passes: str, workers: int, associations: int) -> Optional[str]:
-    """Checks what a server leaves that has that many workers, each with that many associations."""
+def kept_of(history: list[str]) -> list[str]:
+    """Returns what a server tells of a ledger that has the records of the whole history."""
+    count = len(history)
+    return [
+        f"history: {count} entries, of which a pass has seen {count}",
+        f"committed: {count} entries",
+        f"ledger: {count} records, those of the first entries",
+    ]
+
+
+def tried_ending(passes: str, workers: int, associations: int, keeps: bool = False) -> Optional[str]:
+    """Checks what a server leaves that has that many workers, each with that many associations, and maybe a ledger."""
     with socket.socket() as watcher:
         watcher.bind(("127.0.0.1", 0))
         watcher.listen()
         words = ["--keep", "0", "--associations", str(workers), f"W1=127.0.0.1:{watcher.getsockname()[1]}"]
+        words += ["--store", "MEMORY"] if keeps else []
         with Server([passes, str(associations), str(Ending.ROUNDS)], *words, error=subprocess.DEVNULL) as server:
             guard = threading.Timer(runs.SECONDS, server.process.kill)
             guard.start()
             fault = Ending(server.port, watcher).serves()
             told, status = server.output.read().splitlines(), server.process.wait()
             guard.cancel()
-    orders = [(1, 1)] if workers == 1 else [(1, 2), (2, 1)]
-    if fault or told in [history_of(*order, workers + 1) for order in orders] and status == 0:
+    histories = [history_of(*order, workers + 1) for order in ([(1, 1)] if workers == 1 else [(1, 2), (2, 1)])]
+    if fault or told in [it + (kept_of(it) if keeps else []) for it in histories] and status == 0:
         return fault
-    return f"it ends with {status}, and the history has {told}"
+    return f"it ends with {status}, having told {told}"
 
 
 def try_endings(passes: str, results: Results) -> None:
-    """Reports what two servers that run at the same time leave at their ends."""
+    """Reports what three servers that run at the same time leave at their ends."""
     with concurrent.futures.ThreadPoolExecutor() as pool:
         one = pool.submit(tried_ending, passes, 1, 2)
         two = pool.submit(tried_ending, passes, 2, 1)
+        kept = pool.submit(tried_ending, passes, 1, 2, True)
         results.tell("a server that ends leaves what its worker, its deliverer and its sweeper asked", one.result())
         results.tell("a server that ends leaves what its two workers, its deliverer and its sweeper asked", two.result())
+        results.tell("the ledger of a server that ends has the records of its whole history", kept.result())
 
 
 def main() -> None:

@@ -13,6 +13,9 @@ With --verbose there is a line before it for each request, which names the opera
 number, and compares the title, the address, the number of requests, the seconds, and the requests with their statuses and
 their order.
 
+Then queries in Implicit VR ask with sequences that the dictionary lacks: each calling title gets one line that names the first
+of them, and none if such a sequence has no item or the dictionary has it.
+
 It starts servers on free ports of this machine, with and without --verbose, and ends by itself. It prints a line for each
 association, and then `N passed, M failed`. The exit status is 1 if any failed.
 """
@@ -30,9 +33,9 @@ import time
 from typing import Optional
 
 sys.path.insert(0, os.path.join(os.path.dirname(os.path.dirname(os.path.abspath(__file__))), "check/lib"))
-from dicom import create, echo, find, get
+from dicom import IMPLICIT, PULL, create, data, echo, find, get, items
 from machine import HERE, holds
-from peer import CONTEXTS, ECHO_ON, PULL_ON, PUSH_ON, Caller, a_step, claim, told
+from peer import CONTEXTS, ECHO_ON, PULL_ON, PUSH_ON, Caller, Peer, a_step, claim, told
 from results import Results
 from server import Server
 
@@ -40,6 +43,7 @@ COUNT = 20
 LIMIT = 30  # seconds for all associations of a server to open, and for an answer
 SLACK = 1.0  # seconds by which the log and the script may differ on how long an association took
 OPERATION = re.compile(r"serve: (?:[CN]-[A-Z]+|Change) #")
+UNREAD = re.compile(r"WARN .*serve: C-FIND #\d+ (\S+) 127\.0\.0\.1:\d+, (\([0-9A-F]{4},[0-9A-F]{4}\)) came as UN ")
 END = re.compile(r"serve: Released #\d+ \S+ \S+, (\d+) requests?, (\d+\.\d) s$")
 
 
@@ -177,6 +181,34 @@ def trial(program: list[str], verbose: bool, results: Results) -> None:
     results.tell(f"{name}, {COUNT} numbers", None if len(found) == COUNT else f"the log has {sorted(found)}")
 
 
+def keys(*elements: tuple[int, int, bytes]) -> bytes:
+    """Returns the keys of a query in Implicit VR Little Endian."""
+    return b"".join(data(False, group, number, b"", value) for group, number, value in elements)
+
+
+CODE = items([keys((0x0008, 0x0100, b"C1"))])
+QUERIES = [  # a calling title, its keys, and the tag that a line names, if there is to be one
+    ("RT1", keys((0x0032, 0x1064, CODE)), "(0032,1064)"),
+    ("RT1", keys((0x0040, 0x0260, CODE)), None),  # in the same minute
+    ("RT2", keys((0x0040, 0x4018, items([keys((0x0008, 0x0121, CODE))]))), "(0008,0121)"),
+    ("RT3", keys((0x0009, 0x1001, b"A1"), (0x0032, 0x1064, b""), (0x0040, 0x4018, CODE)), None),
+]
+
+
+def trial_of_unread_sequences(program: list[str], results: Results) -> None:
+    """Compares the lines about sequences that are read as bytes."""
+    with Server(program) as server:
+        for title, identifier, _ in QUERIES:
+            peer = Peer(server.port, [(PULL, IMPLICIT)], title.encode(), LIMIT)
+            status = peer.ask(find(1, 1, identifier))
+            peer.release()
+            results.tell(f"a query of {title}", None if status == 0 and not peer.sets else f"it is answered {status:04X}")
+        holds(lambda: sum("serve: Released" in line for line in server.log) == len(QUERIES), 5)
+        found = [it.groups() for line in server.log if (it := UNREAD.search(line))]
+    wanted = [(title, tag) for title, _, tag in QUERIES if tag]
+    results.tell("sequences that came as UN", None if found == wanted else f"the log names {found}, and not {wanted}")
+
+
 def main() -> None:
     about, _, more = (__doc__ or "").partition("\n\n")
     asked = argparse.ArgumentParser(description=about, epilog=more, formatter_class=argparse.RawDescriptionHelpFormatter)
@@ -186,6 +218,7 @@ def main() -> None:
     results = Results()
     for verbose in (True, False):
         trial([given.program], verbose, results)
+    trial_of_unread_sequences([given.program], results)
     results.end()
 
 

@@ -15,9 +15,9 @@ use ups_assoc::Config;
 use ups_ledger::Commits;
 use ups_manager::Manager;
 use ups_net::{Account, ServerOptions, Tally, end_told, ends_of, serve_one};
+use ups_peers::ServerLimits;
 use ups_service::SharedService;
 use ups_session::{End, SessionFault};
-use ups_settings::ServerLimits;
 use ups_turn::{Desk, Pass};
 
 /// Returns a server's connection, whose client has asked for an association with another application entity, and the

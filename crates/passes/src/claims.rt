@@ -1,20 +1,20 @@
-//! Two passes that claim the same steps at the same time.
+//! Passes that claim the same steps at the same time.
 
-ghost use Rattle.std.specs.Prelude.{◌≡◌};
+ghost use Rattle.std.specs.Prelude.{◌≡◌, All, IfOk};
 
 use crate::history::count_of;
 use crate::texts::{no_words, out_of_memory, step_of, title_of, uid_of};
-use std::alloc::Global;
+use std::alloc::{AllocError, Global};
 use std::io;
 use std::sync::Wait;
-use std::thread::{Threads, join};
+use std::thread::{Threads, map_vec};
 use ups_cycle::StepState;
-use ups_life::{Ask, Entry, Reply, Request, Transaction};
+use ups_life::{Ask, Reply, Request, Transaction};
 use ups_manager::Manager;
 use ups_pdu::Ae;
 use ups_script::answer_lines;
 use ups_service::Service;
-use ups_turn::{Desk, Pass};
+use ups_turn::{Desk, OpenFault, Pass};
 
 /// The number of steps.
 const STEPS: u32 = 100;
@@ -31,6 +31,8 @@ const NOON: u64 = 1_709_208_000;
 /// The numbers of a pass's claims by their answers.
 #[derive(Clone, Copy)]
 struct Claims {
+    /// The number of the pass.
+    pass: u32,
     /// Those answered with 0000.
     accepted: u64,
     /// Those answered with C302.
@@ -39,15 +41,15 @@ struct Claims {
     other: u64,
 }
 
-/// The outcome of two passes.
-#[derive(Clone, Copy)]
+/// The outcome of the passes of a desk.
+#[derive(Drop)]
 struct Outcome {
-    /// The claims of pass 1.
-    one: Claims,
-    /// The claims of pass 2.
-    two: Claims,
-    /// The number of entries that both have seen once they met.
+    /// The claims of each pass, in the order of the passes.
+    claims: Vec<Claims>,
+    /// The number of entries that the last pass has seen, once it has met all others.
     met: u64,
+    /// What the passes shared.
+    manager: Manager<Global>,
 }
 
 /// What a line of a script has after the UID of a step that it creates.
@@ -152,6 +154,7 @@ fn claim_all<R: Wait>(
     ensures stays { result.0.table ≡ pass.table }
 {
     let mut claims = Claims {
+        pass: pass.number(),
         accepted: 0,
         refused: 0,
         other: 0,
@@ -166,53 +169,85 @@ fn claim_all<R: Wait>(
     (pass, claims)
 }
 
-/// Makes two passes claim each step at the same time, each in its own thread.
+/// Makes each pass claim each step at the same time, each in its own thread, and returns the passes with their claims.
+///
+/// Errors: lack of memory.
 fn race<R: Threads + Wait + Sync>(
     rt: &R,
     alloc: Global,
     desk: &Desk<Manager<Global>, Global>,
-    one: Pass<Manager<Global>, Global>,
-    two: Pass<Manager<Global>, Global>,
+    passes: Vec<Pass<Manager<Global>, Global>>,
     ae: Ae,
-) -> (
-    (Pass<Manager<Global>, Global>, Claims),
-    (Pass<Manager<Global>, Global>, Claims),
-)
-    requires one { one.table ≡ desk.now.table }
-    requires two { two.table ≡ desk.now.table }
-    ensures one { result.0.0.table ≡ desk.now.table }
-    ensures two { result.1.0.table ≡ desk.now.table }
+) -> Result<Vec<(Pass<Manager<Global>, Global>, Claims)>, AllocError>
+    requires here { All (λ p. p.table ≡ desk.now.table) passes.items }
+    ensures here { IfOk result (λ done. All (λ d. d.0.table ≡ desk.now.table) done.items) }
 {
-    join(
+    map_vec(
         rt,
-        || claim_all(rt, alloc, desk, one, ae),
-        || claim_all(rt, alloc, desk, two, ae),
+        passes,
+        &|pass| -> (Pass<Manager<Global>, Global>, Claims)
+            requires { pass.table ≡ desk.now.table }
+            ensures { result.0.table ≡ desk.entry.now.table }
+        { claim_all(rt, alloc, desk, pass, ae) },
     )
 }
 
-/// Closes a desk with these two passes, and returns what they shared.
+/// Returns the claims of each pass.
 ///
 /// Errors: lack of memory.
-fn closed(
+fn claims_of(
     alloc: Global,
-    desk: Desk<Manager<Global>, Global>,
-    one: Pass<Manager<Global>, Global>,
-    two: Pass<Manager<Global>, Global>,
-) -> io::Result<Manager<Global>>
-    requires one { one.table ≡ desk.table }
-    requires two { two.table ≡ desk.table }
+    done: &[(Pass<Manager<Global>, Global>, Claims)],
+) -> Result<Vec<Claims>, AllocError> {
+    let mut claims = Vec::new(alloc);
+    for one in done {
+        claims.push(one.1)?;
+    }
+    Ok(claims)
+}
+
+/// Makes the last pass meet each other one. Returns the passes, and the number of entries that the last one has then
+/// seen.
+///
+/// Errors: lack of memory.
+fn meet_all(
+    alloc: Global,
+    desk: &Desk<Manager<Global>, Global>,
+    mut done: Vec<(Pass<Manager<Global>, Global>, Claims)>,
+) -> Result<(Vec<Pass<Manager<Global>, Global>>, u64), AllocError>
+    requires here { All (λ d. d.0.table ≡ desk.now.table) done.items }
+    ensures here { IfOk result (λ r. All (λ p. p.table ≡ desk.now.table) r.0.items) }
 {
-    let mut passes = Vec::new(alloc);
-    passes.push(one)?;
-    passes.push(two)?;
+    let mut passes = Vec::with_capacity(alloc, done.len())?;
+    let Some((mut last, _)) = done.pop() else {
+        return Ok((passes, 0));
+    };
+    for one in done {
+        let (mut pass, _) = one;
+        desk.meet(&mut pass, &mut last);
+        passes.push_reserved(pass);
+    }
+    let seen = last.seen();
+    passes.push_reserved(last);
+    Ok((passes, seen))
+}
+
+/// Closes a desk with these passes, and returns what they shared.
+///
+/// Errors: InvalidInput if they are not all of its passes.
+fn closed(
+    desk: Desk<Manager<Global>, Global>,
+    passes: Vec<Pass<Manager<Global>, Global>>,
+) -> io::Result<Manager<Global>>
+    requires here { All (λ p. p.table ≡ desk.table) passes.items }
+{
     match desk.close(passes) {
         Ok(manager) => Ok(manager),
         Err(_) => Err(no_words()),
     }
 }
 
-/// Makes two passes of a desk claim each step at the same time, and meet, then closes the desk, and returns the outcome
-/// with what they shared.
+/// Makes the passes of a desk claim each step at the same time, and meet, then closes the desk, and returns the outcome.
 ///
 /// Errors: lack of memory.
 fn outcome_at<R: Threads + Wait + Sync>(
@@ -220,82 +255,108 @@ fn outcome_at<R: Threads + Wait + Sync>(
     alloc: Global,
     ae: Ae,
     desk: Desk<Manager<Global>, Global>,
-    one: Pass<Manager<Global>, Global>,
-    two: Pass<Manager<Global>, Global>,
-) -> io::Result<(Outcome, Manager<Global>)>
-    requires one { one.table ≡ desk.table }
-    requires two { two.table ≡ desk.table }
+    passes: Vec<Pass<Manager<Global>, Global>>,
+) -> io::Result<Outcome>
+    requires here { All (λ p. p.table ≡ desk.table) passes.items }
 {
-    let ((mut one, first), (mut two, second)) = race(rt, alloc, &desk, one, two, ae);
-    let met = desk.meet(&mut one, &mut two);
-    let manager = closed(alloc, desk, one, two)?;
-    let outcome = Outcome {
-        one: first,
-        two: second,
+    let done = race(rt, alloc, &desk, passes, ae)?;
+    let claims = claims_of(alloc, &done)?;
+    let (passes, met) = meet_all(alloc, &desk, done)?;
+    let manager = closed(desk, passes)?;
+    Ok(Outcome {
+        claims,
         met,
-    };
-    Ok((outcome, manager))
+        manager,
+    })
 }
 
-/// The same with a new desk of two seats.
+/// The same with a new desk with this number of seats.
 ///
-/// Errors: lack of memory.
+/// Errors: InvalidInput if no desk has so many; lack of memory.
 fn outcome_over<R: Threads + Wait + Sync>(
     rt: &R,
     alloc: Global,
     ae: Ae,
     manager: Manager<Global>,
-) -> io::Result<(Outcome, Manager<Global>)> {
-    let Ok((desk, mut passes)) = Desk::open(alloc, manager, 2) else {
-        return Err(out_of_memory());
-    };
-    let Some(two) = passes.pop() else {
-        return Err(out_of_memory());
-    };
-    let Some(one) = passes.pop() else {
-        return Err(out_of_memory());
-    };
-    outcome_at(rt, alloc, ae, desk, one, two)
+    seats: u32,
+) -> io::Result<Outcome> {
+    match Desk::open(alloc, manager, seats) {
+        Ok((desk, passes)) => outcome_at(rt, alloc, ae, desk, passes),
+        Err((_, OpenFault::BadSeats)) => Err(no_words()),
+        Err((_, OpenFault::Memory)) => Err(out_of_memory()),
+    }
+}
+
+/// Prints how the claims of all passes were answered.
+///
+/// Errors: those of the output.
+fn tell_sums<R: Print>(rt: &R, claims: &[Claims]) -> io::Result<()> {
+    let mut accepted: u64 = 0;
+    let mut refused: u64 = 0;
+    let mut other: u64 = 0;
+    for one in claims {
+        accepted = accepted.wrapping_add(one.accepted);
+        refused = refused.wrapping_add(one.refused);
+        other = other.wrapping_add(one.other);
+    }
+    println!(rt; "claims: {accepted} accepted, {refused} refused, {other} answered otherwise")
 }
 
 /// Prints whether a pass has as many entries as it had claims accepted.
 ///
 /// Errors: those of the output.
-fn tell_pass<R: Print>(rt: &R, number: u32, entries: u64, accepted: u64) -> io::Result<()> {
+fn tell_pass<R: Print>(rt: &R, claims: Claims, entries: u64) -> io::Result<()> {
+    let Claims { pass, accepted, .. } = claims;
     if entries == accepted {
-        return println!(rt; "pass {number}: as many entries as accepted claims");
+        return println!(rt; "pass {pass}: as many entries as accepted claims");
     }
-    println!(rt; "pass {number}: {entries} entries, and {accepted} accepted claims")
+    println!(rt; "pass {pass}: {entries} entries, and {accepted} accepted claims")
 }
 
-/// Prints the outcome of two passes, and what the history then has.
+/// Prints the outcome of the passes of a desk, and what the history then has.
 ///
 /// Errors: those of the output.
-fn tell_outcome<R: Print>(rt: &R, outcome: Outcome, history: &[Entry<Global>]) -> io::Result<()> {
-    let Outcome { one, two, met } = outcome;
-    let accepted = one.accepted.wrapping_add(two.accepted);
-    let refused = one.refused.wrapping_add(two.refused);
-    let other = one.other.wrapping_add(two.other);
-    println!(rt; "claims: {accepted} accepted, {refused} refused, {other} answered otherwise")?;
-    println!(rt; "seen by both passes: {met} entries")?;
+fn tell_outcome<R: Print>(rt: &R, outcome: &Outcome) -> io::Result<()> {
+    let history = outcome.manager.history();
+    println!(rt; "passes: {}", outcome.claims.len())?;
+    tell_sums(rt, &outcome.claims)?;
+    println!(rt; "seen once they met: {} entries", outcome.met)?;
     println!(rt;
         "history: {} entries, {} of no pass",
         history.len(),
         count_of(history, 0)
     )?;
-    tell_pass(rt, 1, count_of(history, 1), one.accepted)?;
-    tell_pass(rt, 2, count_of(history, 2), two.accepted)
+    for one in &outcome.claims {
+        tell_pass(rt, *one, count_of(history, one.pass))?;
+    }
+    Ok(())
 }
 
-/// Makes two passes claim each of a hundred steps at the same time, and prints the outcome.
+/// Makes as many passes as a word says claim each of a hundred steps at the same time, and prints the outcome.
 ///
-/// Errors: those of the output; lack of memory.
-pub(crate) fn tell_claims<R: Threads + Wait + Sync + AllocGlobal + Print>(
-    rt: &R,
-) -> io::Result<()> {
+/// Errors: InvalidInput if the word is not the number of passes that a desk may have; those of the output; lack of
+/// memory.
+fn tell_race<R: Threads + Wait + Sync + AllocGlobal + Print>(rt: &R, word: &str) -> io::Result<()> {
     let alloc = rt.alloc();
+    let Ok(seats) = word.parse::<u32>() else {
+        return Err(no_words());
+    };
     let ae = title_of("PERFORM1")?;
     let manager = with_steps(alloc)?;
-    let (outcome, manager) = outcome_over(rt, alloc, ae, manager)?;
-    tell_outcome(rt, outcome, manager.history())
+    let outcome = outcome_over(rt, alloc, ae, manager, seats)?;
+    tell_outcome(rt, &outcome)
+}
+
+/// Makes as many passes as each word says claim each of a hundred steps at the same time, and prints the outcomes.
+///
+/// Errors: InvalidInput if a word is not the number of passes that a desk may have; those of the output; lack of
+/// memory.
+pub(crate) fn tell_claims<R: Threads + Wait + Sync + AllocGlobal + Print>(
+    rt: &R,
+    words: &[String],
+) -> io::Result<()> {
+    for word in words {
+        tell_race(rt, word.as_str())?;
+    }
+    Ok(())
 }

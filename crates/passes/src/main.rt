@@ -1,19 +1,23 @@
 //! `passes`: tells what the passes of a desk leave in its history, once their threads are done and the desk is closed.
 //! It is not part of the product.
 //!
-//! With the word `claims` two passes, each in its own thread, claim each of a hundred steps at the same time. A line
-//! tells how the claims were answered, a second one how many entries both passes have seen once they met, a third one
-//! how many the history has, and how many of these no pass made, and one for each pass whether it has as many as it had
-//! claims accepted.
+//! With the word `claims` and numbers of passes, that many passes for each number, each in its own thread, claim each of
+//! a hundred steps at the same time. Lines tell how many passes there are, how the claims were answered, how many
+//! entries a pass has seen once it has met all others, how many the history has, and how many of these no pass made;
+//! then one for each pass, whether it has as many as it had claims accepted.
 //!
 //! With any other words it is a server that ends. The first two are the number of associations that each worker serves
 //! and the number of rounds of the sweeper and of each deliverer; a command line of `upsd serve` follows. With port 0
 //! it prints its port first, as `upsd` does. Then a line for each entry of the history tells the number of the pass
-//! that made it, the title of the one who asked, and what was asked.
+//! that made it, the title of the one who asked, and what was asked. With `--store` and any word its ledger keeps the
+//! records in memory. Three more lines then tell how many entries the history has and the passes have seen, how many
+//! are committed, and whether the ledger has their records.
 #![tactic(auto)]
 
 mod claims;
+mod comparing;
 mod history;
+mod ledger;
 mod server;
 mod texts;
 
@@ -37,7 +41,7 @@ where
 {
     let first = words.get(1).ok_or(no_words())?;
     if first.as_str() == "claims" {
-        return tell_claims(rt);
+        return tell_claims(rt, &words[2..]);
     }
     let second = words.get(2).ok_or(no_words())?;
     let associations = number_of(first.as_str())?;

@@ -2,7 +2,9 @@
 
 ghost use Rattle.std.specs.Prelude.{◌≡◌, All};
 
+use crate::comparing::are_of_first;
 use crate::history::tell_history;
+use crate::ledger::{MemoryLedger, MemoryStores};
 use crate::texts::{no_words, out_of_memory};
 use clap::ArgMatches;
 use log::Log;
@@ -12,28 +14,12 @@ use std::sync::Wait;
 use std::thread::Threads;
 use std::time::Clock;
 use ups_args::{ArgumentFault, command};
-use ups_ledger::NoLedger;
+use ups_ledger::Keeper;
+use ups_life::Entry;
 use ups_manager::Manager;
 use ups_net::Network;
-use ups_server::{RanServer, StoreOpener, Unopened, serve_words};
-use ups_terms::StartChoices;
-
-/// Opens no store: a server that ends keeps nothing.
-#[derive(Clone, Copy)]
-struct NoStores;
-
-impl<'a> StoreOpener<'a, NoLedger> for NoStores {
-    ghost begins = { λ _ _ _ _ _. Unit {0} };
-
-    fn open(
-        &self,
-        _file: &'a str,
-        _choices: StartChoices,
-        manager: &mut Manager<Global>,
-    ) -> Result<(NoLedger, usize), Unopened> {
-        Err(Unopened::Told)
-    }
-}
+use ups_server::{ClosedServer, RanServer, serve_words};
+use ups_turn::Pass;
 
 /// Returns the error for refused words, or for lack of memory.
 fn error_of(fault: ArgumentFault<'_>) -> io::Error {
@@ -44,7 +30,8 @@ fn error_of(fault: ArgumentFault<'_>) -> io::Error {
 }
 
 /// Runs a server with the words after `serve`, for a number of associations of each worker and of rounds of the sweeper
-/// and of each deliverer; then closes its desk, and prints its history.
+/// and of each deliverer; then closes its desk, and prints what it leaves. A store that the words name is a ledger in
+/// memory.
 ///
 /// Errors: InvalidInput if it does not listen, or the words are refused; those of the output; lack of memory, or of a
 /// thread.
@@ -57,35 +44,83 @@ fn tell_served<R>(
 where
     R: Threads + Wait + Clock + Log + Sync + AllocGlobal + Print + Eprint + Network,
 {
-    match serve_words(rt, &NoStores, matches, associations, rounds) {
-        Ok(Some(server)) => tell_left(rt, server),
+    let stores = MemoryStores::new(rt.alloc());
+    match serve_words(rt, &stores, matches, associations, rounds) {
+        Ok(Some(server)) => tell_left(rt, rt.alloc(), server),
         Ok(None) => Err(no_words()),
         Err(fault) => Err(error_of(fault)),
     }
 }
 
-/// Closes the desk of a server, and prints the history.
+/// Closes the desk of a server, and prints what the server leaves.
 ///
 /// Errors: those of the output; lack of memory, or of a thread.
-fn tell_left<R: Print>(rt: &R, server: RanServer<NoLedger>) -> io::Result<()>
+fn tell_left<R: Print>(rt: &R, alloc: Global, server: RanServer<MemoryLedger>) -> io::Result<()>
     requires here { All (λ p. p.table ≡ server.desk.table) server.passes.items }
 {
-    let RanServer {
-        begun,
-        desk,
-        passes,
-        keeper: _,
-    } = server;
-    if !begun {
+    if !server.begun {
         return Err(out_of_memory());
     }
-    match desk.close(passes) {
-        Ok(manager) => tell_history(rt, manager.history()),
+    let seen = most_seen(&server.passes);
+    match server.close() {
+        Ok(closed) => tell_closed(rt, alloc, &closed, seen),
         Err(_) => Err(no_words()),
     }
 }
 
-/// Runs a server with a command line of `upsd serve`, whose first word stands for the program, and prints its history.
+/// Returns the greatest number of entries that one of these passes has seen.
+fn most_seen(passes: &[Pass<Manager<Global>, Global>]) -> u64 {
+    let mut most: u64 = 0;
+    for pass in passes {
+        most = most.max(pass.seen());
+    }
+    most
+}
+
+/// Prints the history of a closed server, and what its ledger has of it, if there is one.
+///
+/// Errors: those of the output; lack of memory.
+fn tell_closed<R: Print>(
+    rt: &R,
+    alloc: Global,
+    closed: &ClosedServer<MemoryLedger>,
+    seen: u64,
+) -> io::Result<()> {
+    let history = closed.manager.history();
+    tell_history(rt, history)?;
+    match &closed.keeper {
+        Some(keeper) => tell_kept(rt, alloc, history, keeper, seen),
+        None => Ok(()),
+    }
+}
+
+/// Prints the numbers of entries of a history, of those that a pass has seen, and of those that are committed; and
+/// whether the ledger has their records.
+///
+/// Errors: those of the output; lack of memory.
+fn tell_kept<R: Print>(
+    rt: &R,
+    alloc: Global,
+    history: &[Entry<Global>],
+    keeper: &Keeper<MemoryLedger>,
+    seen: u64,
+) -> io::Result<()> {
+    let records = keeper.ledger.records();
+    let are_first = are_of_first(alloc, records, history)?;
+    let which = if are_first {
+        "those of the first entries"
+    } else {
+        "not those of the first entries"
+    };
+    println!(rt;
+        "history: {} entries, of which a pass has seen {seen}",
+        history.len()
+    )?;
+    println!(rt; "committed: {} entries", keeper.committed)?;
+    println!(rt; "ledger: {} records, {which}", records.len())
+}
+
+/// Runs a server with a command line of `upsd serve`, whose first word stands for the program, and prints what it leaves.
 ///
 /// Errors: InvalidInput if the words are not such a command line, or it does not listen; those of the output; lack of
 /// memory, or of a thread.

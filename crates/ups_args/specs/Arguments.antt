@@ -6,11 +6,11 @@ use Rattle.clap.specs.Matches.{first_value, matched_of, one_text, raw_values}
 use Rattle.ups_life.specs.declared.peer.Peer.{Peer}
 use Rattle.ups_life.specs.Limits.{peer_limit}
 use Rattle.ups_settings.specs.Refusal.{is_bad_offset, is_named, is_twice}
-use Rattle.ups_settings.specs.declared.watcher.Watcher.{Watcher}
+use Rattle.ups_peers.specs.declared.watcher.Watcher.{Watcher}
 use Rattle.ups_pdu.specs.Title.{SpellsAe}
 use Rattle.ups_args.specs.declared.fault.ArgumentFault.{ArgumentFault}
 use Rattle.ups_args.specs.declared.fault.ArgumentFault.TheVariants as faults
-use Rattle.ups_settings.specs.Limits.{default_workers, delivery_seconds, idle_seconds, timeout_seconds, workers_limit}
+use Rattle.ups_peers.specs.Limits.{default_workers, delivery_seconds, idle_seconds, timeout_seconds, workers_limit}
 use Rattle.ups_args.specs.Limits.{keep_seconds, local_offset}
 
 -- a number of seconds below 2^32, in decimal digits, with or without a + in front

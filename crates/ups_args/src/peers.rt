@@ -12,7 +12,7 @@ use clap::{Arg, ArgAction};
 use std::alloc::{Allocator, Global};
 use ups_life::{MAX_PEERS, Peer};
 use ups_pdu::Ae;
-use ups_settings::Watcher;
+use ups_peers::Watcher;
 
 /// Returns the argument for the words that name peers.
 pub(crate) fn peer_words<'a>(alloc: Global) -> Arg<'a> {

@@ -4,7 +4,7 @@ ghost use Rattle.std.specs.Prelude.{◌≡◌, ◌≤◌, ℕ, [], codes, length
 ghost use Rattle.clap.specs.Matches.{first_value, found_of};
 ghost use Rattle.ups_args.specs.Arguments.{FailToAskServe, FailToLimit, IsFlag, NamePeers, NameWatchers, SaysBind, SaysDeliveryTimeout, SaysIdle, SaysKeep, SaysOffset, SaysPort, SaysTimeout, SaysWorkers, SaysWorkersOrNot, argument_words};
 ghost use Rattle.ups_life.specs.Limits.{history_limit, peer_limit};
-ghost use Rattle.ups_settings.specs.Limits.{turns_limit, workers_limit};
+ghost use Rattle.ups_peers.specs.Limits.{turns_limit, workers_limit};
 ghost use Rattle.ups_settings.specs.Refusal.{refusal};
 ghost use Rattle.ups_pdu.specs.Title.{SpellsAe};
 
@@ -20,7 +20,7 @@ use clap::{ArgMatches, Command};
 use std::alloc::{AllocError, Global};
 use ups_life::Peer;
 use ups_pdu::Ae;
-use ups_settings::{
+use ups_peers::{
     DELIVERY_TIMEOUT, IDLE, MAX_WORKERS, ServerLimits, TIMEOUT, TURNS, WORKERS, Watcher,
 };
 use ups_terms::StartChoices;

@@ -5,7 +5,7 @@ use Rattle.ups_net.specs.Delivering.{DeliversRounds}
 use Rattle.ups_net.specs.Serving.{ServesAssociations}
 use Rattle.ups_net.specs.Sweeping.{Sweeps}
 use Rattle.ups_net.specs.declared.options.ServerOptions.{ServerOptions}
-use Rattle.ups_settings.specs.declared.watcher.Watcher.{Watcher}
+use Rattle.ups_peers.specs.declared.watcher.Watcher.{Watcher}
 use Rattle.ups_turn.specs.Pass.{PassView}
 
 -- a worker (`true`) has served as many associations as the options say, or a deliverer has made as many rounds

@@ -5,12 +5,13 @@ use crate::journal::{
 };
 use crate::responses::is_failure;
 use crate::tally::Tally;
-use log::{Level, Log, info, log};
+use log::{Level, Log, info, log, warn};
 use std::alloc::Global;
 use std::cell::{Cell, RefCell};
 use std::net::SocketAddr;
 use std::time::{Clock, Duration, Instant};
 use std::{fmt, str};
+use ups_dataset::Tag;
 use ups_dimse::{Command, HEADER_LEN, ResponseCommand, STATUS, read_command};
 use ups_pdu::{Ae, PduKind, calling_title};
 use ups_session::{End, SessionFault};
@@ -239,6 +240,15 @@ impl<'a> Account<'a> {
         match self.calling.get() {
             Some(ae) => format!(in alloc; "{} {address}", title_of(&ae)).ok(),
             None => format!(in alloc; "- {address}").ok(),
+        }
+    }
+
+    /// Learns of a query with a sequence that was read as bytes, and may warn of it: once a minute for each peer.
+    #[cold]
+    pub(crate) fn note_unread<R: Log>(&self, rt: &R, alloc: Global, tag: Tag) {
+        if self.tally.add_unread(self.peer(alloc)) {
+            let Tag { group, element } = tag;
+            warn!(rt; target: "upsd", "serve: C-FIND {self}, ({group:04X},{element:04X}) came as UN and matches only as a whole value: propose Explicit VR");
         }
     }
 

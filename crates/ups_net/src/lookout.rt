@@ -12,7 +12,7 @@ use std::sync::Wait;
 use std::time::Clock;
 use ups_ledger::Keeping;
 use ups_life::MAX_HISTORY;
-use ups_settings::Watcher;
+use ups_peers::Watcher;
 
 /// Half of what a history holds.
 const HALF: u64 = MAX_HISTORY / 2;

@@ -56,6 +56,15 @@ fn add_of(peers: &mut Vec<Refusals>, peer: String) -> Option<bool> {
     Some(true)
 }
 
+/// Adds a peer that is warned, and returns whether it was not among them. Returns false if there are `PEERS` others
+/// already, or memory runs out.
+fn add_warned(peers: &mut Vec<String>, peer: String) -> bool {
+    if peers.len() >= PEERS || peers.iter().any(|it| it.as_str() == peer.as_str()) {
+        return false;
+    }
+    peers.push(peer).is_ok()
+}
+
 /// The counts of a server since its start: associations, answered requests, and refused ones. Only the log depends on
 /// them.
 pub struct Tally {
@@ -66,6 +75,8 @@ pub struct Tally {
     peers: Mutex<Vec<Refusals>>,
     /// The number of those without a line and of none of these peers.
     others: AtomicU64,
+    /// The peers with a line in this minute about a sequence that was read as bytes.
+    warned: Mutex<Vec<String>>,
 }
 
 impl Drop for Tally {
@@ -76,6 +87,7 @@ impl Drop for Tally {
             refusals: _,
             peers: _,
             others: _,
+            warned: _,
         } = self;
     }
 }
@@ -89,6 +101,7 @@ impl Tally {
             refusals: AtomicU64::new(0),
             peers: Mutex::new(Vec::new(alloc)),
             others: AtomicU64::new(0),
+            warned: Mutex::new(Vec::new(alloc)),
         }
     }
 
@@ -117,6 +130,16 @@ impl Tally {
         is_told == Some(true)
     }
 
+    /// Returns whether a query of a peer (None if memory ran out) with a sequence that was read as bytes gets a line: the
+    /// first one in a minute does. Never blocks.
+    #[cold]
+    pub(crate) fn add_unread(&self, peer: Option<String>) -> bool {
+        match (self.warned.try_lock(), peer) {
+            (Some(mut peers), Some(peer)) => add_warned(&mut peers, peer),
+            _ => false,
+        }
+    }
+
     /// Logs how many requests were refused beyond those logged, by peer, and begins a new minute.
     pub(crate) fn end_minute<R: Wait + Log>(&self, rt: &R) {
         let mut peers = self.peers.lock(rt);
@@ -130,6 +153,7 @@ impl Tally {
         if others > 0 {
             tell_more_refusals(rt, others);
         }
+        self.warned.lock(rt).clear();
     }
 
     /// Returns how many associations have begun.

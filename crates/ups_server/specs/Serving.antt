@@ -16,7 +16,7 @@ use Rattle.ups_net.specs.Working.{Ran}
 use Rattle.ups_net.specs.declared.options.ServerOptions.{ServerOptions}
 use Rattle.ups_pdu.specs.Title.{SpellsAe}
 use Rattle.ups_service.specs.State.{State}
-use Rattle.ups_settings.specs.Limits.{turns_limit, workers_limit}
+use Rattle.ups_peers.specs.Limits.{turns_limit, workers_limit}
 use Rattle.ups_terms.specs.declared.choices.StartChoices.{StartChoices}
 use Rattle.ups_turn.specs.Pass.{PassView, passes_from}
 

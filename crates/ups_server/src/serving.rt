@@ -2,7 +2,7 @@
 
 ghost use Rattle.std.specs.Prelude.{◌≡◌, ◌≢◌, ◌≤◌, ◌+◌, ℕ, [], All, false, length, is_some, None, IfErr, IfOk, IfSome};
 ghost use Rattle.clap.specs.Matches.{found_of};
-ghost use Rattle.ups_settings.specs.Limits.{workers_limit};
+ghost use Rattle.ups_peers.specs.Limits.{workers_limit};
 ghost use Rattle.ups_settings.specs.Refusal.{refusal};
 ghost use Rattle.ups_life.specs.Limits.{history_limit, peer_limit};
 ghost use Rattle.ups_manager.specs.View.{shared_state};
@@ -29,7 +29,7 @@ use ups_ledger::{Commits, Keeper, Keeping, Ledger};
 use ups_life::MAX_HISTORY;
 use ups_manager::Manager;
 use ups_net::{Door, Network, Premises, ServerOptions, run};
-use ups_settings::MAX_WORKERS;
+use ups_peers::MAX_WORKERS;
 use ups_turn::{Desk, Pass};
 
 /// What a server leaves: whether its threads began, its desk, its passes, and its ledger.

@@ -3,7 +3,7 @@
 use log::{Log, info};
 use std::str;
 use ups_args::{ServeArguments, VERSION};
-use ups_settings::ServerLimits;
+use ups_peers::ServerLimits;
 use ups_terms::StartChoices;
 
 /// Logs the version, the settings of a server, and the address of each watcher; other peers are only counted.

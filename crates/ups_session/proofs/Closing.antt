@@ -6,9 +6,8 @@ use Rattle.ups_ulstate.specs.declared.state.UlEvent.TheVariants.{TransportClosed
 use Rattle.ups_ulstate.specs.Table.{next_of}
 use Rattle.ups_assoc.specs.declared.negotiating.Config.{Config}
 use Rattle.ups_life.specs.declared.request.Reply.{Reply}
-use Rattle.ups_pdu.specs.declared.pdu.Pdu.{Pdu}
 use Rattle.ups_session.specs.Association.{AssociationView}
-use Rattle.ups_session.specs.Fold.{Asked, Reaction, Side, Settles, IsOpen}
+use Rattle.ups_session.specs.Fold.{Visit, Reaction, Side, Settles, IsOpen}
 use Rattle.ups_session.specs.Party.{IsOver}
 use Rattle.ups_session.specs.Acceptor.{acceptor}
 use Rattle.ups_session.specs.Sides.{ReactionOf, unexpected, on_event}
@@ -46,21 +45,21 @@ asks_nothing requestor association Sta12 = refl
 asks_nothing requestor association Sta13 = refl
 
 -- a reaction that asks nothing comes to what it leaves
-settled : {A L W : Type 0} (side : Side A L W) (reaction : Reaction A L W) (replies : List (Reply A)) (said : List (Pdu A)) (asks : List (Asked A)) (after : L) → reaction.waiting ≡ None → Settles side reaction replies said asks after → after ≡ reaction.association
-settled side reaction [] said asks after silent (none, says, quiet, is) = is
-settled side reaction (reply ∷ replies) said asks after silent (waiting, next, more, others, asks_for, hears, on, says, then) = absurd (clash (sym asks_for ∙ silent))
+settled : {A L W : Type 0} (side : Side A L W) (reaction : Reaction A L W) (replies : List (Reply A)) (visits : List (Visit A)) (after : L) → reaction.waiting ≡ None → Settles side reaction replies visits after → after ≡ reaction.association
+settled side reaction [] visits after silent (none, says, is) = is
+settled side reaction (reply ∷ replies) visits after silent (waiting, moment, next, more, asks_for, hears, on, says) = absurd (clash (sym asks_for ∙ silent))
   where
     clash : Some waiting ≡ None → ⊥
     clash e = cc
 
 pub acceptor_over : {A : Type 0} (config : Config) → IsOver (acceptor {A = A} config)
-acceptor_over {A} config association after exchange (reaction, reacts, settles) open_ =
+acceptor_over {A} config association after visits (reaction, replies, reacts, settles) open_ =
     let silent = ap (λ (t : ReactionOf A). t.waiting) reacts ∙ asks_nothing false association association.state in
-    let same = settled (acceptor config) reaction exchange.replies exchange.said exchange.asks after silent settles ∙ ap (λ (t : ReactionOf A). t.association) reacts in
+    let same = settled (acceptor config) reaction replies visits after silent settles ∙ ap (λ (t : ReactionOf A). t.association) reacts in
     closing false association association.state refl (subst (λ (l : AssociationView A). IsOpen l.state) same open_)
 
 pub requestor_over : {A : Type 0} (config : Config) (ae : List ℕ) → IsOver (requestor {A = A} config ae)
-requestor_over {A} config ae d after exchange (reaction, reacts, settles) open_ =
+requestor_over {A} config ae d after visits (reaction, replies, reacts, settles) open_ =
     let silent : reaction.waiting ≡ None = ap (λ (t : DeliveryReaction A). t.waiting) reacts in
-    let same = settled (requestor config ae) reaction exchange.replies exchange.said exchange.asks after silent settles ∙ ap (λ (t : DeliveryReaction A). t.association) reacts in
+    let same = settled (requestor config ae) reaction replies visits after silent settles ∙ ap (λ (t : DeliveryReaction A). t.association) reacts in
     closing true d.association d.association.state refl (subst (λ (l : DeliveryView A). IsOpen l.association.state) same open_)

@@ -8,8 +8,7 @@ use Rattle.ups_session.specs.declared.fault.End.{End}
 use Rattle.ups_session.specs.Fold.{Side, Arrival, pdu, bad, closed, brings, Chain, Happens, Processes, IsOpen}
 use Rattle.ups_session.specs.World.{World, Performed}
 use Rattle.ups_session.specs.Session.{Spells, SpellsAll, AtEnd, NoEnd, cut, failed, lost, within, GoesOn, okay, failing, Progress, IsSession}
-use Rattle.ups_session.specs.Wire.{pdu_bytes}
-use Rattle.ups_session.specs.Visits.{FallsShort, pdus_of}
+use Rattle.ups_session.specs.Visits.{FallsShort}
 use Rattle.ups_session.specs.Turn.{IsTurn}
 use Rattle.ups_session.proofs.Chains.{chain_one}
 use Rattle.ups_session.specs.declared.pdu_io.PduRead.{PduRead}
@@ -38,20 +37,15 @@ no_end_on (bad f ∷ arrivals) a none_yet h = no_end_on arrivals a none_yet h
 pub taken_whole : {A L W : Type 0} (side : Side A L W) (a : Arrival A) (association after : L) (u v : World A) → IsOpen (side.state association) → Performed (Happens side) (brings a) association after u v okay → Performed (Processes side) (a ∷ []) association after u v okay
 taken_whole {A} {L} side a association after u v open_ g =
     let some = g.did.1 in
-    let ran : Chain (Happens side) (brings a) association g.exchange g.end = subst (λ hs. Chain (Happens side) hs association g.exchange g.end) some g.ran in
+    let ran : Chain (Happens side) (brings a) association g.due g.end = subst (λ hs. Chain (Happens side) hs association g.due g.end) some g.ran in
     record {
       some = a ∷ [];
-      exchange = g.exchange;
+      due = g.due;
       end = g.end;
       visits = g.visits;
       sent = g.sent;
-      ran = chain_one (Processes side) a association g.end g.exchange (open_, ran);
-      settings = g.settings;
-      others = g.others;
-      caller = g.caller;
-      writes = g.writes;
-      tells = g.tells;
-      calls = g.calls;
+      ran = chain_one (Processes side) a association g.end g.due (open_, ran);
+      changes = g.changes;
       did = (g.did.0, refl);
       sends = g.sends;
     }
@@ -107,12 +101,12 @@ session_unbegun side ending start last turns now u v Write g = inl (last, refl, 
 session_unbegun side ending start last turns now u v Memory g = inl (last, refl, g)
 session_unbegun side ending start last turns now u v Read g = absurd (no_read g.sends.1)
   where
-    no_read : FallsShort Read v.output.failed (pdu_bytes (pdus_of g.visits)) g.sent → ⊥
+    no_read : FallsShort Read v.output.failed g.visits g.sent → ⊥
     no_read (inl (e, really, part)) = cc
     no_read (inr (e, part)) = cc
 session_unbegun side ending start last turns now u v Turns g = absurd (no_turns g.sends.1)
   where
-    no_turns : FallsShort Turns v.output.failed (pdu_bytes (pdus_of g.visits)) g.sent → ⊥
+    no_turns : FallsShort Turns v.output.failed g.visits g.sent → ⊥
     no_turns (inl (e, really, part)) = cc
     no_turns (inr (e, part)) = cc
 
@@ -140,12 +134,12 @@ turned_part side association after now input a u v Write s end g = (within a, af
 turned_part side association after now input a u v Memory s end g = (within a, after, (s, end), inr refl, g)
 turned_part side association after now input a u v Read s end g = absurd (no_read g.sends.1)
   where
-    no_read : FallsShort Read v.output.failed (pdu_bytes (pdus_of g.visits)) g.sent → ⊥
+    no_read : FallsShort Read v.output.failed g.visits g.sent → ⊥
     no_read (inl (e, really, part)) = cc
     no_read (inr (e, part)) = cc
 turned_part side association after now input a u v Turns s end g = absurd (no_turns g.sends.1)
   where
-    no_turns : FallsShort Turns v.output.failed (pdu_bytes (pdus_of g.visits)) g.sent → ⊥
+    no_turns : FallsShort Turns v.output.failed g.visits g.sent → ⊥
     no_turns (inl (e, really, part)) = cc
     no_turns (inr (e, part)) = cc
 

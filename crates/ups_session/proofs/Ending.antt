@@ -11,6 +11,6 @@ pub no_end_here : {A L W : Type 0} (side : Side A L W) → IsOver side → (a : 
 no_end_here side over (pdu p) association after u v g open_ = tt
 no_end_here side over (bad f) association after u v g open_ = tt
 no_end_here {A} {L} side over closed association after u v g open_ =
-    let ran : Chain (Happens side) (event TransportClosed ∷ []) association g.exchange g.end = subst (λ (hs : List (Indication A)). Chain (Happens side) hs association g.exchange g.end) g.did.1 g.ran in
+    let ran : Chain (Happens side) (event TransportClosed ∷ []) association g.due g.end = subst (λ (hs : List (Indication A)). Chain (Happens side) hs association g.due g.end) g.did.1 g.ran in
     let (mid, first, then, step, (silent, same), is) = ran in
     over association mid first step (subst (λ (l : L). IsOpen (side.state l)) (sym g.did.0 ∙ same) open_)

@@ -1,22 +1,22 @@
 -- How a reaction is settled, and what an indication comes to then.
-use Rattle.std.proofs.Common.{◌≡◌, ℕ, List, [], ◌∷◌, refl, sym, ◌∙◌, append-nil, subst, Some, None, Result, Ok, Err, OnOk}
+use Rattle.std.proofs.Common.{◌≡◌, ℕ, List, [], ◌∷◌, map, refl, sym, ◌∙◌, append-nil, subst, Some, None, Result, Ok, Err, OnOk}
 use Rattle.ups_pdu.specs.declared.pdu.Pdu.{Pdu}
 use Rattle.ups_life.specs.Settings.{Settings}
 use Rattle.ups_life.specs.declared.request.Reply.{Reply}
 use Rattle.ups_service.specs.Law.{Others, Seen, Serves}
 use Rattle.ups_session.specs.declared.fault.SessionFault.{SessionFault}
 use Rattle.ups_session.specs.declared.gate.GateCall.TheVariants.{Moment}
-use Rattle.ups_session.specs.Fold.{Asked, Indication, Exchange, Reaction, Side, Happens}
+use Rattle.ups_session.specs.Fold.{Asked, Indication, Visit, replied, wrote, Reaction, Side, Happens}
 use Rattle.ups_session.specs.declared.effect.Effect.{Effect}
 use Rattle.ups_session.specs.Party.{said_by, awaited_by, reaction_with}
 use Rattle.ups_session.specs.Settled.{IsSettled}
 use Rattle.ups_session.specs.Tells.{Told, Tells}
-use Rattle.ups_session.specs.Visits.{timed, calls_of, moments_of, SendsPdus}
+use Rattle.ups_session.specs.Visits.{calls_of, asks_of, moments_of, replies_of, SendsPdus}
 use Rattle.ups_session.specs.WatchedIo.{Output}
-use Rattle.ups_session.specs.World.{World, world, ServesAll, IsDone, Performed}
+use Rattle.ups_session.specs.World.{World, world, ServesAll, Changes, IsDone, Performed}
 use Rattle.ups_session.proofs.Chains.{chain_one}
 use Rattle.ups_session.specs.declared.fault.SessionFault.TheVariants.{Memory}
-use Rattle.ups_session.proofs.Spoken.{stopping, says_lost}
+use Rattle.ups_session.proofs.Spoken.{stopping, says_lost, sends_replied}
 use Rattle.ups_session.proofs.Telling.{Tells-trans}
 
 -- the service stands for the same as before
@@ -26,23 +26,26 @@ ServesAll-at {A} s t o p k l seen after asks moments replies same shared one is 
     subst (λ (x : Settings). ServesAll x o k seen asks moments replies after) same
     (subst (λ (x : Others). ServesAll t x k seen asks moments replies after) shared (subst (λ (x : ℕ). ServesAll t p x seen asks moments replies after) one is))
 
+-- visits without a moment are without a reply
+served_none : {A : Type 0} (s : Settings) (o : Others) (k : ℕ) (seen : Seen A) (visits : List (Visit A)) → moments_of visits ≡ [] → ServesAll s o k seen (asks_of visits) (moments_of visits) (replies_of visits) seen
+served_none s o k seen [] none = refl
+served_none s o k seen (wrote pdu ∷ visits) none = served_none s o k seen visits none
+served_none s o k seen (replied asked moment reply ∷ visits) none = absurd (clash none)
+  where
+    clash : {l : List ℕ} → moment ∷ l ≡ [] → ⊥
+    clash e = cc
+
 -- nothing is asked, and what is due is said, or a beginning of it
 pub settled_said : {A L W Y : Type 0} (side : Side A L W) (reaction : Reaction A L W) (after : L) (c0 c1 : Output) (m0 m1 : Told) (s : Settings) (o : Others) (k : ℕ) (seen : Seen A) (r : Result Y SessionFault)
     → reaction.waiting ≡ None → OnOk r (reaction.association ≡ after) → SendsPdus reaction.send c0 c1 m0 m1 r → IsSettled side reaction after (world c0 m0 s o k seen) (world c1 m1 s o k seen) r
-settled_said {A} side reaction after c0 c1 m0 m1 s o k seen r silent done is = record {
+settled_said side reaction after c0 c1 m0 m1 s o k seen r silent done is = record {
   replies = [];
-  said = reaction.send;
-  asks = [];
+  due = map wrote reaction.send;
   end = reaction.association;
   visits = is.visits;
   sent = is.sent;
-  settles = (silent, refl, refl, refl);
-  settings = refl;
-  others = refl;
-  caller = refl;
-  writes = is.writes;
-  tells = is.tells;
-  calls = subst (λ (l : List ℕ). ServesAll {A = A} s o k seen [] l [] seen) (sym is.timeless) refl;
+  settles = (silent, refl, refl);
+  changes = record { settings = refl; others = refl; caller = refl; writes = is.writes; tells = is.tells; calls = served_none s o k seen is.visits is.timeless };
   did = done;
   sends = is.sends;
 }
@@ -61,26 +64,27 @@ pub settled_asked : {A L W Y : Type 0} (side : Side A L W) (association after : 
     → Tells m0 m1 (Moment m ∷ []) → s1 ≡ s → o1 ≡ o → k1 ≡ k → Serves s o k seen (side.asked waiting).ae m (side.asked waiting).ask q seen1
     → side.OnReply association waiting q next → IsSettled side next after (world c0 m1 s1 o1 k1 seen1) w r
     → IsSettled side (record { association = association; send = []; waiting = Some waiting }) after (world c0 m0 s o k seen) w r
-settled_asked {A} side association after waiting m q next c0 m0 m1 s s1 o o1 k k1 seen seen1 w r told same shared one serves replied is = record {
+settled_asked {A} side association after waiting m q next c0 m0 m1 s s1 o o1 k k1 seen seen1 w r told same shared one serves hears is = record {
   replies = q ∷ is.replies;
-  said = is.said;
-  asks = side.asked waiting ∷ is.asks;
+  due = replied (side.asked waiting) m q ∷ is.due;
   end = is.end;
-  visits = timed m ∷ is.visits;
+  visits = replied (side.asked waiting) m q ∷ is.visits;
   sent = is.sent;
-  settles = (waiting, next, is.said, is.asks, refl, replied, is.settles, refl, refl);
-  settings = is.settings ∙ same;
-  others = is.others ∙ shared;
-  caller = is.caller ∙ one;
-  writes = is.writes;
-  tells = Tells-trans m0 m1 w.told (Moment m ∷ []) (calls_of is.visits) told is.tells;
-  calls = (
-    seen1,
-    serves,
-    ServesAll-at s s1 o o1 k k1 seen1 w.seen is.asks (moments_of is.visits) is.replies same shared one is.calls,
-  );
+  settles = (waiting, m, next, is.due, refl, hears, is.settles, refl);
+  changes = record {
+    settings = is.changes.settings ∙ same;
+    others = is.changes.others ∙ shared;
+    caller = is.changes.caller ∙ one;
+    writes = is.changes.writes;
+    tells = Tells-trans m0 m1 w.told (Moment m ∷ []) (calls_of is.visits) told is.changes.tells;
+    calls = (
+      seen1,
+      serves,
+      ServesAll-at s s1 o o1 k k1 seen1 w.seen (asks_of is.visits) (moments_of is.visits) (replies_of is.visits) same shared one is.changes.calls,
+    );
+  };
   did = is.did;
-  sends = is.sends;
+  sends = sends_replied (side.asked waiting) m q is.due is.visits is.sent w.output.failed r is.sends;
 }
 
 did_one : {A L Y : Type 0} (end after : L) (h : Indication A) (r : Result Y SessionFault) → OnOk r (end ≡ after) → IsDone end after (h ∷ []) (h ∷ []) r
@@ -90,24 +94,17 @@ did_one end after h (Err e) t = ([], append-nil (h ∷ []))
 -- an indication, whose reaction is settled
 pub performed_settled : {A L W Y : Type 0} (side : Side A L W) (from after : L) (h : Indication A) (reaction : Reaction A L W) (u v : World A) (r : Result Y SessionFault)
     → side.Reacts from h reaction → IsSettled side reaction after u v r → Performed (Happens side) (h ∷ []) from after u v r
-performed_settled {A} side from after h reaction u v r reacts is =
-    let exchange : Exchange A = record { said = is.said; asks = is.asks; replies = is.replies } in
-    record {
-      some = h ∷ [];
-      exchange = exchange;
-      end = is.end;
-      visits = is.visits;
-      sent = is.sent;
-      ran = chain_one (Happens side) h from is.end exchange (reaction, reacts, is.settles);
-      settings = is.settings;
-      others = is.others;
-      caller = is.caller;
-      writes = is.writes;
-      tells = is.tells;
-      calls = is.calls;
-      did = did_one is.end after h r is.did;
-      sends = is.sends;
-    }
+performed_settled side from after h reaction u v r reacts is = record {
+  some = h ∷ [];
+  due = is.due;
+  end = is.end;
+  visits = is.visits;
+  sent = is.sent;
+  ran = chain_one (Happens side) h from is.end is.due (reaction, is.replies, reacts, is.settles);
+  changes = is.changes;
+  did = did_one is.end after h r is.did;
+  sends = is.sends;
+}
 
 -- an effect that only says something
 pub settled_effect : {A L W C Y : Type 0} (side : Side A L W) (waits : C → W) (after : L) (effect : Effect A C) (said : List (Pdu A)) (c0 c1 : Output) (m0 m1 : Told) (s : Settings) (o : Others) (k : ℕ) (seen : Seen A) (r : Result Y SessionFault)

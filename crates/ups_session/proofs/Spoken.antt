@@ -1,22 +1,24 @@
 -- What is said, PDU by PDU.
-use Rattle.std.proofs.Common.{◌≡◌, ℕ, Bool, ◌+◌, ◌<◌, List, [], ◌∷◌, ◌++◌, length, take, drop, get_or, add-one, refl, sym, ap, subst, inl, inr, ◌∙◌, Result, Ok, Err, append_assoc, append-nil}
+use Rattle.std.proofs.Common.{◌≡◌, ℕ, Bool, map, ◌+◌, ◌<◌, List, [], ◌∷◌, ◌++◌, length, take, drop, get_or, add-one, refl, sym, ap, subst, inl, inr, ◌∙◌, Result, Ok, Err, append_assoc, append-nil}
 use Rattle.std.specs.List.{flat_map}
 use Rattle.std.specs.Io.KnownBytes.{Appends}
 use Rattle.std.proofs.KnownBytes.{Appends-nil, Appends-trans}
-use Rattle.std.proofs.lemmas.List.{take-append-drop}
+use Rattle.std.proofs.lemmas.List.{take-append-drop, map-append}
 use Rattle.std.proofs.lemmas.Grind.{flat_map-append}
 use Rattle.std.proofs.Math.Seq.{take-suc}
+use Rattle.ups_life.specs.declared.request.Reply.{Reply}
 use Rattle.ups_pdu.specs.declared.pdu.Pdu.{Pdu}
 use Rattle.ups_pdu.specs.Written as pdus
 use Rattle.ups_session.specs.declared.fault.SessionFault.{SessionFault}
 use Rattle.ups_session.specs.declared.fault.SessionFault.TheVariants.{Memory}
 use Rattle.ups_session.specs.declared.gate.GateCall.{GateCall}
 use Rattle.ups_session.specs.declared.gate.GateCall.TheVariants.{Before, After}
+use Rattle.ups_session.specs.Fold.{Asked, Visit, replied, wrote}
 use Rattle.ups_session.specs.Session.{okay}
 use Rattle.ups_session.specs.Tells.{Told, Tells}
 use Rattle.ups_session.specs.WatchedIo.{Output}
 use Rattle.ups_session.specs.Wire.{IsPrefix, Sent, pdu_bytes}
-use Rattle.ups_session.specs.Visits.{Visit, wrote, calls_for, visit_moment, pdu_of, calls_of, moments_of, pdus_of, FallsShort, Sends, SendsPdus}
+use Rattle.ups_session.specs.Visits.{calls_for, visit_ask, visit_moment, visit_reply, pdu_of, calls_of, asks_of, moments_of, replies_of, pdus_of, FallsShort, LeavesUnsent, Sends, SendsPdus}
 use Rattle.ups_session.proofs.Telling.{Tells-nil, Tells-trans}
 
 pub prefix_after : {X : Type 0} (front part all : List X) → IsPrefix part all → IsPrefix (front ++ part) (front ++ all)
@@ -31,8 +33,14 @@ prefix_trans xs ys zs (p, e) (q, f) = (p ++ q, sym (append_assoc xs p q) ∙ ap 
 pub calls-append : {A : Type 0} (front rest : List (Visit A)) → calls_of (front ++ rest) ≡ calls_of front ++ calls_of rest
 calls-append front rest = flat_map-append calls_for front rest
 
+pub asks-append : {A : Type 0} (front rest : List (Visit A)) → asks_of (front ++ rest) ≡ asks_of front ++ asks_of rest
+asks-append front rest = flat_map-append visit_ask front rest
+
 pub moments-append : {A : Type 0} (front rest : List (Visit A)) → moments_of (front ++ rest) ≡ moments_of front ++ moments_of rest
 moments-append front rest = flat_map-append visit_moment front rest
+
+pub replies-append : {A : Type 0} (front rest : List (Visit A)) → replies_of (front ++ rest) ≡ replies_of front ++ replies_of rest
+replies-append front rest = flat_map-append visit_reply front rest
 
 pub pdus-append : {A : Type 0} (front rest : List (Visit A)) → pdus_of (front ++ rest) ≡ pdus_of front ++ pdus_of rest
 pdus-append front rest = flat_map-append pdu_of front rest
@@ -40,10 +48,31 @@ pdus-append front rest = flat_map-append pdu_of front rest
 pdu_bytes-append : {A : Type 0} (front rest : List (Pdu A)) → pdu_bytes (front ++ rest) ≡ pdu_bytes front ++ pdu_bytes rest
 pdu_bytes-append front rest = flat_map-append pdus.written_pdu front rest
 
--- behind bytes that were sent
-short_after : (front bytes sent : List ℕ) (fault : SessionFault) (failed : Bool) → FallsShort fault failed bytes sent → FallsShort fault failed (front ++ bytes) (front ++ sent)
-short_after front bytes sent fault failed (inl (why, really, (rest, some, is))) = inl (why, really, (rest, some, append_assoc front sent rest ∙ ap (λ l. front ++ l) is))
-short_after front bytes sent fault failed (inr (why, is)) = inr (why, ap (λ l. front ++ l) is)
+pub bytes-append : {A : Type 0} (front rest : List (Visit A)) → pdu_bytes (pdus_of (front ++ rest)) ≡ pdu_bytes (pdus_of front) ++ pdu_bytes (pdus_of rest)
+bytes-append front rest = ap pdu_bytes (pdus-append front rest) ∙ pdu_bytes-append (pdus_of front) (pdus_of rest)
+
+-- behind PDUs that were sent
+short_after : {A : Type 0} (front visits : List (Visit A)) (all sent : List ℕ) (fault : SessionFault) (failed : Bool) → all ≡ pdu_bytes (pdus_of front)
+    → FallsShort fault failed visits sent → FallsShort fault failed (front ++ visits) (all ++ sent)
+short_after {A} front visits all sent fault failed is_whole (inl (why, really, cut)) =
+    let some : pdu_bytes (pdus_of (front ++ cut.front)) ≡ all ++ pdu_bytes (pdus_of cut.front) = bytes-append front cut.front ∙ ap (λ (l : List ℕ). l ++ pdu_bytes (pdus_of cut.front)) (sym is_whole) in
+    inl (
+      why,
+      really,
+      record {
+        front = front ++ cut.front;
+        pdu = cut.pdu;
+        part = cut.part;
+        last = ap (λ (l : List (Visit A)). front ++ l) cut.last ∙ sym (append_assoc front cut.front (wrote cut.pdu ∷ []));
+        cut = cut.cut;
+        bytes = ap (λ (l : List ℕ). all ++ l) cut.bytes ∙ sym (append_assoc all (pdu_bytes (pdus_of cut.front)) cut.part) ∙ ap (λ (l : List ℕ). l ++ cut.part) (sym some);
+      },
+    )
+short_after front visits all sent fault failed is_whole (inr (why, is)) =
+    inr (why, ap (λ (l : List ℕ). all ++ l) is ∙ ap (λ (l : List ℕ). l ++ pdu_bytes (pdus_of visits)) is_whole ∙ sym (bytes-append front visits))
+
+unsent_after : {A : Type 0} (front visits due : List (Visit A)) → LeavesUnsent visits due → LeavesUnsent (front ++ visits) (front ++ due)
+unsent_after {A} front visits due (unsent, e) = (unsent, append_assoc front visits (map wrote unsent) ∙ ap (λ (l : List (Visit A)). front ++ l) e)
 
 abbrev pub whole : {Y : Type 0} → Y → Result Y SessionFault
 whole y = Ok y
@@ -51,19 +80,49 @@ whole y = Ok y
 abbrev pub stopping : {Y : Type 0} → SessionFault → Result Y SessionFault
 stopping e = Err e
 
--- all of some PDUs was sent, and then more
-pub sends_on : {A Y Z : Type 0} (said begun more later : List (Pdu A)) (sent then : List ℕ) (before failed : Bool) (y : Y) (r : Result Z SessionFault)
-    → Sends said begun sent before (whole y) → Sends more later then failed r → Sends (said ++ more) (begun ++ later) (sent ++ then) failed r
-sends_on said begun more later sent then before failed y (Ok z) (is, all) (same, rest) =
-    (ap (λ l. l ++ later) is ∙ ap (λ l. said ++ l) same, ap (λ l. l ++ then) all ∙ ap (λ l. pdu_bytes said ++ l) rest ∙ sym (pdu_bytes-append said more))
-sends_on said begun more later sent then before failed y (Err e) (is, all) (first, short) =
-    let some : sent ≡ pdu_bytes begun = all ∙ ap pdu_bytes (sym is) in
-    let behind = short_after (pdu_bytes begun) (pdu_bytes later) then e failed short in
-    (rw is (prefix_after said later more first), rw (some, pdu_bytes-append begun later) behind)
+-- all that was due was done, and then more
+pub sends_on : {A Y Z : Type 0} (due visits more later : List (Visit A)) (sent then : List ℕ) (before failed : Bool) (y : Y) (r : Result Z SessionFault)
+    → Sends due visits sent before (whole y) → Sends more later then failed r → Sends (due ++ more) (visits ++ later) (sent ++ then) failed r
+sends_on {A} due visits more later sent then before failed y (Ok z) (is, all) (same, rest) = (
+  ap (λ (l : List (Visit A)). l ++ later) is ∙ ap (λ (l : List (Visit A)). due ++ l) same,
+  ap (λ (l : List ℕ). l ++ then) all ∙ ap (λ (l : List ℕ). pdu_bytes (pdus_of due) ++ l) rest ∙ sym (bytes-append due more),
+)
+sends_on {A} due visits more later sent then before failed y (Err e) (is, all) (first, short) = (
+  subst (λ (l : List (Visit A)). LeavesUnsent (l ++ later) (due ++ more)) (sym is) (unsent_after due later more first),
+  short_after visits later sent then e failed (all ∙ ap (λ (l : List (Visit A)). pdu_bytes (pdus_of l)) (sym is)) short,
+)
 
--- not all of some PDUs was sent, and so not all of more
-sends_cut : {A : Type 0} (said begun more : List (Pdu A)) (sent : List ℕ) (failed : Bool) (e : SessionFault) → IsPrefix begun said × FallsShort e failed (pdu_bytes begun) sent → IsPrefix begun (said ++ more) × FallsShort e failed (pdu_bytes begun) sent
-sends_cut said begun more sent failed e (first, short) = (prefix_trans begun said (said ++ more) first (prefix_of said more), short)
+-- not all of what was due was done, and so not all of more
+sends_cut : {A : Type 0} (due visits : List (Visit A)) (more : List (Pdu A)) (sent : List ℕ) (failed : Bool) (e : SessionFault)
+    → LeavesUnsent visits due × FallsShort e failed visits sent → LeavesUnsent visits (due ++ map wrote more) × FallsShort e failed visits sent
+sends_cut {A} due visits more sent failed e ((unsent, is), short) = (
+  (
+    unsent ++ more,
+    ap (λ (l : List (Visit A)). visits ++ l) (map-append wrote unsent more) ∙ sym (append_assoc visits (map wrote unsent) (map wrote more)) ∙ ap (λ (l : List (Visit A)). l ++ map wrote more) is,
+  ),
+  short,
+)
+
+-- the service gave a reply, and then this was done
+pub sends_replied : {A Y : Type 0} (asked : Asked A) (moment : ℕ) (reply : Reply A) (due visits : List (Visit A)) (sent : List ℕ) (failed : Bool) (r : Result Y SessionFault)
+    → Sends due visits sent failed r → Sends (replied asked moment reply ∷ due) (replied asked moment reply ∷ visits) sent failed r
+sends_replied {A} asked moment reply due visits sent failed (Ok y) (is, all) = (ap (λ (l : List (Visit A)). replied asked moment reply ∷ l) is, all)
+sends_replied {A} asked moment reply due visits sent failed (Err e) ((unsent, is), inl (why, really, cut)) = (
+  (unsent, ap (λ (l : List (Visit A)). replied asked moment reply ∷ l) is),
+  inl (
+    why,
+    really,
+    record {
+      front = replied asked moment reply ∷ cut.front;
+      pdu = cut.pdu;
+      part = cut.part;
+      last = ap (λ (l : List (Visit A)). replied asked moment reply ∷ l) cut.last;
+      cut = cut.cut;
+      bytes = cut.bytes;
+    },
+  ),
+)
+sends_replied {A} asked moment reply due visits sent failed (Err e) ((unsent, is), inr (why, all)) = ((unsent, ap (λ (l : List (Visit A)). replied asked moment reply ∷ l) is), inr (why, all))
 
 pub says_nothing : {A : Type 0} (o : Output) (t : Told) → SendsPdus {A = A} [] o o t t okay
 says_nothing o t = record { visits = []; sent = []; timeless = refl; writes = Appends-nil o.written; tells = Tells-nil t; sends = (refl, refl) }
@@ -72,9 +131,10 @@ says_nothing o t = record { visits = []; sent = []; timeless = refl; writes = Ap
 pub says_lost : {A Y : Type 0} (said : List (Pdu A)) (o : Output) (t : Told) → SendsPdus said o o t t (stopping {Y = Y} Memory)
 says_lost said o t = record { visits = []; sent = []; timeless = refl; writes = Appends-nil o.written; tells = Tells-nil t; sends = ((said, refl), inr (refl, refl)) }
 
-sends_one : {A Y : Type 0} (pdu : Pdu A) (bytes sent : List ℕ) (failed : Bool) (r : Result Y SessionFault) → bytes ≡ pdus.written_pdu pdu → Sent bytes sent failed r → Sends (pdu ∷ []) (pdu ∷ []) sent failed r
+sends_one : {A Y : Type 0} (pdu : Pdu A) (bytes sent : List ℕ) (failed : Bool) (r : Result Y SessionFault) → bytes ≡ pdus.written_pdu pdu → Sent bytes sent failed r → Sends (wrote pdu ∷ []) (wrote pdu ∷ []) sent failed r
 sends_one pdu bytes sent failed (Ok y) is all = (refl, all ∙ is ∙ sym (append-nil (pdus.written_pdu pdu)))
-sends_one pdu bytes sent failed (Err e) is (why, really, (rest, some, part)) = (([], refl), inl (why, really, (rest, some, part ∙ is ∙ sym (append-nil (pdus.written_pdu pdu)))))
+sends_one pdu bytes sent failed (Err e) is (why, really, (rest, some, part)) =
+    (([], refl), inl (why, really, record { front = []; pdu = pdu; part = sent; last = refl; cut = (rest, some, part ∙ is); bytes = refl }))
 
 -- one PDU was written between two calls
 pub says_one : {A Y : Type 0} (pdu : Pdu A) (o p : Output) (t v : Told) (bytes sent : List ℕ) (r : Result Y SessionFault) → bytes ≡ pdus.written_pdu pdu → Appends o.written p.written sent → Sent bytes sent p.failed r
@@ -96,19 +156,19 @@ says_then {A} said more o p q t u v y r g h = record {
   timeless = moments-append g.visits h.visits ∙ ap (λ l. l ++ moments_of h.visits) g.timeless ∙ h.timeless;
   writes = Appends-trans o.written p.written q.written g.sent h.sent g.writes h.writes;
   tells = subst (λ (l : List GateCall). Tells t v l) (sym (calls-append g.visits h.visits)) (Tells-trans t u v (calls_of g.visits) (calls_of h.visits) g.tells h.tells);
-  sends = subst (λ (l : List (Pdu A)). Sends (said ++ more) l (g.sent ++ h.sent) q.failed r) (sym (pdus-append g.visits h.visits))
-      (sends_on said (pdus_of g.visits) more (pdus_of h.visits) g.sent h.sent p.failed q.failed y r g.sends h.sends);
+  sends = subst (λ (l : List (Visit A)). Sends l (g.visits ++ h.visits) (g.sent ++ h.sent) q.failed r) (sym (map-append wrote said more))
+      (sends_on (map wrote said) g.visits (map wrote more) h.visits g.sent h.sent p.failed q.failed y r g.sends h.sends);
 }
 
 -- not all of some PDUs was said, and so not all of more
 pub says_cut : {A Y Z : Type 0} (said more : List (Pdu A)) (o p : Output) (t u : Told) (e : SessionFault) → SendsPdus said o p t u (stopping {Y = Y} e) → SendsPdus (said ++ more) o p t u (stopping {Y = Z} e)
-says_cut said more o p t u e g = record {
+says_cut {A} said more o p t u e g = record {
   visits = g.visits;
   sent = g.sent;
   timeless = g.timeless;
   writes = g.writes;
   tells = g.tells;
-  sends = sends_cut said (pdus_of g.visits) more g.sent p.failed e g.sends;
+  sends = subst (λ (l : List (Visit A)). LeavesUnsent g.visits l × FallsShort e p.failed g.visits g.sent) (sym (map-append wrote said more)) (sends_cut (map wrote said) g.visits more g.sent p.failed e g.sends);
 }
 
 more : {X : Type 0} (xs : List X) (i : ℕ) (x : X) → i < length xs → x ≡ get_or xs i x → take (i + 1) xs ≡ take i xs ++ x ∷ []

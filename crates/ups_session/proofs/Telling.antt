@@ -2,9 +2,9 @@
 use Rattle.std.proofs.Common.{◌≡◌, ℕ, Bool, true, false, cond, List, [], ◌∷◌, ◌++◌, Result, Ok, Err, Option, None, Some, refl, sym, ap, ◌∙◌, subst, append_assoc, append-nil}
 use Rattle.std.specs.Prelude.{not, is_ok, is_err}
 use Rattle.ups_session.specs.declared.gate.GateCall.{GateCall}
-use Rattle.ups_session.specs.declared.gate.GateCall.TheVariants.{Before}
+use Rattle.ups_session.specs.declared.gate.GateCall.TheVariants.{Before, Moment}
 use Rattle.ups_session.specs.Wire.{IsPrefix}
-use Rattle.ups_session.specs.Tells.{Told, AreAlways, told_calls, Tells, IsAnnounced}
+use Rattle.ups_session.specs.Tells.{Told, AreAlways, told_calls, Tells, IsAnnounced, IsTimed}
 
 always_none : (m : Option ℕ) → AreAlways m []
 always_none None = tt
@@ -56,9 +56,16 @@ Tells-trans a b c xs ys p q = record {
     clash : (b : Bool) → b ≡ false → b ≡ true → ⊥
     clash b e f = cc
 
+last_told : (a b : Told) (call : GateCall) → Tells a b (call ∷ []) → b.all ≡ true → (front : List GateCall) × (b.calls ≡ front ++ call ∷ [])
+last_told a b call t all = let (began, whole) = t.every all in (a.calls, t.stays ∙ ap (λ l. a.calls ++ l) whole)
+
 -- it was told that a PDU is about to be written
 pub announced : (a b : Told) → Tells a b (Before ∷ []) → IsAnnounced b
-announced a b t all = let (began, whole) = t.every all in (a.calls, t.stays ∙ ap (λ l. a.calls ++ l) whole)
+announced a b t = last_told a b Before t
+
+-- it was told which moment was given
+pub timed : (a b : Told) (moment : ℕ) → Tells a b (Moment moment ∷ []) → IsTimed moment b
+timed a b moment t = last_told a b (Moment moment) t
 
 lists_more : (calls : List GateCall) (call : GateCall) → Tells (told_calls calls true) (told_calls (calls ++ call ∷ []) true) (call ∷ [])
 lists_more calls call = record {

@@ -11,7 +11,7 @@ use Rattle.ups_session.specs.declared.indication.UlIndication.{UlIndication}
 use Rattle.ups_session.specs.declared.indication.UlIndication.TheVariants as ul_indications
 use Rattle.ups_session.specs.declared.effect.Effect.{Effect}
 use Rattle.ups_session.specs.declared.effect.Effect.TheVariants.{Send, Respond, Call}
-use Rattle.ups_session.specs.Fold.{Indication, event, request, confirmation, invalid, Exchange, Reaction, Side, Happens, IsOpen}
+use Rattle.ups_session.specs.Fold.{Indication, event, request, confirmation, invalid, Visit, Reaction, Side, Happens, IsOpen}
 
 -- the view of an indication
 abbrev pub indication_of : {A : Type 0} → UlIndication A → Indication A
@@ -54,4 +54,4 @@ CanSend can (Call call) = can call
 
 -- once the transport connection is closed, the side is no longer open
 abbrev pub IsOver : {A L W : Type 0} → Side A L W → Type 0
-IsOver {A} {L} side = (association after : L) (exchange : Exchange A) → Happens side association (event TransportClosed) exchange after → IsOpen (side.state after) → ⊥
+IsOver {A} {L} side = (association after : L) (visits : List (Visit A)) → Happens side association (event TransportClosed) visits after → IsOpen (side.state after) → ⊥

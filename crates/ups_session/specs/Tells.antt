@@ -44,3 +44,7 @@ pub record Tells (before later : Told) (made : List GateCall) : Type 0 where
 -- if the gate records every call, the last one was that a PDU is about to be written
 abbrev pub IsAnnounced : Told → Type 0
 IsAnnounced told = told.all ≡ true → (front : List GateCall) × (told.calls ≡ front ++ Before ∷ [])
+
+-- if the gate records every call, the last one gave this moment
+abbrev pub IsTimed : ℕ → Told → Type 0
+IsTimed moment told = told.all ≡ true → (front : List GateCall) × (told.calls ≡ front ++ Moment moment ∷ [])

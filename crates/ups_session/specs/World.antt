@@ -8,8 +8,8 @@ use Rattle.ups_session.specs.declared.fault.SessionFault.{SessionFault}
 use Rattle.ups_session.specs.Tells.{Told, Tells}
 use Rattle.ups_session.specs.WatchedIo.{Output}
 use Rattle.ups_session.specs.Wire.{IsPrefix}
-use Rattle.ups_session.specs.Visits.{Visit, calls_of, moments_of, pdus_of, Sends}
-use Rattle.ups_session.specs.Fold.{Asked, Exchange, Chain}
+use Rattle.ups_session.specs.Visits.{calls_of, asks_of, moments_of, replies_of, Sends}
+use Rattle.ups_session.specs.Fold.{Asked, Visit, Chain}
 
 -- the state of the writer, the calls that the gate recorded, and the service with what it has seen
 pub record World (A : Type 0) : Type 0 where
@@ -37,25 +37,30 @@ GrantsAll {A} settings others caller seen (asked ∷ asks) (moment ∷ moments) 
     (then : Seen A) × Grants settings others caller seen asked.ae moment asked.ask reply then × GrantsAll settings others caller then asks moments replies after
 GrantsAll settings others caller seen asks moments replies after = ⊥
 
--- all of the list was processed, or a beginning of it
-abbrev pub IsDone : {L X Y : Type 0} → L → L → List X → List X → Result Y SessionFault → Type 0
-IsDone end after some all (Ok y) = (end ≡ after) × (some ≡ all)
-IsDone end after some all (Err fault) = IsPrefix some all
-
--- A side of an association processed these indications or arrivals, one after the other, and this was written, asked
--- and replied. The gate was called for the moment of each ask, and before and after each PDU was written.
-pub record Performed {A L X Y : Type 0} (Step : L → X → Exchange A → L → Type 0) (all : List X) (from after : L) (old new : World A) (result : Result Y SessionFault) : Type 0 where
-  pub some : List X
-  pub exchange : Exchange A
-  pub end : L
-  pub visits : List (Visit A)
-  pub sent : List ℕ
-  pub ran : Chain Step some from exchange end
+-- These were done one after the other: they changed the world from `old` to `new`, and `sent` are the bytes that were
+-- written. The gate was called for the moment of each ask, and before and after each PDU was written.
+pub record Changes {A : Type 0} (visits : List (Visit A)) (sent : List ℕ) (old new : World A) : Type 0 where
   pub settings : new.settings ≡ old.settings
   pub others : new.others ≡ old.others
   pub caller : new.caller ≡ old.caller
   pub writes : Appends old.output.written new.output.written sent
   pub tells : Tells old.told new.told (calls_of visits)
-  pub calls : ServesAll old.settings old.others old.caller old.seen exchange.asks (moments_of visits) exchange.replies new.seen
+  pub calls : ServesAll old.settings old.others old.caller old.seen (asks_of visits) (moments_of visits) (replies_of visits) new.seen
+
+-- all of the list was processed, or a beginning of it
+abbrev pub IsDone : {L X Y : Type 0} → L → L → List X → List X → Result Y SessionFault → Type 0
+IsDone end after some all (Ok y) = (end ≡ after) × (some ≡ all)
+IsDone end after some all (Err fault) = IsPrefix some all
+
+-- A side of an association processed these indications or arrivals, one after the other. `due` is what they lead to, in
+-- order, and `visits` what was done of it.
+pub record Performed {A L X Y : Type 0} (Step : L → X → List (Visit A) → L → Type 0) (all : List X) (from after : L) (old new : World A) (result : Result Y SessionFault) : Type 0 where
+  pub some : List X
+  pub due : List (Visit A)
+  pub end : L
+  pub visits : List (Visit A)
+  pub sent : List ℕ
+  pub ran : Chain Step some from due end
+  pub changes : Changes visits sent old new
   pub did : IsDone end after some all result
-  pub sends : Sends exchange.said (pdus_of visits) sent new.output.failed result
+  pub sends : Sends due visits sent new.output.failed result

@@ -11,6 +11,7 @@ ghost use Rattle.ups_session.specs.Session.{IsSession};
 ghost use Rattle.ups_session.specs.Settled.{IsSettled};
 ghost use Rattle.ups_session.specs.World.{world};
 
+use crate::asking::answer;
 use crate::association::{ACCEPTOR, Association, UNEXPECTED, reason_of};
 use crate::driver::drive;
 use crate::effect::{AwaitedRequest, Effect};
@@ -53,7 +54,7 @@ fn respond<A: Allocator + Copy, W: Write, S: Service<A>, G: Gate>(
 {
     let parts = &mut *waiting.parts;
     let moment = gate.now();
-    let reply = service.answer(parts.ae, moment, &mut parts.ask);
+    let reply = answer(service, gate, parts.ae, moment, &mut parts.ask);
     send_reply(
         writer,
         gate,

@@ -5,6 +5,7 @@
 #![tactic(auto)]
 
 mod acceptor;
+mod asking;
 mod association;
 mod delivery;
 mod devices;

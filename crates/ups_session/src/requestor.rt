@@ -15,6 +15,7 @@ ghost use Rattle.ups_session.specs.Settled.{IsSettled};
 ghost use Rattle.ups_session.specs.World.{world, Performed};
 ghost use Rattle.ups_session.specs.Session.{IsSession};
 
+use crate::asking::call;
 use crate::association::{UNEXPECTED, reason_of};
 use crate::delivery::{Delivery, DeliveryCall};
 use crate::driver::drive;
@@ -70,7 +71,7 @@ fn ask_pendings<A: Allocator + Copy, W: Write, S: Service<A>, G: Gate>(
     let ask = Ask::Pending {
         max: EVENTS_ASKED_FOR,
     };
-    let reply = service.call(ae, moment, ask);
+    let reply = call(service, gate, ae, moment, ask);
     let said = delivery.on_pendings(alloc, reply)?;
     send_pdus(alloc, writer, gate, said.as_slice())
 }
@@ -94,7 +95,8 @@ fn acknowledge<A: Allocator + Copy, W: Write, S: Service<A>, G: Gate>(
     ensures established { delivery.new.association.established ≡ delivery.old.association.established }
 {
     let moment = gate.now();
-    let reply = service.call(ae, moment, Ask::Do(Request::Ack { upto: number }));
+    let acknowledgement = Ask::Do(Request::Ack { upto: number });
+    let reply = call(service, gate, ae, moment, acknowledgement);
     match delivery.on_acknowledged(alloc, &reply)? {
         Effect::Send(said) => send_pdus(alloc, writer, gate, said.as_slice()),
         Effect::Respond(_) => unreachable!(),

@@ -1,4 +1,5 @@
 mod Behind
+mod Digested
 mod First
 mod Leaves
 mod Permitted

@@ -1,7 +1,9 @@
 pub mod Faults
 pub mod Started
 pub mod Noted
+pub mod Front
 pub mod Shelved
 pub mod Anew
 pub mod Alike
 pub mod Reopened
+pub mod Digested

@@ -1,17 +1,25 @@
 -- The requests of a reopened store.
-use Rattle.std.specs.Prelude.{◌≡◌, ℕ, List, [], ◌∷◌, ◌++◌, length, take, Bool, true, false}
+use Rattle.std.specs.Prelude.{◌≡◌, ℕ, List, [], ◌∷◌, ◌++◌, take, Bool, true, false}
 use Rattle.std.specs.declared.alloc.Global.{Global}
 use Rattle.sqlite_trees.specs.declared.store.Store.{Ghosts}
 use Rattle.ups_journal.specs.declared.record.Record.{Record}
 use Rattle.ups_store.specs.declared.reading.Replay.{Replay}
 use Rattle.ups_store.specs.Shown.{all_of, given_out}
+use Rattle.ups_start.specs.declared.front.Front.{Front}
+use Rattle.ups_start.specs.Front.{AreFront}
 use Rattle.ups_start.specs.Started.{said}
 
--- as many requests as were committed, followed by the first `there` of these records
-pub record HasBehind (all : List (Record Global)) (committed : ℕ) (records : List (Record Global)) (there : ℕ) : Type 0 where
+-- as many requests as were committed, with the digest of those, followed by the first `there` of these records
+pub record HasBehind (all : List (Record Global)) (committed : Front) (records : List (Record Global)) (there : ℕ) : Type 0 where
   pub front : List (Record Global)
-  pub many : length front ≡ committed
+  pub same : AreFront front committed
   pub are : all ≡ front ++ take there records
+
+-- as many records as were committed, with the digest of those, followed by these and no others
+pub record AreBehindSame (all : List (Record Global)) (committed : Front) (records : List (Record Global)) : Type 0 where
+  pub front : List (Record Global)
+  pub same : AreFront front committed
+  pub are : all ≡ front ++ records
 
 module _ {S : Type 0} {g : Ghosts S} where
   -- the next request is this record, or all have been given

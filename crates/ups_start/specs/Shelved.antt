@@ -1,5 +1,5 @@
 -- The records that are kept in a store.
-use Rattle.std.specs.Prelude.{◌≡◌, ⊤, List, [], length, IsTrue}
+use Rattle.std.specs.Prelude.{◌≡◌, ⊤, List, [], IsTrue}
 use Rattle.std.specs.declared.alloc.Global.{Global}
 use Rattle.sqlite_trees.specs.Tree.{Trees}
 use Rattle.sqlite_trees.specs.View.{IsClean}
@@ -11,6 +11,7 @@ use Rattle.ups_store.specs.Shown.{requests_shown, requests}
 use Rattle.ups_start.specs.declared.shelf.Held.{Held}
 use Rattle.ups_start.specs.declared.shelf.Held.TheVariants.{Open, Shut, Lost}
 use Rattle.ups_start.specs.declared.shelf.Shelf.{Shelf}
+use Rattle.ups_start.specs.Front.{AreFront}
 use Rattle.ups_start.specs.Started.{said}
 
 module _ {S : Type 0} {g : Ghosts S} where
@@ -58,6 +59,6 @@ module _ {S : Type 0} {g : Ghosts S} where
   abbrev pub IsHonest : Shelf S g → Type 0
   IsHonest shelf = IsHonestStore shelf.held
 
-  -- an open store has as many requests as are committed
+  -- an open store has the front that is committed, and nothing behind it
   abbrev pub IsCounted : Shelf S g → Type 0
-  IsCounted shelf = IsOpenStore shelf.held → length (kept_in shelf) ≡ shelf.committed
+  IsCounted shelf = IsOpenStore shelf.held → AreFront (kept_in shelf) shelf.front

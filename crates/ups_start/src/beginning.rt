@@ -9,6 +9,8 @@ ghost use Rattle.ups_ledger.specs.Keeping.{IsKept, IsSafe};
 ghost use Rattle.ups_restore.specs.declared.acknowledging.TheConstants.{COMPACTOR};
 ghost use Rattle.ups_store.specs.declared.request.StoredRequest.{StoredRequest};
 ghost use Rattle.ups_store.specs.Shown.{requests_shown, requests, shown_by, all_of, given_out, last_terms_of};
+ghost use Rattle.ups_store.specs.Digest.{digest_of};
+ghost use Rattle.ups_start.specs.Digested.{AreDigested};
 ghost use Rattle.ups_start.specs.Started.{said, moment_in, without_compaction, Begins};
 ghost use Rattle.ups_start.specs.Noted.{PermitsNoted};
 
@@ -16,6 +18,7 @@ use crate::compacting::{compacted, emptied};
 use crate::fault::StartFault;
 use crate::ledger::StoreLedger;
 use crate::place::StorePlace;
+use crate::reading::Reading;
 use crate::rewriting::rewritten;
 use crate::taking::take_all;
 use crate::terms::check_terms;
@@ -36,19 +39,24 @@ pub(crate) struct Begun<S: Store> {
     pub(crate) store: RequestStore<S>,
     /// The number of the run.
     pub(crate) run: u64,
+    /// The digest of its requests.
+    pub(crate) digest: u64,
+    ghost digested: { IsClean (requests_shown store) → digest ≡ digest_of (said (requests store)) },
 }
 
 /// Begins a run in a store, all of whose requests were read, and gives it the present format.
 ///
 /// Errors: Write, with Short if requests that an earlier run had committed are lost; Read if not all were read.
 pub(crate) fn begin_run<S: Alter + Drop>(
-    replay: Replay<S>,
+    reading: Reading<S>,
     about: &Run<'_>,
 ) -> Result<Begun<S>, StartFault>
-    ensures clean { IfOk result (λ b. IsClean (requests_shown b.store) → IsClean (shown_by replay)) }
-    ensures same { IfOk result (λ b. IsClean (requests_shown b.store) → requests b.store ≡ all_of replay) }
+    requires digested { AreDigested reading }
+    ensures clean { IfOk result (λ b. IsClean (requests_shown b.store) → IsClean (shown_by reading.replay)) }
+    ensures same { IfOk result (λ b. IsClean (requests_shown b.store) → requests b.store ≡ all_of reading.replay) }
     ensures is_open { IfOk result (λ b. IsClean (requests_shown b.store) → IsTrue (requests_shown b.store).is_open) }
 {
+    let Reading { replay, digest } = reading;
     let Some(mut store) = replay.finish() else {
         return Err(StartFault::Read(StoreFault::Shut));
     };
@@ -56,7 +64,7 @@ pub(crate) fn begin_run<S: Alter + Drop>(
         return Err(StartFault::Write(fault));
     }
     match store.begin_run(about) {
-        Ok(run) => Ok(Begun { store, run }),
+        Ok(run) => Ok(Begun { store, run, digest }),
         Err(fault) => Err(StartFault::Write(fault)),
     }
 }
@@ -171,11 +179,12 @@ fn begin_over<S: Alter + Drop, R: Clock + Log>(
         Ok(()) => {}
         Err(fault) => return Err(Unsettled::Failed(fault)),
     }
-    let counts = match take_all(telling, alloc, &mut replay, manager, choices.may_leave_out) {
+    let mut reading = Reading::over(replay);
+    let counts = match take_all(telling, alloc, &mut reading, manager, choices.may_leave_out) {
         Ok(counts) => counts,
         Err(fault) => return Err(Unsettled::Failed(fault)),
     };
-    let begun = match begin_run(replay, about) {
+    let begun = match begin_run(reading, about) {
         Ok(begun) => begun,
         Err(fault) => return Err(Unsettled::Failed(fault)),
     };

@@ -1,16 +1,18 @@
 //! A ledger in a store.
 
-ghost use Rattle.std.specs.Prelude.{◌≡◌, ◌+◌, ◌≤◌, List, false, length, IfOk, IsTrue, OnOk, OnErr};
+ghost use Rattle.std.specs.Prelude.{◌≡◌, ◌⊎◌, ◌+◌, ◌≤◌, ◌++◌, List, false, length, IfOk, IsTrue, OnOk, OnErr};
 ghost use Rattle.std.specs.Global.{Global};
 ghost use Rattle.sqlite_trees.specs.View.{IsClean};
 ghost use Rattle.ups_store.specs.Shown.{requests_shown, requests};
 ghost use Rattle.ups_journal.specs.declared.record.Record.{Record};
 ghost use Rattle.ups_ledger.specs.Behind.{AreBehind};
 ghost use Rattle.ups_start.specs.Started.{said};
-ghost use Rattle.ups_start.specs.Reopened.{HasBehind};
+ghost use Rattle.ups_start.specs.Front.{front_with};
+ghost use Rattle.ups_start.specs.Reopened.{HasBehind, AreBehindSame};
 ghost use Rattle.ups_start.specs.Shelved.{kept_in, LeavesRecords, Recovers, IsSound, IsHonest, IsCounted};
 
 use crate::beginning::Begun;
+use crate::front::Front;
 use crate::place::StorePlace;
 use crate::reopening::{Reopened, append_rest, fault_of_open, go_through};
 use crate::shelf::{Shelf, tidy};
@@ -20,7 +22,7 @@ use ups_ledger::{Ledger, LedgerFault};
 use ups_store::Run;
 
 /// A ledger in the store at a place. If a failed sync has shut the store, the next append reopens it: it must then have
-/// all the committed requests, followed by nothing but records that the failed append was to add.
+/// as many requests as are committed, with their digest, followed by nothing but records that the failed append was to add.
 #[derive(Drop)]
 pub struct StoreLedger<'a, P: StorePlace> {
     place: P,
@@ -46,14 +48,20 @@ impl<'a, P: StorePlace> StoreLedger<'a, P> {
         ensures sound { IsTrue (requests_shown begun.store).is_open → IsSound result.shelf }
         ensures leaves { (rs : List (Record Global)) → Recovers result.shelf.held rs → LeavesRecords begun.store rs }
         ensures kept { kept_in result.shelf ≡ said (requests begun.store) }
-        ensures committed { result.shelf.committed ≡ committed }
+        ensures committed { result.shelf.front.count ≡ committed }
     {
-        let Begun { store, run } = begun;
+        let Begun { store, run, digest } = begun;
         StoreLedger {
             place,
             about,
             run,
-            shelf: Shelf::first(store, committed),
+            shelf: Shelf::first(
+                store,
+                Front {
+                    count: committed,
+                    digest,
+                },
+            ),
         }
     }
 
@@ -66,19 +74,20 @@ impl<'a, P: StorePlace> StoreLedger<'a, P> {
 
     /// Reopens the store, and returns it with the number of these records that it already has. The ledger is without it.
     ///
-    /// Errors: Shut if it can't be opened now; Lost if it is damaged, or has other requests than were committed.
+    /// Errors: Shut if it can't be opened now; Lost if it is damaged, or its requests have another number or digest than
+    /// those that were committed.
     fn reopen(&mut self, records: &[Record<Global>]) -> Result<Reopened<P::Store>, LedgerFault>
         ensures within { IfOk result (λ r. r.there ≤ length records.now) }
-        ensures behind { IfOk result (λ r. IsClean (requests_shown r.store) → HasBehind (said (requests r.store)) self.old.shelf.committed records.now r.there) }
-        ensures same { self.new.shelf.committed ≡ self.old.shelf.committed }
+        ensures behind { IfOk result (λ r. IsClean (requests_shown r.store) → HasBehind (said (requests r.store)) self.old.shelf.front records.now r.there) }
+        ensures same { self.new.shelf.front ≡ self.old.shelf.front }
         ensures doubtful { self.new.shelf.is_first ≡ false }
     {
-        let committed = self.shelf.let_go()?;
+        let front = self.shelf.let_go()?;
         let replay = match self.place.open() {
             Ok(replay) => replay,
             Err(fault) => return Err(self.missed(fault_of_open(fault))),
         };
-        match go_through(replay, committed, records) {
+        match go_through(replay, front, records) {
             Ok(reopened) => Ok(reopened),
             Err(fault) => Err(self.missed(fault)),
         }
@@ -86,7 +95,7 @@ impl<'a, P: StorePlace> StoreLedger<'a, P> {
 
     /// Notes why reopening failed, and returns the fault.
     fn missed(&mut self, fault: LedgerFault) -> LedgerFault
-        ensures same { self.new.shelf.committed ≡ self.old.shelf.committed }
+        ensures same { self.new.shelf.front ≡ self.old.shelf.front }
         ensures doubtful { self.old.shelf.is_first ≡ false → self.new.shelf.is_first ≡ false }
     {
         if fault == LedgerFault::Lost {
@@ -97,18 +106,18 @@ impl<'a, P: StorePlace> StoreLedger<'a, P> {
 
     /// Reopens the store, and appends the records that it does not have yet. If that fails it has to be reopened again.
     fn append_anew(&mut self, records: &[Record<Global>]) -> Result<(), LedgerFault>
-        ensures behind { OnOk result (IsHonest self.new.shelf → AreBehind (kept_in self.new.shelf) self.old.shelf.committed records.now) }
-        ensures more { OnOk result (self.new.shelf.committed ≡ self.old.shelf.committed + length records.now) }
-        ensures no_more { OnErr result (self.new.shelf.committed ≡ self.old.shelf.committed) }
+        ensures behind { OnOk result (IsHonest self.new.shelf → AreBehindSame (kept_in self.new.shelf) self.old.shelf.front records.now) }
+        ensures more { OnOk result (self.new.shelf.front ≡ front_with self.old.shelf.front records.now) }
+        ensures no_more { OnErr result (self.new.shelf.front ≡ self.old.shelf.front) }
         ensures doubtful { self.new.shelf.is_first ≡ false }
     {
         let reopened = self.reopen(records)?;
-        let Some(committed) = self.shelf.count_with(records.len()) else {
+        let Some(front) = self.shelf.front_with(records) else {
             return Err(LedgerFault::Full);
         };
         match append_rest(reopened, self.run, records) {
             Ok(store) => {
-                self.shelf.take_up(store, committed);
+                self.shelf.take_up(store, front);
                 Ok(())
             }
             Err(fault) => Err(fault),
@@ -119,7 +128,7 @@ impl<'a, P: StorePlace> StoreLedger<'a, P> {
 impl<P: StorePlace> Ledger for StoreLedger<'_, P> {
     ghost kept = { λ l. kept_in l.shelf };
 
-    ghost told = { λ l. l.shelf.committed };
+    ghost told = { λ l. l.shelf.front.count };
 
     ghost is_sound = { λ l. IsSound l.shelf };
 
@@ -133,7 +142,21 @@ impl<P: StorePlace> Ledger for StoreLedger<'_, P> {
         StoreLedger::run(self)
     }
 
-    fn append(&mut self, records: &[Record<Global>]) -> Result<(), LedgerFault> {
+    #[tactic(auto, using(crate::proofs::Digested::are_behind))]
+    fn append(&mut self, records: &[Record<Global>]) -> Result<(), LedgerFault>
+        ensures put { OnOk result (IsSound self.new.shelf → kept_in self.new.shelf ≡ kept_in self.old.shelf ++ records.now) }
+        ensures same { OnErr result (IsSound self.new.shelf → kept_in self.new.shelf ≡ kept_in self.old.shelf) }
+        ensures sound { IsSound self.new.shelf → IsSound self.old.shelf }
+        ensures behind { OnOk result (IsHonest self.new.shelf → AreBehind (kept_in self.new.shelf) self.old.shelf.front.count records.now) }
+        ensures compared { OnOk result (IsHonest self.new.shelf → AreBehindSame (kept_in self.new.shelf) self.old.shelf.front records.now) }
+        ensures first { IsTrue self.new.shelf.is_first → IsTrue self.old.shelf.is_first }
+        ensures crash { IsTrue self.new.shelf.is_first → (rs : List (Record Global)) → Recovers self.new.shelf.held rs → Recovers self.old.shelf.held rs ⊎ (IsSound self.old.shelf × (rs ≡ kept_in self.old.shelf ++ records.now)) }
+        ensures left { OnOk result (IsTrue self.new.shelf.is_first → (rs : List (Record Global)) → Recovers self.new.shelf.held rs → IsSound self.new.shelf × (rs ≡ kept_in self.new.shelf)) }
+        ensures more { OnOk result (self.new.shelf.front.count ≡ self.old.shelf.front.count + length records.now) }
+        ensures no_more { OnErr result (self.new.shelf.front.count ≡ self.old.shelf.front.count) }
+        ensures digest { OnOk result (self.new.shelf.front ≡ front_with self.old.shelf.front records.now) }
+        ensures no_digest { OnErr result (self.new.shelf.front ≡ self.old.shelf.front) }
+    {
         match self.shelf.append(self.run, records) {
             Err(LedgerFault::Shut) => self.append_anew(records),
             answer => answer,

@@ -3,6 +3,7 @@
 ghost use Rattle.std.specs.Prelude.{◌≡◌, [], true, length, map, IfOk, IsTrue};
 ghost use Rattle.sqlite_trees.specs.View.{IsClean};
 ghost use Rattle.ups_journal.specs.Columns.{recorded};
+ghost use Rattle.ups_store.specs.Digest.{digest_of};
 ghost use Rattle.ups_store.specs.Shown.{requests_shown, requests};
 ghost use Rattle.ups_start.specs.Started.{said};
 ghost use Rattle.ups_store.specs.Rewriting.{seen, written_anew};
@@ -15,7 +16,7 @@ use ups_journal::Record;
 use ups_ledger::{Ledger, LedgerFault};
 use ups_manager::Manager;
 use ups_restore::put_history;
-use ups_store::{Rewrite, Run, StoreFault};
+use ups_store::{Rewrite, Run, StoreFault, digest_after};
 
 /// A rewrite of the requests of a store, as a ledger that begins empty. Nothing is committed before everything is put.
 #[derive(Drop)]
@@ -25,9 +26,12 @@ pub struct Anew<S: Store> {
     run: u64,
     /// The number of records that were put.
     count: u64,
+    /// Their digest.
+    digest: u64,
     /// Whether no call has failed.
     is_whole: bool,
     ghost counted: { is_whole ≡ true → IsClean (seen rewrite) → length (said (written_anew rewrite)) ≡ count },
+    ghost digested: { is_whole ≡ true → IsClean (seen rewrite) → digest ≡ digest_of (said (written_anew rewrite)) },
 }
 
 impl<S: Store + Drop> Anew<S> {
@@ -40,13 +44,18 @@ impl<S: Store + Drop> Anew<S> {
         ensures empty { IfOk result (λ anew. IsPutting anew → put_so_far anew ≡ []) }
         ensures clean { IfOk result (λ anew. IsPutting anew → IsClean (requests_shown begun.store)) }
     {
-        let Begun { store, run } = begun;
+        let Begun {
+            store,
+            run,
+            digest: _,
+        } = begun;
         let mut rewrite = store.rewrite();
         match rewrite.begin() {
             Ok(()) => Ok(Anew {
                 rewrite,
                 run,
                 count: 0,
+                digest: 0,
                 is_whole: true,
             }),
             Err(fault) => Err(StartFault::Write(fault)),
@@ -68,13 +77,14 @@ impl<S: Store + Drop> Anew<S> {
             mut rewrite,
             run,
             count: _,
+            digest,
             is_whole: _,
         } = self;
         if let Err(fault) = rewrite.commit(run, about) {
             return Err(StartFault::Write(fault));
         }
         match rewrite.finish() {
-            Some(store) => Ok(Begun { store, run }),
+            Some(store) => Ok(Begun { store, run, digest }),
             None => Err(StartFault::Write(StoreFault::Shut)),
         }
     }
@@ -111,6 +121,7 @@ impl<S: Store + Drop> Ledger for Anew<S> {
         match self.rewrite.put(self.run, records) {
             Ok(()) => {
                 self.count = count;
+                self.digest = digest_after(self.digest, records);
                 self.is_whole = true;
                 Ok(())
             }

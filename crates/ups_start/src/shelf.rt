@@ -1,17 +1,19 @@
 //! The store of a ledger, which may have to be reopened.
 
-ghost use Rattle.std.specs.Prelude.{◌≡◌, ◌⊎◌, ◌+◌, ◌++◌, List, false, length, IfOk, IfErr, IfSome, IsTrue, OnOk, OnErr};
+ghost use Rattle.std.specs.Prelude.{◌≡◌, ◌⊎◌, ◌++◌, List, false, IfOk, IfErr, IfSome, IsTrue, OnOk, OnErr};
 ghost use Rattle.sqlite_trees.specs.View.{IsClean};
 ghost use Rattle.std.specs.Global.{Global};
 ghost use Rattle.ups_journal.specs.declared.record.Record.{Record};
 ghost use Rattle.ups_store.specs.Shown.{requests_shown, requests};
-ghost use Rattle.ups_ledger.specs.Behind.{AreBehind};
 ghost use Rattle.ups_ledger.specs.declared.fault.LedgerFault.TheVariants.{Full};
+ghost use Rattle.ups_start.specs.Front.{AreFront, front_with};
+ghost use Rattle.ups_start.specs.Reopened.{AreBehindSame};
 ghost use Rattle.ups_start.specs.Started.{said};
 ghost use Rattle.ups_start.specs.Shelved.{records_in, IsOpenStore, IsHonestStore, LeavesRecords, Recovers, kept_in, IsSound, IsHonest, IsCounted};
 ghost use Rattle.ups_start.specs.declared.shelf.Held.TheVariants.{Open, Lost};
 
 use crate::fault::fault_of_append;
+use crate::front::Front;
 use crate::place::StorePlace;
 use sqlite_trees::store::Store;
 use std::alloc::Global;
@@ -34,9 +36,9 @@ pub enum Held<S: Store> {
 #[derive(Drop)]
 pub struct Shelf<S: Store> {
     held: Held<S>,
-    /// The number of requests that are committed: those that it had at first, and those that an append returned `Ok`
-    /// for. A store that a failed sync has shut may have more.
-    committed: u64,
+    /// The requests that are committed: those that it had at first, and those that an append returned `Ok` for. A store
+    /// that a failed sync has shut may have more.
+    front: Front,
     /// Whether it never had to be reopened.
     is_first: bool,
 }
@@ -92,9 +94,9 @@ fn copy_in<P: StorePlace>(held: &mut Held<P::Store>)
 }
 
 impl<S: Store> Shelf<S> {
-    /// Returns the shelf of a store that was opened for the first time and has `committed` requests.
-    pub(crate) fn first(store: RequestStore<S>, committed: u64) -> Shelf<S>
-        requires { IsTrue (requests_shown store).is_open → length (said (requests store)) ≡ committed }
+    /// Returns the shelf of a store that was opened for the first time and has the committed requests.
+    pub(crate) fn first(store: RequestStore<S>, front: Front) -> Shelf<S>
+        requires { IsTrue (requests_shown store).is_open → AreFront (said (requests store)) front }
         ensures clean { IsSound result → IsClean (requests_shown store) }
         ensures honest { IsHonest result → IsClean (requests_shown store) }
         ensures at_first { IsSound result → IsHonest result }
@@ -102,20 +104,20 @@ impl<S: Store> Shelf<S> {
         ensures leaves { (rs : List (Record Global)) → Recovers result.held rs → LeavesRecords store rs }
         ensures kept { kept_in result ≡ said (requests store) }
         ensures counted { IsCounted result }
-        ensures committed { result.committed ≡ committed }
+        ensures front { result.front ≡ front }
     {
         Shelf {
             held: Held::Open(store),
-            committed,
+            front,
             is_first: true,
         }
     }
 
-    /// Returns the number of committed requests after `more` are appended, or None if it is too large.
-    pub(crate) fn count_with(&self, more: usize) -> Option<u64>
-        ensures { IfSome result (λ count. count ≡ self.now.committed + more) }
+    /// Returns the front with these records behind it, or None if they are too many.
+    pub(crate) fn front_with(&self, records: &[Record<Global>]) -> Option<Front>
+        ensures { IfSome result (λ front. front ≡ front_with self.now.front records.now) }
     {
-        self.committed.checked_add(more as u64)
+        self.front.with(records)
     }
 
     /// Appends records as entered in the run `run`, all or none.
@@ -126,35 +128,35 @@ impl<S: Store> Shelf<S> {
         ensures put { OnOk result (IsSound self.new → kept_in self.new ≡ kept_in self.old ++ records.now) }
         ensures same { OnErr result (IsSound self.new → kept_in self.new ≡ kept_in self.old) }
         ensures sound { IsSound self.new → IsSound self.old }
-        ensures behind { OnOk result (IsCounted self.old → IsHonest self.new → AreBehind (kept_in self.new) self.old.committed records.now) }
+        ensures behind { OnOk result (IsCounted self.old → IsHonest self.new → AreBehindSame (kept_in self.new) self.old.front records.now) }
         ensures full { IfErr result (λ fault. fault ≡ Full → IsSound self.old → IsHonest self.new → IsSound self.new) }
         ensures left { OnOk result ((rs : List (Record Global)) → Recovers self.new.held rs → IsOpenStore self.new.held × (rs ≡ kept_in self.new)) }
         ensures first { self.new.is_first ≡ self.old.is_first }
         ensures crash { (rs : List (Record Global)) → Recovers self.new.held rs → Recovers self.old.held rs ⊎ (IsOpenStore self.old.held × (rs ≡ kept_in self.old ++ records.now)) }
-        ensures more { OnOk result (self.new.committed ≡ self.old.committed + length records.now) }
-        ensures no_more { OnErr result (self.new.committed ≡ self.old.committed) }
+        ensures more { OnOk result (self.new.front ≡ front_with self.old.front records.now) }
+        ensures no_more { OnErr result (self.new.front ≡ self.old.front) }
         ensures counted { IsCounted self.old → IsCounted self.new }
     {
-        let Some(committed) = self.count_with(records.len()) else {
+        let Some(front) = self.front_with(records) else {
             return Err(LedgerFault::Full);
         };
         match append_to(&mut self.held, run, records) {
             Ok(()) => {
-                self.committed = committed;
+                self.front = front;
                 Ok(())
             }
             Err(fault) => Err(fault),
         }
     }
 
-    /// Drops the store, so that it has to be reopened, and returns the number of committed requests.
+    /// Drops the store, so that it has to be reopened, and returns its front.
     ///
     /// Errors: Lost.
-    pub(crate) fn let_go(&mut self) -> Result<u64, LedgerFault>
+    pub(crate) fn let_go(&mut self) -> Result<Front, LedgerFault>
     where
         S: Drop,
-        ensures number { IfOk result (λ committed. committed ≡ self.old.committed) }
-        ensures same { self.new.committed ≡ self.old.committed }
+        ensures front { IfOk result (λ front. front ≡ self.old.front) }
+        ensures same { self.new.front ≡ self.old.front }
         ensures doubtful { self.new.is_first ≡ false }
         ensures shut { ¬ IsOpenStore self.new.held }
     {
@@ -163,17 +165,17 @@ impl<S: Store> Shelf<S> {
             return Err(LedgerFault::Lost);
         }
         self.held = Held::Shut;
-        Ok(self.committed)
+        Ok(self.front)
     }
 
-    /// Takes the reopened store, of `committed` requests.
-    pub(crate) fn take_up(&mut self, store: RequestStore<S>, committed: u64)
+    /// Takes the reopened store, which has this front.
+    pub(crate) fn take_up(&mut self, store: RequestStore<S>, front: Front)
     where
         S: Drop,
-        ensures { self.new ≡ record { held = Open store; committed = committed; is_first = false } }
+        ensures { self.new ≡ record { held = Open store; front = front; is_first = false } }
     {
         self.is_first = false;
-        self.committed = committed;
+        self.front = front;
         self.held = Held::Open(store);
     }
 
@@ -181,7 +183,7 @@ impl<S: Store> Shelf<S> {
     pub(crate) fn give_up(&mut self)
     where
         S: Drop,
-        ensures { self.new ≡ record { held = Lost; committed = self.old.committed; is_first = false } }
+        ensures { self.new ≡ record { held = Lost; front = self.old.front; is_first = false } }
     {
         self.is_first = false;
         self.held = Held::Lost;
@@ -193,7 +195,7 @@ impl<S: Store> Shelf<S> {
 pub(crate) fn tidy<P: StorePlace>(shelf: &mut Shelf<P::Store>, run: u64, about: &Run<'_>)
     ensures same { IsSound shelf.new → kept_in shelf.new ≡ kept_in shelf.old }
     ensures sound { IsSound shelf.new → IsSound shelf.old }
-    ensures committed { shelf.new.committed ≡ shelf.old.committed }
+    ensures front { shelf.new.front ≡ shelf.old.front }
     ensures counted { IsCounted shelf.old → IsCounted shelf.new }
     ensures first { shelf.new.is_first ≡ shelf.old.is_first }
     ensures crash { (rs : List (Record Global)) → Recovers shelf.new.held rs → Recovers shelf.old.held rs ⊎ (IsOpenStore shelf.old.held × (rs ≡ kept_in shelf.old)) }

@@ -15,6 +15,7 @@ use crate::beginning::{begin_run, opened};
 use crate::compacting::compacted_to;
 use crate::fault::StartFault;
 use crate::place::StorePlace;
+use crate::reading::Reading;
 use crate::taking::take_all;
 use crate::terms::check_terms;
 use log::Log;
@@ -72,11 +73,12 @@ fn compact_over<S: Alter + Drop, R: Clock + Log>(
         Ok(()) => {}
         Err(fault) => return Err(fault),
     }
-    match take_all(telling, alloc, &mut replay, manager, choices.may_leave_out) {
+    let mut reading = Reading::over(replay);
+    match take_all(telling, alloc, &mut reading, manager, choices.may_leave_out) {
         Ok(_) => {}
         Err(fault) => return Err(fault),
     }
-    let begun = match begin_run(replay, about) {
+    let begun = match begin_run(reading, about) {
         Ok(begun) => begun,
         Err(fault) => return Err(fault),
     };

@@ -4,17 +4,19 @@ ghost use Rattle.std.specs.Prelude.{◌≡◌, [], map, false, None, OnOk, IfOk,
 ghost use Rattle.sqlite_trees.specs.View.{IsClean};
 ghost use Rattle.ups_restore.specs.Leaving.{AreTaken};
 ghost use Rattle.ups_store.specs.Shown.{shown_by, all_of, given_out, has_ended};
+ghost use Rattle.ups_start.specs.Digested.{IsDigested, AreDigested};
 ghost use Rattle.ups_start.specs.Started.{said, TakesRecord};
 
 use crate::fault::StartFault;
 use crate::progress::Progress;
+use crate::reading::Reading;
 use log::{Log, warn};
 use sqlite_trees::store::Store;
 use std::alloc::Global;
 use std::time::Clock;
 use ups_manager::Manager;
 use ups_restore::{Restoration, RestoreFault, Restored};
-use ups_store::{Replay, StoreFault};
+use ups_store::StoreFault;
 
 /// Enters the next request of a store, which has the number `number`, or leaves it out if allowed, and logs that.
 /// Returns None at the end.
@@ -23,18 +25,19 @@ use ups_store::{Replay, StoreFault};
 fn take_next<S: Store, R: Log>(
     telling: &R,
     alloc: Global,
-    replay: &mut Replay<S>,
+    reading: &mut Reading<S>,
     number: u64,
     manager: &mut Manager<Global>,
     counts: &mut Restoration,
     may_leave_out: bool,
 ) -> Result<Option<Restored>, StartFault>
-    ensures taken { IfOk result (λ found. IsClean (shown_by replay.new) → TakesRecord replay.old replay.new manager.old manager.new counts.old counts.new may_leave_out found) }
-    ensures ended { IfOk result (λ found. found ≡ None → IsTrue (has_ended replay.new)) }
-    ensures clean { IsClean (shown_by replay.new) → IsClean (shown_by replay.old) }
+    ensures taken { IfOk result (λ found. IsClean (shown_by reading.new.replay) → TakesRecord reading.old.replay reading.new.replay manager.old manager.new counts.old counts.new may_leave_out found) }
+    ensures ended { IfOk result (λ found. found ≡ None → IsTrue (has_ended reading.new.replay)) }
+    ensures clean { IsClean (shown_by reading.new.replay) → IsClean (shown_by reading.old.replay) }
+    ensures digested { OnOk result (IsDigested reading.old → IsDigested reading.new) }
     ensures settings { manager.new.settings ≡ manager.old.settings }
 {
-    let request = match replay.next_request() {
+    let request = match reading.next_request() {
         Ok(Some(request)) => request,
         Ok(None) => return Ok(None),
         Err(fault) => return Err(StartFault::Read(fault)),
@@ -55,21 +58,23 @@ fn take_next<S: Store, R: Log>(
 }
 
 /// Enters all requests of a store again, in their order, leaving requests out if allowed; counts them, and logs their
-/// number every second.
+/// number every second. The reading then has the digest of all.
 ///
 /// Errors: Read; Restore at the first request that is neither entered nor left out.
 pub(crate) fn take_all<S: Store, R: Clock + Log>(
     telling: &R,
     alloc: Global,
-    replay: &mut Replay<S>,
+    reading: &mut Reading<S>,
     manager: &mut Manager<Global>,
     may_leave_out: bool,
 ) -> Result<Restoration, StartFault>
-    requires first { given_out replay.old ≡ [] }
-    ensures taken { IfOk result (λ counts. IsClean (shown_by replay.new) → AreTaken manager.old.settings manager.old.history (said (all_of replay.new)) may_leave_out counts manager.new.history) }
-    ensures same { OnOk result (IsClean (shown_by replay.new) → all_of replay.new ≡ all_of replay.old) }
-    ensures ended { OnOk result (IsTrue (has_ended replay.new)) }
-    ensures clean { IsClean (shown_by replay.new) → IsClean (shown_by replay.old) }
+    requires first { given_out reading.old.replay ≡ [] }
+    requires none { IsDigested reading.old }
+    ensures taken { IfOk result (λ counts. IsClean (shown_by reading.new.replay) → AreTaken manager.old.settings manager.old.history (said (all_of reading.new.replay)) may_leave_out counts manager.new.history) }
+    ensures same { OnOk result (IsClean (shown_by reading.new.replay) → all_of reading.new.replay ≡ all_of reading.old.replay) }
+    ensures ended { OnOk result (IsTrue (has_ended reading.new.replay)) }
+    ensures clean { IsClean (shown_by reading.new.replay) → IsClean (shown_by reading.old.replay) }
+    ensures digested { OnOk result (AreDigested reading.new) }
     ensures settings { manager.new.settings ≡ manager.old.settings }
 {
     let mut counts = Restoration::new();
@@ -78,7 +83,7 @@ pub(crate) fn take_all<S: Store, R: Clock + Log>(
         let found = take_next(
             telling,
             alloc,
-            replay,
+            reading,
             before + 1,
             manager,
             &mut counts,

@@ -32,7 +32,7 @@ use Rattle.sqlite_store.specs.Listing.{all_shapes, all_reals, file_trees, IsOurs
 use Rattle.sqlite_store.specs.Exact.{entries_of}
 use Rattle.ups_store.specs.declared.format.Format.{Format}
 use Rattle.ups_store.specs.declared.format.Format.TheVariants.{First, Second}
-use Rattle.ups_store.specs.Format.{tables_of, format_in, IsSchema}
+use Rattle.ups_store.specs.Format.{sql_of, tables_of, format_in, IsSchema}
 use Rattle.sqlite_store.specs.FileStore.{view, state, schema_of, IsReady}
 use Rattle.sqlite_disk.specs.declared.Files.{Files}
 use Rattle.sqlite_disk.specs.Disk.{MoreFaults}
@@ -132,7 +132,7 @@ nothing_held image (p, found, none) (format, (q, again, ours)) = none_kept forma
 
 -- the two rows under which a store of this format lists its tables
 entries_in : (format : Format) (pages : PageMap) (rows : List Row) → rows ≡ entries_of 1 (tables_of format) (roots_of used_page (tables_of format) pages) → format ≡ format_in rows
-unfolding roots_of
+unfolding roots_of sql_of
 entries_in First pages rows is = ap format_in (sym is)
 entries_in Second pages rows is = ap format_in (sym is)
 

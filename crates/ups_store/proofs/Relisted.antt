@@ -11,16 +11,16 @@ use Rattle.sqlite_trees.specs.declared.schema.Object.{Object}
 use Rattle.sqlite_trees.specs.declared.store.Shape.{Shape}
 use Rattle.sqlite_trees.specs.View.{View, IsClean, SetsTree, IsRolledBack, Commits}
 use Rattle.ups_store.specs.Rows.{IsNumbered}
-use Rattle.ups_store.specs.Format.{run_listing, upgraded, IsCurrent}
+use Rattle.ups_store.specs.Format.{format_number, current_format, run_listing, upgraded, IsCurrent}
 use Rattle.ups_store.specs.Held.{Holds, HoldsIfOpen}
 use Rattle.ups_store.specs.Upgrading.{ListsAnew, KeepsLastCommit}
 use Rattle.ups_store.proofs.Steps.{sound_open, open_clean}
 
-pub lists_anew : (old mid new : View) (o : Object) → object_row 1 o ≡ run_listing → o.reals ≡ 0 → Relists old mid ((1, o) ∷ []) → SetsTree mid new version_tree (λ _. version_rows 2) → ListsAnew old new
+pub lists_anew : (old mid new : View) (o : Object) → object_row 1 o ≡ run_listing → o.reals ≡ 0 → Relists old mid ((1, o) ∷ []) → SetsTree mid new version_tree (λ _. version_rows (format_number current_format)) → ListsAnew old new
 lists_anew old mid new o row unreal lists sets = record {
   sound = lists.sound;
-  is = sets.is ∙ ap (λ (v : View). let w : View = record v { trees = with_tree v.trees version_tree (version_rows 2); cursors = new.cursors } in w) lists.is
-      ∙ ap₂ (λ (r : Row) (n : ℕ). let w : View = record old { trees = with_version (with_tree old.trees catalog_tree (put_row r (old.trees catalog_tree))) 2; reals = set_at old.reals 1 n; cursors = new.cursors } in w) row unreal;
+  is = sets.is ∙ ap (λ (v : View). let w : View = record v { trees = with_tree v.trees version_tree (version_rows (format_number current_format)); cursors = new.cursors } in w) lists.is
+      ∙ ap₂ (λ (r : Row) (n : ℕ). let w : View = record old { trees = with_version (with_tree old.trees catalog_tree (put_row r (old.trees catalog_tree))) (format_number current_format); reals = set_at old.reals 1 n; cursors = new.cursors } in w) row unreal;
 }
 
 pub stands_listed : (old mid : View) (changes : List (ℕ × Object)) → Relists old mid changes → KeepsLastCommit old mid

@@ -10,8 +10,8 @@ use Rattle.ups_journal.specs.declared.operation.Operation.TheVariants.{Create, C
 use Rattle.ups_journal.specs.declared.record.Columns.{Columns}
 use Rattle.ups_store.specs.declared.request.StoredRequest.{StoredRequest}
 use Rattle.ups_store.specs.Words.{operation_named, state_named}
-use Rattle.ups_store.specs.Cells.{text_cell, blob_cell, bytes_in, state_cell, state_in, operation_in}
-use Rattle.ups_store.specs.Rows.{request_row, columns_in, request_in, IsCallerAgain, IsWatcherAgain}
+use Rattle.ups_store.specs.Cells.{number_cell, number_in, text_cell, blob_cell, bytes_in, state_cell, state_in, operation_in}
+use Rattle.ups_store.specs.Rows.{request_row, columns_in, request_in, IsReadAgain}
 
 operation_again : (o : Operation) → operation_in (Text (name_of o)) ≡ o
 unfolding operation_named
@@ -41,7 +41,7 @@ blob_again : (blob : Option (List ℕ)) → bytes_in (blob_cell blob) ≡ blob
 blob_again None = refl
 blob_again (Some blob) = refl
 
-columns_again : (number : ℤ) (r : StoredRequest) → IsWatcherAgain r.asked.request → columns_in (request_row number r) ≡ r.asked.request
+columns_again : (number : ℤ) (r : StoredRequest) → IsReadAgain r.asked → columns_in (request_row number r) ≡ r.asked.request
 columns_again number r again =
     let c = r.asked.request in
     ap (λ (x : Operation). record (columns_in (request_row number r)) { operation = x }) (operation_again c.operation)
@@ -52,8 +52,8 @@ columns_again number r again =
     ∙ ap (λ (x : Columns Global). record x { attributes = bytes_in (blob_cell c.attributes) }) (watcher again)
     ∙ ap (λ (x : Option (List ℕ)). record c { attributes = x }) (blob_again c.attributes)
   where
-    watcher : IsWatcherAgain r.asked.request → record r.asked.request { lock = (columns_in (request_row number r)).lock; number = (columns_in (request_row number r)).number; offset = (columns_in (request_row number r)).offset } ≡ r.asked.request
+    watcher : IsReadAgain r.asked → record r.asked.request { lock = (columns_in (request_row number r)).lock; number = (columns_in (request_row number r)).number; offset = (columns_in (request_row number r)).offset } ≡ r.asked.request
     watcher h = rw (h.lock, h.event, h.offset) refl
 
-pub says : (number : ℤ) (r : StoredRequest) → IsCallerAgain r → IsWatcherAgain r.asked.request → request_in (request_row number r) ≡ r
-says number r caller watcher = rw (caller.run, caller.caller, caller.moment, columns_again number r watcher) refl
+pub says : (number : ℤ) (r : StoredRequest) → number_in (number_cell r.run) ≡ r.run → IsReadAgain r.asked → request_in (request_row number r) ≡ r
+says number r run again = rw (run, again.caller, again.moment, columns_again number r again) refl

@@ -1,6 +1,7 @@
 pub mod Words
 pub mod Cells
 pub mod Rows
+pub mod Digest
 pub mod Faults
 pub mod Held
 pub mod Taken

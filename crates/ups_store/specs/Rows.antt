@@ -15,21 +15,26 @@ use Rattle.ups_store.specs.Cells.{number_cell, number_in, short_in, event_cell, 
 abbrev pub stored_in_run : ℕ → Record Global → StoredRequest
 stored_in_run run r = record { run = run; asked = r }
 
--- run, caller, moment and AE title
-abbrev pub caller_cells : StoredRequest → List Value
-caller_cells r = number_cell r.run ∷ number_cell r.asked.caller ∷ number_cell r.asked.moment ∷ Text r.asked.title ∷ []
-
--- operation, instance, Transaction UID and state
-abbrev pub step_cells : Columns Global → List Value
-step_cells c = Text (name_of c.operation) ∷ text_cell c.instance ∷ text_cell c.transaction ∷ state_cell c.state ∷ []
-
--- Receiving AE, Deletion Lock, event number, offset from UTC and attributes
-abbrev pub watcher_cells : Columns Global → List Value
-watcher_cells c = text_cell c.receiver ∷ lock_cell c.lock ∷ event_cell c.number ∷ offset_cell c.offset ∷ blob_cell c.attributes ∷ []
+-- the cells of a record, in the order of their columns
+abbrev pub record_cells : Record Global → List Value
+record_cells r =
+    number_cell r.caller
+    ∷ number_cell r.moment
+    ∷ Text r.title
+    ∷ Text (name_of r.request.operation)
+    ∷ text_cell r.request.instance
+    ∷ text_cell r.request.transaction
+    ∷ state_cell r.request.state
+    ∷ text_cell r.request.receiver
+    ∷ lock_cell r.request.lock
+    ∷ event_cell r.request.number
+    ∷ offset_cell r.request.offset
+    ∷ blob_cell r.request.attributes
+    ∷ []
 
 -- the row with this number: its rowid, NULL in place of the number, and the other columns
 abbrev pub request_row : ℤ → StoredRequest → Row
-request_row number r = Int number ∷ Null ∷ (caller_cells r ++ (step_cells r.asked.request ++ watcher_cells r.asked.request))
+request_row number r = Int number ∷ Null ∷ number_cell r.run ∷ record_cells r.asked
 
 abbrev pub columns_in : Row → Columns Global
 columns_in row = record {
@@ -51,17 +56,13 @@ record_in row = record { caller = short_in (column row 3); title = bytes (column
 abbrev pub request_in : Row → StoredRequest
 request_in row = record { run = number_in (column row 2); asked = record_in row }
 
--- run, caller and moment are read as they were written
-pub record IsCallerAgain (r : StoredRequest) : Type 0 where
-  pub run : number_in (number_cell r.run) ≡ r.run
-  pub caller : short_in (number_cell r.asked.caller) ≡ r.asked.caller
-  pub moment : number_in (number_cell r.asked.moment) ≡ r.asked.moment
-
--- Deletion Lock, event number and offset are read as they were written
-pub record IsWatcherAgain (c : Columns Global) : Type 0 where
-  pub lock : lock_in_cell (lock_cell c.lock) ≡ c.lock
-  pub event : event_in (event_cell c.number) ≡ c.number
-  pub offset : offset_in (offset_cell c.offset) ≡ c.offset
+-- each value that a cell has as a number is read as it was written
+pub record IsReadAgain (r : Record Global) : Type 0 where
+  pub caller : short_in (number_cell r.caller) ≡ r.caller
+  pub moment : number_in (number_cell r.moment) ≡ r.moment
+  pub lock : lock_in_cell (lock_cell r.request.lock) ≡ r.request.lock
+  pub event : event_in (event_cell r.request.number) ≡ r.request.number
+  pub offset : offset_in (offset_cell r.request.offset) ≡ r.request.offset
 
 -- the rows of these requests, numbered from this number on
 abbrev pub rows_from : ℕ → List StoredRequest → List Row

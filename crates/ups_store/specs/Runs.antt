@@ -9,13 +9,20 @@ use Rattle.sqlite_trees.specs.View.{View}
 use Rattle.ups_store.specs.declared.runs.Run.{Run}
 use Rattle.ups_store.specs.Cells.{number_cell, number_in, bytes_in}
 
--- a run: its number, when it began, its version and settings, the number of requests then, and the terms of the service
-abbrev pub run_row : ℤ → ℕ → List ℕ → List ℕ → ℕ → List ℕ → Row
-run_row number moment version settings requests terms = Int number ∷ Null ∷ number_cell moment ∷ Text version ∷ Text settings ∷ number_cell requests ∷ Text terms ∷ []
+-- the cells of a run, in the order of their columns: when it began, its version and settings, the number of requests, and the
+-- terms of the service
+abbrev pub run_cells : Run → ℕ → List Value
+run_cells run requests =
+    number_cell run.moment
+    ∷ Text run.version.now
+    ∷ Text run.settings.now
+    ∷ number_cell requests
+    ∷ Text run.terms.now
+    ∷ []
 
 -- the row of the run with this number, written when there were that many requests
 abbrev pub row_of_run : ℕ → Run → ℕ → Row
-row_of_run number run requests = run_row (cast_signed w64 number) run.moment run.version.now run.settings.now requests run.terms.now
+row_of_run number run requests = Int (cast_signed w64 number) ∷ Null ∷ run_cells run requests
 
 -- the last of these rows, or an empty one if there is none
 abbrev pub last_row : List Row → Row

@@ -1,7 +1,7 @@
-//! Writing and reading single cells of a row. A cell without a valid value reads as zero, as empty or as None: whether
+//! The cells of a row, and the values in them. A cell without a valid value reads as zero, as empty or as None: whether
 //! a row was written here is found out by writing it again.
 
-ghost use Rattle.std.specs.Prelude.{◌≡◌, ◌++◌, ◌∷◌, [], IfOk, OnOk, Some};
+ghost use Rattle.std.specs.Prelude.{◌≡◌, ◌++◌, map, IfOk, OnOk};
 ghost use Rattle.sqlite_value.specs.Value.{owned};
 ghost use Rattle.sqlite_value.specs.Order.{bytes};
 ghost use Rattle.ups_store.specs.Cells.{number_cell, number_in, short_in, event_cell, event_in, lock_cell, lock_in_cell, offset_cell, offset_in, text_cell, blob_cell, bytes_in, state_cell, state_in, operation_in};
@@ -14,84 +14,94 @@ use ups_cycle::StepState;
 use ups_journal::Operation;
 use ups_pdu::Bytes;
 
-/// Writes a number. One of 2^63 or more becomes a negative integer.
-pub(crate) fn lay_number(row: &mut Row, number: u64) -> Result<(), AllocError>
-    ensures laid { OnOk result (row.new ≡ row.old ++ number_cell number ∷ []) }
+/// Returns the cell of a number. One of 2^63 or more becomes a negative integer.
+pub(crate) fn number_cell(number: u64) -> ValueRef<'static>
+    ensures is { owned result ≡ number_cell number }
     ensures again { number_in (number_cell number) ≡ number }
 {
-    row.push(ValueRef::Int(number.cast_signed()))
+    ValueRef::Int(number.cast_signed())
 }
 
-/// Writes a 32-bit number.
-pub(crate) fn lay_short(row: &mut Row, number: u32) -> Result<(), AllocError>
-    ensures laid { OnOk result (row.new ≡ row.old ++ number_cell number ∷ []) }
+/// Returns the cell of a 32-bit number.
+pub(crate) fn short_cell(number: u32) -> ValueRef<'static>
+    ensures is { owned result ≡ number_cell number }
     ensures again { short_in (number_cell number) ≡ number }
 {
-    row.push(ValueRef::Int(u64::from(number).cast_signed()))
+    ValueRef::Int(u64::from(number).cast_signed())
 }
 
-/// Writes the number of an event, or NULL.
-pub(crate) fn lay_event(row: &mut Row, event: Option<u64>) -> Result<(), AllocError>
-    ensures laid { OnOk result (row.new ≡ row.old ++ event_cell event ∷ []) }
+/// Returns the cell of the number of an event, or NULL.
+pub(crate) fn event_cell(event: Option<u64>) -> ValueRef<'static>
+    ensures is { owned result ≡ event_cell event }
     ensures again { event_in (event_cell event) ≡ event }
 {
     match event {
-        Some(number) => row.push(ValueRef::Int(number.cast_signed())),
-        None => row.push(ValueRef::Null),
+        Some(number) => ValueRef::Int(number.cast_signed()),
+        None => ValueRef::Null,
     }
 }
 
-/// Writes a Deletion Lock, or NULL.
-pub(crate) fn lay_lock(row: &mut Row, lock: Option<bool>) -> Result<(), AllocError>
-    ensures laid { OnOk result (row.new ≡ row.old ++ lock_cell lock ∷ []) }
+/// Returns the cell of a Deletion Lock, or NULL.
+pub(crate) fn lock_cell(lock: Option<bool>) -> ValueRef<'static>
+    ensures is { owned result ≡ lock_cell lock }
     ensures again { lock_in_cell (lock_cell lock) ≡ lock }
 {
     match lock {
-        Some(true) => row.push(ValueRef::Int(1)),
-        Some(false) => row.push(ValueRef::Int(0)),
-        None => row.push(ValueRef::Null),
+        Some(true) => ValueRef::Int(1),
+        Some(false) => ValueRef::Int(0),
+        None => ValueRef::Null,
     }
 }
 
-/// Writes an offset from UTC, in minutes, or NULL.
-pub(crate) fn lay_offset(row: &mut Row, offset: Option<i16>) -> Result<(), AllocError>
-    ensures laid { OnOk result (row.new ≡ row.old ++ offset_cell offset ∷ []) }
+/// Returns the cell of an offset from UTC, in minutes, or NULL.
+pub(crate) fn offset_cell(offset: Option<i16>) -> ValueRef<'static>
+    ensures is { owned result ≡ offset_cell offset }
     ensures again { offset_in (offset_cell offset) ≡ offset }
 {
     match offset {
-        Some(minutes) => row.push(ValueRef::Int(i64::from(minutes))),
-        None => row.push(ValueRef::Null),
+        Some(minutes) => ValueRef::Int(i64::from(minutes)),
+        None => ValueRef::Null,
     }
 }
 
-/// Writes a text, or NULL.
-pub(crate) fn lay_text(row: &mut Row, text: &Option<Bytes<Global>>) -> Result<(), AllocError>
-    ensures laid { OnOk result (row.new ≡ row.old ++ text_cell text.now ∷ []) }
+/// Returns the cell of a text, or NULL.
+pub(crate) fn text_cell(text: &Option<Bytes<Global>>) -> ValueRef<'_>
+    ensures { owned result ≡ text_cell text.now }
 {
     match text {
-        Some(text) => row.push(ValueRef::Text(text.as_slice())),
-        None => row.push(ValueRef::Null),
+        Some(text) => ValueRef::Text(text.as_slice()),
+        None => ValueRef::Null,
     }
 }
 
-/// Writes bytes, or NULL.
-pub(crate) fn lay_blob(row: &mut Row, blob: &Option<Bytes<Global>>) -> Result<(), AllocError>
-    ensures laid { OnOk result (row.new ≡ row.old ++ blob_cell blob.now ∷ []) }
+/// Returns the cell of bytes, or NULL.
+pub(crate) fn blob_cell(blob: &Option<Bytes<Global>>) -> ValueRef<'_>
+    ensures { owned result ≡ blob_cell blob.now }
 {
     match blob {
-        Some(blob) => row.push(ValueRef::Blob(blob.as_slice())),
-        None => row.push(ValueRef::Null),
+        Some(blob) => ValueRef::Blob(blob.as_slice()),
+        None => ValueRef::Null,
     }
 }
 
-/// Writes the text of a state, or NULL.
-pub(crate) fn lay_state(row: &mut Row, state: Option<StepState>) -> Result<(), AllocError>
-    ensures laid { OnOk result (row.new ≡ row.old ++ state_cell state ∷ []) }
+/// Returns the cell of the text of a state, or NULL.
+pub(crate) fn state_cell(state: Option<StepState>) -> ValueRef<'static>
+    ensures { owned result ≡ state_cell state }
 {
     match state {
-        Some(state) => row.push(ValueRef::Text(state.text())),
-        None => row.push(ValueRef::Null),
+        Some(state) => ValueRef::Text(state.text()),
+        None => ValueRef::Null,
     }
+}
+
+/// Appends cells to a row.
+pub(crate) fn lay(row: &mut Row, cells: &[ValueRef<'_>]) -> Result<(), AllocError>
+    ensures { OnOk result (row.new ≡ row.old ++ map owned cells.now) }
+{
+    for at in 0..cells.len() {
+        row.push(cells[at])?;
+    }
+    Ok(())
 }
 
 pub(crate) fn number_in(cell: ValueRef<'_>) -> u64

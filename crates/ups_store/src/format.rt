@@ -1,8 +1,9 @@
 //! The formats of a store: its tables, by the SQL texts under which they are listed in `sqlite_schema`. The requests are
 //! the first table, the runs the second.
 //!
-//! A new column comes last, and a row is written without NULLs at its end. So a row of an earlier format is a row of
-//! the table as it is now, and a store of an earlier format becomes one of this version with no row rewritten. A format
+//! The columns stand in the texts, one in a line, with their kinds; `cells_of` of `request` and of `runs` gives their cells
+//! in the same order. A new column comes last, and its NULL is not written. So a row of an earlier format is a row of the
+//! table as it is now, and a store of an earlier format becomes one of this version with no row rewritten. A format
 //! is known by its texts, and each has others than those before it. Its number is the user version; format 1 has 0, and
 //! so has a store that was just made.
 
@@ -23,16 +24,49 @@ pub(crate) const VERSION: u32 = 2;
 
 pub(crate) const REQUEST: &str = "request";
 
-pub(crate) const REQUEST_SQL: &str =
-    "CREATE TABLE request (number INTEGER PRIMARY KEY, run INTEGER NOT NULL, caller INTEGER NOT NULL, moment INTEGER NOT NULL, title TEXT NOT NULL, operation TEXT NOT NULL, instance TEXT, transaction_uid TEXT, state TEXT, receiver TEXT, deletion_lock INTEGER, event INTEGER, utc_offset INTEGER, attributes BLOB) STRICT";
-
 pub(crate) const RUN: &str = "run";
 
-const FIRST_RUN_SQL: &str =
-    "CREATE TABLE run (number INTEGER PRIMARY KEY, moment INTEGER NOT NULL, version TEXT NOT NULL, settings TEXT NOT NULL, requests INTEGER NOT NULL) STRICT";
+/// The SQL text of a table: its name, and each column behind the number with its kind.
+macro_rules! table_sql {
+    ($table:literal, $($column:literal $kind:literal),*) => {
+        concat!("CREATE TABLE ", $table, " (number INTEGER PRIMARY KEY", $(", ", $column, " ", $kind,)* ") STRICT")
+    };
+}
 
-const SECOND_RUN_SQL: &str =
-    "CREATE TABLE run (number INTEGER PRIMARY KEY, moment INTEGER NOT NULL, version TEXT NOT NULL, settings TEXT NOT NULL, requests INTEGER NOT NULL, terms TEXT) STRICT";
+/// The SQL text of the table of runs: these columns come behind those of format 1.
+macro_rules! run_table_sql {
+    ($($column:literal $kind:literal),*) => {
+        table_sql!(
+            "run",
+            "moment" "INTEGER NOT NULL",
+            "version" "TEXT NOT NULL",
+            "settings" "TEXT NOT NULL",
+            "requests" "INTEGER NOT NULL"
+            $(, $column $kind)*
+        )
+    };
+}
+
+pub(crate) const REQUEST_SQL: &str = table_sql!(
+    "request",
+    "run" "INTEGER NOT NULL",
+    "caller" "INTEGER NOT NULL",
+    "moment" "INTEGER NOT NULL",
+    "title" "TEXT NOT NULL",
+    "operation" "TEXT NOT NULL",
+    "instance" "TEXT",
+    "transaction_uid" "TEXT",
+    "state" "TEXT",
+    "receiver" "TEXT",
+    "deletion_lock" "INTEGER",
+    "event" "INTEGER",
+    "utc_offset" "INTEGER",
+    "attributes" "BLOB"
+);
+
+const FIRST_RUN_SQL: &str = run_table_sql!();
+
+const SECOND_RUN_SQL: &str = run_table_sql!("terms" "TEXT");
 
 /// The format of a store.
 #[derive(Clone, Copy, Debug, PartialEq, Eq)]
@@ -42,6 +76,9 @@ pub(crate) enum Format {
     /// Runs with terms.
     Second,
 }
+
+/// Each format once.
+pub(crate) const FORMATS: [Format; 2] = [Format::First, Format::Second];
 
 /// The format of this version.
 pub(crate) const CURRENT: Format = Format::Second;
@@ -74,6 +111,7 @@ fn table(name: &'static str, sql: &'static str) -> Object<'static>
 }
 
 /// Returns the table of requests, which is the same in all formats.
+#[tactic(auto, unfolding(crate::specs::Format::sql_of))]
 pub(crate) fn request_table() -> Object<'static>
     ensures wanted { wanted_of result ≡ request_table }
 {
@@ -103,7 +141,7 @@ pub(crate) fn format_in(rows: &[Row]) -> Format
     ensures { result ≡ format_in rows.now }
 {
     match rows {
-        [_, run, ..] if is_text_cell(run.get(5), FIRST_RUN_SQL) => Format::First,
+        [_, run, ..] if is_text_cell(run.get(5), Format::First.run_sql()) => Format::First,
         _ => Format::Second,
     }
 }

@@ -3,6 +3,7 @@
 #![tactic(auto)]
 
 mod cells;
+mod digest;
 mod fault;
 mod format;
 mod laws;
@@ -17,6 +18,7 @@ mod store;
 mod upgrading;
 mod words;
 
+pub use digest::{digest_after, digest_with};
 pub use fault::{OpenFault, StoreFault};
 pub use laws::append_then_crash;
 pub use opening::{Refusal, create_files, open_files};

@@ -18,7 +18,8 @@ ghost use Rattle.ups_store.specs.declared.fault.OpenFault.TheVariants as faults;
 
 use crate::fault::OpenFault;
 use crate::format::{
-    CURRENT, Format, REQUEST, REQUEST_SQL, RUN, format_in, is_text_cell, request_table, run_table,
+    CURRENT, FORMATS, Format, REQUEST, REQUEST_SQL, RUN, format_in, is_text_cell, request_table,
+    run_table,
 };
 use crate::reading::Replay;
 use sqlite_disk::{Disk, Files, Start};
@@ -474,10 +475,14 @@ fn lists(rows: &[Row], name: &str, sql: &str) -> Option<bool> {
 
 /// Returns whether the table of runs is listed as one of the formats has it, or None if no table has its name.
 fn lists_runs(rows: &[Row]) -> Option<bool> {
-    match lists(rows, RUN, Format::First.run_sql()) {
-        Some(false) => lists(rows, RUN, Format::Second.run_sql()),
-        found => found,
+    let mut found = None;
+    for format in FORMATS {
+        found = lists(rows, RUN, format.run_sql());
+        if found != Some(false) {
+            return found;
+        }
     }
+    found
 }
 
 /// Returns the fault for a database that was not opened and has these rows of `sqlite_schema`.

@@ -1,7 +1,8 @@
 //! A request as a row of the table.
 
-ghost use Rattle.std.specs.Prelude.{◌≡◌, ◌≢◌, ◌++◌, Ok, None, IfOk, IfSome, OnOk};
-ghost use Rattle.ups_store.specs.Rows.{stored_in_run, caller_cells, step_cells, watcher_cells, request_row, columns_in, record_in, request_in, IsCallerAgain, IsWatcherAgain};
+ghost use Rattle.std.specs.Prelude.{◌≡◌, ◌≢◌, map, Ok, None, IfOk, IfSome, OnOk};
+ghost use Rattle.sqlite_value.specs.Value.{owned};
+ghost use Rattle.ups_store.specs.Rows.{stored_in_run, record_cells, request_row, columns_in, record_in, request_in, IsReadAgain};
 
 use crate::cells;
 use sqlite_value::row::Row;
@@ -18,37 +19,25 @@ pub struct StoredRequest {
     pub asked: Record<Global>,
 }
 
-/// Writes the run, the caller and the time.
-fn lay_caller(row: &mut Row, run: u64, asked: &Record<Global>) -> Result<(), AllocError>
-    ensures laid { OnOk result (row.new ≡ row.old ++ caller_cells (stored_in_run run asked.now)) }
-    ensures again { OnOk result (IsCallerAgain (stored_in_run run asked.now)) }
+/// Returns the cells of a record, in the order of their columns.
+pub(crate) fn cells_of(asked: &Record<Global>) -> [ValueRef<'_>; 12]
+    ensures is { map owned result ≡ record_cells asked.now }
+    ensures again { IsReadAgain asked.now }
 {
-    cells::lay_number(row, run)?;
-    cells::lay_short(row, asked.caller)?;
-    cells::lay_number(row, asked.moment)?;
-    row.push(ValueRef::Text(asked.title.as_slice()))
-}
-
-/// Writes the operation and its step.
-fn lay_step(row: &mut Row, columns: &Columns<Global>) -> Result<(), AllocError>
-    ensures { OnOk result (row.new ≡ row.old ++ step_cells columns.now) }
-{
-    row.push(ValueRef::Text(columns.operation.name()))?;
-    cells::lay_text(row, &columns.instance)?;
-    cells::lay_text(row, &columns.transaction)?;
-    cells::lay_state(row, columns.state)
-}
-
-/// Writes the watcher and the attributes.
-fn lay_watcher(row: &mut Row, columns: &Columns<Global>) -> Result<(), AllocError>
-    ensures laid { OnOk result (row.new ≡ row.old ++ watcher_cells columns.now) }
-    ensures again { OnOk result (IsWatcherAgain columns.now) }
-{
-    cells::lay_text(row, &columns.receiver)?;
-    cells::lay_lock(row, columns.lock)?;
-    cells::lay_event(row, columns.number)?;
-    cells::lay_offset(row, columns.offset)?;
-    cells::lay_blob(row, &columns.attributes)
+    [
+        cells::short_cell(asked.caller),
+        cells::number_cell(asked.moment),
+        ValueRef::Text(asked.title.as_slice()),
+        ValueRef::Text(asked.request.operation.name()),
+        cells::text_cell(&asked.request.instance),
+        cells::text_cell(&asked.request.transaction),
+        cells::state_cell(asked.request.state),
+        cells::text_cell(&asked.request.receiver),
+        cells::lock_cell(asked.request.lock),
+        cells::event_cell(asked.request.number),
+        cells::offset_cell(asked.request.offset),
+        cells::blob_cell(&asked.request.attributes),
+    ]
 }
 
 /// Makes `row` the row with the number `number` of a record entered in the run `run`.
@@ -64,9 +53,8 @@ pub(crate) fn lay(
     row.clear();
     row.push(ValueRef::Int(number))?;
     row.push(ValueRef::Null)?;
-    lay_caller(row, run, asked)?;
-    lay_step(row, &asked.request)?;
-    lay_watcher(row, &asked.request)
+    row.push(cells::number_cell(run))?;
+    cells::lay(row, &cells_of(asked))
 }
 
 fn columns_in(alloc: Global, row: &Row) -> Result<Columns<Global>, AllocError>

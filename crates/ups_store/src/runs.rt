@@ -1,15 +1,16 @@
 //! The table of the runs of the program.
 
-ghost use Rattle.std.specs.Prelude.{◌≡◌, ◌+◌, ◌<◌, ◌≤◌, ◌^◌, Some, FitsSigned, false, reverse, IfOk, IfSome, IfErr, IsSome, IsTrue, OnOk};
+ghost use Rattle.std.specs.Prelude.{◌≡◌, ◌+◌, ◌<◌, ◌≤◌, ◌^◌, Some, FitsSigned, false, reverse, map, IfOk, IfSome, IfErr, IsSome, IsTrue, OnOk};
 ghost use Rattle.sqlite_disk.specs.Disk.{MoreFaults};
 ghost use Rattle.sqlite_trees.specs.declared.store.Shape.TheVariants.{Table};
 ghost use Rattle.sqlite_trees.specs.Tree.{put_row, rowid};
 ghost use Rattle.sqlite_trees.specs.View.{IsClean, IsQuiet, KeepsSchema, KeepsCommitted, SetsTree, HasCause, IsStorableRow};
 ghost use Rattle.sqlite_value.specs.Order.{column};
+ghost use Rattle.sqlite_value.specs.Value.{owned};
 ghost use Rattle.std.specs.Int.{w64};
 ghost use Rattle.ups_store.specs.Cells.{number_in};
 ghost use Rattle.ups_store.specs.Faults.{HasReason, HasRunReason};
-ghost use Rattle.ups_store.specs.Runs.{row_of_run, old_in, first_old, DropsRuns, last_row, last_number, last_requests, terms_in, IsFirst, Enters};
+ghost use Rattle.ups_store.specs.Runs.{run_cells, row_of_run, old_in, first_old, DropsRuns, last_row, last_number, last_requests, terms_in, IsFirst, Enters};
 
 use crate::cells;
 use crate::fault::StoreFault;
@@ -45,18 +46,27 @@ pub struct Run<'a> {
     pub terms: &'a str,
 }
 
+/// Returns the cells of a run, in the order of their columns, at a time when there are `requests` requests.
+fn cells_of<'a>(run: &Run<'a>, requests: u64) -> [ValueRef<'a>; 5]
+    ensures { map owned result ≡ run_cells run.now requests }
+{
+    [
+        cells::number_cell(run.moment),
+        ValueRef::Text(run.version.as_bytes()),
+        ValueRef::Text(run.settings.as_bytes()),
+        cells::number_cell(requests),
+        ValueRef::Text(run.terms.as_bytes()),
+    ]
+}
+
 /// Makes `row` the row of the run `number`, written when there were `requests` requests.
 fn lay(row: &mut Row, number: u64, run: &Run<'_>, requests: u64) -> Result<(), AllocError>
     ensures { OnOk result (row.new ≡ row_of_run number run.now requests) }
 {
     row.clear();
-    cells::lay_number(row, number)?;
+    row.push(cells::number_cell(number))?;
     row.push(ValueRef::Null)?;
-    cells::lay_number(row, run.moment)?;
-    row.push(ValueRef::Text(run.version.as_bytes()))?;
-    row.push(ValueRef::Text(run.settings.as_bytes()))?;
-    cells::lay_number(row, requests)?;
-    row.push(ValueRef::Text(run.terms.as_bytes()))
+    cells::lay(row, &cells_of(run, requests))
 }
 
 /// Puts the row of the run `number` in a transaction, replacing the row with the same number if there is one.

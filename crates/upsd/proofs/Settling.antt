@@ -15,16 +15,16 @@ use Rattle.ups_session.proofs.Going.{goes_short}
 
 kept_short : {A L W : Type 0} (side : Side A L W) (start : L) (turns : ℕ) (now : Input) (input : List ℕ) (old new : World A) (fault : SessionFault)
     → IsUnbegun side start input old new fault ⊎ IsBroken side start turns now input old new fault → (new.settings ≡ old.settings) × (new.caller ≡ old.caller)
-kept_short side start turns now input old new fault (inl (last, nothing, g)) = (g.settings, g.caller)
+kept_short side start turns now input old new fault (inl (last, nothing, g)) = (g.changes.settings, g.changes.caller)
 kept_short side start turns now input old new fault (inr (arrivals, after, rest, tail, between, last, came, on, is, why, g)) =
-    (g.settings ∙ came.performed.settings ∙ came.begins.settings, g.caller ∙ came.performed.caller ∙ came.begins.caller)
+    (g.changes.settings ∙ came.performed.changes.settings ∙ came.begins.changes.settings, g.changes.caller ∙ came.performed.changes.caller ∙ came.begins.changes.caller)
 
 -- the service keeps its settings, and stands for the same caller
 pub kept : {A L W : Type 0} (side : Side A L W) (ending : L → End) (start : L) (turns : ℕ) (now : Input) (input : List ℕ) (old new : World A) (result : Result End SessionFault)
     → IsSession side ending start turns now input old new result → (new.settings ≡ old.settings) × (new.caller ≡ old.caller)
-kept side ending start turns now input old new (Ok end) (arrivals, after, came, at_end, few, over, told) = (came.performed.settings ∙ came.begins.settings, came.performed.caller ∙ came.begins.caller)
-kept side ending start turns now input old new (Err Read) (arrivals, after, rest, tail, came, on, is, why) = (came.performed.settings ∙ came.begins.settings, came.performed.caller ∙ came.begins.caller)
-kept side ending start turns now input old new (Err Turns) (arrivals, after, came, unended, all, is_open) = (came.performed.settings ∙ came.begins.settings, came.performed.caller ∙ came.begins.caller)
+kept side ending start turns now input old new (Ok end) (arrivals, after, came, at_end, few, over, told) = (came.performed.changes.settings ∙ came.begins.changes.settings, came.performed.changes.caller ∙ came.begins.changes.caller)
+kept side ending start turns now input old new (Err Read) (arrivals, after, rest, tail, came, on, is, why) = (came.performed.changes.settings ∙ came.begins.changes.settings, came.performed.changes.caller ∙ came.begins.changes.caller)
+kept side ending start turns now input old new (Err Turns) (arrivals, after, came, unended, all, is_open) = (came.performed.changes.settings ∙ came.begins.changes.settings, came.performed.changes.caller ∙ came.begins.changes.caller)
 kept side ending start turns now input old new (Err Write) is = kept_short side start turns now input old new Write is
 kept side ending start turns now input old new (Err Memory) is = kept_short side start turns now input old new Memory is
 

@@ -33,9 +33,9 @@ use std::time::Clock;
 use ups_args::{PipeArguments, command, pipe_arguments, script_arguments};
 use ups_net::{LineStyle, LossyLog, Network};
 pub use ups_net::{ServerOptions, work};
+use ups_peers::TURNS;
 pub use ups_server::{RanServer, answer_network, serve_words};
 pub use ups_session::{End, SessionFault, WatchedReader, WatchedWriter};
-use ups_settings::TURNS;
 
 /// Answers one association from standard input to standard output, prints its fault, and returns how the program ends.
 ///

@@ -22,8 +22,11 @@ module _ (s : SharedService.Ghosts (Manager.the_row Heap.the_row ghosts).Denot H
   own_pass : IsSend (Pass.the_row (Manager.the_row Heap.the_row ghosts) Heap.the_row s ghosts)
   own_pass = pass_send (Manager.the_row Heap.the_row ghosts) s manager_send
 
-pub join-requires-send-F : goal.join-requires-send-F
-join-requires-send-F g c κs within = search (sendable, shared_desk, own_pass, heap_sync, ae_sync) depth 30
+pub map_vec-requires-sync-F : goal.map_vec-requires-sync-F
+map_vec-requires-sync-F g c κs within = search (sendable, shared_desk, heap_sync, ae_sync) depth 30
 
-pub join-requires-send-A : goal.join-requires-send-A
-join-requires-send-A g c κs within = search (sendable, own_pass, claims_send) depth 30
+pub map_vec-requires-send-J : goal.map_vec-requires-send-J
+map_vec-requires-send-J g c κs within = search (sendable, own_pass) depth 30
+
+pub map_vec-requires-send-X : goal.map_vec-requires-send-X
+map_vec-requires-send-X g c κs within = search (sendable, own_pass, claims_send) depth 30

@@ -13,5 +13,5 @@ returns-clause-serves g c =
       after = c.serve-ended.new.writer;
       told = untold;
       later = untold;
-      session = rw c.into_pass.ensures.pass (rw c.into_parts-seated.ensures.seated (rw c.new-seated.ensures at (rw c.new-withheld.ensures at is)));
+      session = rw c.into_pass.ensures.pass (rw c.into_parts-seated.ensures.seated (rw c.new-seated.ensures at (rw c.new-withheld.ensures at (rw c.new-inspected.ensures at is))));
     }

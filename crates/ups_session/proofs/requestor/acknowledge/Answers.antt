@@ -11,7 +11,11 @@ use Rattle.ups_session.specs.Requestor.{DeliveryReaction, requestor, saying, awa
 use Rattle.ups_session.specs.Visits.{SendsPdus}
 use Rattle.ups_session.proofs.Delivered.{acknowledged_calls}
 use Rattle.ups_session.proofs.Settling.{settled_asked, settled_said, settled_lost, on_ok}
+use Rattle.ups_session.proofs.Telling.{timed}
 use Rattle.ups_session.proofs.requestor.acknowledge.Goals as goal
+
+pub call-reply-requires-clause-timed : goal.call-reply-requires-clause-timed
+call-reply-requires-clause-timed g c = timed _ _ _ c.now-moment.ensures.tells
 
 pub returns-in_err-said-clause-settled : goal.returns-in_err-said-clause-settled
 returns-in_err-said-clause-settled g c = λ config.

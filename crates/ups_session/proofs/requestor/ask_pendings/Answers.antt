@@ -6,7 +6,11 @@ use Rattle.ups_session.specs.Deliveries.{delivery_view}
 use Rattle.ups_session.specs.Requestor.{requestor, saying, on_pendings}
 use Rattle.ups_session.specs.Visits.{SendsPdus}
 use Rattle.ups_session.proofs.Settling.{settled_asked, settled_said, settled_lost, on_ok}
+use Rattle.ups_session.proofs.Telling.{timed}
 use Rattle.ups_session.proofs.requestor.ask_pendings.Goals as goal
+
+pub call-reply-requires-clause-timed : goal.call-reply-requires-clause-timed
+call-reply-requires-clause-timed g c = timed _ _ _ c.now-moment.ensures.tells
 
 pub returns-in_err-said-clause-settled : goal.returns-in_err-said-clause-settled
 returns-in_err-said-clause-settled g c = λ config.

@@ -11,7 +11,7 @@ pub settled-requires : goal.settled-requires
 settled-requires g c = record {
   whole = λ none clean.
       let first = c.args.manager.now in
-      let rs = said (all_of c.take_all.new.replay) in
+      let rs = said (all_of c.take_all.new.reading.replay) in
       let after = c.take_all.new.manager.history in
       let taken = c.in-Ok-take_all.ensures.taken (c.in-Ok-begin_run.ensures.clean clean) in
       let all = all_entered first.settings first.history rs c.args.choices.may_leave_out c.in-Ok-take_all.counts after taken none in

@@ -13,8 +13,8 @@ pub loop-before-preserved : goal.loop-before-preserved
 loop-before-preserved g c =
     let inv = c.loop-before.invariant in
     let first = c.args.manager.now in
-    let old = c.loop-before.replay in
-    let new = c.take_next.new.replay in
+    let old = c.loop-before.reading.replay in
+    let new = c.take_next.new.reading.replay in
     let before = c.take_next.ensures.clean in
     let step = λ (clean : IsClean (shown_by new)). subst (λ f. TakesRecord old new c.loop-before.manager c.take_next.new.manager c.loop-before.counts c.take_next.new.counts c.args.may_leave_out f) c.in-Some.is (c.in_ok-found.ensures.taken clean) in
     record {
@@ -27,4 +27,5 @@ loop-before-preserved g c =
       same = λ clean. (step clean).0 ∙ inv.same (before clean);
       clean = λ clean. inv.clean (before clean);
       settings = c.take_next.ensures.settings ∙ inv.settings;
+      digested = c.in_ok-found.ensures.digested inv.digested;
     }

@@ -1,7 +1,7 @@
 //! The limits of a server for its peers, and their defaults.
 
 ghost use Rattle.std.specs.Prelude.{◌≡◌};
-ghost use Rattle.ups_settings.specs.Limits.{workers_limit, default_workers, turns_limit, idle_seconds, timeout_seconds, delivery_seconds};
+ghost use Rattle.ups_peers.specs.Limits.{workers_limit, default_workers, turns_limit, idle_seconds, timeout_seconds, delivery_seconds};
 
 /// The maximum number of associations served at the same time: a desk has 1,024 passes, of which one sweeps and at
 /// least one delivers event reports.

@@ -1,0 +1,310 @@
+//! One call of the disk that fails, and two, in a course of an append, a tidying up, and another append.
+//!
+//! A call that fails has done nothing, and a sync that fails so has lost what was not synced; or, if it is no read, it has
+//! done all that it was asked. Calls are counted from the first append on, as the course makes them: those of opening the
+//! store anew too. A course is run for each call that it makes, and for each pair: with one call that fails, each later
+//! call of what the course then does fails as well, alone or with all calls after it. After each append, and in the end,
+//! holds what `appends` says; a call from which on all calls fail is also a crash at that call.
+
+use crate::bench::Bench;
+use crate::course::{Counts, Course, Verdict, begun, history, made};
+use crate::plan::{End, Fault, NO_FAULT};
+use log::Log;
+use std::alloc::Global;
+use std::test::Fail;
+use std::time::Clock;
+use ups_journal::Record;
+
+/// No course makes as many calls.
+const MOST: u32 = 10_000;
+
+/// Each test counts more courses.
+const LEAST: u32 = 0;
+
+/// The number of requests of the history: one for each append.
+const REQUESTS: u64 = 2;
+
+/// How calls fail, the second time.
+#[derive(Clone, Copy, PartialEq, Eq)]
+enum Second {
+    /// One call, which has done nothing.
+    Undone,
+    /// One call, which has done all that it was asked.
+    Done,
+    /// One call, which finds no room.
+    NoRoom,
+    /// That call, and each one after it.
+    Lasting,
+}
+
+/// Which calls fail in a course: one, and those from a later one on.
+#[derive(Clone, Copy)]
+struct Trouble {
+    first: Fault,
+    /// The number of the second call.
+    call: u32,
+    second: Second,
+}
+
+/// Returns how one call fails.
+fn end_of(second: Second) -> End {
+    match second {
+        Second::Undone | Second::Lasting => End::Undone,
+        Second::Done => End::Done,
+        Second::NoRoom => End::NoRoom,
+    }
+}
+
+/// Plans the failures of a course.
+fn plan(course: &Course<'_>, trouble: Trouble) {
+    let second = Fault {
+        call: trouble.call,
+        end: end_of(trouble.second),
+    };
+    let last = if trouble.second == Second::Lasting {
+        trouble.call
+    } else {
+        u32::MAX
+    };
+    course.bench.plan.fail_calls(trouble.first, second, last);
+}
+
+/// What a course shows, how many calls it made before nothing failed any more, and whether the last of the failed ones
+/// was a read.
+#[derive(Clone, Copy)]
+struct Told {
+    verdict: Verdict,
+    calls: u32,
+    is_read: bool,
+}
+
+/// What is told of a course that could not begin.
+const UNMADE: Told = Told {
+    verdict: Verdict::Unmade,
+    calls: 0,
+    is_read: true,
+};
+
+/// Lets a request arrive, and appends.
+fn appended(course: &mut Course<'_>) -> Verdict {
+    let _ = course.commit(1);
+    course.verdict()
+}
+
+/// Appends, tidies up, and appends.
+fn taken(course: &mut Course<'_>) -> Verdict {
+    match appended(course) {
+        Verdict::Right => {
+            course.tidy();
+            appended(course)
+        }
+        wrong => wrong,
+    }
+}
+
+/// Takes a course with this trouble.
+fn told_by(course: &mut Course<'_>, trouble: Trouble) -> Told {
+    plan(course, trouble);
+    let verdict = taken(course);
+    let calls = course.bench.plan.calls();
+    let is_read = course.bench.plan.failed_to_read();
+    let verdict = match verdict {
+        Verdict::Right => course.finish(),
+        wrong => wrong,
+    };
+    Told {
+        verdict,
+        calls,
+        is_read,
+    }
+}
+
+/// The same, in these files.
+fn told_on<R: Clock + Log>(
+    rt: &R,
+    alloc: Global,
+    bench: &Bench,
+    history: &[Record<Global>],
+    trouble: Trouble,
+) -> Told {
+    match begun(rt, alloc, bench) {
+        Some(ledger) => told_by(&mut Course::new(alloc, bench, history, ledger), trouble),
+        None => UNMADE,
+    }
+}
+
+/// The same, in a copy of these files.
+fn told_of<R: Clock + Log>(
+    rt: &R,
+    alloc: Global,
+    made: &Bench,
+    history: &[Record<Global>],
+    trouble: Trouble,
+) -> Told {
+    match made.copied(alloc) {
+        Some(bench) => told_on(rt, alloc, &bench, history, trouble),
+        None => UNMADE,
+    }
+}
+
+/// Counts the courses in which a call fails, and a later one as well.
+fn count_second<R: Clock + Log>(
+    rt: &R,
+    alloc: Global,
+    made: &Bench,
+    history: &[Record<Global>],
+    counts: &mut Counts,
+    first: Fault,
+    second: Second,
+) {
+    for earlier in first.call..MOST {
+        let call = earlier.saturating_add(1);
+        let trouble = Trouble {
+            first,
+            call,
+            second,
+        };
+        let told = told_of(rt, alloc, made, history, trouble);
+        if told.calls < call {
+            return;
+        }
+        if second != Second::Done || !told.is_read {
+            counts.add(told.verdict);
+        }
+    }
+}
+
+/// Returns what is told of the course in which one call fails.
+fn told_alone<R: Clock + Log>(
+    rt: &R,
+    alloc: Global,
+    made: &Bench,
+    history: &[Record<Global>],
+    first: Fault,
+) -> Told {
+    let trouble = Trouble {
+        first,
+        call: MOST,
+        second: Second::Undone,
+    };
+    told_of(rt, alloc, made, history, trouble)
+}
+
+/// Counts the courses in which two calls fail.
+fn counted<R: Clock + Log>(
+    rt: &R,
+    alloc: Global,
+    made: &Bench,
+    history: &[Record<Global>],
+    end: End,
+    second: Second,
+) -> Counts {
+    let mut counts = Counts::new();
+    for call in 1..MOST {
+        let first = Fault { call, end };
+        let alone = told_alone(rt, alloc, made, history, first);
+        if alone.calls < call {
+            return counts;
+        }
+        if end != End::Done || !alone.is_read {
+            count_second(rt, alloc, made, history, &mut counts, first, second);
+        }
+    }
+    counts
+}
+
+/// Returns the counts of the courses in which two calls fail.
+fn pairs<R: Clock + Log>(rt: &R, alloc: Global, end: End, second: Second) -> Result<Counts, Fail> {
+    let history = history(alloc, REQUESTS)?;
+    let made = made(rt, alloc)?;
+    Ok(counted(rt, alloc, &made, &history, end, second))
+}
+
+/// Returns the counts of the courses in which one call fails, or all from one on.
+fn singles<R: Clock + Log>(rt: &R, alloc: Global, second: Second) -> Result<Counts, Fail> {
+    let history = history(alloc, REQUESTS)?;
+    let made = made(rt, alloc)?;
+    let mut counts = Counts::new();
+    count_second(rt, alloc, &made, &history, &mut counts, NO_FAULT, second);
+    Ok(counts)
+}
+
+#[test]
+fn a_call_that_does_nothing_breaks_nothing(rt: HostRuntime) -> Result<(), Fail> {
+    let counts = singles(&rt, rt.alloc(), Second::Undone)?;
+    assert_eq!(rt; (counts.unmade, counts.lost, counts.broken), (0, 0, 0));
+    assert!(rt; counts.right > LEAST, "{}", counts.right);
+    Ok(())
+}
+
+#[test]
+fn a_call_that_does_all_breaks_nothing(rt: HostRuntime) -> Result<(), Fail> {
+    let counts = singles(&rt, rt.alloc(), Second::Done)?;
+    assert_eq!(rt; (counts.unmade, counts.lost, counts.broken), (0, 0, 0));
+    assert!(rt; counts.right > LEAST, "{}", counts.right);
+    Ok(())
+}
+
+#[test]
+fn a_call_without_room_breaks_nothing(rt: HostRuntime) -> Result<(), Fail> {
+    let counts = singles(&rt, rt.alloc(), Second::NoRoom)?;
+    assert_eq!(rt; (counts.unmade, counts.lost, counts.broken), (0, 0, 0));
+    assert!(rt; counts.right > LEAST, "{}", counts.right);
+    Ok(())
+}
+
+#[test]
+fn failures_that_last_break_nothing(rt: HostRuntime) -> Result<(), Fail> {
+    let counts = singles(&rt, rt.alloc(), Second::Lasting)?;
+    assert_eq!(rt; (counts.unmade, counts.lost, counts.broken), (0, 0, 0));
+    assert!(rt; counts.right > LEAST, "{}", counts.right);
+    Ok(())
+}
+
+#[test]
+fn two_calls_that_do_nothing_break_nothing(rt: HostRuntime) -> Result<(), Fail> {
+    let counts = pairs(&rt, rt.alloc(), End::Undone, Second::Undone)?;
+    assert_eq!(rt; (counts.unmade, counts.lost, counts.broken), (0, 0, 0));
+    assert!(rt; counts.right > LEAST, "{}", counts.right);
+    Ok(())
+}
+
+#[test]
+fn nothing_and_then_all_done_breaks_nothing(rt: HostRuntime) -> Result<(), Fail> {
+    let counts = pairs(&rt, rt.alloc(), End::Undone, Second::Done)?;
+    assert_eq!(rt; (counts.unmade, counts.lost, counts.broken), (0, 0, 0));
+    assert!(rt; counts.right > LEAST, "{}", counts.right);
+    Ok(())
+}
+
+#[test]
+fn nothing_done_and_then_failures_that_last_break_nothing(rt: HostRuntime) -> Result<(), Fail> {
+    let counts = pairs(&rt, rt.alloc(), End::Undone, Second::Lasting)?;
+    assert_eq!(rt; (counts.unmade, counts.lost, counts.broken), (0, 0, 0));
+    assert!(rt; counts.right > LEAST, "{}", counts.right);
+    Ok(())
+}
+
+#[test]
+fn all_and_then_nothing_done_breaks_nothing(rt: HostRuntime) -> Result<(), Fail> {
+    let counts = pairs(&rt, rt.alloc(), End::Done, Second::Undone)?;
+    assert_eq!(rt; (counts.unmade, counts.lost, counts.broken), (0, 0, 0));
+    assert!(rt; counts.right > LEAST, "{}", counts.right);
+    Ok(())
+}
+
+#[test]
+fn two_calls_that_do_all_break_nothing(rt: HostRuntime) -> Result<(), Fail> {
+    let counts = pairs(&rt, rt.alloc(), End::Done, Second::Done)?;
+    assert_eq!(rt; (counts.unmade, counts.lost, counts.broken), (0, 0, 0));
+    assert!(rt; counts.right > LEAST, "{}", counts.right);
+    Ok(())
+}
+
+#[test]
+fn all_done_and_then_failures_that_last_break_nothing(rt: HostRuntime) -> Result<(), Fail> {
+    let counts = pairs(&rt, rt.alloc(), End::Done, Second::Lasting)?;
+    assert_eq!(rt; (counts.unmade, counts.lost, counts.broken), (0, 0, 0));
+    assert!(rt; counts.right > LEAST, "{}", counts.right);
+    Ok(())
+}

@@ -1,0 +1,11 @@
+//! The peers of a server: what it allows them, and the watchers that it reports to.
+#![tactic(auto)]
+
+mod limits;
+mod watcher;
+
+pub use limits::{
+    DELIVERY_TIMEOUT, IDLE, MAX_WORKERS, ServerLimits, TIMEOUT, TURNS, WORKERS,
+    limits_are_as_defined,
+};
+pub use watcher::Watcher;
