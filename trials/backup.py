@@ -230,6 +230,7 @@ def run_damages(place: Place, file: str, results: Results) -> None:
         elif "damaged" in name:
             with open(store, "r+b") as opened:
                 opened.write(bytes(1000))
+            os.truncate(store + "-wal", 0)  # it may have all pages, and then none of the file is read
         else:
             os.truncate(store, 0)
         ran = place.run("restore", bad, "--store", file)
