@@ -1,13 +1,14 @@
 #!/usr/bin/env python3
-"""Checks that a name of a definition means one thing in the whole workspace.
+"""Checks that the name of a definition, and that of a type, means one thing in the whole workspace.
 
-    check/names.py              reads crates/*/specs, from the top of the checkout
+    check/names.py              reads crates/*/specs and crates/*/src, from the top of the checkout
     check/names.py --self-test  plants a name that is defined already, in each form, and checks that it is found
 
-A name is that of a definition in a module of specs, `pub` or not: of a record, a `data` and each of its constructors, an
-`abbrev`, and whatever has only a type and equations. Fields of records do not count, since they are written after a value. It
-prints each name that is defined in two or more modules, with the modules, and then how many names there are and how many are
-defined twice. The status is 1 if any is.
+The name of a definition is that of a record, a `data` and each of its constructors, an `abbrev`, and whatever has only a type
+and equations, in a module of specs, `pub` or not. Fields of records do not count, since they are written after a value. The
+name of a type is that of a struct, an enum, a trait or an alias in a module of code, if it is visible outside of the module. It
+prints each name that two or more modules define, with the modules, and then how many names there are and how many are defined
+twice. The status is 1 if any is.
 """
 
 from __future__ import annotations
@@ -18,6 +19,7 @@ import glob
 import os
 import re
 import sys
+from collections.abc import Callable
 
 HERE = os.path.dirname(os.path.dirname(os.path.abspath(__file__)))
 # what may precede a name; the constructors of a `data` are below it, indented
@@ -25,6 +27,7 @@ HEAD = re.compile(r"(?:(?:abbrev|unfoldable|pub) +)*(?:(record|data) +)?([^\W\d]
 CONSTRUCTOR = re.compile(r" +(?:pub +)?([^\W\d][\w-]*) +:")
 BLOCK = re.compile(r"(?:abbrev +)?(?:mutual|module)\b.*")  # what has definitions below it, indented
 PARAMETERS = re.compile(r"\([^(){}]*\)|\{[^(){}]*\}")
+TYPE = re.compile(r"^ *pub(?:\([a-z ]+\))? (?:struct|enum|trait|type) (\w+)", re.MULTILINE)
 OTHERS = {"use", "mod", "module", "mutual", "record", "data", "abbrev"}
 PLANTED = (  # forms of a definition, with the name for {0}
     "abbrev pub {0} : ℕ\n{0} = 0",
@@ -36,6 +39,12 @@ PLANTED = (  # forms of a definition, with the name for {0}
     "pub data ZZ : Type 0 where\n  zz : ZZ\n  {0} : ZZ",
     "abbrev mutual\n  pub zz : ℕ\n  zz = 0\n\n  pub {0} : ℕ\n  {0} = 0",
     "module _ {{A : Type 0}} (n : ℕ) where\n  abbrev pub {0} : ℕ\n  {0} = n",
+)
+PLANTED_TYPES = (  # forms of a type
+    "pub struct {0};",
+    "pub(crate) enum {0} {{}}",
+    "    pub trait {0}<A: Copy> {{",
+    "pub(super) type {0} = u64;",
 )
 
 
@@ -68,51 +77,65 @@ def names_in(text: str) -> set[str]:
     return names
 
 
-def texts() -> dict[str, str]:
-    """Returns the text of each module, by path."""
-    found = {}
-    for path in sorted(glob.glob(f"{HERE}/crates/*/specs/**/*.antt", recursive=True)):
-        with open(path, encoding="utf-8") as opened:
-            found[os.path.relpath(path, HERE)] = opened.read()
-    return found
+def types_in(text: str) -> set[str]:
+    """Returns the names of the types that a module of code shows to others."""
+    return set(TYPE.findall(text))
 
 
-def modules_of(modules: dict[str, str]) -> dict[str, list[str]]:
-    """Returns the modules in which each name is defined."""
-    found = collections.defaultdict(list)
-    for path, text in modules.items():
-        for name in names_in(text):
-            found[name].append(path)
-    return found
+class Kind:
+    """A kind of names: how it is called, where its modules are, how its names are read, and the forms to plant."""
 
+    def __init__(self, word: str, pattern: str, names: Callable[[str], set[str]], planted: tuple[str, ...]) -> None:
+        self.word, self.names, self.planted = word, names, planted
+        self.modules = {}
+        for path in sorted(glob.glob(f"{HERE}/crates/*/{pattern}", recursive=True)):
+            with open(path, encoding="utf-8") as opened:
+                self.modules[os.path.relpath(path, HERE)] = opened.read()
 
-def self_test(modules: dict[str, str]) -> list[str]:
-    """Returns the forms in which a name that is planted in another module is not found."""
-    found = modules_of(modules)
-    name = min(name for name, paths in found.items() if len(paths) == 1)
-    missed = []
-    for form in PLANTED:
-        spoiled = {**modules, "planted.antt": "-- a module\n" + form.format(name) + "\n"}
-        if modules_of(spoiled)[name] != [*found[name], "planted.antt"]:
-            missed.append(form.format(name))
-    return missed
+    def modules_of(self, modules: dict[str, str]) -> dict[str, list[str]]:
+        """Returns the modules in which each name is defined."""
+        found = collections.defaultdict(list)
+        for path, text in modules.items():
+            for name in self.names(text):
+                found[name].append(path)
+        return found
+
+    def missed(self) -> list[str]:
+        """Returns the forms in which a name that is planted in another module is not found."""
+        found = self.modules_of(self.modules)
+        name = min(name for name, paths in found.items() if len(paths) == 1)
+        forms = []
+        for form in self.planted:
+            spoiled = {**self.modules, "planted": "\n" + form.format(name) + "\n"}
+            if self.modules_of(spoiled)[name] != [*found[name], "planted"]:
+                forms.append(form.format(name))
+        return forms
+
+    def tell(self) -> bool:
+        """Prints the names that are defined twice, and returns whether there are any."""
+        found = self.modules_of(self.modules)
+        twice = {name: paths for name, paths in sorted(found.items()) if len(paths) > 1}
+        for name, paths in twice.items():
+            print(f"{name}: {', '.join(paths)}")
+        print(f"{len(found):,} {self.word}, {len(twice)} twice")
+        return bool(twice)
 
 
 def main() -> None:
     about, _, more = (__doc__ or "").partition("\n\n")
     asked = argparse.ArgumentParser(description=about, epilog=more, formatter_class=argparse.RawDescriptionHelpFormatter)
     asked.add_argument("--self-test", action="store_true", help="plant a name, and see that it is found")
-    modules = texts()
-    if asked.parse_args().self_test:
-        missed = self_test(modules)
-        print("\n".join(f"not found: {it!r}" for it in missed) or f"{len(PLANTED)} planted names, each found")
+    is_test = asked.parse_args().self_test
+    kinds = [
+        Kind("names of definitions", "specs/**/*.antt", names_in, PLANTED),
+        Kind("names of types", "src/**/*.rt", types_in, PLANTED_TYPES),
+    ]
+    if is_test:
+        missed = [form for kind in kinds for form in kind.missed()]
+        count = sum(len(kind.planted) for kind in kinds)
+        print("\n".join(f"not found: {it!r}" for it in missed) or f"{count} planted names, each found")
         sys.exit(bool(missed))
-    found = modules_of(modules)
-    twice = {name: paths for name, paths in sorted(found.items()) if len(paths) > 1}
-    for name, paths in twice.items():
-        print(f"{name}: {', '.join(paths)}")
-    print(f"{len(found):,} names, {len(twice)} twice")
-    sys.exit(bool(twice))
+    sys.exit(any([kind.tell() for kind in kinds]))
 
 
 if __name__ == "__main__":

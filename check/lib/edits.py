@@ -93,14 +93,22 @@ def owner(line: str) -> str:
     return type_name(kind) + type_name(trait) if is_trait else type_name(trait)
 
 
+def head_at(lines: list[str], at: int) -> str:
+    """Returns the head of an `impl` in one line, as it may stand in two; any other line as it is."""
+    if lines[at].startswith("impl") and "{" not in lines[at] and at + 1 < len(lines):
+        return f"{lines[at]} {lines[at + 1].strip()}"
+    return lines[at]
+
+
 def functions_in(text: str, path: str) -> list[str]:
     """Returns the functions of a file as the prover names them: `negotiating::negotiate`, `row::Row::is_locked`."""
     module = path.removeprefix("src/").removesuffix(".rt").replace("/", "::")
     found, inside = [], ""
-    for line in text.split("\n"):
+    lines = text.split("\n")
+    for at, line in enumerate(lines):
         bare = line.strip()
         if line and not line.startswith((" ", "}", ")")):
-            inside = owner(line)
+            inside = owner(head_at(lines, at))
         heading = HEADING.match(bare)
         if heading and len(line) - len(bare) <= 4:
             parts = [module if module not in ("lib", "main") else "", inside if line != bare else "", heading[1]]

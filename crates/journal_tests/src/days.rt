@@ -33,7 +33,7 @@ const DAY: &str = "\
 /// The settings of a manager: its peers, of which the second may lock; how long it keeps finished steps, in seconds;
 /// its offset from UTC in minutes; and the limit of its history in requests.
 #[derive(Clone, Copy)]
-pub(crate) struct Settings<'a> {
+pub(crate) struct DaySettings<'a> {
     pub(crate) peers: &'a str,
     pub(crate) keep: u32,
     pub(crate) offset: i16,
@@ -41,7 +41,7 @@ pub(crate) struct Settings<'a> {
 }
 
 /// The settings with which the day goes well.
-pub(crate) const SETTINGS: Settings<'static> = Settings {
+pub(crate) const SETTINGS: DaySettings<'static> = DaySettings {
     peers: "WATCH1,WATCH2,WATCH3",
     keep: 60,
     offset: 60,
@@ -84,7 +84,7 @@ fn peers_of(alloc: Global, titles: &str) -> Result<Vec<Peer>, Fail> {
 pub(crate) fn a_manager<A: Allocator + Copy>(
     rt: &impl AllocGlobal,
     alloc: A,
-    settings: Settings<'_>,
+    settings: DaySettings<'_>,
 ) -> Result<Manager<A>, Fail> {
     let peers = peers_of(rt.alloc(), settings.peers)?;
     if peers.len() > 1_000 {

@@ -11,7 +11,7 @@ use std::alloc::Allocator;
 use std::fmt::Display;
 use std::test::Fail;
 use ups_cycle::StepState;
-use ups_journal::{Columns, Operation, Record};
+use ups_journal::{Columns, Record, RecordedOperation};
 use ups_pdu::Bytes;
 
 /// Returns the word at a place in a line, or an empty text if there is none.
@@ -80,9 +80,9 @@ fn state_column(word: &str) -> Result<Option<StepState>, Fail> {
 }
 
 /// Returns the operation that a word names.
-fn operation_column<A: Allocator + Copy>(alloc: A, word: &str) -> Result<Operation, Fail> {
+fn operation_column<A: Allocator + Copy>(alloc: A, word: &str) -> Result<RecordedOperation, Fail> {
     let name = word_bytes(alloc, word)?;
-    Ok(Operation::named(name.as_slice()).ok_or("an operation")?)
+    Ok(RecordedOperation::named(name.as_slice()).ok_or("an operation")?)
 }
 
 /// Returns the attributes of a column.
@@ -108,12 +108,12 @@ fn plain_columns<A: Allocator + Copy>(alloc: A, line: &str) -> Result<Columns<A>
     Ok(Columns {
         operation,
         instance: None,
-        transaction: None,
+        transaction_uid: None,
         state,
         receiver: None,
-        lock,
-        number,
-        offset,
+        deletion_lock: lock,
+        event: number,
+        utc_offset: offset,
         attributes: None,
     })
 }
@@ -125,7 +125,7 @@ fn put_texts<A: Allocator + Copy>(
     line: &str,
 ) -> Result<(), Fail> {
     columns.instance = text_column(alloc, word_at(line, 4))?;
-    columns.transaction = text_column(alloc, word_at(line, 5))?;
+    columns.transaction_uid = text_column(alloc, word_at(line, 5))?;
     columns.receiver = text_column(alloc, word_at(line, 7))?;
     Ok(())
 }
@@ -206,11 +206,11 @@ fn put_shown<T: Display + Copy>(text: &mut String, column: Option<T>) -> Result<
 /// Adds the columns of a request.
 fn put_columns<A: Allocator + Copy>(text: &mut String, columns: &Columns<A>) -> Result<(), Fail> {
     write!(text, " {} {:?}", columns.operation, columns.state)?;
-    put_shown(text, columns.lock)?;
-    put_shown(text, columns.number)?;
-    put_shown(text, columns.offset)?;
+    put_shown(text, columns.deletion_lock)?;
+    put_shown(text, columns.event)?;
+    put_shown(text, columns.utc_offset)?;
     put_bytes(text, &columns.instance)?;
-    put_bytes(text, &columns.transaction)?;
+    put_bytes(text, &columns.transaction_uid)?;
     put_bytes(text, &columns.receiver)?;
     put_bytes(text, &columns.attributes)
 }

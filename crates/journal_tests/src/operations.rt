@@ -1,6 +1,6 @@
 use fixtures::rows::{check, cut};
 use std::test::Fail;
-use ups_journal::Operation;
+use ups_journal::RecordedOperation;
 
 /// The number and the name of each operation, as in a store.
 const OPERATIONS: &str = "\
@@ -18,10 +18,10 @@ const OPERATIONS: &str = "\
 fn is_so(rt: &impl AllocGlobal, row: &str) -> Result<bool, Fail> {
     let (digits, name) = cut(row, " ")?;
     let code = digits.parse::<u8>()?;
-    let operation = Operation::of_number(code).ok_or("an operation")?;
+    let operation = RecordedOperation::of_number(code).ok_or("an operation")?;
     let shown = format!(in rt.alloc(); "{operation}")?;
     Ok(
-        Operation::named(name.as_bytes()) == Some(operation)
+        RecordedOperation::named(name.as_bytes()) == Some(operation)
             && operation.number() == code
             && operation.name() == name.as_bytes()
             && shown.as_str() == name,
@@ -51,11 +51,14 @@ sweeps";
 #[test]
 fn no_other_number_and_no_other_name_is_one(_rt: HostRuntime) -> Result<(), Fail> {
     for code in 10..=255_u8 {
-        check("a number above 9", Operation::of_number(code).is_none())?;
+        check(
+            "a number above 9",
+            RecordedOperation::of_number(code).is_none(),
+        )?;
     }
-    check("0", Operation::of_number(0).is_none())?;
+    check("0", RecordedOperation::of_number(0).is_none())?;
     for name in NAMES.lines() {
-        check(name, Operation::named(name.as_bytes()).is_none())?;
+        check(name, RecordedOperation::named(name.as_bytes()).is_none())?;
     }
     Ok(())
 }

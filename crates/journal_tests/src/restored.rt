@@ -1,7 +1,7 @@
 //! Managers restored from records.
 
 use crate::days::{
-    SETTINGS, Settings, a_day, a_manager, go_on, number_at, picture, told_of_the_day, whole,
+    DaySettings, SETTINGS, a_day, a_manager, go_on, number_at, picture, told_of_the_day, whole,
 };
 use crate::lines::{record_of_line, word_at, word_bytes};
 use fixtures::rows::{check_same, cut, cut_twice, number};
@@ -85,7 +85,7 @@ fn picture_after(
 /// Returns the offset in the record of the first request in a manager's history.
 fn first_offset(rt: &impl AllocGlobal, manager: &Manager<Global>) -> Result<Option<i16>, Fail> {
     let entry = manager.history().first().ok_or("an entry")?;
-    Ok(record_of(rt.alloc(), entry)?.request.offset)
+    Ok(record_of(rt.alloc(), entry)?.request.utc_offset)
 }
 
 /// Makes a manager enter all records at once and then a creation, and returns what it tells then about its steps and
@@ -180,7 +180,7 @@ fn told_by(
 /// The same with a new manager that has these settings.
 fn told_anew(
     rt: &impl AllocGlobal,
-    settings: Settings<'_>,
+    settings: DaySettings<'_>,
     records: &[Record<Global>],
     way: Way<'_>,
 ) -> Result<String, Fail> {
@@ -253,7 +253,7 @@ fn spoil(
     match column {
         "title" => stored.title = bytes,
         "instance" => stored.request.instance = Some(bytes),
-        "transaction" => stored.request.transaction = Some(bytes),
+        "transaction" => stored.request.transaction_uid = Some(bytes),
         "receiver" => stored.request.receiver = Some(bytes),
         "attributes" => stored.request.attributes = Some(bytes),
         _ => return Err("a column".into()),
@@ -274,8 +274,8 @@ fn spoilt_day(rt: &impl AllocGlobal, row: &str) -> Result<Vec<Record<Global>>, F
 }
 
 /// Returns the settings of a row.
-fn settings_of(row: &str) -> Result<Settings<'_>, Fail> {
-    Ok(Settings {
+fn settings_of(row: &str) -> Result<DaySettings<'_>, Fail> {
+    Ok(DaySettings {
         peers: word_at(row, 0),
         keep: word_at(row, 1).parse::<u32>()?,
         offset: 0,

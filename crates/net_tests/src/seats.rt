@@ -9,7 +9,7 @@ use ups_life::{Ask, Reply, Request, StepUid, Transaction};
 use ups_manager::Manager;
 use ups_pdu::Ae;
 use ups_service::{Service, SharedService};
-use ups_turn::{CloseFault, Desk, OpenFault, Pass};
+use ups_turn::{CloseFault, Desk, DeskFault, Pass};
 
 /// The moment of each request: 2024-02-29 12:00:00 UTC.
 const NOON: u64 = 1_709_208_000;
@@ -211,8 +211,8 @@ fn opening<A: Allocator + Copy, M: SharedService<A>>(
     match Desk::open(alloc, shared, seats) {
         Ok(_) => "opens",
         Err((shared, fault)) => match (shared.entries(), fault) {
-            (1, OpenFault::BadSeats) => "BadSeats",
-            (1, OpenFault::Memory) => "Memory",
+            (1, DeskFault::BadSeats) => "BadSeats",
+            (1, DeskFault::Memory) => "Memory",
             _ => "changed",
         },
     }

@@ -14,7 +14,7 @@ use std::time::Clock;
 use ups_assoc::Config;
 use ups_ledger::Commits;
 use ups_manager::Manager;
-use ups_net::{Account, ServerOptions, Tally, end_told, ends_of, serve_one};
+use ups_net::{Account, ServerOptions, Site, Tally, end_told, ends_of, serve_one};
 use ups_peers::ServerLimits;
 use ups_service::SharedService;
 use ups_session::{End, SessionFault};
@@ -71,10 +71,13 @@ fn told_by<M: SharedService<Global>, R: Wait + Clock + Log>(
     requires here { pass.table ≡ desk.now.table }
 {
     let none: Commits<Brand> = Commits::of_none();
-    let (inlet, outlet) = ends_of(server, None);
-    let (_, ended, is_sent, _) = serve_one(
-        rt, inlet, outlet, account, None, desk, pass, options, &none,
-    );
+    let site = Site {
+        rt,
+        desk,
+        options,
+        commits: &none,
+    };
+    let (_, ended, is_sent, _) = serve_one(site, ends_of(server, None), account, None, pass);
     end_told(ended, is_sent)
 }
 

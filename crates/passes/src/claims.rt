@@ -14,7 +14,7 @@ use ups_manager::Manager;
 use ups_pdu::Ae;
 use ups_script::answer_lines;
 use ups_service::Service;
-use ups_turn::{Desk, OpenFault, Pass};
+use ups_turn::{Desk, DeskFault, Pass};
 
 /// The number of steps.
 const STEPS: u32 = 100;
@@ -282,8 +282,8 @@ fn outcome_over<R: Threads + Wait + Sync>(
 ) -> io::Result<Outcome> {
     match Desk::open(alloc, manager, seats) {
         Ok((desk, passes)) => outcome_at(rt, alloc, ae, desk, passes),
-        Err((_, OpenFault::BadSeats)) => Err(no_words()),
-        Err((_, OpenFault::Memory)) => Err(out_of_memory()),
+        Err((_, DeskFault::BadSeats)) => Err(no_words()),
+        Err((_, DeskFault::Memory)) => Err(out_of_memory()),
     }
 }
 

@@ -19,7 +19,7 @@ fn same_bytes(a: &Option<Bytes<Global>>, b: &Option<Bytes<Global>>) -> bool {
 /// Returns whether all texts in the columns of two requests are equal.
 fn same_texts(a: &Columns<Global>, b: &Columns<Global>) -> bool {
     same_bytes(&a.instance, &b.instance)
-        && same_bytes(&a.transaction, &b.transaction)
+        && same_bytes(&a.transaction_uid, &b.transaction_uid)
         && same_bytes(&a.receiver, &b.receiver)
         && same_bytes(&a.attributes, &b.attributes)
 }
@@ -28,9 +28,9 @@ fn same_texts(a: &Columns<Global>, b: &Columns<Global>) -> bool {
 fn same_values(a: &Columns<Global>, b: &Columns<Global>) -> bool {
     a.operation == b.operation
         && a.state == b.state
-        && a.lock == b.lock
-        && a.number == b.number
-        && a.offset == b.offset
+        && a.deletion_lock == b.deletion_lock
+        && a.event == b.event
+        && a.utc_offset == b.utc_offset
 }
 
 /// Returns whether two records are equal.

@@ -39,18 +39,18 @@ fn columns_copy(alloc: Global, columns: &Columns<Global>) -> Result<Columns<Glob
     ensures { IfOk result (λ copy. copy ≡ columns.now) }
 {
     let instance = text_copy(alloc, &columns.instance)?;
-    let transaction = text_copy(alloc, &columns.transaction)?;
+    let transaction = text_copy(alloc, &columns.transaction_uid)?;
     let receiver = text_copy(alloc, &columns.receiver)?;
     let attributes = text_copy(alloc, &columns.attributes)?;
     Ok(Columns {
         operation: columns.operation,
         instance,
-        transaction,
+        transaction_uid: transaction,
         state: columns.state,
         receiver,
-        lock: columns.lock,
-        number: columns.number,
-        offset: columns.offset,
+        deletion_lock: columns.deletion_lock,
+        event: columns.event,
+        utc_offset: columns.utc_offset,
         attributes,
     })
 }

@@ -2,7 +2,7 @@
 
 use crate::devices::Interrupted;
 use crate::lines::{no_course, title_of};
-use crate::options::{Kind, Part};
+use crate::options::{ServiceKind, ServicePart};
 use crate::parts::{PartEnd, add_end};
 use std::alloc::{Allocator, Global};
 use std::io::{self, Read, Write};
@@ -95,13 +95,13 @@ fn ended<A: Allocator + Copy>(
     manager: &mut Manager<A>,
     gate: &mut ListGate<'_, Global>,
     taken: &mut CutWriter<Global>,
-    part: Part,
+    part: ServicePart,
     given: &[u8],
 ) -> io::Result<PartEnd> {
     let reader = Interrupted::new(CutReader::new(given, part.fails), part.reads);
     let writer = Interrupted::new(taken, part.writes);
     let turns = u64::from(part.turns);
-    if part.kind == Kind::Deliver {
+    if part.kind == ServiceKind::Deliver {
         delivered(heap, manager, gate, reader, writer, turns)
     } else {
         served(heap, manager, gate, reader, writer, turns)
@@ -117,7 +117,7 @@ pub(crate) fn add_association<A: Allocator + Copy>(
     heap: A,
     manager: &mut Manager<A>,
     text: &mut String,
-    part: Part,
+    part: ServicePart,
     given: &[u8],
 ) -> io::Result<()> {
     let moments: &[u64] = if part.is_timed { &MOMENTS } else { &[] };
@@ -132,7 +132,7 @@ pub(crate) fn add_association<A: Allocator + Copy>(
 fn add_more<A: Allocator + Copy>(
     text: &mut String,
     manager: &Manager<A>,
-    part: Part,
+    part: ServicePart,
     calls: &[GateCall],
 ) -> io::Result<()> {
     if part.is_full {

@@ -1,7 +1,7 @@
 //! A course: parts that one service handles, one after the other.
 
 use crate::lines::{no_course, title_of};
-use crate::options::Settings;
+use crate::options::CourseSettings;
 use crate::parts::add_part;
 use fixtures::Refusing;
 use std::alloc::{Allocator, Global};
@@ -19,14 +19,19 @@ pub(crate) fn course_of(alloc: Global, line: &str) -> io::Result<String> {
     let Some((first, parts)) = line.split_once(' ') else {
         return Err(no_course());
     };
-    let settings = Settings::of(first)?;
+    let settings = CourseSettings::of(first)?;
     let mut text = String::new(alloc);
     add_course(alloc, &mut text, settings, parts)?;
     Ok(text)
 }
 
 /// Runs a course, refusing the growth that the settings name, and adds its outcome and whether a growth was refused.
-fn add_course(alloc: Global, text: &mut String, settings: Settings, parts: &str) -> io::Result<()> {
+fn add_course(
+    alloc: Global,
+    text: &mut String,
+    settings: CourseSettings,
+    parts: &str,
+) -> io::Result<()> {
     let heap = Refusing::new(alloc);
     heap.refuse(settings.refused);
     add_parts(alloc, &heap, text, settings, parts)?;
@@ -43,7 +48,7 @@ fn add_parts<A: Allocator + Copy>(
     alloc: Global,
     heap: A,
     text: &mut String,
-    settings: Settings,
+    settings: CourseSettings,
     parts: &str,
 ) -> io::Result<()> {
     let first = Peer {

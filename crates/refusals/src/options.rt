@@ -9,23 +9,23 @@ const TURNS: u16 = 60_000;
 
 /// The growth that is refused in a course, the limit of the history in requests, and the local time.
 #[derive(Clone, Copy, Debug, PartialEq, Eq)]
-pub(crate) struct Settings {
+pub(crate) struct CourseSettings {
     pub(crate) refused: u64,
     pub(crate) history: u64,
     /// In minutes east of UTC.
     pub(crate) offset: i16,
 }
 
-impl Settings {
+impl CourseSettings {
     /// Reads the settings from the first word of a line.
     ///
     /// Errors: InvalidData if the word is not valid.
-    pub(crate) fn of(word: &str) -> io::Result<Settings> {
+    pub(crate) fn of(word: &str) -> io::Result<CourseSettings> {
         let (number, options) = word.split_once(',').unwrap_or((word, ""));
         let Ok(refused) = number.parse::<u64>() else {
             return Err(no_course());
         };
-        let mut settings = Settings {
+        let mut settings = CourseSettings {
             refused,
             history: MAX_HISTORY,
             offset: 0,
@@ -53,7 +53,7 @@ impl Settings {
 
 /// The kind of a part.
 #[derive(Clone, Copy, Debug, PartialEq, Eq)]
-pub(crate) enum Kind {
+pub(crate) enum ServiceKind {
     /// A peer asks for an association.
     Serve,
     /// This side asks W1 for an association, and sends event reports over it.
@@ -68,23 +68,23 @@ pub(crate) enum Kind {
     Size,
 }
 
-impl Kind {
+impl ServiceKind {
     /// Returns the kind that a word names, or None if it names none.
-    fn of(word: &str) -> Option<Kind> {
+    fn of(word: &str) -> Option<ServiceKind> {
         match word {
-            "serve" => Some(Kind::Serve),
-            "deliver" => Some(Kind::Deliver),
-            "script" => Some(Kind::Script),
-            _ => Kind::of_question(word),
+            "serve" => Some(ServiceKind::Serve),
+            "deliver" => Some(ServiceKind::Deliver),
+            "script" => Some(ServiceKind::Script),
+            _ => ServiceKind::of_question(word),
         }
     }
 
     /// Returns the kind that a word names, of those that ask nothing of the service.
-    fn of_question(word: &str) -> Option<Kind> {
+    fn of_question(word: &str) -> Option<ServiceKind> {
         match word {
-            "plain" => Some(Kind::Plain),
-            "due" => Some(Kind::Due),
-            "size" => Some(Kind::Size),
+            "plain" => Some(ServiceKind::Plain),
+            "due" => Some(ServiceKind::Due),
+            "size" => Some(ServiceKind::Size),
             _ => None,
         }
     }
@@ -92,8 +92,8 @@ impl Kind {
 
 /// A part without its bytes: its kind, its limits, how its devices fail, and what is reported of it.
 #[derive(Clone, Copy, Debug, PartialEq, Eq)]
-pub(crate) struct Part {
-    pub(crate) kind: Kind,
+pub(crate) struct ServicePart {
+    pub(crate) kind: ServiceKind,
     /// The maximum number of PDUs or lines to read.
     pub(crate) turns: u16,
     /// The number of bytes that the output accepts.
@@ -112,16 +112,16 @@ pub(crate) struct Part {
     pub(crate) has_pending: bool,
 }
 
-impl Part {
+impl ServicePart {
     /// Reads a part from a word.
     ///
     /// Errors: InvalidData if the word is not valid.
-    pub(crate) fn of(word: &str) -> io::Result<Part> {
+    pub(crate) fn of(word: &str) -> io::Result<ServicePart> {
         let (kind, options) = word.split_once(',').unwrap_or((word, ""));
-        let Some(kind) = Kind::of(kind) else {
+        let Some(kind) = ServiceKind::of(kind) else {
             return Err(no_course());
         };
-        let mut part = Part {
+        let mut part = ServicePart {
             kind,
             turns: TURNS,
             room: usize::MAX,

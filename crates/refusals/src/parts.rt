@@ -3,7 +3,7 @@
 
 use crate::associations::add_association;
 use crate::lines::{bytes_of, no_course};
-use crate::options::{Kind, Part};
+use crate::options::{ServiceKind, ServicePart};
 use crate::plainly::{due_of, lists_of, size_of};
 use std::alloc::{Allocator, Global};
 use std::io;
@@ -80,12 +80,12 @@ fn add_told<A: Allocator + Copy>(
     heap: A,
     manager: &Manager<A>,
     text: &mut String,
-    kind: Kind,
+    kind: ServiceKind,
     given: &[u8],
 ) -> io::Result<()> {
     let told = match kind {
-        Kind::Due => due_of(alloc, heap, manager, given)?,
-        Kind::Size => size_of(alloc, manager, given)?,
+        ServiceKind::Due => due_of(alloc, heap, manager, given)?,
+        ServiceKind::Size => size_of(alloc, manager, given)?,
         _ => lists_of(alloc, heap, manager)?,
     };
     add_end(
@@ -110,7 +110,7 @@ pub(crate) fn add_part<A: Allocator + Copy>(
     let Some((front, digits)) = word.split_once(':') else {
         return Err(no_course());
     };
-    let part = Part::of(front)?;
+    let part = ServicePart::of(front)?;
     let given = bytes_of(alloc, digits)?;
     add_by_kind(alloc, heap, manager, text, part, &given)?;
     Ok(text.push_str(" | ")?)
@@ -122,13 +122,15 @@ fn add_by_kind<A: Allocator + Copy>(
     heap: A,
     manager: &mut Manager<A>,
     text: &mut String,
-    part: Part,
+    part: ServicePart,
     given: &[u8],
 ) -> io::Result<()> {
     match part.kind {
-        Kind::Serve | Kind::Deliver => add_association(alloc, heap, manager, text, part, given),
-        Kind::Script => add_script(alloc, heap, manager, text, part.turns, given),
-        Kind::Plain | Kind::Due | Kind::Size => {
+        ServiceKind::Serve | ServiceKind::Deliver => add_association(
+            alloc, heap, manager, text, part, given,
+        ),
+        ServiceKind::Script => add_script(alloc, heap, manager, text, part.turns, given),
+        ServiceKind::Plain | ServiceKind::Due | ServiceKind::Size => {
             add_told(alloc, heap, manager, text, part.kind, given)
         }
     }

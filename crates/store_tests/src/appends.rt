@@ -19,7 +19,7 @@
 
 use crate::bench::Bench;
 use crate::course::{Counts, Course, Verdict, begun, history, made};
-use crate::plan::Outcome;
+use crate::plan::CallOutcome;
 use log::Log;
 use std::alloc::Global;
 use std::test::Fail;
@@ -51,12 +51,12 @@ const ALL_RIGHT: Counts = Counts {
 const REQUESTS: u64 = 6;
 
 /// Returns the outcome with this number.
-fn outcome_of(number: u32) -> Outcome {
+fn outcome_of(number: u32) -> CallOutcome {
     match number {
-        0 => Outcome::Success,
-        1 => Outcome::Full,
-        2 => Outcome::SyncKept,
-        _ => Outcome::SyncLost,
+        0 => CallOutcome::Success,
+        1 => CallOutcome::Full,
+        2 => CallOutcome::SyncKept,
+        _ => CallOutcome::SyncLost,
     }
 }
 

@@ -2,7 +2,7 @@
 
 use crate::contents::Contents;
 use crate::failing::Failing;
-use crate::plan::Plan;
+use crate::plan::CallPlan;
 use crate::recovering::loaded;
 use sqlite_disk::{Disk, Files, Memory};
 use std::alloc::{AllocError, Global};
@@ -20,14 +20,18 @@ pub(crate) struct Bench {
     /// The database file.
     pub(crate) db: Contents,
     /// Which calls fail.
-    pub(crate) plan: Plan,
+    pub(crate) plan: CallPlan,
 }
 
 /// A disk of a bench.
 pub(crate) type BenchDisk<'a> = Failing<'a, Memory>;
 
 /// Returns a disk over contents.
-fn disk_over<'a>(alloc: Global, contents: &'a Contents, plan: &'a Plan) -> Option<BenchDisk<'a>> {
+fn disk_over<'a>(
+    alloc: Global,
+    contents: &'a Contents,
+    plan: &'a CallPlan,
+) -> Option<BenchDisk<'a>> {
     match loaded(alloc, contents.left(false)) {
         Some(memory) => Some(Failing::new(memory, contents, plan)),
         None => None,
@@ -40,7 +44,7 @@ impl Bench {
         Bench {
             log: Contents::new(alloc),
             db: Contents::new(alloc),
-            plan: Plan::new(),
+            plan: CallPlan::new(),
         }
     }
 

@@ -8,7 +8,7 @@
 
 use crate::bench::Bench;
 use crate::course::{Counts, Course, Verdict, begun, history, made};
-use crate::plan::{End, Fault, NO_FAULT};
+use crate::plan::{CallEnd, Fault, NO_FAULT};
 use log::Log;
 use std::alloc::Global;
 use std::test::Fail;
@@ -47,11 +47,11 @@ struct Trouble {
 }
 
 /// Returns how one call fails.
-fn end_of(second: Second) -> End {
+fn end_of(second: Second) -> CallEnd {
     match second {
-        Second::Undone | Second::Lasting => End::Undone,
-        Second::Done => End::Done,
-        Second::NoRoom => End::NoRoom,
+        Second::Undone | Second::Lasting => CallEnd::Undone,
+        Second::Done => CallEnd::Done,
+        Second::NoRoom => CallEnd::NoRoom,
     }
 }
 
@@ -196,7 +196,7 @@ fn counted<R: Clock + Log>(
     alloc: Global,
     made: &Bench,
     history: &[Record<Global>],
-    end: End,
+    end: CallEnd,
     second: Second,
 ) -> Counts {
     let mut counts = Counts::new();
@@ -206,7 +206,7 @@ fn counted<R: Clock + Log>(
         if alone.calls < call {
             return counts;
         }
-        if end != End::Done || !alone.is_read {
+        if end != CallEnd::Done || !alone.is_read {
             count_second(rt, alloc, made, history, &mut counts, first, second);
         }
     }
@@ -214,7 +214,12 @@ fn counted<R: Clock + Log>(
 }
 
 /// Returns the counts of the courses in which two calls fail.
-fn pairs<R: Clock + Log>(rt: &R, alloc: Global, end: End, second: Second) -> Result<Counts, Fail> {
+fn pairs<R: Clock + Log>(
+    rt: &R,
+    alloc: Global,
+    end: CallEnd,
+    second: Second,
+) -> Result<Counts, Fail> {
     let history = history(alloc, REQUESTS)?;
     let made = made(rt, alloc)?;
     Ok(counted(rt, alloc, &made, &history, end, second))
@@ -263,7 +268,7 @@ fn failures_that_last_break_nothing(rt: HostRuntime) -> Result<(), Fail> {
 
 #[test]
 fn two_calls_that_do_nothing_break_nothing(rt: HostRuntime) -> Result<(), Fail> {
-    let counts = pairs(&rt, rt.alloc(), End::Undone, Second::Undone)?;
+    let counts = pairs(&rt, rt.alloc(), CallEnd::Undone, Second::Undone)?;
     assert_eq!(rt; (counts.unmade, counts.lost, counts.broken), (0, 0, 0));
     assert!(rt; counts.right > LEAST, "{}", counts.right);
     Ok(())
@@ -271,7 +276,7 @@ fn two_calls_that_do_nothing_break_nothing(rt: HostRuntime) -> Result<(), Fail> 
 
 #[test]
 fn nothing_and_then_all_done_breaks_nothing(rt: HostRuntime) -> Result<(), Fail> {
-    let counts = pairs(&rt, rt.alloc(), End::Undone, Second::Done)?;
+    let counts = pairs(&rt, rt.alloc(), CallEnd::Undone, Second::Done)?;
     assert_eq!(rt; (counts.unmade, counts.lost, counts.broken), (0, 0, 0));
     assert!(rt; counts.right > LEAST, "{}", counts.right);
     Ok(())
@@ -279,7 +284,7 @@ fn nothing_and_then_all_done_breaks_nothing(rt: HostRuntime) -> Result<(), Fail>
 
 #[test]
 fn nothing_done_and_then_failures_that_last_break_nothing(rt: HostRuntime) -> Result<(), Fail> {
-    let counts = pairs(&rt, rt.alloc(), End::Undone, Second::Lasting)?;
+    let counts = pairs(&rt, rt.alloc(), CallEnd::Undone, Second::Lasting)?;
     assert_eq!(rt; (counts.unmade, counts.lost, counts.broken), (0, 0, 0));
     assert!(rt; counts.right > LEAST, "{}", counts.right);
     Ok(())
@@ -287,7 +292,7 @@ fn nothing_done_and_then_failures_that_last_break_nothing(rt: HostRuntime) -> Re
 
 #[test]
 fn all_and_then_nothing_done_breaks_nothing(rt: HostRuntime) -> Result<(), Fail> {
-    let counts = pairs(&rt, rt.alloc(), End::Done, Second::Undone)?;
+    let counts = pairs(&rt, rt.alloc(), CallEnd::Done, Second::Undone)?;
     assert_eq!(rt; (counts.unmade, counts.lost, counts.broken), (0, 0, 0));
     assert!(rt; counts.right > LEAST, "{}", counts.right);
     Ok(())
@@ -295,7 +300,7 @@ fn all_and_then_nothing_done_breaks_nothing(rt: HostRuntime) -> Result<(), Fail>
 
 #[test]
 fn two_calls_that_do_all_break_nothing(rt: HostRuntime) -> Result<(), Fail> {
-    let counts = pairs(&rt, rt.alloc(), End::Done, Second::Done)?;
+    let counts = pairs(&rt, rt.alloc(), CallEnd::Done, Second::Done)?;
     assert_eq!(rt; (counts.unmade, counts.lost, counts.broken), (0, 0, 0));
     assert!(rt; counts.right > LEAST, "{}", counts.right);
     Ok(())
@@ -303,7 +308,7 @@ fn two_calls_that_do_all_break_nothing(rt: HostRuntime) -> Result<(), Fail> {
 
 #[test]
 fn all_done_and_then_failures_that_last_break_nothing(rt: HostRuntime) -> Result<(), Fail> {
-    let counts = pairs(&rt, rt.alloc(), End::Done, Second::Lasting)?;
+    let counts = pairs(&rt, rt.alloc(), CallEnd::Done, Second::Lasting)?;
     assert_eq!(rt; (counts.unmade, counts.lost, counts.broken), (0, 0, 0));
     assert!(rt; counts.right > LEAST, "{}", counts.right);
     Ok(())

@@ -8,7 +8,7 @@ use log::Log;
 use std::alloc::{AllocError, Global};
 use std::test::Fail;
 use std::time::Clock;
-use ups_journal::{Columns, Operation, Record};
+use ups_journal::{Columns, Record, RecordedOperation};
 use ups_ledger::{Keeper, Ledger, LedgerFault};
 use ups_manager::Manager;
 use ups_pdu::Bytes;
@@ -71,14 +71,14 @@ fn record_of(alloc: Global, number: u64) -> Result<Record<Global>, AllocError> {
         title: Bytes::copy_of(alloc, b"A")?,
         moment: number,
         request: Columns {
-            operation: Operation::Sweep,
+            operation: RecordedOperation::Sweep,
             instance: None,
-            transaction: None,
+            transaction_uid: None,
             state: None,
             receiver: None,
-            lock: None,
-            number: None,
-            offset: None,
+            deletion_lock: None,
+            event: None,
+            utc_offset: None,
             attributes: None,
         },
     })

@@ -5,7 +5,7 @@ ghost use Rattle.sqlite_disk.specs.Disk.{CountsFault, MoreFaults};
 ghost use Rattle.sqlite_disk.specs.Refusal.{is_no_room};
 
 use crate::contents::Contents;
-use crate::plan::{Call, End, Plan};
+use crate::plan::{Call, CallEnd, CallPlan};
 use sqlite_disk::{Disk, Tally};
 use std::io::{self, ErrorKind};
 
@@ -14,7 +14,7 @@ use std::io::{self, ErrorKind};
 pub(crate) struct Failing<'a, D: Disk> {
     inner: D,
     contents: &'a Contents,
-    plan: &'a Plan,
+    plan: &'a CallPlan,
     /// How many calls failed that the inner disk did not refuse.
     failed: u64,
     /// How many of these found no room.
@@ -24,7 +24,7 @@ pub(crate) struct Failing<'a, D: Disk> {
 
 impl<'a, D: Disk> Failing<'a, D> {
     /// Returns a disk with what the inner one has, which is what `contents` has.
-    pub(crate) fn new(inner: D, contents: &'a Contents, plan: &'a Plan) -> Failing<'a, D> {
+    pub(crate) fn new(inner: D, contents: &'a Contents, plan: &'a CallPlan) -> Failing<'a, D> {
         Failing {
             inner,
             contents,
@@ -44,12 +44,12 @@ fn fault() -> io::Error
 }
 
 /// Counts a call that fails, and returns its error.
-fn failure(end: End, failed: &mut u64, full: &mut u64) -> io::Error
+fn failure(end: CallEnd, failed: &mut u64, full: &mut u64) -> io::Error
     ensures faults { MoreFaults failed.old failed.new × (failed.old ≤ failed.new) }
     ensures full { MatchBool (is_no_room result) (MoreFaults full.old full.new) (full.new ≡ full.old) }
 {
     *failed = failed.saturating_add(1);
-    if end == End::NoRoom {
+    if end == CallEnd::NoRoom {
         *full = full.saturating_add(1);
         return io::Error::from(ErrorKind::StorageFull);
     }
@@ -57,10 +57,10 @@ fn failure(end: End, failed: &mut u64, full: &mut u64) -> io::Error
 }
 
 /// Ends a read, and counts it if it fails.
-fn read_ended(end: End, failed: &mut u64) -> io::Result<()>
+fn read_ended(end: CallEnd, failed: &mut u64) -> io::Result<()>
     ensures faults { CountsFault result failed.old failed.new }
 {
-    if end == End::Success {
+    if end == CallEnd::Success {
         return Ok(());
     }
     *failed = failed.saturating_add(1);
@@ -68,11 +68,11 @@ fn read_ended(end: End, failed: &mut u64) -> io::Result<()>
 }
 
 /// Syncs the contents if the call does what was asked, or else loses what was not synced. Returns the end.
-fn settled(end: End, contents: &Contents) -> End {
-    if end == End::Success || end == End::Done {
+fn settled(end: CallEnd, contents: &Contents) -> CallEnd {
+    if end == CallEnd::Success || end == CallEnd::Done {
         return match contents.sync() {
             Ok(()) => end,
-            Err(_) => End::Undone,
+            Err(_) => CallEnd::Undone,
         };
     }
     let _ = contents.lose();
@@ -140,37 +140,37 @@ impl<D: Disk> Disk for Failing<'_, D> {
 
     fn write_at(&mut self, at: usize, bytes: &[u8]) -> io::Result<()> {
         let end = self.plan.next(Call::Write);
-        if end == End::Undone || end == End::NoRoom {
+        if end == CallEnd::Undone || end == CallEnd::NoRoom {
             return Err(failure(end, &mut self.failed, &mut self.full));
         }
         if self.inner.write_at(at, bytes).is_err() {
             return Err(fault());
         }
         let is_kept = self.contents.write(at, bytes).is_ok();
-        if !is_kept || end == End::Done {
-            return Err(failure(End::Done, &mut self.failed, &mut self.full));
+        if !is_kept || end == CallEnd::Done {
+            return Err(failure(CallEnd::Done, &mut self.failed, &mut self.full));
         }
         Ok(())
     }
 
     fn set_len(&mut self, len: usize) -> io::Result<()> {
         let end = self.plan.next(Call::Write);
-        if end == End::Undone || end == End::NoRoom {
+        if end == CallEnd::Undone || end == CallEnd::NoRoom {
             return Err(failure(end, &mut self.failed, &mut self.full));
         }
         if self.inner.set_len(len).is_err() {
             return Err(fault());
         }
         let is_kept = self.contents.resize(len).is_ok();
-        if !is_kept || end == End::Done {
-            return Err(failure(End::Done, &mut self.failed, &mut self.full));
+        if !is_kept || end == CallEnd::Done {
+            return Err(failure(CallEnd::Done, &mut self.failed, &mut self.full));
         }
         Ok(())
     }
 
     fn sync(&mut self) -> io::Result<()> {
         let end = settled(self.plan.next(Call::Sync), self.contents);
-        if end != End::Success {
+        if end != CallEnd::Success {
             self.is_sync_failed = true;
             return Err(failure(end, &mut self.failed, &mut self.full));
         }

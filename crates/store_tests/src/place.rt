@@ -48,12 +48,9 @@ impl<'a> StorePlace for BenchPlace<'a> {
 
     ghost finds = { λ _ _. Unit {0} };
 
-    ghost notes = { λ _ _. Unit {0} };
-
     fn open(&self) -> Result<Replay<FileStore<BenchDisk<'a>>>, OpenFault>
         ensures first { IfOk result (λ r. given_out r ≡ []) }
         ensures found { IfOk result (λ _. Unit {0}) }
-        ensures noted { IfOk result (λ _. Unit {0}) }
     {
         if self.bench.plan.refuses_opening() {
             return Err(OpenFault::Unopened);

@@ -4,7 +4,7 @@ use std::cell::Cell;
 
 /// How a call on a file ends.
 #[derive(Clone, Copy, Debug, PartialEq, Eq)]
-pub(crate) enum End {
+pub(crate) enum CallEnd {
     /// It succeeds.
     Success,
     /// It fails, since there is no room, and does nothing.
@@ -28,7 +28,7 @@ pub(crate) enum Call {
 
 /// How an append ends.
 #[derive(Clone, Copy, Debug, PartialEq, Eq)]
-pub(crate) enum Outcome {
+pub(crate) enum CallOutcome {
     /// It succeeds.
     Success,
     /// No write finds room, so nothing is written, and the store stays open.
@@ -48,19 +48,19 @@ pub(crate) struct Fault {
     /// The number of the call.
     pub(crate) call: u32,
     /// Its end.
-    pub(crate) end: End,
+    pub(crate) end: CallEnd,
 }
 
 /// No call that fails.
 pub(crate) const NO_FAULT: Fault = Fault {
     call: 0,
-    end: End::Success,
+    end: CallEnd::Success,
 };
 
 /// Which calls fail: the two with certain numbers, those of an append with a certain outcome, all from one on, and an
 /// opening.
 #[derive(Drop)]
-pub(crate) struct Plan {
+pub(crate) struct CallPlan {
     calls: Cell<u32>,
     first: Cell<Fault>,
     second: Cell<Fault>,
@@ -68,22 +68,22 @@ pub(crate) struct Plan {
     last: Cell<u32>,
     /// The last call that failed by its number.
     failed: Cell<Call>,
-    outcome: Cell<Outcome>,
+    outcome: Cell<CallOutcome>,
     syncs: Cell<u32>,
     is_opening: Cell<bool>,
     refuses_opening: Cell<bool>,
 }
 
-impl Plan {
+impl CallPlan {
     /// Returns the plan in which nothing fails.
-    pub(crate) fn new() -> Plan {
-        Plan {
+    pub(crate) fn new() -> CallPlan {
+        CallPlan {
             calls: Cell::new(0),
             first: Cell::new(NO_FAULT),
             second: Cell::new(NO_FAULT),
             last: Cell::new(u32::MAX),
             failed: Cell::new(Call::Read),
-            outcome: Cell::new(Outcome::Success),
+            outcome: Cell::new(CallOutcome::Success),
             syncs: Cell::new(0),
             is_opening: Cell::new(false),
             refuses_opening: Cell::new(false),
@@ -99,7 +99,7 @@ impl Plan {
     }
 
     /// Plans the outcome of the next append, and whether the opening before it fails.
-    pub(crate) fn end_append(&self, outcome: Outcome, refuses_opening: bool) {
+    pub(crate) fn end_append(&self, outcome: CallOutcome, refuses_opening: bool) {
         self.syncs.set(0);
         self.outcome.set(outcome);
         self.refuses_opening.set(refuses_opening);
@@ -108,7 +108,7 @@ impl Plan {
     /// Plans that nothing fails any more.
     pub(crate) fn heal(&self) {
         self.fail_calls(NO_FAULT, NO_FAULT, u32::MAX);
-        self.end_append(Outcome::Success, false);
+        self.end_append(CallOutcome::Success, false);
     }
 
     /// Returns how many calls there were.
@@ -132,7 +132,7 @@ impl Plan {
     }
 
     /// Returns the end of the call with this number, as far as that depends on the number.
-    fn end_of(&self, number: u32) -> End {
+    fn end_of(&self, number: u32) -> CallEnd {
         let (first, second) = (self.first.get(), self.second.get());
         if first.call == number {
             return first.end;
@@ -141,42 +141,42 @@ impl Plan {
             return second.end;
         }
         if number >= self.last.get() {
-            return End::Undone;
+            return CallEnd::Undone;
         }
-        End::Success
+        CallEnd::Success
     }
 
     /// Returns the end of a sync in an append that fails at a sync.
-    fn end_of_sync(&self, end: End) -> End {
+    fn end_of_sync(&self, end: CallEnd) -> CallEnd {
         let number = self.syncs.get().saturating_add(1);
         self.syncs.set(number);
         if number == COMMITTING {
             return end;
         }
-        End::Success
+        CallEnd::Success
     }
 
     /// Returns the end of a call in an append.
-    fn end_in_append(&self, call: Call) -> End {
+    fn end_in_append(&self, call: Call) -> CallEnd {
         match (self.outcome.get(), call) {
-            (Outcome::Full, Call::Write) => End::NoRoom,
-            (Outcome::SyncKept, Call::Sync) => self.end_of_sync(End::Done),
-            (Outcome::SyncLost, Call::Sync) => self.end_of_sync(End::Undone),
-            _ => End::Success,
+            (CallOutcome::Full, Call::Write) => CallEnd::NoRoom,
+            (CallOutcome::SyncKept, Call::Sync) => self.end_of_sync(CallEnd::Done),
+            (CallOutcome::SyncLost, Call::Sync) => self.end_of_sync(CallEnd::Undone),
+            _ => CallEnd::Success,
         }
     }
 
     /// Counts a call, and returns its end.
-    pub(crate) fn next(&self, call: Call) -> End {
+    pub(crate) fn next(&self, call: Call) -> CallEnd {
         let number = self.calls.get().saturating_add(1);
         self.calls.set(number);
         let end = self.end_of(number);
-        if end != End::Success {
+        if end != CallEnd::Success {
             self.failed.set(call);
             return end;
         }
         if self.is_opening.get() {
-            return End::Success;
+            return CallEnd::Success;
         }
         self.end_in_append(call)
     }

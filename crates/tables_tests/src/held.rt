@@ -8,11 +8,11 @@ use ups_cycle::StepState;
 use ups_dataset::DataSet;
 use ups_keep::Final;
 use ups_life::{Row, StepUid};
-use ups_steps::{Held, Steps};
+use ups_steps::{HeldRow, Steps};
 
 /// Returns what is held of a step that became final at a moment.
-fn held_since<A: Allocator + Copy>(alloc: A, moment: u64) -> Held<A> {
-    Held {
+fn held_since<A: Allocator + Copy>(alloc: A, moment: u64) -> HeldRow<A> {
+    HeldRow {
         row: Row {
             attributes: DataSet::new(alloc),
             state: StepState::Completed,

@@ -1,5 +1,5 @@
 -- What the words of a command line are cut into.
-use Rattle.std.proofs.Common.{◌≡◌, ◌≢◌, ℕ, ◌<◌, ◌≤◌, ◌+◌, Bool, true, false, ◌&&◌, List, [], ◌∷◌, ◌++◌, length, get_or, take, drop, map, Option, None, Some, MatchOption, Bor, refl, sym, ◌∙◌, ap, subst, arith, lit<, length-append, append-nil, ◌==◌, Result, Ok, Err, ◌^◌, nat_lt, IsTrue, add-one, zero, suc}
+use Rattle.std.proofs.Common.{◌≡◌, ◌≢◌, ℕ, ◌<◌, ◌≤◌, ◌+◌, Bool, true, false, ◌&&◌, List, [], ◌∷◌, ◌++◌, length, get_or, take, drop, map, Option, None, Some, MatchOption, Bor, refl, sym, ◌∙◌, ap, subst, arith, lit<, length-append, append-nil, ◌==◌, Result, Ok, ◌^◌, nat_lt, IsTrue, add-one, zero, suc}
 use Rattle.std.specs.Char.{is_ascii_digit, digit_value}
 use Rattle.std.specs.Int.{IsInRange}
 use Rattle.std.specs.List.{list_all}
@@ -57,27 +57,8 @@ reads bs r v h e d =
       value = k.1 ∙ ap (digits_value 10) p;
     }
 
-above_zero : (v : ℕ) → IsTrue (nat_lt 0 v) → 1 ≤ v
-above_zero v t = grind (arith, nat_tests, t)
-
 is_above : (v : ℕ) → 1 ≤ v → IsTrue (nat_lt 0 v)
 is_above v l = grind (arith, nat_tests, l)
-
-pub port_from : {E : Type 0} (bs : List ℕ) (r : Result ℕ E) (v : ℕ) → ParsesUnsigned 16 10 bs r → r ≡ Ok v → list_all is_ascii_digit bs ≡ true → (IsTrue (nat_lt 0 v) → IsPort bs) × (IsPort bs → IsTrue (nat_lt 0 v))
-port_from bs r v h e d =
-    let k = reads bs r v h e d in (
-      (λ t. record { numeral = k.numeral; least = subst (λ (n : ℕ). 1 ≤ n) k.value (above_zero v t); most = k.most }),
-      λ p. is_above v (subst (λ (n : ℕ). 1 ≤ n) (sym k.value) p.least),
-    )
-
-pub port_value : {E : Type 0} (bs : List ℕ) (r : Result ℕ E) (v : ℕ) → ParsesUnsigned 16 10 bs r → r ≡ Ok v → list_all is_ascii_digit bs ≡ true → v ≡ digits_value 10 bs
-port_value bs r v h e d = (reads bs r v h e d).value
-
-pub no_port : {E : Type 0} (bs : List ℕ) (r : Result ℕ E) (x : E) → ParsesUnsigned 16 10 bs r → r ≡ Err x → list_all is_ascii_digit bs ≡ true → IsPort bs → ⊥
-no_port bs r x h e d p =
-    let k : IsNumeral 10 (without_leading_plus bs) × (digits_value 10 (without_leading_plus bs) < 2 ^ 16) → ⊥ = rw e at h in
-    let q = sym (no_plus bs d) in
-    k (subst (IsNumeral 10) q p.numeral, subst (λ (l : List ℕ). digits_value 10 l < 2 ^ 16) q p.most)
 
 -- none of these is c
 abbrev pub NoneIs : ℕ → List ℕ → Type 0
@@ -153,20 +134,12 @@ digit_last text front a e =
     let same : get_or text (length front + 4) 0 ≡ get_or text (length a.host + length a.port) 0 = ap (λ i. get_or text i 0) n in
     absurd (omega (arith, k, m, d, same))
 
--- the clause of `strip_suffix` at ",lock"
-abbrev pub IsStripped : List ℕ → Option (Bor (List ℕ)) → Type 0
-IsStripped s r = MatchOption r (FindsTextSuffix (ending_of true) s None) (λ x. StripsSuffix (FindsTextSuffix (ending_of true)) s x.now)
-
 pub ends_so : (s : List ℕ) (x : List ℕ) → StripsSuffix (FindsTextSuffix (ending_of true)) s x → s ≡ x ++ ending_of true
 ends_so s x (n, found, is, l) = found.1 ∙ ap (λ l. l ++ ending_of true) (sym is)
 
 pub unlocked : (text address : List ℕ) → text ≡ address ++ ending_of true → (IsAddress address → ⊥) → (lock : Bool) → SaysLock text lock → ⊥
 unlocked text address e never true s = never (subst IsAddress (append_cancel_right s.address address (ending_of true) (sym s.parts ∙ e)) s.is_address)
 unlocked text address e never false s = digit_last text address (subst IsAddress (sym (s.parts ∙ append-nil s.address)) s.is_address) e
-
-pub unaddressed : (text : List ℕ) → ((front : List ℕ) → text ≢ front ++ ending_of true) → (IsAddress text → ⊥) → (lock : Bool) → SaysLock text lock → ⊥
-unaddressed text unending never true s = unending s.address s.parts
-unaddressed text unending never false s = never (subst IsAddress (sym (s.parts ∙ append-nil s.address)) s.is_address)
 
 pub locked : (text address host : List ℕ) (port : ℕ) → text ≡ address ++ ending_of true → SaysAddress address host port → SaysPlace text host port true
 locked text address host port e a = record {

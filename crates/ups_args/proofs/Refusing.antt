@@ -1,22 +1,12 @@
 -- Why nothing is asked of `serve`.
-use Rattle.std.proofs.Common.{◌≡◌, ◌≤◌, ℕ, List, codes, length, inl, inr, sym, subst, arith}
+use Rattle.std.proofs.Common.{◌≡◌, ◌≤◌, ℕ, List, codes, length, inr, sym, subst, arith}
 use Rattle.clap.specs.declared.parser.matches.Found.{Found}
 use Rattle.ups_life.specs.declared.peer.Peer.{Peer}
 use Rattle.ups_life.specs.Limits.{peer_limit}
 use Rattle.ups_args.specs.declared.fault.ArgumentFault.{ArgumentFault}
 use Rattle.ups_args.specs.declared.fault.ArgumentFault.TheVariants as faults
-use Rattle.ups_args.specs.Arguments.{FailToAskScript, FailToAskServe, FailToLimit, NamePeers, NamesPeer, argument_words}
+use Rattle.ups_args.specs.Arguments.{FailToAskServe, NamePeers, NamesPeer, argument_words}
 use Rattle.ups_args.proofs.Parts.{as_many}
-
-pub by_limit : (found : Found) (fault : ArgumentFault) → FailToLimit found fault → FailToAskServe found fault
-by_limit found faults.Ae fails = absurd fails
-by_limit found faults.Port fails = absurd fails
-by_limit found fault fails = inl fails
-
-pub by_script : (found : Found) (fault : ArgumentFault) → FailToAskScript found fault → FailToAskServe found fault
-by_script found faults.Ae fails = absurd fails
-by_script found faults.Port fails = absurd fails
-by_script found fault fails = inr fails
 
 -- where the words name peers, only memory can be missing for the watchers
 pub by_watchers : (found : Found) (words : List (List ℕ)) (fault : ArgumentFault) (peers : List Peer) → words ≡ argument_words found (codes "peer") → NamePeers (argument_words found (codes "peer")) peers

@@ -25,10 +25,14 @@ pub record SaysMinutes (word : List ℕ) (offset : ℤ) : Type 0 where
   pub value : offset ≡ signed_digits_value 10 word
   pub within : is_bad_offset offset ≡ false
 
+-- the seconds that a word says, or so many by default
+abbrev pub SaysSecondsOr : ℕ → Option (List ℕ) → ℕ → Type 0
+SaysSecondsOr default None seconds = seconds ≡ default
+SaysSecondsOr default (Some word) seconds = SaysSeconds word seconds
+
 -- the seconds for which a finished step is kept, by this word or by default
 abbrev pub SaysKeep : Option (List ℕ) → ℕ → Type 0
-SaysKeep None keep = keep ≡ keep_seconds
-SaysKeep (Some word) keep = SaysSeconds word keep
+SaysKeep = SaysSecondsOr keep_seconds
 
 -- the offset of the local time, by this word or by default
 abbrev pub SaysOffset : Option (List ℕ) → ℤ → Type 0
@@ -55,19 +59,16 @@ SaysWorkersOrNot (Some word) count = SaysWorkers word count
 
 -- the seconds for which an association may be silent between two messages, by this word or by default
 abbrev pub SaysIdle : Option (List ℕ) → ℕ → Type 0
-SaysIdle None idle = idle ≡ idle_seconds
-SaysIdle (Some word) idle = SaysSeconds word idle
+SaysIdle = SaysSecondsOr idle_seconds
 
 -- the seconds that a peer may take to send each message that it has begun, and to receive each answer, by this word or by
 -- default
 abbrev pub SaysTimeout : Option (List ℕ) → ℕ → Type 0
-SaysTimeout None timeout = timeout ≡ timeout_seconds
-SaysTimeout (Some word) timeout = SaysSeconds word timeout
+SaysTimeout = SaysSecondsOr timeout_seconds
 
 -- the most seconds to wait for a watcher, to connect to it and for each answer, by this word or by default
 abbrev pub SaysDeliveryTimeout : Option (List ℕ) → ℕ → Type 0
-SaysDeliveryTimeout None timeout = timeout ≡ delivery_seconds
-SaysDeliveryTimeout (Some word) timeout = SaysSeconds word timeout
+SaysDeliveryTimeout = SaysSecondsOr delivery_seconds
 
 -- the address to listen on: this word, or 127.0.0.1 if there is none
 abbrev pub SaysBind : Option (List ℕ) → List ℕ → Type 0

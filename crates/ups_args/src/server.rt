@@ -14,7 +14,7 @@ use crate::options::{flag, worded};
 use crate::peers::{peer_words, watchers_of};
 use crate::script::script_arguments;
 use crate::store::with_store;
-use crate::times::{keep_of, with_times};
+use crate::times::{seconds_asked, with_times};
 use crate::title::{ae_of, ae_word};
 use clap::{ArgMatches, Command};
 use std::alloc::{AllocError, Global};
@@ -115,57 +115,6 @@ fn workers_asked(word: Option<&str>) -> Result<u32, ArgumentFault<'_>>
     }
 }
 
-/// Returns how many seconds an association may be silent between two messages, from the word after `--idle`, or 60
-/// without one; 0 means no limit.
-///
-/// Errors: Idle if the word is not a number of seconds.
-fn idle_asked(word: Option<&str>) -> Result<u32, ArgumentFault<'_>>
-    ensures said { MatchResult result (SaysIdle (option_map (λ w. w.now) word.entry)) (λ _. (idle : ℕ) → SaysIdle (option_map (λ w. w.now) word.entry) idle → ⊥) }
-    ensures fault { IfErr result (λ fault. fault ≡ ArgumentFault.Idle) }
-{
-    let Some(word) = word else {
-        return Ok(IDLE);
-    };
-    match keep_of(word) {
-        Ok(seconds) => Ok(seconds),
-        Err(_) => Err(ArgumentFault::Idle),
-    }
-}
-
-/// Returns how many seconds a peer may take for each message that it has begun to send, and to take each answer, from
-/// the word after `--timeout`, or 60 without one; 0 means no limit.
-///
-/// Errors: Timeout if the word is not a number of seconds.
-fn timeout_asked(word: Option<&str>) -> Result<u32, ArgumentFault<'_>>
-    ensures said { MatchResult result (SaysTimeout (option_map (λ w. w.now) word.entry)) (λ _. (timeout : ℕ) → SaysTimeout (option_map (λ w. w.now) word.entry) timeout → ⊥) }
-    ensures fault { IfErr result (λ fault. fault ≡ ArgumentFault.Timeout) }
-{
-    let Some(word) = word else {
-        return Ok(TIMEOUT);
-    };
-    match keep_of(word) {
-        Ok(seconds) => Ok(seconds),
-        Err(_) => Err(ArgumentFault::Timeout),
-    }
-}
-
-/// Returns how many seconds to wait for a watcher at most, from the word after `--delivery-timeout`, or 5 without one;
-/// 0 means an hour for each answer, and ten seconds for a watcher that is neither away nor slow.
-///
-/// Errors: DeliveryTimeout if the word is not a number of seconds.
-fn delivery_timeout_asked(word: Option<&str>) -> Result<u32, ArgumentFault<'_>>
-    ensures said { MatchResult result (SaysDeliveryTimeout (option_map (λ w. w.now) word.entry)) (λ _. (timeout : ℕ) → SaysDeliveryTimeout (option_map (λ w. w.now) word.entry) timeout → ⊥) }
-    ensures fault { IfErr result (λ fault. fault ≡ ArgumentFault.DeliveryTimeout) }
-{
-    let Some(word) = word else {
-        return Ok(DELIVERY_TIMEOUT);
-    };
-    match keep_of(word) {
-        Ok(seconds) => Ok(seconds),
-        Err(_) => Err(ArgumentFault::DeliveryTimeout),
-    }
-}
-
 /// Returns the address to listen on, from the word after `--bind`, or 127.0.0.1 without one.
 fn bind_asked<'a>(word: Option<&'a str>) -> &'a str
     ensures { SaysBind (option_map (λ w. w.now) word.entry) result.now }
@@ -177,6 +126,11 @@ fn bind_asked<'a>(word: Option<&'a str>) -> &'a str
 }
 
 /// Returns what a server allows its peers.
+///
+/// An association may be silent between two messages for the seconds of the word after `--idle`, or 60 without one. A
+/// peer may take those of the word after `--timeout`, or 60 without one, for each message that it has begun to send, and
+/// to take each answer. In both, 0 means no limit. A watcher may take those of the word after `--delivery-timeout`, or 5
+/// without one; 0 means an hour for each answer, and ten seconds if it is neither away nor slow.
 ///
 /// Errors: Associations, Idle, Timeout or DeliveryTimeout for the first of these words that is invalid.
 fn limits_asked<'a>(matches: &ArgMatches<'a>) -> Result<ServerLimits, ArgumentFault<'a>>
@@ -192,9 +146,13 @@ fn limits_asked<'a>(matches: &ArgMatches<'a>) -> Result<ServerLimits, ArgumentFa
     Ok(ServerLimits {
         workers: workers_asked(matches.get_str("associations"))?,
         turns: TURNS,
-        idle: idle_asked(matches.get_str("idle"))?,
-        timeout: timeout_asked(matches.get_str("timeout"))?,
-        delivery_timeout: delivery_timeout_asked(matches.get_str("delivery-timeout"))?,
+        idle: seconds_asked(matches.get_str("idle"), IDLE, ArgumentFault::Idle)?,
+        timeout: seconds_asked(matches.get_str("timeout"), TIMEOUT, ArgumentFault::Timeout)?,
+        delivery_timeout: seconds_asked(
+            matches.get_str("delivery-timeout"),
+            DELIVERY_TIMEOUT,
+            ArgumentFault::DeliveryTimeout,
+        )?,
     })
 }
 

@@ -1,7 +1,7 @@
 //! How long a finished step is kept, and the local time.
 
 ghost use Rattle.std.specs.Prelude.{◌≡◌, ℕ, ℤ, option_map, IfErr, MatchResult};
-ghost use Rattle.ups_args.specs.Arguments.{SaysKeep, SaysMinutes, SaysOffset, SaysSeconds};
+ghost use Rattle.ups_args.specs.Arguments.{SaysKeep, SaysMinutes, SaysOffset, SaysSecondsOr};
 
 use crate::fault::ArgumentFault;
 use crate::limits::{KEEP, OFFSET};
@@ -31,16 +31,20 @@ pub(crate) fn with_helped_times<'a>(
     command.arg(worded(alloc, "keep", "N", keep))?.arg(offset)
 }
 
-/// Parses a number of seconds.
+/// Returns a number of seconds, from the word after an option, or `default` without one.
 ///
-/// Errors: Keep if it is not a number below 2^32.
-pub(crate) fn keep_of(word: &str) -> Result<u32, ArgumentFault<'_>>
-    ensures said { MatchResult result (SaysSeconds word.now) (λ _. (seconds : ℕ) → SaysSeconds word.now seconds → ⊥) }
-    ensures fault { IfErr result (λ fault. fault ≡ ArgumentFault.Keep) }
+/// Errors: `fault` if the word is not a number below 2^32.
+pub(crate) fn seconds_asked<'a>(
+    word: Option<&str>,
+    default: u32,
+    fault: ArgumentFault<'a>,
+) -> Result<u32, ArgumentFault<'a>>
+    ensures said { MatchResult result (SaysSecondsOr default (option_map (λ w. w.now) word.entry)) (λ _. (seconds : ℕ) → SaysSecondsOr default (option_map (λ w. w.now) word.entry) seconds → ⊥) }
+    ensures fault { IfErr result (λ it. it ≡ fault.entry) }
 {
-    match word.parse::<u32>() {
-        Ok(seconds) => Ok(seconds),
-        Err(_) => Err(ArgumentFault::Keep),
+    match word {
+        Some(word) => word.parse::<u32>().or(Err(fault)),
+        None => Ok(default),
     }
 }
 
@@ -60,15 +64,12 @@ fn offset_of(word: &str) -> Result<i16, ArgumentFault<'_>>
 /// Returns the minimum number of seconds for which a finished step is kept, from the word after `--keep`, or 60 without
 /// one.
 ///
-/// Errors: those of `keep_of`.
+/// Errors: Keep if the word is not a number below 2^32.
 pub(crate) fn keep_asked(word: Option<&str>) -> Result<u32, ArgumentFault<'_>>
     ensures said { MatchResult result (SaysKeep (option_map (λ w. w.now) word.entry)) (λ _. (keep : ℕ) → SaysKeep (option_map (λ w. w.now) word.entry) keep → ⊥) }
     ensures fault { IfErr result (λ fault. fault ≡ ArgumentFault.Keep) }
 {
-    match word {
-        Some(word) => keep_of(word),
-        None => Ok(KEEP),
-    }
+    seconds_asked(word, KEEP, ArgumentFault::Keep)
 }
 
 /// Returns the offset of the local time from UTC in minutes, from the word after `--offset`, or 0 without one.

@@ -1,10 +1,9 @@
 -- What the code needs: looking up a step, and the last of a list.
-use Rattle.std.proofs.Common.{◌≡◌, ℕ, suc, ◌+◌, ◌-◌, ◌<◌, Bool, true, false, ◌||◌, List, [], ◌∷◌, cond, length, filter, take, get_or, Option, None, Some, refl, sym, ap, ◌∙◌, arith}
+use Rattle.std.proofs.Common.{◌≡◌, ℕ, suc, ◌+◌, ◌-◌, ◌<◌, Bool, true, false, ◌||◌, List, [], ◌∷◌, cond, length, filter, take, Option, None, Some, refl, sym, ap, ◌∙◌, arith}
 use Rattle.std.specs.Prelude.{slice_get}
 use Rattle.std.specs.Option.{option_map}
 use Rattle.std.specs.Str.{bytes_eq}
 use Rattle.std.proofs.lemmas.List.{length-map, take-map}
-use Rattle.std.proofs.lemmas.List.Folds.{list_any_more}
 use Rattle.std.proofs.lemmas.Option.{slice_get-map}
 use Rattle.std.specs.Cmp.Lexicographic.{nat_list_eq_equiv}
 use Rattle.std.specs.BTreeSet.{BTreeSet, insert_key}
@@ -42,13 +41,6 @@ or_swap true true = refl
 or_swap true false = refl
 or_swap false true = refl
 or_swap false false = refl
-
--- one step more
-pub among_more : (xs : List (List ℕ)) (i : ℕ) (x u : List ℕ) → i < length xs → x ≡ get_or xs i x → is_among u (take (i + 1) xs) ≡ (bytes_eq x u || is_among u (take i xs))
-among_more xs i x u within is =
-    list_any_more (λ v. bytes_eq v u) xs i x within
-    ∙ or_swap (is_among u (take i xs)) (bytes_eq (get_or xs i x) u)
-    ∙ ap (λ v. bytes_eq v u || is_among u (take i xs)) (sym is)
 
 -- of reports those whose event is of one of these steps
 pub count_of_reports : {A : Type 0} (steps : List (List ℕ)) (reports : List (EventReport A)) → length (filter (λ (r : EventReport A). is_among r.event.step steps) reports) ≡ length (of_steps steps (events_of reports))

@@ -1,6 +1,8 @@
 mod Accepting
 mod Acked
+pub mod Alike
 mod Answered
+mod Claimed
 mod Counting
 mod Covering
 mod Holding
@@ -9,7 +11,9 @@ mod Off
 pub mod Ordered
 mod Pending
 mod Room
+pub mod Standing
 mod Staying
+mod Telling
 mod Told
 mod Used
 mod Watching

@@ -43,7 +43,7 @@ told_next s e es w =
 
 -- REPORTS OF ONE STEP
 
-abbrev AreOf : List ℕ → List Report → Type 0
+abbrev pub AreOf : List ℕ → List Report → Type 0
 AreOf u xs = AllByRecursion (λ (x : Report). x.step ≡ u) xs
 
 all_kept : (steps : List (List ℕ)) (u : List ℕ) (xs : List Report) → is_among u steps ≡ true → AreOf u xs → told_of_steps steps xs ≡ xs
@@ -60,7 +60,7 @@ both_of : (u : List ℕ) (xs ys : List Report) → AreOf u xs → AreOf u ys →
 both_of u [] ys h k = k
 both_of u (x ∷ xs) ys (h, more) k = (h, both_of u xs ys more k)
 
-one_of : (u : List ℕ) (b : Bool) (x : Report) → x.step ≡ u → AreOf u (only_if b x)
+pub one_of : (u : List ℕ) (b : Bool) (x : Report) → x.step ≡ u → AreOf u (only_if b x)
 one_of u true x h = (h, tt)
 one_of u false x h = tt
 
@@ -78,7 +78,7 @@ set_are_of u st before after set =
     both_of u (only_if one (report StateReport u st after)) (only_if two (report ProgressReport u st after) ++ only_if three (report Assigned u st after)) (one_of u one (report StateReport u st after) refl)
     (both_of u (only_if two (report ProgressReport u st after)) (only_if three (report Assigned u st after)) (one_of u two (report ProgressReport u st after) refl) (one_of u three (report Assigned u st after) refl))
 
-told_of_one : {A : Type 0} (s : Settings) (es : List (Entry A)) (e : Entry A) (u : List ℕ) (r : Request A) → AreOf u (told_of s es e u r)
+pub told_of_one : {A : Type 0} (s : Settings) (es : List (Entry A)) (e : Entry A) (u : List ℕ) (r : Request A) → AreOf u (told_of s es e u r)
 told_of_one s es e u (Change step st t) = (refl, tt)
 told_of_one s es e u (AskCancel step reasons) = cancel_of u (state es u) (readiness s (e ∷ es) u)
 told_of_one s es e u (Set step t set) = set_are_of u (state es u) (readiness s es u) (readiness s (e ∷ es) u) set
@@ -89,7 +89,7 @@ told_of_one s es e u (Suspend receiver) = tt
 told_of_one s es e u (Ack upto) = tt
 told_of_one s es e u Sweep = tt
 
-watched_of : (u : List ℕ) (b c : Bool) (xs : List Report) (x : Report) → AreOf u xs → x.step ≡ u → AreOf u (cond b xs (only_if c x))
+pub watched_of : (u : List ℕ) (b c : Bool) (xs : List Report) (x : Report) → AreOf u xs → x.step ≡ u → AreOf u (cond b xs (only_if c x))
 watched_of u true c xs x h k = h
 watched_of u false c xs x h k = one_of u c x k
 
@@ -111,10 +111,10 @@ watched_gone s steps es e w (Some u) r a =
 state_next : {A : Type 0} (u : List ℕ) (e : Entry A) (xs es : List (Entry A)) → state xs u ≡ state es u → state (e ∷ xs) u ≡ state (e ∷ es) u
 state_next u e xs es p = ap (λ (x : StepState). cond (is_on u e.request) (state_then x e.request) x) p
 
-same_report : {A : Type 0} (s : Settings) (u : List ℕ) (xs es : List (Entry A)) → state xs u ≡ state es u → row s xs u ≡ row s es u → as_it_is s xs u ≡ as_it_is s es u
+pub same_report : {A : Type 0} (s : Settings) (u : List ℕ) (xs es : List (Entry A)) → state xs u ≡ state es u → row s xs u ≡ row s es u → as_it_is s xs u ≡ as_it_is s es u
 same_report s u xs es p q = ap (λ (x : StepState). report StateReport u x (readiness s xs u)) p ∙ ap (λ (x : List El). report StateReport u (state es u) (readiness_in x)) q
 
-same_told : {A : Type 0} (s : Settings) (u : List ℕ) (e : Entry A) (xs es : List (Entry A)) (r : Request A) → state xs u ≡ state es u → row s xs u ≡ row s es u → told_of s xs e u r ≡ told_of s es e u r
+pub same_told : {A : Type 0} (s : Settings) (u : List ℕ) (e : Entry A) (xs es : List (Entry A)) (r : Request A) → state xs u ≡ state es u → row s xs u ≡ row s es u → told_of s xs e u r ≡ told_of s es e u r
 same_told s u e xs es (Change step st t) p q = ap (λ (x : Report). x ∷ []) (same_report s u (e ∷ xs) (e ∷ es) (state_next u e xs es p) (row_next s u e xs es p q))
 same_told s u e xs es (AskCancel step reasons) p q =
     ap (λ (x : StepState). cancel_reports u x (readiness s (e ∷ xs) u)) p ∙ ap (λ (x : List El). cancel_reports u (state es u) (readiness_in x)) (row_next s u e xs es p q)

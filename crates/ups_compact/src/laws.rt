@@ -1,18 +1,20 @@
 //! The laws of compact histories, which say the same as the original ones. Each is the contract of a function that does
 //! nothing.
 
-ghost use Rattle.std.specs.Prelude.{◌≡◌, ◌≤◌, ◌<◌, ℕ, List, Option, length, true, false};
+ghost use Rattle.std.specs.Prelude.{◌≡◌, ◌≤◌, ◌<◌, ◌++◌, [], ◌∷◌, ℕ, List, Option, length, true, false};
 ghost use Rattle.ups_dataset.specs.declared.tag.Tag.{Tag};
 ghost use Rattle.ups_dataset.specs.Data.{El};
 ghost use Rattle.ups_match.specs.Matching.{KeySet};
 ghost use Rattle.ups_life.specs.declared.entry.Entry.{Entry};
 ghost use Rattle.ups_life.specs.Settings.{Settings};
-ghost use Rattle.ups_life.specs.Steps.{used, row_of, holder};
+ghost use Rattle.ups_life.specs.Claims.{claims};
+ghost use Rattle.ups_life.specs.Steps.{past, used, row_of, holder};
 ghost use Rattle.ups_life.specs.Watching.{is_peer, cover, held, watch, is_due, is_held};
 ghost use Rattle.ups_life.specs.Filters.{filter_now};
-ghost use Rattle.ups_life.specs.History.{reply, legal, got};
+ghost use Rattle.ups_life.specs.History.{reply, decided, legal, got};
 ghost use Rattle.ups_life.specs.Worklist.{worklist};
 ghost use Rattle.ups_compact.specs.Compacting.{compact, told_to, told_of_steps, to_tell, compacted, has_title_twice, is_answered_alike};
+ghost use Rattle.ups_compact.specs.Course.{Turn, log_of, kept_of, is_course, is_anew, SaysSame, TellsSame, IsLeftOf};
 
 use std::alloc::Allocator;
 use ups_life::laws::a_removed_step_stays_away;
@@ -114,3 +116,42 @@ pub fn a_request_is_answered_as_before<A: Allocator + Copy>()
 pub fn the_uids_of_removed_steps_are_free_again<A: Allocator + Copy>()
     ensures { (caller moment : ℕ) → (s : Settings) → (es : List (Entry A)) → (u : List ℕ) → used (compacted caller moment s es) u ≡ is_held s es u }
 {}
+
+/// Does nothing at run time: its contract tells a proof that a history that is compacted while it grows, any number of
+/// times, goes on to say what the log of all its entries says: which steps are held, in order, and of each its
+/// attributes, its state, its claim, when it became final, and who watches it; and each global subscription. It tells
+/// each watcher, without numbers, what the log tells it of the steps that it still knows. If there is room, each later
+/// request is answered as by the log, N-GET and queries too, except acknowledgments. All this holds as long as no step
+/// is created under the UID of an earlier one.
+pub fn what_grows_after_a_compaction_says_the_same<A: Allocator + Copy>()
+    ensures same { (s : Settings) → (turns : List (Turn A)) → is_course s turns ≡ true → is_anew turns ≡ true → SaysSame s (kept_of s turns) (log_of turns) }
+    ensures told { (s : Settings) → (turns : List (Turn A)) → is_course s turns ≡ true → is_anew turns ≡ true → TellsSame s (kept_of s turns) (log_of turns) }
+    ensures reply { (s : Settings) → (turns : List (Turn A)) → (e : Entry A) → is_course s turns ≡ true → is_anew turns ≡ true
+        → is_answered_alike s (log_of turns) e.request ≡ true → decided s (kept_of s turns) e e.request ≡ decided s (log_of turns) e e.request }
+    ensures got { (s : Settings) → (turns : List (Turn A)) → (step : Option (List ℕ)) → (tags : List Tag) → is_course s turns ≡ true → is_anew turns ≡ true → got s (kept_of s turns) step tags ≡ got s (log_of turns) step tags }
+    ensures found { (s : Settings) → (turns : List (Turn A)) → (keys : KeySet) → is_course s turns ≡ true → is_anew turns ≡ true → worklist s (kept_of s turns) keys ≡ worklist s (log_of turns) keys }
+{
+    a_removed_step_stays_away::<A>();
+}
+
+/// Does nothing at run time: its contract tells a proof which histories, oldest entry first, stand for a log: a legal
+/// one for itself; one that stands for a log, with one more entry that it accepts, for the log with that entry; and one
+/// that is compacted for the same log as before. What stands for a log says the same, as long as no step was created
+/// under the UID of an earlier one.
+pub fn what_stands_for_a_log<A: Allocator + Copy>()
+    ensures itself { (s : Settings) → (history : List (Entry A)) → legal s (past history) ≡ true → IsLeftOf s history history }
+    ensures more { (s : Settings) → (by log : List (Entry A)) → (e : Entry A) → IsLeftOf s by log → legal s (past (by ++ e ∷ [])) ≡ true → IsLeftOf s (by ++ e ∷ []) (log ++ e ∷ []) }
+    ensures less { (caller moment : ℕ) → (s : Settings) → (by log : List (Entry A)) → has_title_twice s.peers ≡ false → IsLeftOf s by log → IsLeftOf s (past (compacted caller moment s (past by))) log }
+    ensures legal { (s : Settings) → (by log : List (Entry A)) → IsLeftOf s by log → legal s (past by) ≡ true }
+    ensures says { (s : Settings) → (by log : List (Entry A)) → (k : IsLeftOf s by log) → is_anew k.turns ≡ true → SaysSame s (past by) (past log) }
+{
+    a_removed_step_stays_away::<A>();
+}
+
+/// Does nothing at run time: its contract tells a proof that in a log a step is claimed once at most, however often the
+/// history was compacted (PS3.4 CC.1.1), as long as no step is created under the UID of an earlier one.
+pub fn a_step_is_claimed_once_all_along<A: Allocator + Copy>()
+    ensures { (s : Settings) → (turns : List (Turn A)) → (u : List ℕ) → is_course s turns ≡ true → is_anew turns ≡ true → length (claims (log_of turns) u) ≤ 1 }
+{
+    a_removed_step_stays_away::<A>();
+}

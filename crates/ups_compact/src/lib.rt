@@ -5,6 +5,8 @@
 mod acknowledging;
 pub mod laws;
 mod steps;
+mod turn;
 
 pub use acknowledging::{known_up_to, pays, reports_known_up_to};
 pub use steps::KeptSteps;
+pub use turn::Turn;

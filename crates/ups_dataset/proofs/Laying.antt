@@ -71,9 +71,3 @@ element_at-laid_over low t (x ∷ xs) ys (_, _, _, _, later) =
 found_step : (t u : Tag) (b : Bool) (x e : El) (rest : Option El) → (if b then Some x else rest) ≡ Some e → IsElement x → (rest ≡ Some e → IsElement e) → IsElement e
 found_step t u true x e rest h is later = let same : x ≡ e = cc in subst (λ (y : El). IsElement y) same is
 found_step t u false x e rest h is later = later h
-
--- what stands in a data set may stand in one
-pub IsElement-element_at : (low : ℕ) (t : Tag) (e : El) (es : List El) → AreElements low (elements_of es) → element_at t es ≡ Some e → IsElement e
-IsElement-element_at low t e [] h found = let c : None ≡ Some e = found in absurd cc
-IsElement-element_at low t e (x ∷ es) (_, _, is, _, later) found =
-    found_step t x.tag (is_tag x.tag t) x e (element_at t es) found is (λ f. IsElement-element_at (number x.tag + 1) t e es later f)

@@ -1,6 +1,6 @@
 -- One set laid over another is both, merged by their tags.
-use Rattle.std.proofs.Common.{◌≡◌, ◌≢◌, ◌<◌, ◌≤◌, ◌+◌, ℕ, true, false, nat_lt, ◌-◌, List, [], ◌∷◌, ◌++◌, length, map, take, drop, get_or, refl, sym, ap, subst, ◌∙◌, arith, append_assoc}
-use Rattle.std.proofs.lemmas.List.{append-nil, take_all}
+use Rattle.std.proofs.Common.{◌≡◌, ◌≢◌, ◌<◌, ◌≤◌, ◌+◌, ℕ, true, false, nat_lt, ◌-◌, List, [], ◌∷◌, ◌++◌, length, map, take, drop, get_or, refl, sym, ap, subst, ◌∙◌, arith}
+use Rattle.std.proofs.lemmas.List.{take_all}
 use Rattle.ups_dataset.specs.declared.set.Element.{Element}
 use Rattle.ups_dataset.specs.View.{element_view}
 use Rattle.ups_dataset.specs.Tag.{IsTag, number, is_tag}
@@ -76,13 +76,6 @@ next_higher x y xs ys other le (rises, tag, is, sets, later) (rises', tag', is',
       below_set = (rises', tag', is', sets', later');
       fewer = omega arith;
     }
-
--- one element more of two sets that are laid over each other
-pub laid_next : (whole done : List El) (x : El) (above below above_left below_left : List El) → whole ≡ done ++ laid_over above below → IsNextElement above below x above_left below_left → whole ≡ (done ++ x ∷ []) ++ laid_over above_left below_left
-laid_next whole done x above below above_left below_left e n = e ∙ ap (λ l. done ++ l) n.laid ∙ sym (append_assoc done (x ∷ []) (laid_over above_left below_left))
-
-pub laid_end : (whole done : List El) (above below : List El) → whole ≡ done ++ laid_over above below → laid_over above below ≡ [] → done ≡ whole
-laid_end whole done above below e none = sym (e ∙ ap (λ l. done ++ l) none ∙ append-nil done)
 
 -- what a slice's pattern says of its first element and the others
 pub first_and_rest : {A : Type 0} (es : List (Element A)) (e : Element A) → 1 ≤ length es → e ≡ get_or es 0 e → map element_view es ≡ element_view e ∷ map element_view (take (length es - 1) (drop 1 es))

@@ -3,7 +3,6 @@ use Rattle.std.proofs.Common.{true, false, ◌≡◌, ◌<◌, ◌≤◌, ◌+�
 use Rattle.std.specs.List.{flat_map}
 use Rattle.std.proofs.lemmas.List.{length-append, take_all}
 use Rattle.ups_dataset.specs.declared.tag.Tag.{Tag}
-use Rattle.ups_dataset.specs.Tag.{item_tag}
 use Rattle.ups_dataset.specs.declared.vr.Vr.{Vr}
 use Rattle.ups_pdu.specs.declared.syntax.TransferSyntax.{TransferSyntax}
 use Rattle.ups_pdu.specs.declared.syntax.TransferSyntax.TheVariants.{Implicit, Explicit}
@@ -12,7 +11,6 @@ use Rattle.ups_dataset.specs.Vr.{letters, is_long}
 use Rattle.ups_dataset.specs.Data.{El, items_of, weight, weight_data, weight_items}
 use Rattle.ups_dataset.specs.View.{element_view, value_view}
 use Rattle.ups_dataset.specs.Written.{written_length, written, written_head, written_items, written_element, sequence_item}
-use Rattle.ups_dataset.proofs.Letters.{letters_two}
 
 tail_length : (b : Bool) (m n : ℕ) → length (written_length b m) ≡ length (written_length b n)
 tail_length true m n = refl
@@ -22,12 +20,6 @@ tail_length false m n = refl
 pub head_length : (syntax : TransferSyntax) (j k : Tag) (vr : Vr) (m n : ℕ) → length (written_head syntax j vr m) ≡ length (written_head syntax k vr n)
 head_length Implicit j k vr m n = refl
 head_length Explicit j k vr m n = omega (arith, tail_length (is_long vr) m n, length-append (letters vr) (written_length (is_long vr) m), length-append (letters vr) (written_length (is_long vr) n))
-
-pub long_head : (vr : Vr) → is_long vr ≡ true → length (written_head Explicit item_tag vr 0) ≡ 12
-long_head vr e = rw e (omega (arith, letters_two vr, length-append (letters vr) (written_length true 0)))
-
-pub short_head : (vr : Vr) → is_long vr ≡ false → length (written_head Explicit item_tag vr 0) ≡ 8
-short_head vr e = rw e (omega (arith, letters_two vr, length-append (letters vr) (written_length false 0)))
 
 pub written_map : (syntax : TransferSyntax) {A : Type 0} (es : List (Element A)) → written syntax (map element_view es) ≡ flat_map (λ e. written_element syntax (element_view e)) es
 written_map syntax [] = refl

@@ -63,9 +63,6 @@ pub record Passed (bytes : List ℕ) (from : ℕ) (rest : List ℕ) (values : Co
   pub below : Below from elements
   pub has : HasValues elements values
 
-pub passed_none : (bytes : List ℕ) (values : CommandValues) → HasValues [] values → Passed bytes 0 bytes values
-passed_none bytes values has = record { on = record { back = λ a. a; on = λ a. a }; elements = []; spelled = refl; below = tt; has = has }
-
 pub passed_next : (bytes : List ℕ) (from : ℕ) (rest : List ℕ) (before : CommandValues) (e : CommandElement) (next : List ℕ) (after : CommandValues)
     → Passed bytes from rest before → IsCommandElement rest e next → from ≤ e.number → Keeps e.number e.value before after → Passed bytes (e.number + 1) next after
 passed_next bytes from rest before e next after p is low keeps = record {

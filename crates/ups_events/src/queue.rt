@@ -6,7 +6,7 @@ ghost use Rattle.ups_events.specs.Telling.{event_of};
 
 use crate::fault::AckFault;
 use crate::slots::{
-    ReportNumbers, Slot, counted, drop_front, first_live, live_count, make_way, tidy,
+    EventSlot, ReportNumbers, counted, drop_front, first_live, live_count, make_way, tidy,
 };
 use std::alloc::{AllocError, Allocator};
 use std::collections::{HashMap, VecDeque};
@@ -21,7 +21,7 @@ pub struct Queue<A: Allocator + Copy> {
     alloc: A,
     made: u64,
     acked: u64,
-    slots: VecDeque<Slot, A>,
+    slots: VecDeque<EventSlot, A>,
     index: ReportNumbers<A>,
     /// An upper bound of the number of spent slots.
     spent: usize,
@@ -114,7 +114,7 @@ impl<A: Allocator + Copy> Queue<A> {
         } = self;
         let number = *made + 1;
         let superseded = make_way(slots, index, report.kind, report.step, number);
-        slots.push_back_reserved(Slot {
+        slots.push_back_reserved(EventSlot {
             event: Event {
                 number,
                 entry,

@@ -20,7 +20,7 @@ pub(crate) type ReportNumbers<A> = HashMap<StepUid, u64, BuildHasherDefault<Fold
 
 /// An event of a queue. It is live until it is spent: acknowledged, or superseded by a later State Report of its step.
 #[derive(Clone, Copy)]
-pub(crate) struct Slot {
+pub(crate) struct EventSlot {
     pub(crate) event: Event,
     pub(crate) live: bool,
 }
@@ -43,9 +43,9 @@ fn is_report_of(step: StepUid, event: &Event) -> bool
 }
 
 /// Marks the State Report of a step, whose number is known, as spent if it is still there.
-fn spend<A: Allocator + Copy>(slots: &mut VecDeque<Slot, A>, number: u64, step: StepUid)
+fn spend<A: Allocator + Copy>(slots: &mut VecDeque<EventSlot, A>, number: u64, step: StepUid)
     requires rises { Rises slots.old.items }
-    requires alone { (i : ℕ) → (d : Slot) → i < length slots.old.items → (slice_index_or slots.old.items i d).live ≡ true → is_report_of step (slice_index_or slots.old.items i d).event ≡ true → (slice_index_or slots.old.items i d).event.number ≡ number }
+    requires alone { (i : ℕ) → (d : EventSlot) → i < length slots.old.items → (slice_index_or slots.old.items i d).live ≡ true → is_report_of step (slice_index_or slots.old.items i d).event ≡ true → (slice_index_or slots.old.items i d).event.number ≡ number }
     ensures slots { slots.new.items ≡ map (spent step) slots.old.items }
     ensures len { deque_len slots.new ≡ deque_len slots.old }
     ensures capacity { deque_capacity slots.new ≡ deque_capacity slots.old }
@@ -60,7 +60,7 @@ fn spend<A: Allocator + Copy>(slots: &mut VecDeque<Slot, A>, number: u64, step: 
 
 /// Sets the number of a step's new State Report, and marks the previous one as spent. Returns whether there was one.
 fn supersede<A: Allocator + Copy>(
-    slots: &mut VecDeque<Slot, A>,
+    slots: &mut VecDeque<EventSlot, A>,
     index: &mut ReportNumbers<A>,
     step: StepUid,
     number: u64,
@@ -89,7 +89,7 @@ fn supersede<A: Allocator + Copy>(
 /// Makes way for an event of this kind and number: a State Report supersedes the previous one of its step. Returns
 /// whether there was one.
 pub(crate) fn make_way<A: Allocator + Copy>(
-    slots: &mut VecDeque<Slot, A>,
+    slots: &mut VecDeque<EventSlot, A>,
     index: &mut ReportNumbers<A>,
     kind: EventKind,
     step: StepUid,
@@ -112,15 +112,15 @@ pub(crate) fn make_way<A: Allocator + Copy>(
 }
 
 /// Returns whether a slot at the front can go: it is spent, or its event is acknowledged.
-fn goes(slot: &Slot, upto: u64) -> bool
+fn goes(slot: &EventSlot, upto: u64) -> bool
     ensures { result ≡ goes upto slot.now }
 {
     !slot.live || slot.event.number <= upto
 }
 
 /// Returns the slot at the front, if it can go.
-fn going<A: Allocator + Copy>(slots: &VecDeque<Slot, A>, upto: u64) -> Option<Slot>
-    ensures { MatchOption result (dropped upto slots.now.items ≡ slots.now.items) (λ s. (goes upto s ≡ true) × ((rest : List Slot) × (slots.now.items ≡ s ∷ rest))) }
+fn going<A: Allocator + Copy>(slots: &VecDeque<EventSlot, A>, upto: u64) -> Option<EventSlot>
+    ensures { MatchOption result (dropped upto slots.now.items ≡ slots.now.items) (λ s. (goes upto s ≡ true) × ((rest : List EventSlot) × (slots.now.items ≡ s ∷ rest))) }
 {
     match slots.front() {
         Some(slot) if goes(slot, upto) => Some(*slot),
@@ -130,7 +130,7 @@ fn going<A: Allocator + Copy>(slots: &VecDeque<Slot, A>, upto: u64) -> Option<Sl
 
 /// Removes from the index the State Report of a slot that is dropped. A spent one is no longer there: the index has the
 /// number of the one that superseded it.
-fn forget<A: Allocator + Copy>(index: &mut ReportNumbers<A>, slot: &Slot)
+fn forget<A: Allocator + Copy>(index: &mut ReportNumbers<A>, slot: &EventSlot)
     ensures index { (u : List ℕ) → get bytes_eq index.new u ≡ (if slot.now.live && is_report_of u slot.now.event then None else get bytes_eq index.old u) }
     ensures spare { spare index.old ≤ spare index.new }
 {
@@ -141,7 +141,7 @@ fn forget<A: Allocator + Copy>(index: &mut ReportNumbers<A>, slot: &Slot)
 
 /// Drops the slots at the front that can go: the spent ones, and those of the events up to a number.
 pub(crate) fn drop_front<A: Allocator + Copy>(
-    slots: &mut VecDeque<Slot, A>,
+    slots: &mut VecDeque<EventSlot, A>,
     index: &mut ReportNumbers<A>,
     upto: u64,
 )
@@ -158,7 +158,7 @@ pub(crate) fn drop_front<A: Allocator + Copy>(
 }
 
 /// Drops the spent slots.
-fn compact<A: Allocator + Copy>(slots: &mut VecDeque<Slot, A>)
+fn compact<A: Allocator + Copy>(slots: &mut VecDeque<EventSlot, A>)
     ensures slots { slots.new.items ≡ filter is_live slots.old.items }
     ensures len { deque_len slots.new ≤ deque_len slots.old }
     ensures capacity { deque_capacity slots.new ≡ deque_capacity slots.old }
@@ -177,7 +177,7 @@ pub(crate) fn counted(spent: usize, superseded: bool) -> usize {
 
 /// Drops the spent slots, of which there are at most `spent`, if they may exceed half of all slots by `SPENT_LEFT`.
 /// Returns an upper bound of the number of spent slots then.
-pub(crate) fn tidy<A: Allocator + Copy>(slots: &mut VecDeque<Slot, A>, spent: usize) -> usize
+pub(crate) fn tidy<A: Allocator + Copy>(slots: &mut VecDeque<EventSlot, A>, spent: usize) -> usize
     ensures slots { (slots.new.items ≡ slots.old.items) ⊎ (slots.new.items ≡ filter is_live slots.old.items) }
     ensures len { deque_len slots.new ≤ deque_len slots.old }
     ensures capacity { deque_capacity slots.new ≡ deque_capacity slots.old }
@@ -192,7 +192,10 @@ pub(crate) fn tidy<A: Allocator + Copy>(slots: &mut VecDeque<Slot, A>, spent: us
 /// Adds the event of a slot, unless it is spent.
 ///
 /// Errors: if memory runs out.
-fn add_live<A: Allocator + Copy>(found: &mut Vec<Event, A>, slot: &Slot) -> Result<(), AllocError>
+fn add_live<A: Allocator + Copy>(
+    found: &mut Vec<Event, A>,
+    slot: &EventSlot,
+) -> Result<(), AllocError>
     ensures { OnOk result (found.new.items ≡ found.old.items ++ lives (slot.now ∷ [])) }
 {
     if slot.live {
@@ -206,7 +209,7 @@ fn add_live<A: Allocator + Copy>(found: &mut Vec<Event, A>, slot: &Slot) -> Resu
 /// Errors: if memory runs out.
 pub(crate) fn first_live<A: Allocator + Copy>(
     alloc: A,
-    slots: &VecDeque<Slot, A>,
+    slots: &VecDeque<EventSlot, A>,
     max: u64,
 ) -> Result<Vec<Event, A>, AllocError>
     ensures { IfOk result (λ v. v.items ≡ take max (lives slots.now.items)) }
@@ -222,7 +225,7 @@ pub(crate) fn first_live<A: Allocator + Copy>(
 }
 
 /// Returns a count, and one more if a slot is live.
-fn one_more_if_live(count: usize, slot: &Slot) -> usize
+fn one_more_if_live(count: usize, slot: &EventSlot) -> usize
     requires { count < 2 ^ 64 - 1 }
     ensures { result ≡ count + length (lives (slot.now ∷ [])) }
 {
@@ -230,7 +233,7 @@ fn one_more_if_live(count: usize, slot: &Slot) -> usize
 }
 
 /// Returns the number of live events.
-pub(crate) fn live_count<A: Allocator + Copy>(slots: &VecDeque<Slot, A>) -> usize
+pub(crate) fn live_count<A: Allocator + Copy>(slots: &VecDeque<EventSlot, A>) -> usize
     ensures { result ≡ length (lives slots.now.items) }
 {
     let mut count = 0;

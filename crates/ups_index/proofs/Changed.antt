@@ -10,7 +10,7 @@ use Rattle.std.proofs.lemmas.List.{get_or_append_left, get_or_push, get_or-set_s
 use Rattle.std.proofs.lemmas.List.Elements.{filter_map-append}
 use Rattle.ups_dataset.specs.declared.tag.Tag.{Tag}
 use Rattle.ups_index.specs.declared.posts.Post.{Post}
-use Rattle.ups_index.specs.declared.slots.Slot.{Slot}
+use Rattle.ups_index.specs.declared.slots.StepSlot.{StepSlot}
 use Rattle.ups_index.specs.Indexed.{has_step, altered, put_values, without_uid}
 use Rattle.ups_index.specs.Kept.{seen_slot, seen_slots, IsSlot, KeepsIndex}
 use Rattle.ups_index.specs.Numbers.{text_number, step_number, moment_number}
@@ -18,7 +18,7 @@ use Rattle.ups_index.specs.Posts.{post, KeepsEach, KeepsOthers}
 use Rattle.ups_index.specs.Stored.{RowValues}
 use Rattle.ups_index.proofs.Placed.{text_is_itself}
 
-pub keeps_live : {A : Type 0} (slots : List (Slot A)) (s t p s2 t2 p2 : List Post) → KeepsIndex slots s t p → KeepsEach s s2 → KeepsEach t t2 → KeepsEach p p2 → KeepsIndex slots s2 t2 p2
+pub keeps_live : {A : Type 0} (slots : List (StepSlot A)) (s t p s2 t2 p2 : List Post) → KeepsIndex slots s t p → KeepsEach s s2 → KeepsEach t t2 → KeepsEach p p2 → KeepsIndex slots s2 t2 p2
 keeps_live slots s t p s2 t2 p2 k a b c = record {
   steps_posted = λ place step values r. a (step_number step) place (k.steps_posted place step values r);
   texts_posted = λ place step values r stored h. b (text_number stored.0 stored.1) place (k.texts_posted place step values r stored h);
@@ -27,32 +27,32 @@ keeps_live slots s t p s2 t2 p2 k a b c = record {
   few = k.few;
 }
 
-pub same_slots : {A : Type 0} (slots other : List (Slot A)) (s t p : List Post) → other ≡ slots → KeepsIndex slots s t p → KeepsIndex other s t p
-same_slots slots other s t p e k = subst (λ (r : List (Slot _)). KeepsIndex r s t p) (sym e) k
+pub same_slots : {A : Type 0} (slots other : List (StepSlot A)) (s t p : List Post) → other ≡ slots → KeepsIndex slots s t p → KeepsIndex other s t p
+same_slots slots other s t p e k = subst (λ (r : List (StepSlot _)). KeepsIndex r s t p) (sym e) k
 
-abbrev pub held : {A : Type 0} → List ℕ → RowValues → Slot A
+abbrev pub held : {A : Type 0} → List ℕ → RowValues → StepSlot A
 held step values = record { step = step; values = Some values }
 
-abbrev pub gone : {A : Type 0} → List ℕ → Slot A
+abbrev pub gone : {A : Type 0} → List ℕ → StepSlot A
 gone step = record { step = step; values = None }
 
 step_in : {A : Type 0} (a b : List ℕ) (v w : RowValues) → held {A = A} a v ≡ held b w → a ≡ b
-step_in a b v w e = ap (λ (r : Slot _). r.step) e
+step_in a b v w e = ap (λ (r : StepSlot _). r.step) e
 
 some_in : (v w : RowValues) → Some v ≡ Some w → v ≡ w
 some_in v w e = cc
 
 values_in : {A : Type 0} (a b : List ℕ) (v w : RowValues) → held {A = A} a v ≡ held b w → v ≡ w
-values_in a b v w e = some_in v w (ap (λ (r : Slot _). r.values) e)
+values_in a b v w e = some_in v w (ap (λ (r : StepSlot _). r.values) e)
 
 never_held : {A : Type 0} (a b : List ℕ) (w : RowValues) → gone {A = A} a ≡ held b w → ⊥
-never_held a b w e = none_some w (ap (λ (r : Slot _). r.values) e)
+never_held a b w e = none_some w (ap (λ (r : StepSlot _). r.values) e)
   where
     none_some : (w : RowValues) → None ≡ Some w → ⊥
     none_some w e = cc
 
 -- a slot after one is put at the end
-pushed : {A : Type 0} (slots : List (Slot A)) (slot : Slot A) (place : ℕ) (step : List ℕ) (values : RowValues) → IsSlot (slots ++ slot ∷ []) place step values → IsSlot slots place step values ⊎ ((place ≡ length slots) × (slot ≡ held step values))
+pushed : {A : Type 0} (slots : List (StepSlot A)) (slot : StepSlot A) (place : ℕ) (step : List ℕ) (values : RowValues) → IsSlot (slots ++ slot ∷ []) place step values → IsSlot slots place step values ⊎ ((place ≡ length slots) × (slot ≡ held step values))
 pushed slots slot place step values (l, is) = elim (cases_lt place (length slots)) [
   | inl a ↦ inl (a, λ d. sym (get_or_append_left slots (slot ∷ []) d place a) ∙ is d)
   | inr b ↦
@@ -61,7 +61,7 @@ pushed slots slot place step values (l, is) = elim (cases_lt place (length slots
 ]
 
 -- and after one is changed
-changed : {A : Type 0} (slots : List (Slot A)) (at : ℕ) (slot : Slot A) (place : ℕ) (step : List ℕ) (values : RowValues) → at < length slots → IsSlot (set slots at slot) place step values → ((place ≢ at) × IsSlot slots place step values) ⊎ ((place ≡ at) × (slot ≡ held step values))
+changed : {A : Type 0} (slots : List (StepSlot A)) (at : ℕ) (slot : StepSlot A) (place : ℕ) (step : List ℕ) (values : RowValues) → at < length slots → IsSlot (set slots at slot) place step values → ((place ≢ at) × IsSlot slots place step values) ⊎ ((place ≡ at) × (slot ≡ held step values))
 changed slots at slot place step values within (l, is) = elim (cases_lt place at) [
   | inl a ↦ inl (other (λ e. omega (arith, a, e)))
   | inr a ↦ elim (cases_lt at place) [
@@ -73,7 +73,7 @@ changed slots at slot place step values within (l, is) = elim (cases_lt place at
     other : place ≢ at → (place ≢ at) × IsSlot slots place step values
     other n = (n, ((let k = length-set slots at slot in omega (arith, l, k)), λ d. sym (get_or-set_other slots at place slot d n) ∙ is d))
 
-module _ {A : Type 0} (slots : List (Slot A)) (step : List ℕ) (values : RowValues) (absent : (place : ℕ) (v : RowValues) → IsSlot slots place step v → ⊥) (few : length slots < 2 ^ 32) where
+module _ {A : Type 0} (slots : List (StepSlot A)) (step : List ℕ) (values : RowValues) (absent : (place : ℕ) (v : RowValues) → IsSlot slots place step v → ⊥) (few : length slots < 2 ^ 32) where
   pub add_keeps : (s t p s2 t2 p2 : List Post) → KeepsIndex slots s t p → KeepsEach s s2 → KeepsEach t t2 → KeepsEach p p2 → Contains s2 (post (step_number step) (length slots))
       → ((stored : Tag × List ℕ) → Contains values.texts stored → Contains t2 (post (text_number stored.0 stored.1) (length slots))) → ((moment : ℤ) → values.start ≡ Some moment → Contains p2 (post (moment_number moment) (length slots)))
       → KeepsIndex (slots ++ held step values ∷ []) s2 t2 p2
@@ -103,7 +103,7 @@ module _ {A : Type 0} (slots : List (Slot A)) (step : List ℕ) (values : RowVal
     few = (let n = length-append slots (held step values ∷ []) in omega (arith, n, few));
   }
 
-module _ {A : Type 0} (slots : List (Slot A)) (at : ℕ) (step : List ℕ) (old : RowValues) (is : IsSlot slots at step old) where
+module _ {A : Type 0} (slots : List (StepSlot A)) (at : ℕ) (step : List ℕ) (old : RowValues) (is : IsSlot slots at step old) where
   pub alter_keeps : (values : RowValues) (s t p tm pm t2 p2 : List Post) → KeepsIndex slots s t p → KeepsOthers at t tm → KeepsOthers at p pm → KeepsEach tm t2 → KeepsEach pm p2
       → ((stored : Tag × List ℕ) → Contains values.texts stored → Contains t2 (post (text_number stored.0 stored.1) at)) → ((moment : ℤ) → values.start ≡ Some moment → Contains p2 (post (moment_number moment) at))
       → KeepsIndex (set slots at (held step values)) s t2 p2
@@ -149,22 +149,22 @@ module _ {A : Type 0} (slots : List (Slot A)) (at : ℕ) (step : List ℕ) (old 
       ]
 
 -- what callers see of it
-tail_slot : {A : Type 0} (r : Slot A) (rs : List (Slot A)) (place : ℕ) (step : List ℕ) (v : RowValues) → IsSlot rs place step v → IsSlot (r ∷ rs) (suc place) step v
+tail_slot : {A : Type 0} (r : StepSlot A) (rs : List (StepSlot A)) (place : ℕ) (step : List ℕ) (v : RowValues) → IsSlot rs place step v → IsSlot (r ∷ rs) (suc place) step v
 tail_slot r rs place step v (l, is) = (omega (arith, l), is)
 
-slot_tail : {A : Type 0} (r : Slot A) (rs : List (Slot A)) (place : ℕ) (step : List ℕ) (v : RowValues) → IsSlot (r ∷ rs) (suc place) step v → IsSlot rs place step v
+slot_tail : {A : Type 0} (r : StepSlot A) (rs : List (StepSlot A)) (place : ℕ) (step : List ℕ) (v : RowValues) → IsSlot (r ∷ rs) (suc place) step v → IsSlot rs place step v
 slot_tail r rs place step v (l, is) = (omega (arith, l), is)
 
-head_slot : {A : Type 0} (r : Slot A) (rs : List (Slot A)) (step : List ℕ) (v : RowValues) → r.values ≡ Some v → bytes_eq r.step step ≡ true → IsSlot (r ∷ rs) 0 step v
+head_slot : {A : Type 0} (r : StepSlot A) (rs : List (StepSlot A)) (step : List ℕ) (v : RowValues) → r.values ≡ Some v → bytes_eq r.step step ≡ true → IsSlot (r ∷ rs) 0 step v
 head_slot r rs step v is e = let same = same_text r.step step (sym e) in (omega arith, λ d. (λ i. record { step = same i; values = is i }))
 
 -- a step that isn't among those seen has no slot
-pub not_there : {A : Type 0} (slots : List (Slot A)) (step : List ℕ) → has_step step (seen_slots slots) ≡ false → (place : ℕ) (v : RowValues) → IsSlot slots place step v → ⊥
+pub not_there : {A : Type 0} (slots : List (StepSlot A)) (step : List ℕ) → has_step step (seen_slots slots) ≡ false → (place : ℕ) (v : RowValues) → IsSlot slots place step v → ⊥
 not_there [] step never place v (l, is) = absurd (omega (arith, l))
 not_there {A} (r ∷ rs) step never zero v (l, is) = true≢false (sym found ∙ never)
   where
     found : list_any (λ (s : List ℕ × RowValues). bytes_eq s.0 step) (cons_option (seen_slot r) (seen_slots rs)) ≡ true
-    found = ap (λ (x : Slot A). list_any (λ (s : List ℕ × RowValues). bytes_eq s.0 step) (cons_option (seen_slot x) (seen_slots rs))) (is r) ∙ ap (λ (b : Bool). b || list_any (λ (s : List ℕ × RowValues). bytes_eq s.0 step) (seen_slots rs)) (text_is_itself step)
+    found = ap (λ (x : StepSlot A). list_any (λ (s : List ℕ × RowValues). bytes_eq s.0 step) (cons_option (seen_slot x) (seen_slots rs))) (is r) ∙ ap (λ (b : Bool). b || list_any (λ (s : List ℕ × RowValues). bytes_eq s.0 step) (seen_slots rs)) (text_is_itself step)
 not_there (r ∷ rs) step never (suc place) v is = not_there rs step (behind r.values never) place v (slot_tail r rs place step v is)
   where
     neither : (a b : Bool) → (a || b) ≡ false → b ≡ false
@@ -175,14 +175,14 @@ not_there (r ∷ rs) step never (suc place) v is = not_there rs step (behind r.v
     behind None h = h
     behind (Some w) h = neither (bytes_eq r.step step) (has_step step (seen_slots rs)) h
 
-abbrev pub Absent : {A : Type 0} → List (Slot A) → List ℕ → Type 0
+abbrev pub Absent : {A : Type 0} → List (StepSlot A) → List ℕ → Type 0
 Absent slots step = (place : ℕ) (v : RowValues) → IsSlot slots place step v → ⊥
 
-absent_tail : {A : Type 0} (r : Slot A) (rs : List (Slot A)) (step : List ℕ) → Absent (r ∷ rs) step → Absent rs step
+absent_tail : {A : Type 0} (r : StepSlot A) (rs : List (StepSlot A)) (step : List ℕ) → Absent (r ∷ rs) step → Absent rs step
 absent_tail r rs step never place v is = never (suc place) v (tail_slot r rs place step v is)
 
 -- so that it can't be altered or dropped
-pub unaltered : {A : Type 0} (slots : List (Slot A)) (step : List ℕ) (w : RowValues) → Absent slots step → seen_slots slots ≡ altered step w (seen_slots slots)
+pub unaltered : {A : Type 0} (slots : List (StepSlot A)) (step : List ℕ) (w : RowValues) → Absent slots step → seen_slots slots ≡ altered step w (seen_slots slots)
 unaltered [] step w never = refl
 unaltered {A} (r ∷ rs) step w never = here r.values refl (unaltered rs step w (absent_tail r rs step never))
   where
@@ -194,7 +194,7 @@ unaltered {A} (r ∷ rs) step w never = here r.values refl (unaltered rs step w 
         by_test true f = absurd (never 0 v (head_slot r rs step v e f))
         by_test false f = ap (λ (t : List (List ℕ × RowValues)). (r.step, v) ∷ t) rest
 
-pub undropped : {A : Type 0} (slots : List (Slot A)) (step : List ℕ) → Absent slots step → seen_slots slots ≡ without_uid step (seen_slots slots)
+pub undropped : {A : Type 0} (slots : List (StepSlot A)) (step : List ℕ) → Absent slots step → seen_slots slots ≡ without_uid step (seen_slots slots)
 undropped [] step never = refl
 undropped {A} (r ∷ rs) step never = here r.values refl (undropped rs step (absent_tail r rs step never))
   where
@@ -212,13 +212,13 @@ zero_suc n e = omega (arith, e)
 suc_in : (m n : ℕ) → suc m ≡ suc n → m ≡ n
 suc_in m n e = omega (arith, e)
 
-pub altered_slots : {A : Type 0} (slots : List (Slot A)) (at : ℕ) (step : List ℕ) (v w : RowValues) → IsSlot slots at step v → ((place : ℕ) (u : RowValues) → IsSlot slots place step u → place ≡ at)
+pub altered_slots : {A : Type 0} (slots : List (StepSlot A)) (at : ℕ) (step : List ℕ) (v w : RowValues) → IsSlot slots at step v → ((place : ℕ) (u : RowValues) → IsSlot slots place step u → place ≡ at)
     → seen_slots (set slots at (held step w)) ≡ altered step w (seen_slots slots)
 altered_slots [] at step v w (l, is) once = absurd (omega (arith, l))
 altered_slots {A} (r ∷ rs) zero step v w (l, is) once =
     ap (λ (t : List (List ℕ × RowValues)). (step, w) ∷ t) (unaltered rs step w (λ place u r2. absurd (zero_suc place (sym (once (suc place) u (tail_slot r rs place step u r2))))))
     ∙ sym (ap (λ (b : Bool). cond b (step, w) (step, v) ∷ altered step w (seen_slots rs)) (text_is_itself step))
-    ∙ sym (ap (λ (x : Slot A). altered step w (cons_option (seen_slot x) (seen_slots rs))) (is r))
+    ∙ sym (ap (λ (x : StepSlot A). altered step w (cons_option (seen_slot x) (seen_slots rs))) (is r))
 altered_slots {A} (r ∷ rs) (suc at) step v w is once =
     here r.values refl (altered_slots rs at step v w (slot_tail r rs at step v is) (λ place u r2. suc_in place at (once (suc place) u (tail_slot r rs place step u r2))))
   where
@@ -231,13 +231,13 @@ altered_slots {A} (r ∷ rs) (suc at) step v w is once =
         by_test true f = absurd (zero_suc at (once 0 x (head_slot r rs step x e f)))
         by_test false f = ap (λ (t : List (List ℕ × RowValues)). (r.step, x) ∷ t) rest
 
-pub dropped_slots : {A : Type 0} (slots : List (Slot A)) (at : ℕ) (step : List ℕ) (v : RowValues) → IsSlot slots at step v → ((place : ℕ) (u : RowValues) → IsSlot slots place step u → place ≡ at)
+pub dropped_slots : {A : Type 0} (slots : List (StepSlot A)) (at : ℕ) (step : List ℕ) (v : RowValues) → IsSlot slots at step v → ((place : ℕ) (u : RowValues) → IsSlot slots place step u → place ≡ at)
     → seen_slots (set slots at (gone step)) ≡ without_uid step (seen_slots slots)
 dropped_slots [] at step v (l, is) once = absurd (omega (arith, l))
 dropped_slots {A} (r ∷ rs) zero step v (l, is) once =
     undropped rs step (λ place u r2. absurd (zero_suc place (sym (once (suc place) u (tail_slot r rs place step u r2)))))
     ∙ sym (ap (λ (b : Bool). cond (not b) ((step, v) ∷ without_uid step (seen_slots rs)) (without_uid step (seen_slots rs))) (text_is_itself step))
-    ∙ sym (ap (λ (x : Slot A). without_uid step (cons_option (seen_slot x) (seen_slots rs))) (is r))
+    ∙ sym (ap (λ (x : StepSlot A). without_uid step (cons_option (seen_slot x) (seen_slots rs))) (is r))
 dropped_slots {A} (r ∷ rs) (suc at) step v is once =
     here r.values refl (dropped_slots rs at step v (slot_tail r rs at step v is) (λ place u r2. suc_in place at (once (suc place) u (tail_slot r rs place step u r2))))
   where
@@ -250,7 +250,7 @@ dropped_slots {A} (r ∷ rs) (suc at) step v is once =
         by_test true f = absurd (zero_suc at (once 0 x (head_slot r rs step x e f)))
         by_test false f = ap (λ (t : List (List ℕ × RowValues)). (r.step, x) ∷ t) rest
 
-pub seen_push : {A : Type 0} (slots : List (Slot A)) (step : List ℕ) (values : RowValues) → seen_slots (slots ++ held step values ∷ []) ≡ seen_slots slots ++ (step, values) ∷ []
+pub seen_push : {A : Type 0} (slots : List (StepSlot A)) (step : List ℕ) (values : RowValues) → seen_slots (slots ++ held step values ∷ []) ≡ seen_slots slots ++ (step, values) ∷ []
 seen_push slots step values = filter_map-append seen_slot slots (held step values ∷ [])
 
 -- posts at a number and a place that are the same as others
@@ -272,7 +272,7 @@ start_moved posts (Some x) want k l e f has m is = let same : x ≡ m = one_valu
     one_value x m e = cc
 
 -- whether a step is among those seen
-pub absent_has : {A : Type 0} (slots : List (Slot A)) (step : List ℕ) → Absent slots step → has_step step (seen_slots slots) ≡ false
+pub absent_has : {A : Type 0} (slots : List (StepSlot A)) (step : List ℕ) → Absent slots step → has_step step (seen_slots slots) ≡ false
 absent_has [] step never = refl
 absent_has {A} (r ∷ rs) step never = here r.values refl (absent_has rs step (absent_tail r rs step never))
   where
@@ -284,7 +284,7 @@ absent_has {A} (r ∷ rs) step never = here r.values refl (absent_has rs step (a
         by_test true f = absurd (never 0 v (head_slot r rs step v e f))
         by_test false f = rest
 
-pub has_is : {A : Type 0} (slots : List (Slot A)) (step : List ℕ) (place : Option ℕ) → MatchOption place (Absent slots step) (λ p. (values : RowValues) × IsSlot slots p step values) → is_some place ≡ has_step step (seen_slots slots)
+pub has_is : {A : Type 0} (slots : List (StepSlot A)) (step : List ℕ) (place : Option ℕ) → MatchOption place (Absent slots step) (λ p. (values : RowValues) × IsSlot slots p step values) → is_some place ≡ has_step step (seen_slots slots)
 has_is slots step None h = sym (absent_has slots step h)
 has_is slots step (Some p) (v, r) = here (has_step step (seen_slots slots)) refl
   where
@@ -293,13 +293,13 @@ has_is slots step (Some p) (v, r) = here (has_step step (seen_slots slots)) refl
     here false e = absurd (not_there slots step e p v r)
 
 -- values of a step that has a slot take the place of those there
-pub put_there : {A : Type 0} (slots : List (Slot A)) (step : List ℕ) (values : RowValues) (at : ℕ) (old : RowValues) → IsSlot slots at step old → altered step values (seen_slots slots) ≡ put_values step values (seen_slots slots)
+pub put_there : {A : Type 0} (slots : List (StepSlot A)) (step : List ℕ) (values : RowValues) (at : ℕ) (old : RowValues) → IsSlot slots at step old → altered step values (seen_slots slots) ≡ put_values step values (seen_slots slots)
 put_there slots step values at old is =
     let seen = seen_slots slots in
     ap (λ (b : Bool). cond b (altered step values seen) (seen ++ (step, values) ∷ [])) (has_is slots step (Some at) (old, is))
 
 -- and those of a step that has none are put behind the others
-pub put_behind : {A : Type 0} (slots : List (Slot A)) (step : List ℕ) (values : RowValues) → Absent slots step → seen_slots slots ++ (step, values) ∷ [] ≡ put_values step values (seen_slots slots)
+pub put_behind : {A : Type 0} (slots : List (StepSlot A)) (step : List ℕ) (values : RowValues) → Absent slots step → seen_slots slots ++ (step, values) ∷ [] ≡ put_values step values (seen_slots slots)
 put_behind slots step values never =
     let seen = seen_slots slots in
     ap (λ (b : Bool). cond b (altered step values seen) (seen ++ (step, values) ∷ [])) (sym (absent_has slots step never))

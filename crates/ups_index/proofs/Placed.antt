@@ -15,15 +15,16 @@ use Rattle.std.proofs.lemmas.List.Folds.{Any-from_list_any}
 use Rattle.ups_dataset.specs.declared.tag.Tag.{Tag}
 use Rattle.ups_dataset.specs.Tag.{is_tag}
 use Rattle.ups_match.specs.Class.{FirstKey, value, start}
+use Rattle.ups_match.specs.declared.ranges.Span.{Span}
 use Rattle.ups_match.specs.Ranges.{spans, is_from, is_up_to}
 use Rattle.ups_match.proofs.Class.{both, same_tag}
 use Rattle.ups_index.specs.declared.posts.Post.{Post}
-use Rattle.ups_index.specs.declared.slots.Slot.{Slot}
+use Rattle.ups_index.specs.declared.slots.StepSlot.{StepSlot}
 use Rattle.ups_index.specs.declared.values.StoredText.{StoredText}
 use Rattle.ups_index.specs.Indexed.{indexed_class}
 use Rattle.ups_index.specs.Kept.{text_view, seen_slots, step_of_class, in_class, HasNoneIn, IsSlot, StepsPosted, TextsPosted, StartsPosted}
 use Rattle.ups_index.specs.Numbers.{text_number, step_number, moment_number, low_number, high_number}
-use Rattle.ups_index.specs.Posts.{post, KeepsEach, KeepsOthers, HasTexts}
+use Rattle.ups_index.specs.Posts.{post, KeepsEach, HasTexts}
 use Rattle.ups_index.specs.Stored.{RowValues, is_stored_text, has_first}
 
 pub text_is_itself : (t : List ℕ) → bytes_eq t t ≡ true
@@ -36,22 +37,22 @@ any_viewed tag text [] = refl
 any_viewed tag text (t ∷ ts) = ap (λ (b : Bool). is_stored_text tag text (text_view t) || b) (any_viewed tag text ts)
 
 -- a slot with something stored is that of its step
-pub held_as : {A : Type 0} (slot : Slot A) (step : List ℕ) (v : RowValues) → slot.values ≡ Some v → (b : Bool) → b ≡ bytes_eq slot.step step
+pub held_as : {A : Type 0} (slot : StepSlot A) (step : List ℕ) (v : RowValues) → slot.values ≡ Some v → (b : Bool) → b ≡ bytes_eq slot.step step
     → MatchBool b ((values : RowValues) × (slot ≡ record { step = step; values = Some values })) ((values : RowValues) → slot ≡ record { step = step; values = Some values } → ⊥)
 held_as slot step v is true same = let e = same_text slot.step step same in (v, λ i. record { step = e i; values = is i })
-held_as slot step v is false same = λ values e. true≢false (sym (text_is_itself step) ∙ sym (ap (λ (r : Slot _). bytes_eq r.step step) e) ∙ sym same)
+held_as slot step v is false same = λ values e. true≢false (sym (text_is_itself step) ∙ sym (ap (λ (r : StepSlot _). bytes_eq r.step step) e) ∙ sym same)
 
-pub slot_held : {A : Type 0} (slots : List (Slot A)) (place : ℕ) (step : List ℕ) (slot : Slot A) → place < length slots → slot ≡ get_or slots place slot → (b : Bool)
+pub slot_held : {A : Type 0} (slots : List (StepSlot A)) (place : ℕ) (step : List ℕ) (slot : StepSlot A) → place < length slots → slot ≡ get_or slots place slot → (b : Bool)
     → MatchBool b ((values : RowValues) × (slot ≡ record { step = step; values = Some values })) ((values : RowValues) → slot ≡ record { step = step; values = Some values } → ⊥)
     → MatchBool b ((values : RowValues) × IsSlot slots place step values) ((values : RowValues) → IsSlot slots place step values → ⊥)
 slot_held slots place step slot l is true (values, e) = (values, (l, λ d. get_or_default slots place d slot l ∙ sym is ∙ e))
 slot_held slots place step slot l is false other = λ values r. other values (is ∙ r.1 slot)
 
 -- none of some posts leads to the slot of a step
-abbrev pub LeadsNowhere : {A : Type 0} → List (Slot A) → List ℕ → List Post → Type 0
+abbrev pub LeadsNowhere : {A : Type 0} → List (StepSlot A) → List ℕ → List Post → Type 0
 LeadsNowhere slots step posts = (number place : ℕ) (values : RowValues) → IsSlot slots place step values → Contains posts (post number place) → ⊥
 
-pub nowhere_more : {A : Type 0} (slots : List (Slot A)) (step : List ℕ) (posts : List Post) (i : ℕ) (p : Post) → i < length posts → p ≡ get_or posts i p → LeadsNowhere slots step (take i posts)
+pub nowhere_more : {A : Type 0} (slots : List (StepSlot A)) (step : List ℕ) (posts : List Post) (i : ℕ) (p : Post) → i < length posts → p ≡ get_or posts i p → LeadsNowhere slots step (take i posts)
     → ((values : RowValues) → IsSlot slots p.place step values → ⊥) → LeadsNowhere slots step (take (i + 1) posts)
 nowhere_more slots step posts i p l is before here number place values r has =
     elim (Contains-push_cases (take i posts) p (post number place) (subst (λ (t : List Post). Contains t (post number place)) (take_more posts i p l ∙ ap (λ (q : Post). take i posts ++ q ∷ []) (sym is)) has)) [
@@ -59,19 +60,19 @@ nowhere_more slots step posts i p l is before here number place values r has =
       | inr e ↦ here values (subst (λ (k : ℕ). IsSlot slots k step values) (sym (ap (λ (q : Post). q.place) e)) r)
     ]
 
-pub nowhere_read : {A : Type 0} (slots : List (Slot A)) (step : List ℕ) (posts : List Post) (i : ℕ) → i < length posts → LeadsNowhere slots step (take i posts)
+pub nowhere_read : {A : Type 0} (slots : List (StepSlot A)) (step : List ℕ) (posts : List Post) (i : ℕ) → i < length posts → LeadsNowhere slots step (take i posts)
     → ((values : RowValues) → IsSlot slots (get_or posts i (post 0 0)).place step values → ⊥) → LeadsNowhere slots step (take (i + 1) posts)
 nowhere_read slots step posts i l before here = nowhere_more slots step posts i (get_or posts i (post 0 0)) l (get_or_default posts i (post 0 0) (get_or posts i (post 0 0)) l) before here
 
-pub nowhere_all : {A : Type 0} (slots : List (Slot A)) (step : List ℕ) (posts : List Post) (i : ℕ) → length posts ≤ i → LeadsNowhere slots step (take i posts) → LeadsNowhere slots step posts
+pub nowhere_all : {A : Type 0} (slots : List (StepSlot A)) (step : List ℕ) (posts : List Post) (i : ℕ) → length posts ≤ i → LeadsNowhere slots step (take i posts) → LeadsNowhere slots step posts
 nowhere_all slots step posts i l h = subst (LeadsNowhere slots step) (take_all i posts l) h
 
 -- the same of a run of posts, of which the first is read
-pub nowhere_first : {A : Type 0} (slots : List (Slot A)) (step : List ℕ) (p : Post) (rest : List Post) → ((values : RowValues) → IsSlot slots p.place step values → ⊥) → LeadsNowhere slots step rest → LeadsNowhere slots step (p ∷ rest)
+pub nowhere_first : {A : Type 0} (slots : List (StepSlot A)) (step : List ℕ) (p : Post) (rest : List Post) → ((values : RowValues) → IsSlot slots p.place step values → ⊥) → LeadsNowhere slots step rest → LeadsNowhere slots step (p ∷ rest)
 nowhere_first slots step p rest here later number place values r (zero, l, e) = here values (subst (λ (k : ℕ). IsSlot slots k step values) (sym (ap (λ (q : Post). q.place) e)) r)
 nowhere_first slots step p rest here later number place values r (suc k, l, e) = later number place values r (k, omega (arith, l), e)
 
-pub nowhere_none : {A : Type 0} (slots : List (Slot A)) (step : List ℕ) → LeadsNowhere slots step []
+pub nowhere_none : {A : Type 0} (slots : List (StepSlot A)) (step : List ℕ) → LeadsNowhere slots step []
 nowhere_none slots step number place values r (k, l, e) = absurd (omega (arith, l))
 
 pub texts_more : {A : Type 0} (texts : List (StoredText A)) (i place number : ℕ) (t : StoredText A) (old new : List Post) → i < length texts → t ≡ get_or texts i t → number ≡ text_number t.tag t.text
@@ -84,9 +85,6 @@ texts_more texts i place number t old new l is n has keeps this stored h =
 
 pub texts_all : {A : Type 0} (texts : List (StoredText A)) (i place : ℕ) (posts : List Post) → length texts ≤ i → HasTexts (map text_view (take i texts)) place posts → HasTexts (map text_view texts) place posts
 texts_all texts i place posts l h = subst (λ (t : List (StoredText _)). HasTexts (map text_view t) place posts) (take_all i texts l) h
-
-pub others_then : (place : ℕ) (a b c : List Post) → KeepsOthers place a b → KeepsOthers place b c → KeepsOthers place a c
-others_then place a b c f g number other apart h = g number other apart (f number other apart h)
 
 -- the places of posts
 abbrev pub HasPlaces : List Post → List ℕ → Type 0
@@ -140,10 +138,10 @@ cons_is : {X : Type 0} (o : Option X) → cons_option o [] ≡ option_to_list o
 cons_is None = refl
 cons_is (Some x) = refl
 
-module _ {A : Type 0} (first : FirstKey) (slots : List (Slot A)) where
-  pub class_more : (i : ℕ) (slot : Slot A) → i < length slots → slot ≡ get_or slots i slot → filter_map (in_class first) (take (i + 1) slots) ≡ filter_map (in_class first) (take i slots) ++ option_to_list (in_class first slot)
+module _ {A : Type 0} (first : FirstKey) (slots : List (StepSlot A)) where
+  pub class_more : (i : ℕ) (slot : StepSlot A) → i < length slots → slot ≡ get_or slots i slot → filter_map (in_class first) (take (i + 1) slots) ≡ filter_map (in_class first) (take i slots) ++ option_to_list (in_class first slot)
   class_more i slot l is =
-      ap (filter_map (in_class first)) (take_more slots i slot l ∙ ap (λ (r : Slot A). take i slots ++ r ∷ []) (sym is)) ∙ filter_map-append (in_class first) (take i slots) (slot ∷ [])
+      ap (filter_map (in_class first)) (take_more slots i slot l ∙ ap (λ (r : StepSlot A). take i slots ++ r ∷ []) (sym is)) ∙ filter_map-append (in_class first) (take i slots) (slot ∷ [])
       ∙ ap (λ (t : List (List ℕ)). filter_map (in_class first) (take i slots) ++ t) (cons_is (in_class first slot))
 
   append_nil : (xs : List (List ℕ)) → xs ++ [] ≡ xs
@@ -151,17 +149,17 @@ module _ {A : Type 0} (first : FirstKey) (slots : List (Slot A)) where
   append_nil (x ∷ xs) = ap (λ (t : List (List ℕ)). x ∷ t) (append_nil xs)
 
   -- slots that aren't of the class are passed
-  passes_one : (i : ℕ) → ((d : Slot A) → i < length slots → in_class first (get_or slots i d) ≡ None) → filter_map (in_class first) (take (i + 1) slots) ≡ filter_map (in_class first) (take i slots)
+  passes_one : (i : ℕ) → ((d : StepSlot A) → i < length slots → in_class first (get_or slots i d) ≡ None) → filter_map (in_class first) (take (i + 1) slots) ≡ filter_map (in_class first) (take i slots)
   passes_one i none = elim (cases_lt i (length slots)) [
     | inl l ↦ by_slot l (first_slot slots l)
     | inr b ↦ ap (filter_map (in_class first)) (take_all (i + 1) slots (omega (arith, b)) ∙ sym (take_all i slots b))
   ]
     where
-      first_slot : (rs : List (Slot A)) → i < length rs → Slot A
+      first_slot : (rs : List (StepSlot A)) → i < length rs → StepSlot A
       first_slot [] l = absurd (omega (arith, l))
       first_slot (r ∷ rs) l = r
 
-      by_slot : i < length slots → Slot A → filter_map (in_class first) (take (i + 1) slots) ≡ filter_map (in_class first) (take i slots)
+      by_slot : i < length slots → StepSlot A → filter_map (in_class first) (take (i + 1) slots) ≡ filter_map (in_class first) (take i slots)
       by_slot l d =
           class_more i (get_or slots i d) l (get_or_default slots i d (get_or slots i d) l)
           ∙ ap (λ (o : Option (List ℕ)). filter_map (in_class first) (take i slots) ++ option_to_list o) (none d l) ∙ append_nil (filter_map (in_class first) (take i slots))
@@ -181,7 +179,7 @@ module _ {A : Type 0} (first : FirstKey) (slots : List (Slot A)) where
   pub visit_behind : (next place : ℕ) (found : List (List ℕ)) → found ≡ filter_map (in_class first) (take next slots) → HasNoneIn first slots next place → next ≤ place → length slots ≤ place → found ≡ filter_map (in_class first) (take (place + 1) slots)
   visit_behind next place found is none le behind = is ∙ sym (passed next (place + 1) (omega (arith, le)) (λ k d low high within. none k d low (omega (arith, within, behind)) within))
 
-  pub visit_here : (next place : ℕ) (slot : Slot A) (found after : List (List ℕ)) → found ≡ filter_map (in_class first) (take next slots) → HasNoneIn first slots next place → next ≤ place → place < length slots → slot ≡ get_or slots place slot
+  pub visit_here : (next place : ℕ) (slot : StepSlot A) (found after : List (List ℕ)) → found ≡ filter_map (in_class first) (take next slots) → HasNoneIn first slots next place → next ≤ place → place < length slots → slot ≡ get_or slots place slot
       → after ≡ found ++ option_to_list (in_class first slot) → after ≡ filter_map (in_class first) (take (place + 1) slots)
   visit_here next place slot found after is none le within at put =
       put ∙ ap (λ (t : List (List ℕ)). t ++ option_to_list (in_class first slot)) (is ∙ sym (passed next place le none)) ∙ sym (class_more place slot within at)
@@ -191,7 +189,7 @@ module _ {A : Type 0} (first : FirstKey) (slots : List (Slot A)) where
   Ahead places next i = (place : ℕ) (step : List ℕ) (values : RowValues) → next ≤ place → IsSlot slots place step values → has_first first values ≡ true → (m : ℕ) × (i ≤ m) × (m < length places) × (get_or places m 0 ≡ place)
 
   -- what isn't of the class, by its slot
-  class_at : (place : ℕ) → place < length slots → ((step : List ℕ) (values : RowValues) → IsSlot slots place step values → has_first first values ≡ true → ⊥) → (d : Slot A) → in_class first (get_or slots place d) ≡ None
+  class_at : (place : ℕ) → place < length slots → ((step : List ℕ) (values : RowValues) → IsSlot slots place step values → has_first first values ≡ true → ⊥) → (d : StepSlot A) → in_class first (get_or slots place d) ≡ None
   class_at place l never d = here (get_or slots place d).values refl
     where
       here : (o : Option RowValues) → (get_or slots place d).values ≡ o → step_of_class first (get_or slots place d).step (get_or slots place d).values ≡ None
@@ -224,7 +222,7 @@ module _ {A : Type 0} (first : FirstKey) (slots : List (Slot A)) where
       ]
 
 -- the class, as callers see it
-pub class_slots : {A : Type 0} (first : FirstKey) (slots : List (Slot A)) → filter_map (in_class first) slots ≡ indexed_class first (seen_slots slots)
+pub class_slots : {A : Type 0} (first : FirstKey) (slots : List (StepSlot A)) → filter_map (in_class first) slots ≡ indexed_class first (seen_slots slots)
 class_slots first [] = refl
 class_slots {A} first (r ∷ rs) = here r.values (class_slots first rs)
   where
@@ -236,11 +234,11 @@ class_slots {A} first (r ∷ rs) = here r.values (class_slots first rs)
         by_test true = ap (λ (t : List (List ℕ)). r.step ∷ t) rest
         by_test false = rest
 
-pub class_same : {A : Type 0} (slots got : List (Slot A)) (first key : FirstKey) (steps : List (List ℕ × RowValues)) → got ≡ slots → first ≡ key → seen_slots slots ≡ steps → filter_map (in_class first) got ≡ indexed_class key steps
+pub class_same : {A : Type 0} (slots got : List (StepSlot A)) (first key : FirstKey) (steps : List (List ℕ × RowValues)) → got ≡ slots → first ≡ key → seen_slots slots ≡ steps → filter_map (in_class first) got ≡ indexed_class key steps
 class_same slots got first key steps e f h = (λ i. filter_map (in_class (f i)) (e i)) ∙ class_slots key slots ∙ ap (indexed_class key) h
 
 -- where no post leads to a step, it has no slot
-pub place_either : {A : Type 0} (slots : List (Slot A)) (step : List ℕ) (posts merged fresh : List Post) (number : ℕ) → StepsPosted slots posts → number ≡ step_number step → ((n place : ℕ) → Contains posts (post n place) → number ≤ n → n ≤ number → Contains merged (post n place) ⊎ Contains fresh (post n place))
+pub place_either : {A : Type 0} (slots : List (StepSlot A)) (step : List ℕ) (posts merged fresh : List Post) (number : ℕ) → StepsPosted slots posts → number ≡ step_number step → ((n place : ℕ) → Contains posts (post n place) → number ≤ n → n ≤ number → Contains merged (post n place) ⊎ Contains fresh (post n place))
     → LeadsNowhere slots step merged → (r : Option ℕ) → MatchOption r (LeadsNowhere slots step fresh) (λ place. (values : RowValues) × IsSlot slots place step values)
     → MatchOption r ((place : ℕ) (values : RowValues) → IsSlot slots place step values → ⊥) (λ place. (values : RowValues) × IsSlot slots place step values)
 place_either slots step posts merged fresh number posted is runs nowhere (Some place) found = found
@@ -254,13 +252,13 @@ place_either slots step posts merged fresh number posted is runs nowhere None ot
 text_number_of : (tag other : Tag) (text stored : List ℕ) → tag ≡ other → text ≡ stored → text_number tag text ≡ text_number other stored
 text_number_of tag other text stored e f = λ i. text_number (e i) (f i)
 
-pub texts_lead : {A : Type 0} (slots got : List (Slot A)) (texts : List Post) (tag : Tag) (text : List ℕ) (n : ℕ) (first : FirstKey) → first ≡ value tag text → got ≡ slots → n ≡ text_number tag text → TextsPosted slots texts
+pub texts_lead : {A : Type 0} (slots got : List (StepSlot A)) (texts : List Post) (tag : Tag) (text : List ℕ) (n : ℕ) (first : FirstKey) → first ≡ value tag text → got ≡ slots → n ≡ text_number tag text → TextsPosted slots texts
     → (place : ℕ) (step : List ℕ) (values : RowValues) → IsSlot got place step values → has_first first values ≡ true → (x : ℕ) × (n ≤ x) × (x ≤ n) × Contains texts (post x place)
 texts_lead {A} slots got texts tag text n first fe ge ne posted place step values r h =
     let (k, stored, l, at, passes) = Any-from_list_any (is_stored_text tag text) values.texts (sym (ap (λ (f : FirstKey). has_first f values) fe) ∙ h) in
     let two = both (is_tag stored.0 tag) (bytes_eq text stored.1) passes in
     let same : text_number stored.0 stored.1 ≡ text_number tag text = text_number_of stored.0 tag stored.1 text (same_tag stored.0 tag two.0) (sym (same_text text stored.1 (sym two.1))) in
-    (text_number stored.0 stored.1, omega (arith, ne, same), omega (arith, ne, same), posted place step values (subst (λ (g : List (Slot A)). IsSlot g place step values) ge r) stored (k, l, at))
+    (text_number stored.0 stored.1, omega (arith, ne, same), omega (arith, ne, same), posted place step values (subst (λ (g : List (StepSlot A)). IsSlot g place step values) ge r) stored (k, l, at))
 
 rises : (a b : ℤ) → int_le a b ≡ true → moment_number a ≤ moment_number b
 rises (pos a) (pos b) h = let le : a ≤ b = leb-true a b h in omega (arith, le)
@@ -280,14 +278,14 @@ high_is : (greatest : Option ℤ) (m : ℤ) → is_up_to greatest m ≡ true →
 high_is None m h = bounded m
 high_is (Some g) m h = rises m g h
 
-pub starts_lead : {A : Type 0} (slots got : List (Slot A)) (starts : List Post) (least greatest : Option ℤ) (low high : ℕ) (first : FirstKey) → first ≡ start (record { least = least; greatest = greatest }) → got ≡ slots → low ≡ low_number least → high ≡ high_number greatest
+pub starts_lead : {A : Type 0} (slots got : List (StepSlot A)) (starts : List Post) (span : Span) (low high : ℕ) (first : FirstKey) → first ≡ start span → got ≡ slots → low ≡ low_number span.least → high ≡ high_number span.greatest
     → StartsPosted slots starts → (place : ℕ) (step : List ℕ) (values : RowValues) → IsSlot got place step values → has_first first values ≡ true → (x : ℕ) × (low ≤ x) × (x ≤ high) × Contains starts (post x place)
-starts_lead {A} slots got starts least greatest low high first fe ge le he posted place step values r h = here values.start refl (sym (ap (λ (f : FirstKey). has_first f values) fe) ∙ h)
+starts_lead {A} slots got starts span low high first fe ge le he posted place step values r h = here values.start refl (sym (ap (λ (f : FirstKey). has_first f values) fe) ∙ h)
   where
-    here : (o : Option ℤ) → values.start ≡ o → spans (Some (record { least = least; greatest = greatest })) values.start ≡ true → (x : ℕ) × (low ≤ x) × (x ≤ high) × Contains starts (post x place)
-    here None e t = absurd (true≢false (sym t ∙ ap (spans (Some (record { least = least; greatest = greatest }))) e))
+    here : (o : Option ℤ) → values.start ≡ o → spans (Some span) values.start ≡ true → (x : ℕ) × (low ≤ x) × (x ≤ high) × Contains starts (post x place)
+    here None e t = absurd (true≢false (sym t ∙ ap (spans (Some span)) e))
     here (Some m) e t =
-        let two = both (is_from least m) (is_up_to greatest m) (sym (ap (spans (Some (record { least = least; greatest = greatest }))) e) ∙ t) in
-        let a = low_is least m two.0 in
-        let b = high_is greatest m two.1 in
-        (moment_number m, omega (arith, le, a), omega (arith, he, b), posted place step values (subst (λ (g : List (Slot A)). IsSlot g place step values) ge r) m e)
+        let two = both (is_from span.least m) (is_up_to span.greatest m) (sym (ap (spans (Some span)) e) ∙ t) in
+        let a = low_is span.least m two.0 in
+        let b = high_is span.greatest m two.1 in
+        (moment_number m, omega (arith, le, a), omega (arith, he, b), posted place step values (subst (λ (g : List (StepSlot A)). IsSlot g place step values) ge r) m e)

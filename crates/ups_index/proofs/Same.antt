@@ -1,24 +1,30 @@
 -- What is stored of a row has the first indexed key where the row matches it.
-use Rattle.std.proofs.Common.{◌≡◌, ℕ, ℤ, Bool, true, false, ◌||◌, ◌&&◌, ◌==◌, not, cond, List, [], ◌∷◌, ◌++◌, map, filter, refl, sym, ap, ◌∙◌, subst}
+use Rattle.std.proofs.Common.{◌≡◌, ℕ, ℤ, Bool, true, false, ◌||◌, ◌&&◌, ◌==◌, not, cond, List, [], ◌∷◌, map, filter, flat_map, refl, sym, ap, ◌∙◌, subst}
 use Rattle.std.specs.Prelude.{Option, None, Some}
-use Rattle.std.specs.List.{list_any, slice_split}
+use Rattle.std.specs.List.{list_any, list_all, slice_split}
 use Rattle.std.specs.Ordering.{int_eq}
 use Rattle.std.specs.Str.{bytes_eq}
 use Rattle.std.specs.Cmp.{signed_Decides}
+use Rattle.std.proofs.Math.Bool.{or-false}
+use Rattle.std.proofs.lemmas.Bool.{not-true, or_parts}
 use Rattle.std.proofs.lemmas.List.Folds.{list_any-append}
 use Rattle.ups_pdu.specs.Padding.{is_nil, without_padding}
 use Rattle.ups_dataset.specs.declared.tag.Tag.{Tag}
-use Rattle.ups_dataset.specs.declared.dictionary.TheConstants.{CODE_VALUE, PATIENT_ID, PROCEDURE_STEP_STATE, SCHEDULED_PROCEDURE_STEP_PRIORITY, SCHEDULED_PROCEDURE_STEP_START_DATE_TIME, SCHEDULED_STATION_NAME_CODE_SEQUENCE, SOP_INSTANCE_UID, WORKLIST_LABEL}
+use Rattle.ups_dataset.specs.declared.dictionary.TheConstants.{CODE_VALUE, SCHEDULED_PROCEDURE_STEP_START_DATE_TIME}
 use Rattle.ups_dataset.specs.Tag.{is_tag}
 use Rattle.ups_dataset.specs.Data.{Data, bytes, items, Items, no_items, item, Elements, El, elements_of}
-use Rattle.ups_match.specs.Class.{is_special, plain, plain_value, plain_code, FirstKey, value, all, or_else, range_key, start_key, first_key, start_of, meets_first}
+use Rattle.ups_match.specs.declared.indexed.Indexed.{Indexed}
+use Rattle.ups_match.specs.declared.indexed.KeyKind.{KeyKind}
+use Rattle.ups_match.specs.declared.indexed.KeyKind.TheVariants.{Value, Code}
+use Rattle.ups_match.specs.Class.{is_special, plain, plain_value, plain_code, text_asked, FirstKey, value, all, or_else, range_key, start_key, first_of, first_key, start_of, meets_first}
+use Rattle.ups_match.specs.IndexedKeys.{indexed_keys}
 use Rattle.ups_match.specs.Likeness.{is_star, is_question_mark, ends_of, is_like}
 use Rattle.ups_match.specs.Matching.{KeySet, value_at, any_item, any_stored_item}
 use Rattle.ups_match.specs.Ranges.{span_of, spans}
 use Rattle.ups_match.specs.Values.{is_backslash, is_universal_text}
-use Rattle.ups_match.proofs.Class.{stored_like, stored_equal, meets_uid, meets_patient, meets_label, meets_state, meets_priority, meets_station, text_of_plain}
+use Rattle.ups_match.proofs.Class.{both, same_tag, stored_like, stored_equal, fits, all_fit, indexed_fit, fits_value, fits_code, meets_value, meets_code, text_of_plain}
 use Rattle.ups_index.specs.Indexed.{indexed_class}
-use Rattle.ups_index.specs.Stored.{stored_values, codes_in, stored_codes, under, values_under, codes_under, RowValues, values_of_row, is_stored_text, has_first}
+use Rattle.ups_index.specs.Stored.{stored_values, codes_in, stored_codes, stored_texts, under, texts_under, RowValues, values_of_row, is_stored_text, has_first}
 
 -- a pattern without wild cards is like itself alone
 plain_byte : (s q b rest : Bool) → ((s || (q || b)) || rest) ≡ false → (s ≡ false) × (q ≡ false) × (rest ≡ false)
@@ -127,84 +133,63 @@ under_other tag t text [] e = refl
 under_other tag t text (v ∷ vs) e =
     ap (λ (b : Bool). (b && bytes_eq text v) || list_any (is_stored_text tag text) (under t vs)) e ∙ under_other tag t text vs e
 
-module _ (p : Tag × List ℕ → Bool) (a b c d e f : List (Tag × List ℕ)) where
-  six : list_any p (a ++ b ++ c ++ d ++ e ++ f) ≡ (((((list_any p a || list_any p b) || list_any p c) || list_any p d) || list_any p e) || list_any p f)
-  six =
-      list_any-append p (a ++ b ++ c ++ d ++ e) f
-      ∙ ap (λ (x : Bool). x || list_any p f) (list_any-append p (a ++ b ++ c ++ d) e)
-      ∙ ap (λ (x : Bool). (x || list_any p e) || list_any p f) (list_any-append p (a ++ b ++ c) d)
-      ∙ ap (λ (x : Bool). ((x || list_any p d) || list_any p e) || list_any p f) (list_any-append p (a ++ b) c)
-      ∙ ap (λ (x : Bool). (((x || list_any p c) || list_any p d) || list_any p e) || list_any p f) (list_any-append p a b)
+-- what is stored for a table of keys
+abbrev pub has_tag : Tag → List Indexed → Bool
+has_tag tag ks = list_any (λ k. is_tag k.tag tag) ks
 
-any_of : (u v w x y z o q r s t n : Bool) → u ≡ o → v ≡ q → w ≡ r → x ≡ s → y ≡ t → z ≡ n → (((((u || v) || w) || x) || y) || z) ≡ (((((o || q) || r) || s) || t) || n)
-any_of u v w x y z o q r s t n d e f g h k = (λ i. ((((d i || e i) || f i) || g i) || h i) || k i)
+abbrev pub is_kind : KeyKind → KeyKind → Bool
+is_kind Value Value = true
+is_kind Value Code = false
+is_kind Code Value = false
+is_kind Code Code = true
 
-or_false : (a : Bool) → (a || false) ≡ a
-or_false true = refl
-or_false false = refl
+-- the table has the tag once, with this kind
+abbrev pub stands_once : Tag → KeyKind → List Indexed → Bool
+stands_once tag kind [] = false
+stands_once tag kind (k ∷ ks) = cond (is_tag k.tag tag) (is_kind k.kind kind && not (has_tag tag ks)) (stands_once tag kind ks)
 
-only_first : (a : Bool) → (((((a || false) || false) || false) || false) || false) ≡ a
-only_first true = refl
-only_first false = refl
+abbrev pub all_once : List Indexed → List Indexed → Bool
+all_once table ks = list_all (λ k. stands_once k.tag k.kind table) ks
 
-only_second : (a : Bool) → (((((false || a) || false) || false) || false) || false) ≡ a
-only_second true = refl
-only_second false = refl
+indexed_once : all_once indexed_keys indexed_keys ≡ true
+indexed_once = refl
 
-only_third : (a : Bool) → (((((false || false) || a) || false) || false) || false) ≡ a
-only_third true = refl
-only_third false = refl
+same_kind : (a b : KeyKind) → is_kind a b ≡ true → a ≡ b
+same_kind Value Value e = refl
+same_kind Value Code e = absurd cc
+same_kind Code Value e = absurd cc
+same_kind Code Code e = refl
 
-only_fourth : (a : Bool) → (((((false || false) || false) || a) || false) || false) ≡ a
-only_fourth true = refl
-only_fourth false = refl
+module _ (set : Elements) (tag : Tag) (text : List ℕ) where
+  abbrev found : List Indexed → Bool
+  found ks = list_any (is_stored_text tag text) (flat_map (texts_under set) ks)
 
-module _ (configured : ℤ) (row : List El) (text : List ℕ) (is : IsPlain text) where
-  abbrev set : Elements
-  set = elements_of row
+  -- what is stored under other tags isn't found
+  none_found : (ks : List Indexed) → has_tag tag ks ≡ false → found ks ≡ false
+  none_found [] h = refl
+  none_found (k ∷ ks) h =
+      let (other, others) = or_parts (is_tag k.tag tag) (has_tag tag ks) h in
+      list_any-append (is_stored_text tag text) (texts_under set k) (flat_map (texts_under set) ks)
+      ∙ ap (λ (b : Bool). b || found ks) (under_other tag k.tag text (stored_texts k.kind (value_at k.tag set)) other)
+      ∙ none_found ks others
 
-  abbrev found : Tag → Bool
-  found tag = list_any (is_stored_text tag text) (values_under SOP_INSTANCE_UID set ++ values_under PATIENT_ID set ++ values_under WORKLIST_LABEL set ++ codes_under SCHEDULED_STATION_NAME_CODE_SEQUENCE set ++ values_under PROCEDURE_STEP_STATE set ++ values_under SCHEDULED_PROCEDURE_STEP_PRIORITY set)
-
-  parts : (tag : Tag) (o q r s t u : Bool) → list_any (is_stored_text tag text) (values_under SOP_INSTANCE_UID set) ≡ o → list_any (is_stored_text tag text) (values_under PATIENT_ID set) ≡ q → list_any (is_stored_text tag text) (values_under WORKLIST_LABEL set) ≡ r
-      → list_any (is_stored_text tag text) (codes_under SCHEDULED_STATION_NAME_CODE_SEQUENCE set) ≡ s → list_any (is_stored_text tag text) (values_under PROCEDURE_STEP_STATE set) ≡ t → list_any (is_stored_text tag text) (values_under SCHEDULED_PROCEDURE_STEP_PRIORITY set) ≡ u
-      → found tag ≡ (((((o || q) || r) || s) || t) || u)
-  parts tag o q r s t u d e f g h k = six (is_stored_text tag text) _ _ _ _ _ _ ∙ any_of _ _ _ _ _ _ o q r s t u d e f g h k
-
-  own : (tag : Tag) → is_tag tag tag ≡ true → list_any (is_stored_text tag text) (values_under tag set) ≡ stored_like text (value_at tag set)
-  own tag e = under_own tag tag text (stored_values (value_at tag set)) e ∙ values_same text is (value_at tag set)
-
-  other : (tag t : Tag) → is_tag t tag ≡ false → list_any (is_stored_text tag text) (values_under t set) ≡ false
-  other tag t e = under_other tag t text (stored_values (value_at t set)) e
-
-  other_codes : (tag t : Tag) → is_tag t tag ≡ false → list_any (is_stored_text tag text) (codes_under t set) ≡ false
-  other_codes tag t e = under_other tag t text (stored_codes (value_at t set)) e
-
-  uid : found SOP_INSTANCE_UID ≡ stored_equal text (value_at SOP_INSTANCE_UID set)
-  uid = parts SOP_INSTANCE_UID _ false false false false false (own SOP_INSTANCE_UID refl) (other SOP_INSTANCE_UID PATIENT_ID refl) (other SOP_INSTANCE_UID WORKLIST_LABEL refl) (other_codes SOP_INSTANCE_UID SCHEDULED_STATION_NAME_CODE_SEQUENCE refl) (other SOP_INSTANCE_UID PROCEDURE_STEP_STATE refl) (other SOP_INSTANCE_UID SCHEDULED_PROCEDURE_STEP_PRIORITY refl)
-      ∙ only_first (stored_like text (value_at SOP_INSTANCE_UID set))
-      ∙ sym (like_equal text is (value_at SOP_INSTANCE_UID set))
-
-  patient : found PATIENT_ID ≡ stored_like text (value_at PATIENT_ID set)
-  patient = parts PATIENT_ID false _ false false false false (other PATIENT_ID SOP_INSTANCE_UID refl) (own PATIENT_ID refl) (other PATIENT_ID WORKLIST_LABEL refl) (other_codes PATIENT_ID SCHEDULED_STATION_NAME_CODE_SEQUENCE refl) (other PATIENT_ID PROCEDURE_STEP_STATE refl) (other PATIENT_ID SCHEDULED_PROCEDURE_STEP_PRIORITY refl)
-      ∙ only_second (stored_like text (value_at PATIENT_ID set))
-
-  label : found WORKLIST_LABEL ≡ stored_like text (value_at WORKLIST_LABEL set)
-  label = parts WORKLIST_LABEL false false _ false false false (other WORKLIST_LABEL SOP_INSTANCE_UID refl) (other WORKLIST_LABEL PATIENT_ID refl) (own WORKLIST_LABEL refl) (other_codes WORKLIST_LABEL SCHEDULED_STATION_NAME_CODE_SEQUENCE refl) (other WORKLIST_LABEL PROCEDURE_STEP_STATE refl) (other WORKLIST_LABEL SCHEDULED_PROCEDURE_STEP_PRIORITY refl)
-      ∙ only_third (stored_like text (value_at WORKLIST_LABEL set))
-
-  station : found SCHEDULED_STATION_NAME_CODE_SEQUENCE ≡ any_stored_item (λ e. stored_like text (value_at CODE_VALUE e)) (value_at SCHEDULED_STATION_NAME_CODE_SEQUENCE set)
-  station = parts SCHEDULED_STATION_NAME_CODE_SEQUENCE false false false _ false false (other SCHEDULED_STATION_NAME_CODE_SEQUENCE SOP_INSTANCE_UID refl) (other SCHEDULED_STATION_NAME_CODE_SEQUENCE PATIENT_ID refl) (other SCHEDULED_STATION_NAME_CODE_SEQUENCE WORKLIST_LABEL refl)
-      (under_own SCHEDULED_STATION_NAME_CODE_SEQUENCE SCHEDULED_STATION_NAME_CODE_SEQUENCE text (stored_codes (value_at SCHEDULED_STATION_NAME_CODE_SEQUENCE set)) refl ∙ stored_codes_same text is (value_at SCHEDULED_STATION_NAME_CODE_SEQUENCE set))
-      (other SCHEDULED_STATION_NAME_CODE_SEQUENCE PROCEDURE_STEP_STATE refl) (other SCHEDULED_STATION_NAME_CODE_SEQUENCE SCHEDULED_PROCEDURE_STEP_PRIORITY refl)
-      ∙ only_fourth (any_stored_item (λ e. stored_like text (value_at CODE_VALUE e)) (value_at SCHEDULED_STATION_NAME_CODE_SEQUENCE set))
-
-  state : found PROCEDURE_STEP_STATE ≡ stored_like text (value_at PROCEDURE_STEP_STATE set)
-  state = parts PROCEDURE_STEP_STATE false false false false _ false (other PROCEDURE_STEP_STATE SOP_INSTANCE_UID refl) (other PROCEDURE_STEP_STATE PATIENT_ID refl) (other PROCEDURE_STEP_STATE WORKLIST_LABEL refl) (other_codes PROCEDURE_STEP_STATE SCHEDULED_STATION_NAME_CODE_SEQUENCE refl) (own PROCEDURE_STEP_STATE refl) (other PROCEDURE_STEP_STATE SCHEDULED_PROCEDURE_STEP_PRIORITY refl)
-      ∙ or_false (stored_like text (value_at PROCEDURE_STEP_STATE set))
-
-  priority : found SCHEDULED_PROCEDURE_STEP_PRIORITY ≡ stored_like text (value_at SCHEDULED_PROCEDURE_STEP_PRIORITY set)
-  priority = parts SCHEDULED_PROCEDURE_STEP_PRIORITY false false false false false _ (other SCHEDULED_PROCEDURE_STEP_PRIORITY SOP_INSTANCE_UID refl) (other SCHEDULED_PROCEDURE_STEP_PRIORITY PATIENT_ID refl) (other SCHEDULED_PROCEDURE_STEP_PRIORITY WORKLIST_LABEL refl) (other_codes SCHEDULED_PROCEDURE_STEP_PRIORITY SCHEDULED_STATION_NAME_CODE_SEQUENCE refl) (other SCHEDULED_PROCEDURE_STEP_PRIORITY PROCEDURE_STEP_STATE refl) (own SCHEDULED_PROCEDURE_STEP_PRIORITY refl)
+  -- what is stored under a tag that stands once is found under it
+  own_found : (kind : KeyKind) (ks : List Indexed) → stands_once tag kind ks ≡ true → found ks ≡ list_any (bytes_eq text) (stored_texts kind (value_at tag set))
+  own_found kind [] h = absurd cc
+  own_found kind (k ∷ ks) h = list_any-append (is_stored_text tag text) (texts_under set k) (flat_map (texts_under set) ks) ∙ here (is_tag k.tag tag) refl h (λ once. own_found kind ks once)
+    where
+      here : (b : Bool) → is_tag k.tag tag ≡ b → cond b (is_kind k.kind kind && not (has_tag tag ks)) (stands_once tag kind ks) ≡ true → (stands_once tag kind ks ≡ true → found ks ≡ list_any (bytes_eq text) (stored_texts kind (value_at tag set)))
+          → (list_any (is_stored_text tag text) (texts_under set k) || found ks) ≡ list_any (bytes_eq text) (stored_texts kind (value_at tag set))
+      here true e once later =
+          let (its, apart) = both (is_kind k.kind kind) (not (has_tag tag ks)) once in
+          let same : k.tag ≡ tag = same_tag k.tag tag e in
+          ap (λ (b : Bool). b || found ks) (under_own tag k.tag text (stored_texts k.kind (value_at k.tag set)) e)
+          ∙ ap (λ (b : Bool). list_any (bytes_eq text) (stored_texts k.kind (value_at k.tag set)) || b) (none_found ks (not-true (has_tag tag ks) apart))
+          ∙ or-false (list_any (bytes_eq text) (stored_texts k.kind (value_at k.tag set)))
+          ∙ (λ i. list_any (bytes_eq text) (stored_texts (same_kind k.kind kind its i) (value_at (same i) set)))
+      here false e once later =
+          ap (λ (b : Bool). b || found ks) (under_other tag k.tag text (stored_texts k.kind (value_at k.tag set)) e)
+          ∙ later once
 
 module _ (configured : ℤ) (keys : KeySet) (row : List El) where
   abbrev Same : FirstKey → Type 0
@@ -213,6 +198,28 @@ module _ (configured : ℤ) (keys : KeySet) (row : List El) where
   step : (tag : Tag) (o : Option (List ℕ)) (later : FirstKey) → ((text : List ℕ) → o ≡ Some text → Same (value tag text)) → Same later → Same (or_else tag o later)
   step tag None later this rest = rest
   step tag (Some text) later this rest = this text refl
+
+  -- what is stored of a row under an indexed tag is the text where the row matches it
+  key_same : (tag : Tag) (kind : KeyKind) → fits tag kind ≡ true → stands_once tag kind indexed_keys ≡ true → (text : List ℕ) → text_asked kind (value_at tag (elements_of keys.attributes)) ≡ Some text → Same (value tag text)
+  unfolding values_of_row
+  key_same tag Value fit once text p =
+      let is = value_is (value_at tag (elements_of keys.attributes)) text p in
+      let stored = value_at tag (elements_of row) in
+      meets_value keys.offset tag (value_at tag (elements_of keys.attributes)) text (elements_of row) (fits_value tag fit) p (like_equal text is stored)
+      ∙ sym (values_same text is stored)
+      ∙ sym (own_found (elements_of row) tag text Value indexed_keys once)
+  key_same tag Code fit once text p =
+      let is = code_is (value_at tag (elements_of keys.attributes)) text p in
+      meets_code keys.offset tag text (elements_of row) (fits_code tag fit).code
+      ∙ sym (stored_codes_same text is (value_at tag (elements_of row)))
+      ∙ sym (own_found (elements_of row) tag text Code indexed_keys once)
+
+  table_same : (ks : List Indexed) (later : FirstKey) → all_fit ks ≡ true → all_once indexed_keys ks ≡ true → Same later → Same (first_of ks (elements_of keys.attributes) later)
+  table_same [] later fit once rest = rest
+  table_same (k ∷ ks) later fit once rest =
+      let (fits_here, others_fit) = both (fits k.tag k.kind) (all_fit ks) fit in
+      let (once_here, others_once) = both (stands_once k.tag k.kind indexed_keys) (all_once indexed_keys ks) once in
+      step k.tag (text_asked k.kind (value_at k.tag (elements_of keys.attributes))) (first_of ks (elements_of keys.attributes) later) (key_same k.tag k.kind fits_here once_here) (table_same ks later others_fit others_once rest)
 
   range_same : (span : Option _) → keys.offset ≡ configured → Same (range_key span)
   unfolding values_of_row
@@ -231,16 +238,8 @@ module _ (configured : ℤ) (keys : KeySet) (row : List El) where
 
   -- what is stored of a row has the first indexed key of a query where the row matches it
   pub first_same : Same (first_key configured keys)
-  unfolding first_key values_of_row
-  first_same =
-      let set = elements_of keys.attributes in
-      step SOP_INSTANCE_UID _ _ (λ text p. meets_uid keys.offset (value_at SOP_INSTANCE_UID set) text (elements_of row) p ∙ sym (uid configured row text (value_is (value_at SOP_INSTANCE_UID set) text p)))
-      (step PATIENT_ID _ _ (λ text p. meets_patient keys.offset text (elements_of row) ∙ sym (patient configured row text (value_is (value_at PATIENT_ID set) text p)))
-      (step WORKLIST_LABEL _ _ (λ text p. meets_label keys.offset text (elements_of row) ∙ sym (label configured row text (value_is (value_at WORKLIST_LABEL set) text p)))
-      (step SCHEDULED_STATION_NAME_CODE_SEQUENCE _ _ (λ text p. meets_station keys.offset text (elements_of row) ∙ sym (station configured row text (code_is (value_at SCHEDULED_STATION_NAME_CODE_SEQUENCE set) text p)))
-      (step PROCEDURE_STEP_STATE _ _ (λ text p. meets_state keys.offset text (elements_of row) ∙ sym (state configured row text (value_is (value_at PROCEDURE_STEP_STATE set) text p)))
-      (step SCHEDULED_PROCEDURE_STEP_PRIORITY _ _ (λ text p. meets_priority keys.offset text (elements_of row) ∙ sym (priority configured row text (value_is (value_at SCHEDULED_PROCEDURE_STEP_PRIORITY set) text p)))
-      (start_same (value_at SCHEDULED_PROCEDURE_STEP_START_DATE_TIME set)))))))
+  unfolding first_key
+  first_same = table_same indexed_keys (start_key configured keys.offset (value_at SCHEDULED_PROCEDURE_STEP_START_DATE_TIME (elements_of keys.attributes))) indexed_fit indexed_once (start_same (value_at SCHEDULED_PROCEDURE_STEP_START_DATE_TIME (elements_of keys.attributes)))
 
 -- So the steps that have the first indexed key, by what is stored of them, are those of the rows that match it alone.
 pub class_of_rows : (configured : ℤ) (keys : KeySet) (rows : List (List ℕ × List El)) → indexed_class (first_key configured keys) (map (λ r. (r.0, values_of_row configured r.1)) rows) ≡ map (λ r. r.0) (filter (λ r. meets_first keys.offset (first_key configured keys) (elements_of r.1)) rows)

@@ -9,7 +9,7 @@ ghost use Rattle.ups_index.specs.Posts.{KeepsOthers, HasTexts, HasStart};
 use crate::exchanging::{exchange_start, exchange_texts};
 use crate::numbers::{moment_number, step_number, text_number};
 use crate::posts::Posts;
-use crate::slots::{Slot, look_up, place_of, put_start, put_texts, take_start, take_texts};
+use crate::slots::{StepSlot, look_up, place_of, put_start, put_texts, take_start, take_texts};
 use crate::values::Values;
 use std::alloc::{AllocError, Allocator};
 use std::marker::Model;
@@ -30,7 +30,7 @@ pub struct Index<A: Allocator + Copy> {
     /// The offset of a start without one, in minutes east of UTC.
     offset: i16,
     /// The steps, each at a place that it keeps.
-    slots: Vec<Slot<A>, A>,
+    slots: Vec<StepSlot<A>, A>,
     /// The posts by the numbers of UIDs.
     steps: Posts<A>,
     /// The posts by the numbers of texts.
@@ -207,7 +207,7 @@ impl<A: Allocator + Copy> Index<A> {
         steps.put(step_number(step.as_bytes()), place);
         put_texts(texts, values.texts(), place);
         put_start(starts, values.start(), place);
-        slots.push_reserved(Slot {
+        slots.push_reserved(StepSlot {
             step,
             values: Some(values),
         });
@@ -231,7 +231,7 @@ impl<A: Allocator + Copy> Index<A> {
             ..
         } = self;
         exchange_values(texts, starts, &slots[at].values, &values, at as u32);
-        slots[at] = Slot {
+        slots[at] = StepSlot {
             step,
             values: Some(values),
         };
@@ -256,7 +256,7 @@ impl<A: Allocator + Copy> Index<A> {
         let place = at as u32;
         take_values(texts, starts, &slots[at].values, place);
         steps.take(step_number(step.as_bytes()), place);
-        slots[at] = Slot { step, values: None };
+        slots[at] = StepSlot { step, values: None };
     }
 
     /// Returns the class of a query: the steps that have its first indexed key, each once, in order of creation. None if
@@ -275,9 +275,9 @@ impl<A: Allocator + Copy> Index<A> {
                 let found = look_up(self.alloc, &self.slots, &self.texts, number, number, &first)?;
                 Ok(Some(found))
             }
-            First::Start(least, greatest) => {
-                let low = low_number(*least);
-                let high = high_number(*greatest);
+            First::Start(span) => {
+                let low = low_number(span.least);
+                let high = high_number(span.greatest);
                 let found = look_up(self.alloc, &self.slots, &self.starts, low, high, &first)?;
                 Ok(Some(found))
             }

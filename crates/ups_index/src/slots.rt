@@ -27,13 +27,13 @@ const USUAL_PLACES: usize = 16;
 
 /// A step with its values, which are None once it is removed.
 #[derive(Drop)]
-pub(crate) struct Slot<A: Allocator + Copy> {
+pub(crate) struct StepSlot<A: Allocator + Copy> {
     pub step: StepUid,
     pub values: Option<Values<A>>,
 }
 
 /// Returns whether a slot is that of `step`, and the step is in the index.
-fn is_of<A: Allocator + Copy>(slot: &Slot<A>, step: StepUid) -> bool
+fn is_of<A: Allocator + Copy>(slot: &StepSlot<A>, step: StepUid) -> bool
     ensures { MatchBool result ((values : RowValues) × (slot.now ≡ record { step = step; values = Some values })) ((values : RowValues) → slot.now ≡ record { step = step; values = Some values } → ⊥) }
 {
     match &slot.values {
@@ -43,7 +43,7 @@ fn is_of<A: Allocator + Copy>(slot: &Slot<A>, step: StepUid) -> bool
 }
 
 /// Returns whether the slot of a step is at a place.
-fn is_slot_of<A: Allocator + Copy>(slots: &[Slot<A>], place: usize, step: StepUid) -> bool
+fn is_slot_of<A: Allocator + Copy>(slots: &[StepSlot<A>], place: usize, step: StepUid) -> bool
     ensures { MatchBool result ((values : RowValues) × IsSlot slots.now place step values) ((values : RowValues) → IsSlot slots.now place step values → ⊥) }
 {
     if place >= slots.len() {
@@ -55,7 +55,7 @@ fn is_slot_of<A: Allocator + Copy>(slots: &[Slot<A>], place: usize, step: StepUi
 /// Returns the place of a step, if one of the posts leads to it.
 fn place_among<A: Allocator + Copy>(
     posts: &[Post],
-    slots: &[Slot<A>],
+    slots: &[StepSlot<A>],
     step: StepUid,
 ) -> Option<usize>
     ensures { MatchOption result ((number place : ℕ) → (values : RowValues) → IsSlot slots.now place step values → Contains posts.now (post number place) → ⊥) (λ place. (values : RowValues) × IsSlot slots.now place step values) }
@@ -71,7 +71,7 @@ fn place_among<A: Allocator + Copy>(
 /// Returns the place of a step, if one of a run of posts leads to it.
 fn place_in<A: Allocator + Copy>(
     run: btree_set::Range<'_, Post>,
-    slots: &[Slot<A>],
+    slots: &[StepSlot<A>],
     step: StepUid,
 ) -> Option<usize>
     ensures { MatchOption result ((number place : ℕ) → (values : RowValues) → IsSlot slots.now place step values → Contains run.entry (post number place) → ⊥) (λ place. (values : RowValues) × IsSlot slots.now place step values) }
@@ -87,7 +87,7 @@ fn place_in<A: Allocator + Copy>(
 /// Returns the place of a step, if it is in the index.
 pub(crate) fn place_of<A: Allocator + Copy>(
     steps: &Posts<A>,
-    slots: &[Slot<A>],
+    slots: &[StepSlot<A>],
     step: StepUid,
 ) -> Option<usize>
     requires { StepsPosted slots.now steps.now.posts }
@@ -217,7 +217,7 @@ fn places_of<A: Allocator + Copy>(
 /// Errors: if memory runs out.
 fn add_step<A: Allocator + Copy>(
     steps: &mut Vec<StepUid, A>,
-    slot: &Slot<A>,
+    slot: &StepSlot<A>,
     first: &First<'_>,
 ) -> Result<(), AllocError>
     ensures { OnOk result (steps.new.items ≡ steps.old.items ++ option_to_list (in_class (first_view first.now) slot.now)) }
@@ -240,7 +240,7 @@ fn add_step<A: Allocator + Copy>(
 /// Errors: if memory runs out.
 fn visit<A: Allocator + Copy>(
     steps: &mut Vec<StepUid, A>,
-    slots: &[Slot<A>],
+    slots: &[StepSlot<A>],
     next: usize,
     place: u32,
     first: &First<'_>,
@@ -266,7 +266,7 @@ fn visit<A: Allocator + Copy>(
 /// Errors: if memory runs out.
 fn steps_at<A: Allocator + Copy>(
     alloc: A,
-    slots: &[Slot<A>],
+    slots: &[StepSlot<A>],
     places: &[u32],
     first: &First<'_>,
 ) -> Result<Vec<StepUid, A>, AllocError>
@@ -287,7 +287,7 @@ fn steps_at<A: Allocator + Copy>(
 /// Errors: if memory runs out.
 pub(crate) fn look_up<A: Allocator + Copy>(
     alloc: A,
-    slots: &[Slot<A>],
+    slots: &[StepSlot<A>],
     table: &Posts<A>,
     low: u64,
     high: u64,

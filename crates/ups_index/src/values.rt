@@ -6,23 +6,16 @@ ghost use Rattle.ups_pdu.specs.Padding.{is_nil, without_padding};
 ghost use Rattle.ups_dataset.specs.Data.{elements_of, items_of, items};
 ghost use Rattle.ups_match.specs.Class.{first_view, start_of};
 ghost use Rattle.ups_match.specs.Matching.{value_at};
-ghost use Rattle.ups_match.specs.Ranges.{is_from, is_up_to};
+ghost use Rattle.ups_match.specs.Ranges.{spans};
 ghost use Rattle.ups_match.specs.Values.{is_backslash};
-ghost use Rattle.ups_index.specs.Kept.{text_view, starts_within};
+ghost use Rattle.ups_index.specs.Kept.{text_view};
 ghost use Rattle.ups_index.specs.Stored.{values_of_row, is_stored_text, has_first};
 
-use crate::storing::{put_stations, put_stored, start_of};
+use crate::storing::{put_all, start_of};
 use std::alloc::{AllocError, Allocator};
 use std::marker::Model;
-use ups_dataset::dictionary::{
-    PATIENT_ID, PROCEDURE_STEP_STATE, SCHEDULED_PROCEDURE_STEP_PRIORITY, SOP_INSTANCE_UID,
-    WORKLIST_LABEL,
-};
 use ups_dataset::{DataSet, Tag, ValueBytes};
-use ups_match::First;
-
-/// The number of texts for which room is taken at once: most steps have one under each tag.
-const USUAL_TEXTS: usize = 6;
+use ups_match::{First, INDEXED, Span};
 
 /// A text under the tag by which it is looked up.
 #[derive(Drop)]
@@ -58,25 +51,9 @@ impl<A: Allocator + Copy> Values<A> {
     pub fn of(alloc: A, row: &DataSet<A>, offset: i16) -> Result<Values<A>, AllocError>
         ensures { IfOk result (λ v. v ≡ values_of_row offset row.now) }
     {
-        let mut texts = Vec::with_capacity(alloc, USUAL_TEXTS)?;
-        put_stored(alloc, &mut texts, row, SOP_INSTANCE_UID, SOP_INSTANCE_UID)?;
-        put_stored(alloc, &mut texts, row, PATIENT_ID, PATIENT_ID)?;
-        put_stored(alloc, &mut texts, row, WORKLIST_LABEL, WORKLIST_LABEL)?;
-        put_stations(alloc, &mut texts, row)?;
-        put_stored(
-            alloc,
-            &mut texts,
-            row,
-            PROCEDURE_STEP_STATE,
-            PROCEDURE_STEP_STATE,
-        )?;
-        put_stored(
-            alloc,
-            &mut texts,
-            row,
-            SCHEDULED_PROCEDURE_STEP_PRIORITY,
-            SCHEDULED_PROCEDURE_STEP_PRIORITY,
-        )?;
+        // most steps have one text under each tag
+        let mut texts = Vec::with_capacity(alloc, INDEXED.len())?;
+        put_all(alloc, &mut texts, row, &INDEXED)?;
         let start = start_of(row, offset);
         Ok(Values { texts, start })
     }
@@ -101,7 +78,7 @@ impl<A: Allocator + Copy> Values<A> {
     {
         match first {
             First::Value(tag, text) => has_text(self.texts(), *tag, text),
-            First::Start(least, greatest) => is_within(self.start, *least, *greatest),
+            First::Start(span) => is_within(self.start, *span),
             First::All => true,
         }
     }
@@ -121,32 +98,12 @@ pub(crate) fn has_text<A: Allocator + Copy>(texts: &[StoredText<A>], tag: Tag, t
     texts.iter().any(|stored| is_text(stored, tag, text))
 }
 
-/// Returns whether a start is between two moments; None is an open end.
-fn is_within(start: Option<i64>, least: Option<i64>, greatest: Option<i64>) -> bool
-    ensures { result ≡ starts_within least greatest start }
+/// Returns whether a start is in a range.
+fn is_within(start: Option<i64>, span: Span) -> bool
+    ensures { result ≡ spans (Some span) start }
 {
     match start {
-        Some(moment) => is_from(least, moment) && is_up_to(greatest, moment),
+        Some(moment) => span.takes_in(moment),
         None => false,
-    }
-}
-
-/// Returns whether a moment is not before `least`.
-fn is_from(least: Option<i64>, moment: i64) -> bool
-    ensures { result ≡ is_from least moment }
-{
-    match least {
-        Some(least) => least <= moment,
-        None => true,
-    }
-}
-
-/// Returns whether a moment is not after `greatest`.
-fn is_up_to(greatest: Option<i64>, moment: i64) -> bool
-    ensures { result ≡ is_up_to greatest moment }
-{
-    match greatest {
-        Some(greatest) => moment <= greatest,
-        None => true,
     }
 }

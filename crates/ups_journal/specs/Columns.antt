@@ -15,12 +15,12 @@ use Rattle.ups_life.specs.declared.watching.Place.{Place}
 use Rattle.ups_life.specs.declared.watching.Place.TheVariants.{At, Everywhere}
 use Rattle.ups_life.specs.declared.entry.Entry.{Entry}
 use Rattle.ups_life.specs.History.{receiver_of}
-use Rattle.ups_journal.specs.declared.operation.Operation.{Operation}
-use Rattle.ups_journal.specs.declared.operation.Operation.TheVariants as operations
+use Rattle.ups_journal.specs.declared.operation.RecordedOperation.{RecordedOperation}
+use Rattle.ups_journal.specs.declared.operation.RecordedOperation.TheVariants as operations
 use Rattle.ups_journal.specs.declared.record.Columns.{Columns}
 use Rattle.ups_journal.specs.declared.record.Record.{Record}
 
-abbrev pub operation_of : {A : Type 0} → Request A → Operation
+abbrev pub operation_of : {A : Type 0} → Request A → RecordedOperation
 operation_of (Create step attributes) = operations.Create
 operation_of (Change step state transaction) = operations.Change
 operation_of (AskCancel step reasons) = operations.AskCancel
@@ -103,12 +103,12 @@ abbrev pub columns_of : {A : Type 0} → Request A → Columns A
 columns_of request = record {
   operation = operation_of request;
   instance = instance_of request;
-  transaction = transaction_cell_of request;
+  transaction_uid = transaction_cell_of request;
   state = wanted_state request;
   receiver = receiver_of request;
-  lock = lock_of request;
-  number = acknowledged_in request;
-  offset = offset_cell_of request;
+  deletion_lock = lock_of request;
+  event = acknowledged_in request;
+  utc_offset = offset_cell_of request;
   attributes = set_of request;
 }
 

@@ -1,9 +1,9 @@
 -- The number and the name of each operation.
 use Rattle.std.specs.Prelude.{ℕ, List, codes}
-use Rattle.ups_journal.specs.declared.operation.Operation.{Operation}
-use Rattle.ups_journal.specs.declared.operation.Operation.TheVariants.{Create, Change, AskCancel, Set, Subscribe, Unsubscribe, Suspend, Acknowledge, Sweep}
+use Rattle.ups_journal.specs.declared.operation.RecordedOperation.{RecordedOperation}
+use Rattle.ups_journal.specs.declared.operation.RecordedOperation.TheVariants.{Create, Change, AskCancel, Set, Subscribe, Unsubscribe, Suspend, Acknowledge, Sweep}
 
-abbrev pub number_of : Operation → ℕ
+abbrev pub number_of : RecordedOperation → ℕ
 number_of Create = 1
 number_of Change = 2
 number_of AskCancel = 3
@@ -14,7 +14,7 @@ number_of Suspend = 7
 number_of Acknowledge = 8
 number_of Sweep = 9
 
-abbrev pub name_of : Operation → List ℕ
+abbrev pub name_of : RecordedOperation → List ℕ
 name_of Create = codes "create"
 name_of Change = codes "change state"
 name_of AskCancel = codes "request cancel"

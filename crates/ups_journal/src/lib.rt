@@ -14,7 +14,7 @@ mod targets;
 mod texts;
 
 pub use fault::{RecordFault, RecordingFault};
-pub use operation::Operation;
+pub use operation::RecordedOperation;
 pub use reading::entry_of;
 pub use record::{Columns, Record};
 pub use recording::record_of;

@@ -1,14 +1,14 @@
 //! The operations of records.
 
 ghost use Rattle.std.specs.Prelude.{◌≡◌, Some, IfSome};
-ghost use Rattle.ups_journal.specs.declared.operation.Operation.{Operation};
+ghost use Rattle.ups_journal.specs.declared.operation.RecordedOperation.{RecordedOperation};
 ghost use Rattle.ups_journal.specs.Operations.{number_of, name_of};
 
 use std::fmt::{self, Display, Formatter};
 
 /// The operation of an accepted request. A store keeps its number, which never changes, and may show its name.
 #[derive(Clone, Copy, Debug, PartialEq, Eq)]
-pub enum Operation {
+pub enum RecordedOperation {
     /// The creation of a step (N-CREATE).
     Create,
     /// The change of the state of a step (N-ACTION type 1).
@@ -29,39 +29,39 @@ pub enum Operation {
     Sweep,
 }
 
-impl Operation {
+impl RecordedOperation {
     /// Returns the number of the operation in a store.
     pub fn number(self) -> u8
         ensures { result ≡ number_of self }
     {
         match self {
-            Operation::Create => 1,
-            Operation::Change => 2,
-            Operation::AskCancel => 3,
-            Operation::Set => 4,
-            Operation::Subscribe => 5,
-            Operation::Unsubscribe => 6,
-            Operation::Suspend => 7,
-            Operation::Acknowledge => 8,
-            Operation::Sweep => 9,
+            RecordedOperation::Create => 1,
+            RecordedOperation::Change => 2,
+            RecordedOperation::AskCancel => 3,
+            RecordedOperation::Set => 4,
+            RecordedOperation::Subscribe => 5,
+            RecordedOperation::Unsubscribe => 6,
+            RecordedOperation::Suspend => 7,
+            RecordedOperation::Acknowledge => 8,
+            RecordedOperation::Sweep => 9,
         }
     }
 
     /// Returns the operation with this number, or None if there is none.
-    pub fn of_number(number: u8) -> Option<Operation>
+    pub fn of_number(number: u8) -> Option<RecordedOperation>
         ensures number { IfSome result (λ o. number_of o ≡ number) }
-        ensures only { (o : Operation) → number_of o ≡ number → result ≡ Some o }
+        ensures only { (o : RecordedOperation) → number_of o ≡ number → result ≡ Some o }
     {
         match number {
-            1 => Some(Operation::Create),
-            2 => Some(Operation::Change),
-            3 => Some(Operation::AskCancel),
-            4 => Some(Operation::Set),
-            5 => Some(Operation::Subscribe),
-            6 => Some(Operation::Unsubscribe),
-            7 => Some(Operation::Suspend),
-            8 => Some(Operation::Acknowledge),
-            9 => Some(Operation::Sweep),
+            1 => Some(RecordedOperation::Create),
+            2 => Some(RecordedOperation::Change),
+            3 => Some(RecordedOperation::AskCancel),
+            4 => Some(RecordedOperation::Set),
+            5 => Some(RecordedOperation::Subscribe),
+            6 => Some(RecordedOperation::Unsubscribe),
+            7 => Some(RecordedOperation::Suspend),
+            8 => Some(RecordedOperation::Acknowledge),
+            9 => Some(RecordedOperation::Sweep),
             _ => None,
         }
     }
@@ -71,48 +71,48 @@ impl Operation {
         ensures { result.now ≡ name_of self }
     {
         match self {
-            Operation::Create => b"create",
-            Operation::Change => b"change state",
-            Operation::AskCancel => b"request cancel",
-            Operation::Set => b"set",
-            Operation::Subscribe => b"subscribe",
-            Operation::Unsubscribe => b"unsubscribe",
-            Operation::Suspend => b"suspend",
-            Operation::Acknowledge => b"acknowledge",
-            Operation::Sweep => b"sweep",
+            RecordedOperation::Create => b"create",
+            RecordedOperation::Change => b"change state",
+            RecordedOperation::AskCancel => b"request cancel",
+            RecordedOperation::Set => b"set",
+            RecordedOperation::Subscribe => b"subscribe",
+            RecordedOperation::Unsubscribe => b"unsubscribe",
+            RecordedOperation::Suspend => b"suspend",
+            RecordedOperation::Acknowledge => b"acknowledge",
+            RecordedOperation::Sweep => b"sweep",
         }
     }
 
     /// Returns the operation with this name, or None if there is none.
-    pub fn named(name: &[u8]) -> Option<Operation>
+    pub fn named(name: &[u8]) -> Option<RecordedOperation>
         ensures name { IfSome result (λ o. name_of o ≡ name.now) }
-        ensures only { (o : Operation) → name_of o ≡ name.now → result ≡ Some o }
+        ensures only { (o : RecordedOperation) → name_of o ≡ name.now → result ≡ Some o }
     {
         if name == b"create".as_slice() {
-            Some(Operation::Create)
+            Some(RecordedOperation::Create)
         } else if name == b"change state".as_slice() {
-            Some(Operation::Change)
+            Some(RecordedOperation::Change)
         } else if name == b"request cancel".as_slice() {
-            Some(Operation::AskCancel)
+            Some(RecordedOperation::AskCancel)
         } else if name == b"set".as_slice() {
-            Some(Operation::Set)
+            Some(RecordedOperation::Set)
         } else if name == b"subscribe".as_slice() {
-            Some(Operation::Subscribe)
+            Some(RecordedOperation::Subscribe)
         } else if name == b"unsubscribe".as_slice() {
-            Some(Operation::Unsubscribe)
+            Some(RecordedOperation::Unsubscribe)
         } else if name == b"suspend".as_slice() {
-            Some(Operation::Suspend)
+            Some(RecordedOperation::Suspend)
         } else if name == b"acknowledge".as_slice() {
-            Some(Operation::Acknowledge)
+            Some(RecordedOperation::Acknowledge)
         } else if name == b"sweep".as_slice() {
-            Some(Operation::Sweep)
+            Some(RecordedOperation::Sweep)
         } else {
             None
         }
     }
 }
 
-impl Display for Operation {
+impl Display for RecordedOperation {
     fn fmt<W: fmt::Write>(&self, f: &mut Formatter<W>) -> fmt::Result {
         f.write_str(str::from_utf8(self.name()).unwrap_or(""))
     }

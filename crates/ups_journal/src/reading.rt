@@ -12,10 +12,10 @@ ghost use Rattle.ups_life.specs.declared.entry.Entry.{Entry};
 ghost use Rattle.ups_journal.specs.Columns.{target_instance, target_offset, target_set, place_instance, columns_of, recorded};
 ghost use Rattle.ups_journal.specs.Writable.{IsWritableTarget, IsPlace, IsRecordable, IsWritableEntry};
 ghost use Rattle.ups_journal.specs.declared.fault.RecordFault.TheVariants.{Memory};
-ghost use Rattle.ups_journal.specs.declared.operation.Operation.TheVariants as operations;
+ghost use Rattle.ups_journal.specs.declared.operation.RecordedOperation.TheVariants as operations;
 
 use crate::fault::RecordFault;
-use crate::operation::Operation;
+use crate::operation::RecordedOperation;
 use crate::record::{Columns, Record};
 use crate::sets::stored_set;
 use crate::targets::{is_instance, place_in, target_in};
@@ -36,12 +36,12 @@ fn create_in<A: Allocator + Copy>(alloc: A, columns: &Columns<A>) -> Result<Requ
     let Columns {
         operation: _,
         instance: Some(instance),
-        transaction: None,
+        transaction_uid: None,
         state: None,
         receiver: None,
-        lock: None,
-        number: None,
-        offset: None,
+        deletion_lock: None,
+        event: None,
+        utc_offset: None,
         attributes: Some(attributes),
     } = columns
     else {
@@ -66,12 +66,12 @@ fn change_in<A: Allocator + Copy>(columns: &Columns<A>) -> Result<Request<A>, Re
     let Columns {
         operation: _,
         instance,
-        transaction,
+        transaction_uid: transaction,
         state: Some(state),
         receiver: None,
-        lock: None,
-        number: None,
-        offset: None,
+        deletion_lock: None,
+        event: None,
+        utc_offset: None,
         attributes: None,
     } = columns
     else {
@@ -101,12 +101,12 @@ fn ask_cancel_in<A: Allocator + Copy>(
     let Columns {
         operation: _,
         instance,
-        transaction: None,
+        transaction_uid: None,
         state: None,
         receiver: None,
-        lock: None,
-        number: None,
-        offset: None,
+        deletion_lock: None,
+        event: None,
+        utc_offset: None,
         attributes: Some(attributes),
     } = columns
     else {
@@ -129,12 +129,12 @@ fn set_in<A: Allocator + Copy>(alloc: A, columns: &Columns<A>) -> Result<Request
     let Columns {
         operation: _,
         instance,
-        transaction,
+        transaction_uid: transaction,
         state: None,
         receiver: None,
-        lock: None,
-        number: None,
-        offset: None,
+        deletion_lock: None,
+        event: None,
+        utc_offset: None,
         attributes: Some(attributes),
     } = columns
     else {
@@ -165,12 +165,12 @@ fn subscribe_in<A: Allocator + Copy>(
     let Columns {
         operation: _,
         instance,
-        transaction: None,
+        transaction_uid: None,
         state: None,
         receiver: Some(receiver),
-        lock: Some(lock),
-        number: None,
-        offset,
+        deletion_lock: Some(lock),
+        event: None,
+        utc_offset: offset,
         attributes,
     } = columns
     else {
@@ -197,12 +197,12 @@ fn unsubscribe_in<A: Allocator + Copy>(columns: &Columns<A>) -> Result<Request<A
     let Columns {
         operation: _,
         instance,
-        transaction: None,
+        transaction_uid: None,
         state: None,
         receiver: Some(receiver),
-        lock: None,
-        number: None,
-        offset: None,
+        deletion_lock: None,
+        event: None,
+        utc_offset: None,
         attributes: None,
     } = columns
     else {
@@ -225,12 +225,12 @@ fn suspend_in<A: Allocator + Copy>(columns: &Columns<A>) -> Result<Request<A>, R
     let Columns {
         operation: _,
         instance,
-        transaction: None,
+        transaction_uid: None,
         state: None,
         receiver: Some(receiver),
-        lock: None,
-        number: None,
-        offset: None,
+        deletion_lock: None,
+        event: None,
+        utc_offset: None,
         attributes: None,
     } = columns
     else {
@@ -254,12 +254,12 @@ fn acknowledge_in<A: Allocator + Copy>(columns: &Columns<A>) -> Result<Request<A
     let Columns {
         operation: _,
         instance: None,
-        transaction: None,
+        transaction_uid: None,
         state: None,
         receiver: None,
-        lock: None,
-        number: Some(upto),
-        offset: None,
+        deletion_lock: None,
+        event: Some(upto),
+        utc_offset: None,
         attributes: None,
     } = columns
     else {
@@ -279,12 +279,12 @@ fn sweep_in<A: Allocator + Copy>(columns: &Columns<A>) -> Result<Request<A>, Rec
     let Columns {
         operation: _,
         instance: None,
-        transaction: None,
+        transaction_uid: None,
         state: None,
         receiver: None,
-        lock: None,
-        number: None,
-        offset: None,
+        deletion_lock: None,
+        event: None,
+        utc_offset: None,
         attributes: None,
     } = columns
     else {
@@ -304,15 +304,15 @@ fn request_in<A: Allocator + Copy>(
     ensures only { (q : Request A) → IsRecordable q → columns_of q ≡ columns.now → MatchResult result (λ x. x ≡ q) (λ f. f ≡ Memory) }
 {
     match columns.operation {
-        Operation::Create => create_in(alloc, columns),
-        Operation::Change => change_in(columns),
-        Operation::AskCancel => ask_cancel_in(alloc, columns),
-        Operation::Set => set_in(alloc, columns),
-        Operation::Subscribe => subscribe_in(alloc, columns),
-        Operation::Unsubscribe => unsubscribe_in(columns),
-        Operation::Suspend => suspend_in(columns),
-        Operation::Acknowledge => acknowledge_in(columns),
-        Operation::Sweep => sweep_in(columns),
+        RecordedOperation::Create => create_in(alloc, columns),
+        RecordedOperation::Change => change_in(columns),
+        RecordedOperation::AskCancel => ask_cancel_in(alloc, columns),
+        RecordedOperation::Set => set_in(alloc, columns),
+        RecordedOperation::Subscribe => subscribe_in(alloc, columns),
+        RecordedOperation::Unsubscribe => unsubscribe_in(columns),
+        RecordedOperation::Suspend => suspend_in(columns),
+        RecordedOperation::Acknowledge => acknowledge_in(columns),
+        RecordedOperation::Sweep => sweep_in(columns),
     }
 }
 

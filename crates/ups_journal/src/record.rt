@@ -2,7 +2,7 @@
 
 ghost use Rattle.std.specs.Prelude.{◌≡◌, None};
 
-use crate::operation::Operation;
+use crate::operation::RecordedOperation;
 use std::alloc::Allocator;
 use ups_cycle::StepState;
 use ups_pdu::Bytes;
@@ -10,21 +10,21 @@ use ups_pdu::Bytes;
 /// A request, column by column. A column is None if the operation does not use it, or the request did not give it.
 pub struct Columns<A: Allocator + Copy> {
     /// The operation.
-    pub operation: Operation,
+    pub operation: RecordedOperation,
     /// The instance UID, which is that of a step, or the well-known one of a global subscription (PS3.4 CC.2.3).
     pub instance: Option<Bytes<A>>,
     /// The Transaction UID (0008,1195); empty if the one that was sent is not a UID.
-    pub transaction: Option<Bytes<A>>,
+    pub transaction_uid: Option<Bytes<A>>,
     /// The requested state of the step.
     pub state: Option<StepState>,
     /// The watcher, which is the Receiving AE (0074,1234).
     pub receiver: Option<Bytes<A>>,
     /// The Deletion Lock (0074,1230).
-    pub lock: Option<bool>,
+    pub deletion_lock: Option<bool>,
     /// The number of the last acknowledged event.
-    pub number: Option<u64>,
+    pub event: Option<u64>,
     /// The offset by which DTs without one are read in the keys of a filter, in minutes east of UTC.
-    pub offset: Option<i16>,
+    pub utc_offset: Option<i16>,
     /// The attributes that were sent, or the keys of a filter, in Explicit VR Little Endian.
     pub attributes: Option<Bytes<A>>,
 }
@@ -34,12 +34,12 @@ impl<A: Allocator + Copy> Drop for Columns<A> {
         let Columns {
             operation: _,
             instance: _,
-            transaction: _,
+            transaction_uid: _,
             state: _,
             receiver: _,
-            lock: _,
-            number: _,
-            offset: _,
+            deletion_lock: _,
+            event: _,
+            utc_offset: _,
             attributes: _,
         } = self;
     }
@@ -70,18 +70,18 @@ impl<A: Allocator + Copy> Drop for Record<A> {
 
 impl<A: Allocator + Copy> Columns<A> {
     /// Returns the columns of an operation, with all others empty.
-    pub(crate) fn of(operation: Operation) -> Columns<A>
-        ensures { result ≡ record { operation = operation; instance = None; transaction = None; state = None; receiver = None; lock = None; number = None; offset = None; attributes = None } }
+    pub(crate) fn of(operation: RecordedOperation) -> Columns<A>
+        ensures { result ≡ record { operation = operation; instance = None; transaction_uid = None; state = None; receiver = None; deletion_lock = None; event = None; utc_offset = None; attributes = None } }
     {
         Columns {
             operation,
             instance: None,
-            transaction: None,
+            transaction_uid: None,
             state: None,
             receiver: None,
-            lock: None,
-            number: None,
-            offset: None,
+            deletion_lock: None,
+            event: None,
+            utc_offset: None,
             attributes: None,
         }
     }

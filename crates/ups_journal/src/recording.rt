@@ -5,11 +5,11 @@ ghost use Rattle.ups_pdu.specs.Registered.{text_of};
 ghost use Rattle.ups_life.specs.declared.request.Request.TheVariants.{Create, Change, AskCancel, Set, Subscribe, Unsubscribe, Suspend};
 ghost use Rattle.ups_journal.specs.Columns.{target_instance, target_offset, target_set, place_instance, transaction_text, columns_of, recorded};
 ghost use Rattle.ups_journal.specs.Writable.{IsTitle, IsStep, IsTransaction, IsWritableTarget, IsPlace, IsRecordable, IsWritableEntry};
-ghost use Rattle.ups_journal.specs.declared.operation.Operation.TheVariants as operations;
+ghost use Rattle.ups_journal.specs.declared.operation.RecordedOperation.TheVariants as operations;
 ghost use Rattle.ups_journal.specs.declared.fault.RecordingFault.TheVariants.{Memory};
 
 use crate::fault::RecordingFault;
-use crate::operation::Operation;
+use crate::operation::RecordedOperation;
 use crate::record::{Columns, Record};
 use crate::sets::written_set;
 use crate::texts::title_in;
@@ -78,7 +78,7 @@ fn create_columns<A: Allocator + Copy>(
     ensures written { IfOk result (λ c. (c ≡ columns_of (Create step.now attributes.now)) × IsRecordable {A = A} (Create step.now attributes.now)) }
     ensures fault { IfErr result (λ f. f ≢ Memory → IsRecordable {A = A} (Create step.now attributes.now) → ⊥) }
 {
-    let mut columns = Columns::of(Operation::Create);
+    let mut columns = Columns::of(RecordedOperation::Create);
     columns.instance = Some(Bytes::copy_of(alloc, step.as_bytes())?);
     columns.attributes = Some(written_set(alloc, attributes)?);
     Ok(columns)
@@ -93,9 +93,9 @@ fn change_columns<A: Allocator + Copy>(
 ) -> Result<Columns<A>, AllocError>
     ensures { IfOk result (λ c. (c ≡ columns_of (Change step.now state transaction.now)) × IsRecordable {A = A} (Change step.now state transaction.now)) }
 {
-    let mut columns = Columns::of(Operation::Change);
+    let mut columns = Columns::of(RecordedOperation::Change);
     columns.instance = step_column(alloc, step)?;
-    columns.transaction = transaction_column(alloc, transaction)?;
+    columns.transaction_uid = transaction_column(alloc, transaction)?;
     columns.state = Some(state);
     Ok(columns)
 }
@@ -109,7 +109,7 @@ fn ask_cancel_columns<A: Allocator + Copy>(
     ensures written { IfOk result (λ c. (c ≡ columns_of (AskCancel step.now reasons.now)) × IsRecordable {A = A} (AskCancel step.now reasons.now)) }
     ensures fault { IfErr result (λ f. f ≢ Memory → IsRecordable {A = A} (AskCancel step.now reasons.now) → ⊥) }
 {
-    let mut columns = Columns::of(Operation::AskCancel);
+    let mut columns = Columns::of(RecordedOperation::AskCancel);
     columns.instance = step_column(alloc, step)?;
     columns.attributes = Some(written_set(alloc, reasons)?);
     Ok(columns)
@@ -125,9 +125,9 @@ fn set_columns<A: Allocator + Copy>(
     ensures written { IfOk result (λ c. (c ≡ columns_of (Set step.now transaction.now attributes.now)) × IsRecordable {A = A} (Set step.now transaction.now attributes.now)) }
     ensures fault { IfErr result (λ f. f ≢ Memory → IsRecordable {A = A} (Set step.now transaction.now attributes.now) → ⊥) }
 {
-    let mut columns = Columns::of(Operation::Set);
+    let mut columns = Columns::of(RecordedOperation::Set);
     columns.instance = step_column(alloc, step)?;
-    columns.transaction = transaction_column(alloc, transaction)?;
+    columns.transaction_uid = transaction_column(alloc, transaction)?;
     columns.attributes = Some(written_set(alloc, attributes)?);
     Ok(columns)
 }
@@ -137,10 +137,10 @@ fn target_columns<A: Allocator + Copy>(
     alloc: A,
     target: &Target<A>,
 ) -> Result<Columns<A>, RecordingFault>
-    ensures written { IfOk result (λ c. (c ≡ record { operation = operations.Subscribe; instance = target_instance target.now; transaction = None; state = None; receiver = None; lock = None; number = None; offset = target_offset target.now; attributes = target_set target.now }) × IsWritableTarget target.now) }
+    ensures written { IfOk result (λ c. (c ≡ record { operation = operations.Subscribe; instance = target_instance target.now; transaction_uid = None; state = None; receiver = None; deletion_lock = None; event = None; utc_offset = target_offset target.now; attributes = target_set target.now }) × IsWritableTarget target.now) }
     ensures fault { IfErr result (λ f. f ≢ Memory → IsWritableTarget target.now → ⊥) }
 {
-    let mut columns = Columns::of(Operation::Subscribe);
+    let mut columns = Columns::of(RecordedOperation::Subscribe);
     match target {
         Target::Single(step) => columns.instance = step_column(alloc, step)?,
         Target::Global => {
@@ -149,7 +149,7 @@ fn target_columns<A: Allocator + Copy>(
         Target::Filtered(filter) => {
             let keys = filter.keys();
             columns.instance = well_known_column(alloc, RegisteredUid::FilteredGlobalSubscription)?;
-            columns.offset = Some(keys.offset());
+            columns.utc_offset = Some(keys.offset());
             columns.attributes = Some(written_set(alloc, keys.attributes())?);
         }
     }
@@ -168,7 +168,7 @@ fn subscribe_columns<A: Allocator + Copy>(
 {
     let mut columns = target_columns(alloc, target)?;
     columns.receiver = Some(title_column(alloc, receiver)?);
-    columns.lock = Some(lock);
+    columns.deletion_lock = Some(lock);
     Ok(columns)
 }
 
@@ -194,7 +194,7 @@ fn unsubscribe_columns<A: Allocator + Copy>(
     ensures written { IfOk result (λ c. (c ≡ columns_of (Unsubscribe place.now receiver)) × IsRecordable {A = A} (Unsubscribe place.now receiver)) }
     ensures fault { IfErr result (λ f. f ≢ Memory → IsRecordable {A = A} (Unsubscribe place.now receiver) → ⊥) }
 {
-    let mut columns = Columns::of(Operation::Unsubscribe);
+    let mut columns = Columns::of(RecordedOperation::Unsubscribe);
     columns.instance = place_column(alloc, place)?;
     columns.receiver = Some(title_column(alloc, receiver)?);
     Ok(columns)
@@ -208,7 +208,7 @@ fn suspend_columns<A: Allocator + Copy>(
     ensures written { IfOk result (λ c. (c ≡ columns_of (Suspend receiver)) × IsRecordable {A = A} (Suspend receiver)) }
     ensures fault { IfErr result (λ f. f ≢ Memory → IsRecordable {A = A} (Suspend receiver) → ⊥) }
 {
-    let mut columns = Columns::of(Operation::Suspend);
+    let mut columns = Columns::of(RecordedOperation::Suspend);
     columns.instance = well_known_column(alloc, RegisteredUid::GlobalSubscription)?;
     columns.receiver = Some(title_column(alloc, receiver)?);
     Ok(columns)
@@ -243,11 +243,11 @@ fn request_columns<A: Allocator + Copy>(
         Request::Unsubscribe { place, receiver } => unsubscribe_columns(alloc, place, *receiver),
         Request::Suspend { receiver } => suspend_columns(alloc, *receiver),
         Request::Ack { upto } => {
-            let mut columns = Columns::of(Operation::Acknowledge);
-            columns.number = Some(*upto);
+            let mut columns = Columns::of(RecordedOperation::Acknowledge);
+            columns.event = Some(*upto);
             Ok(columns)
         }
-        Request::Sweep => Ok(Columns::of(Operation::Sweep)),
+        Request::Sweep => Ok(Columns::of(RecordedOperation::Sweep)),
     }
 }
 

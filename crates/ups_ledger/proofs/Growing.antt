@@ -55,10 +55,6 @@ module _ {A : Type 0} where
         are = put ∙ ((λ i. first.are i ++ is i) ∙ (sym (map-append recorded (take count history) p) ∙ ap (λ (l : List (Entry A)). map recorded l) (sym (first_more count most history first.there) ∙ ap (λ (n : ℕ). take (count + n) history) (sym many))));
       }
 
-  -- the records of the first entries are as many as these
-  pub counted_first : (records : List (Record A)) (history : List (Entry A)) (count : ℕ) → AreFirst records history count → length records ≡ count
-  counted_first records history count first = ap length first.are ∙ (length-map (take count history) recorded ∙ length-take-le count history first.there)
-
   -- and they begin with those of each beginning of the history that is no longer
   pub named_first : (records : List (Record A)) (history seen : List (Entry A)) (count : ℕ) → AreFirst records history count → BeginsHistory seen history → length seen ≤ count → take (length seen) records ≡ map recorded seen
   named_first records history seen count first (rest, is) few =

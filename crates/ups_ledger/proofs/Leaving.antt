@@ -8,7 +8,7 @@ use Rattle.ups_journal.specs.Columns.{recorded}
 use Rattle.ups_service.specs.Law.{BeginsHistory}
 use Rattle.ups_ledger.specs.declared.ledger.Ledger.{Ghosts}
 use Rattle.ups_ledger.specs.declared.keeper.Keeper.{Keeper}
-use Rattle.ups_ledger.specs.Keeping.{AreFirst, AreKept, AreSafe, AreSound, KeeperGoesOn, KeepersGoOn, IsKept, IsSafe, KeepsSeen, LeavesFirst}
+use Rattle.ups_ledger.specs.Keeping.{AreFirst, AreKept, AreSafe, KeeperGoesOn, KeepersGoOn, IsKept, IsSafe, KeepsSeen, LeavesFirst}
 use Rattle.ups_ledger.proofs.Growing.{first_again, more_first, rests_first}
 
 module _ {L : Type 0} (g : Ghosts L) where
@@ -32,16 +32,6 @@ module _ {L : Type 0} (g : Ghosts L) where
   leaves_put after history count kept left = λ first rs later.
       let both = left first rs later in
       (count, omega arith, subst (λ (l : List (Record Global)). AreFirst l history count) (sym both.1) (kept both.0))
-
-  -- the ledger was tidied up
-  pub leaves_tidied : (before after : L) (history : List (Entry Global)) (count : ℕ) → (g.is_sound before → AreFirst (g.kept before) history count) → LeavesFirst g before history count → (g.is_first after → g.is_first before)
-      → ((rs : List (Record Global)) → g.recovers after rs → g.recovers before rs ⊎ ((g.is_first before → g.is_sound before) × (rs ≡ g.kept before))) → LeavesFirst g after history count
-  leaves_tidied before after history count kept leaves first crash = λ is_first rs later.
-      let was_first = first is_first in
-      elim (crash rs later) [
-        | inl was ↦ leaves was_first rs was
-        | inr both ↦ (count, omega arith, subst (λ (l : List (Record Global)). AreFirst l history count) (sym both.1) (kept (both.0 was_first)))
-      ]
 
   -- what a crash leaves begins with what answers rest on
   pub leaves_rests : (ledger : L) (watched seen history : List (Entry Global)) (committed rests : ℕ) (records : List (Record Global)) → LeavesFirst g ledger watched committed → BeginsHistory watched history → BeginsHistory seen history
@@ -111,8 +101,3 @@ module _ {L : Type 0} (g : Ghosts L) where
   safe_by None (Some new) before after go kept safe = absurd go
   safe_by (Some old) None before after go kept safe = tt
   safe_by (Some old) (Some new) before after go kept safe = go.safe kept safe
-
-  pub sound_by : (old new : Option (Keeper L g)) (before after : List (Entry Global)) → KeepersGoOn g old before new after → AreSound g new → AreSound g old
-  sound_by None new before after go sound = tt
-  sound_by (Some old) None before after go sound = absurd go
-  sound_by (Some old) (Some new) before after go sound = go.sound sound

@@ -28,16 +28,16 @@ fn sum_of(entries: Option<u64>, more: u64) -> Option<u64>
 
 /// How many entries must be committed before an answer is sent: as many as its pass has seen, which it notes here.
 #[derive(Drop)]
-pub struct Due<D: Noted> {
+pub struct CommitDue<D: Noted> {
     /// The number, or None if no word holds it: then nothing is sent.
     entries: Option<u64>,
     seen: Book<D>,
     ghost counted: { IfSome entries (λ count. count ≡ seen.total) } by { Prim.hlevel props },
 }
 
-impl<D: Noted> Due<D> {
+impl<D: Noted> CommitDue<D> {
     /// Returns a new count, of nothing, and the share of the pass that notes here what it has seen.
-    pub fn open(blank: Blank) -> (Due<D>, Share<D>)
+    pub fn open(blank: Blank) -> (CommitDue<D>, Share<D>)
         requires name { blank.name ≡ D.name }
         requires parts { blank.parts ≡ D.parts }
         ensures parts { result.1.parts ≡ blank.parts }
@@ -45,7 +45,7 @@ impl<D: Noted> Due<D> {
     {
         let (seen, share) = blank.open::<D>();
         (
-            Due {
+            CommitDue {
                 entries: Some(0),
                 seen,
             },
@@ -76,7 +76,7 @@ impl<D: Noted> Due<D> {
         ensures parts { share.new.parts ≡ share.old.parts }
         ensures total { self.new.seen.total ≡ self.old.seen.total + more }
     {
-        let Due { entries, seen } = self;
+        let CommitDue { entries, seen } = self;
         seen.add(share, more);
         *entries = sum_of(*entries, more);
     }

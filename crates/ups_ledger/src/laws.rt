@@ -11,7 +11,7 @@ ghost use Rattle.ups_ledger.specs.declared.keeper.Keeper.{Keeper};
 ghost use Rattle.ups_ledger.specs.Keeping.{AreFirst, AreKept, AreSafe, IsKept, IsSafe, KeepsSeen, LeavesFirst};
 
 use crate::commits::{Committed, Keeping};
-use crate::due::{Due, Noted};
+use crate::due::{CommitDue, Noted};
 use crate::ledger::Ledger;
 use crate::withheld::Withheld;
 use std::alloc::Global;
@@ -23,7 +23,7 @@ use ups_turn::Fixed;
 /// as at each write on a connection, what holds once they are committed holds of as many entries as the pass has seen, if
 /// it has made a call since the count began.
 pub fn what_may_be_sent_is_committed<F, D, M, K, R>(
-    due: &mut Due<D>,
+    due: &mut CommitDue<D>,
     committed: &Committed<K>,
     withheld: &mut Withheld<'_, F, D, M, R>,
 )

@@ -16,7 +16,7 @@ mod withheld;
 
 pub use commits::{AreCommitted, Commits, Committed, Keeping};
 pub use committing::commit;
-pub use due::{Due, Noted};
+pub use due::{CommitDue, Noted};
 pub use fault::{CommitFault, LedgerFault};
 pub use group::Group;
 pub use keeper::Keeper;

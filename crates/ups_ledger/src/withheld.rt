@@ -2,7 +2,7 @@
 
 ghost use Rattle.std.specs.Prelude.{◌≡◌, ◌≢◌, ◌≤◌, ◌<◌, length};
 
-use crate::due::{Due, Noted};
+use crate::due::{CommitDue, Noted};
 use std::alloc::Global;
 use std::sync::ledger::Share;
 use std::sync::{Mutex, Wait};
@@ -18,7 +18,7 @@ use ups_turn::{Fixed, Seated};
 pub struct Withheld<'a, F: Fixed, D: Noted, M: SharedService<Global>, R: Wait> {
     seated: Seated<'a, F, M, Global, R>,
     rt: &'a R,
-    due: &'a Mutex<Due<D>>,
+    due: &'a Mutex<CommitDue<D>>,
     pub(crate) share: Share<D>,
     /// The number of entries that it has noted.
     noted: u64,
@@ -32,7 +32,7 @@ impl<'a, F: Fixed, D: Noted, M: SharedService<Global>, R: Wait> Withheld<'a, F, 
     pub fn new(
         rt: &'a R,
         seated: Seated<'a, F, M, Global, R>,
-        due: &'a Mutex<Due<D>>,
+        due: &'a Mutex<CommitDue<D>>,
         share: Share<D>,
     ) -> Withheld<'a, F, D, M, R>
         requires calls { seated.pass.calls ≡ D.calls }

@@ -12,7 +12,7 @@ use Rattle.ups_life.specs.declared.request.Request.{Request}
 use Rattle.ups_life.specs.declared.request.Request.TheVariants.{Set}
 use Rattle.ups_life.specs.declared.request.Transaction.{Transaction}
 use Rattle.ups_life.specs.declared.watching.Subscription.{Subscription}
-use Rattle.ups_life.specs.declared.watching.Watcher.{Watcher}
+use Rattle.ups_life.specs.declared.watching.Subscriber.{Subscriber}
 use Rattle.ups_life.specs.Settings.{Settings}
 use Rattle.ups_life.specs.Steps.{is_step, row}
 use Rattle.ups_life.specs.Watching.{is_peer, cover, newly_covered, watch_after, watch, new_watcher, newly}
@@ -86,19 +86,19 @@ only_so_subscribed s e es w u step t set how is none some =
 -- THE WATCHERS THAT ARE NEWLY SUBSCRIBED
 
 -- w is one of these
-abbrev pub is_newly : List ℕ → List Watcher → Bool
-is_newly w ws = list_any (λ (x : Watcher). bytes_eq x.ae w) ws
+abbrev pub is_newly : List ℕ → List Subscriber → Bool
+is_newly w ws = list_any (λ (x : Subscriber). bytes_eq x.ae w) ws
 
 -- those that are new by what was before and by what covers them
-abbrev new_among : (List ℕ → Option Subscription) → (List ℕ → Option Subscription) → List Peer → List Watcher
+abbrev new_among : (List ℕ → Option Subscription) → (List ℕ → Option Subscription) → List Peer → List Subscriber
 new_among before covered ps = filter_map (λ (p : Peer). new_watcher p.ae (before p.ae) (covered p.ae)) ps
 
-each_new : (before covered : List ℕ → Option Subscription) (ps : List Peer) → AllByRecursion (λ (x : Watcher). (before x.ae ≡ None) × (covered x.ae ≡ Some x.subscription)) (new_among before covered ps)
+each_new : (before covered : List ℕ → Option Subscription) (ps : List Peer) → AllByRecursion (λ (x : Subscriber). (before x.ae ≡ None) × (covered x.ae ≡ Some x.subscription)) (new_among before covered ps)
 each_new before covered [] = tt
 each_new before covered (p ∷ ps) = at (before p.ae) refl (covered p.ae) refl (each_new before covered ps)
   where
-    at : (b : Option Subscription) → before p.ae ≡ b → (c : Option Subscription) → covered p.ae ≡ c → AllByRecursion (λ (x : Watcher). (before x.ae ≡ None) × (covered x.ae ≡ Some x.subscription)) (new_among before covered ps)
-        → AllByRecursion (λ (x : Watcher). (before x.ae ≡ None) × (covered x.ae ≡ Some x.subscription)) (new_among before covered (p ∷ ps))
+    at : (b : Option Subscription) → before p.ae ≡ b → (c : Option Subscription) → covered p.ae ≡ c → AllByRecursion (λ (x : Subscriber). (before x.ae ≡ None) × (covered x.ae ≡ Some x.subscription)) (new_among before covered ps)
+        → AllByRecursion (λ (x : Subscriber). (before x.ae ≡ None) × (covered x.ae ≡ Some x.subscription)) (new_among before covered (p ∷ ps))
     at None none (Some how) is rest = rw (none, is) ((none, is), rest)
     at None none None is rest = rw (none, is) rest
     at (Some old) none now is rest = rw (none) rest
@@ -115,7 +115,7 @@ each_is_new : (before covered : List ℕ → Option Subscription) (w : List ℕ)
 each_is_new before covered w [] h none some = absurd cc
 each_is_new before covered w (p ∷ ps) h none some = at (bytes_eq p.ae w) refl (λ g. each_is_new before covered w ps g none some) h
   where
-    rest : List Watcher
+    rest : List Subscriber
     rest = new_among before covered ps
 
     here : (b c : Option Subscription) → bytes_eq p.ae w ≡ true → b ≡ None → is_some c ≡ true → before p.ae ≡ b → covered p.ae ≡ c → is_newly w (new_among before covered (p ∷ ps)) ≡ true
@@ -134,14 +134,14 @@ each_is_new before covered w (p ∷ ps) h none some = at (bytes_eq p.ae w) refl 
 
 -- each watcher that an N-SET newly subscribes is so after it
 pub newly_are_subscribed : {A : Type 0} (s : Settings) (e : Entry A) (es : List (Entry A)) (u : List ℕ) (t : Transaction) (set : List El) → e.request ≡ Set (Some u) t set
-    → AllByRecursion (λ (x : Watcher). (watch s es x.ae u ≡ None) × (watch s (e ∷ es) x.ae u ≡ Some x.subscription)) (newly s es e u)
+    → AllByRecursion (λ (x : Subscriber). (watch s es x.ae u ≡ None) × (watch s (e ∷ es) x.ae u ≡ Some x.subscription)) (newly s es e u)
 newly_are_subscribed {A} s e es u t set is = more (newly s es e u) (each_new (λ w. watch s es w u) (λ w. newly_covered s es e w u) s.peers)
   where
     so : (w : List ℕ) (how : Subscription) → watch s es w u ≡ None → newly_covered s es e w u ≡ Some how → watch s (e ∷ es) w u ≡ Some how
     so w how none here = set_watch s e es w u (Some u) t set is ∙ ap (λ b. cond b (option_or (watch s es w u) (newly_covered s es e w u)) (watch s es w u)) (text_is_itself u) ∙ ap (λ o. option_or o (newly_covered s es e w u)) none ∙ here
 
-    more : (ws : List Watcher) → AllByRecursion (λ (x : Watcher). (watch s es x.ae u ≡ None) × (newly_covered s es e x.ae u ≡ Some x.subscription)) ws
-        → AllByRecursion (λ (x : Watcher). (watch s es x.ae u ≡ None) × (watch s (e ∷ es) x.ae u ≡ Some x.subscription)) ws
+    more : (ws : List Subscriber) → AllByRecursion (λ (x : Subscriber). (watch s es x.ae u ≡ None) × (newly_covered s es e x.ae u ≡ Some x.subscription)) ws
+        → AllByRecursion (λ (x : Subscriber). (watch s es x.ae u ≡ None) × (watch s (e ∷ es) x.ae u ≡ Some x.subscription)) ws
     more [] h = tt
     more (x ∷ ws) (h, rest) = ((h.0, so x.ae x.subscription h.0 h.1), more ws rest)
 

@@ -17,7 +17,7 @@ use Rattle.ups_life.specs.declared.watching.Target.TheVariants.{Single, Global, 
 use Rattle.ups_life.specs.declared.watching.Place.{Place}
 use Rattle.ups_life.specs.declared.watching.Place.TheVariants.{At, Everywhere}
 use Rattle.ups_life.specs.declared.watching.Watched.{Watched}
-use Rattle.ups_life.specs.declared.watching.Watcher.{Watcher}
+use Rattle.ups_life.specs.declared.watching.Subscriber.{Subscriber}
 use Rattle.ups_life.specs.Settings.{Settings}
 use Rattle.ups_life.specs.Steps.{is_step, row, row_of, final_at}
 
@@ -91,13 +91,13 @@ abbrev pub watch : {A : Type 0} → Settings → List (Entry A) → List ℕ →
 watch s [] w u = None
 watch s (e ∷ es) w u = watch_after s es e w u (watch s es w u) e.request
 
-abbrev pub new_watcher : List ℕ → Option Subscription → Option Subscription → Option Watcher
+abbrev pub new_watcher : List ℕ → Option Subscription → Option Subscription → Option Subscriber
 new_watcher w None (Some how) = Some (record { ae = w; subscription = how })
 new_watcher w before covered = None
 
 -- WHOM AN N-SET SUBSCRIBES NEWLY: the peers that were not subscribed to its step u and whose filters cover u only since
 -- the N-SET, the entry e, in the order of the peers (a rule of the profile)
-abbrev pub newly : {A : Type 0} → Settings → List (Entry A) → Entry A → List ℕ → List Watcher
+abbrev pub newly : {A : Type 0} → Settings → List (Entry A) → Entry A → List ℕ → List Subscriber
 newly s es e u = filter_map (λ (p : Peer). new_watcher p.ae (watch s es p.ae u) (newly_covered s es e p.ae u)) s.peers
 
 -- THE STEPS HELD

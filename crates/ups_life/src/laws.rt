@@ -14,7 +14,7 @@ ghost use Rattle.ups_cycle.specs.declared.state.StepState.{StepState};
 ghost use Rattle.ups_cycle.specs.declared.state.StepState.TheVariants.{InProgress};
 ghost use Rattle.ups_life.specs.declared.watching.Subscription.{Subscription};
 ghost use Rattle.ups_life.specs.declared.watching.Watched.{Watched};
-ghost use Rattle.ups_life.specs.declared.watching.Watcher.{Watcher};
+ghost use Rattle.ups_life.specs.declared.watching.Subscriber.{Subscriber};
 ghost use Rattle.ups_life.specs.CheckedAttributes.{checked_attributes};
 ghost use Rattle.ups_life.specs.Limits.{last_moment, row_limit, history_limit, peer_limit, least_offset, greatest_offset};
 ghost use Rattle.ups_life.specs.Settings.{Settings};
@@ -145,10 +145,10 @@ pub fn a_filter_follows_changes<A: Allocator + Copy>()
 /// after it.
 pub fn newly_subscribed_is_who_begins_to_watch<A: Allocator + Copy>()
     ensures each { (s : Settings) → (e : Entry A) → (es : List (Entry A)) → (u : List ℕ) → (t : Transaction) → (attributes : List El) → e.request ≡ Set (Some u) t attributes
-        → AllByRecursion (λ (x : Watcher). (watch s es x.ae u ≡ None) × (watch s (e ∷ es) x.ae u ≡ Some x.subscription)) (newly s es e u) }
+        → AllByRecursion (λ (x : Subscriber). (watch s es x.ae u ≡ None) × (watch s (e ∷ es) x.ae u ≡ Some x.subscription)) (newly s es e u) }
     ensures all { (s : Settings) → (e : Entry A) → (es : List (Entry A)) → (w u : List ℕ) → (t : Transaction) → (attributes : List El) → e.request ≡ Set (Some u) t attributes
         → is_peer s.peers w ≡ true → watch s es w u ≡ None → is_some (watch s (e ∷ es) w u) ≡ true
-        → list_any (λ (x : Watcher). bytes_eq x.ae w) (newly s es e u) ≡ true }
+        → list_any (λ (x : Subscriber). bytes_eq x.ae w) (newly s es e u) ≡ true }
 {}
 
 /// At most one State Report of each step is pending for a watcher.

@@ -41,4 +41,4 @@ pub use row::{Holder, Row};
 pub use sets::Sets;
 pub use showing::shown;
 pub use step::StepUid;
-pub use watching::{Filter, Place, Subscription, Target, Watched, Watcher};
+pub use watching::{Filter, Place, Subscriber, Subscription, Target, Watched};

@@ -31,7 +31,7 @@ pub struct Watched {
 
 /// A watcher that is subscribed to a step.
 #[derive(Clone, Copy)]
-pub struct Watcher {
+pub struct Subscriber {
     /// The title of the watcher.
     pub ae: Ae,
     /// The subscription of the watcher to the step.

@@ -6,7 +6,6 @@ use Rattle.std.specs.Prelude.{if◌then◌else◌}
 use Rattle.std.proofs.KnownBytes.{Appends-trans}
 use Rattle.std.proofs.lemmas.List.{take_all, take_more}
 use Rattle.std.proofs.lemmas.List.Folds.{flat_map-map}
-use Rattle.std.proofs.lemmas.Grind.{flat_map-append}
 use Rattle.ups_dataset.specs.declared.tag.Tag.{Tag}
 use Rattle.ups_dataset.specs.declared.set.Element.{Element}
 use Rattle.ups_dataset.specs.Data.{Data, El, bytes, items, items_of}
@@ -15,15 +14,6 @@ use Rattle.ups_lines.specs.Printing.{hex_tag, printed, word, words_data, words_i
 
 next : {X : Type 0} (xs : List X) (i : ℕ) (x : X) → i < length xs → x ≡ get_or xs i x → take (i + 1) xs ≡ take i xs ++ x ∷ []
 next xs i x low is = take_more xs i x low ∙ ap (λ y. take i xs ++ y ∷ []) (sym is)
-
-flat_next : {X : Type 0} (f : X → List ℕ) (xs : List X) (i : ℕ) (x : X) → i < length xs → x ≡ get_or xs i x → flat_map f (take (i + 1) xs) ≡ flat_map f (take i xs) ++ f x
-flat_next f xs i x low is =
-    ap (flat_map f) (next xs i x low is) ∙ flat_map-append f (take i xs) (x ∷ []) ∙ ap (λ l. flat_map f (take i xs) ++ l) (append-nil (f x))
-
--- one more of a list is written behind the first i
-pub appends_each : {X : Type 0} (f : X → List ℕ) (xs : List X) (i : ℕ) (x : X) (a b c : Option (List ℕ)) → i < length xs → x ≡ get_or xs i x
-    → Appends a b (flat_map f (take i xs)) → Appends b c (f x) → Appends a c (flat_map f (take (i + 1) xs))
-appends_each f xs i x a b c low is before here = subst (Appends a c) (sym (flat_next f xs i x low is)) (Appends-trans a b c _ _ before here)
 
 -- words behind another, each with its space
 pub spaced_flat : (ws : List (List ℕ)) → spaced true ws ≡ flat_map (λ w. 32 ∷ w) ws

@@ -11,7 +11,7 @@ use std::alloc::{AllocError, Allocator};
 
 /// An attribute of a line: its path and its value.
 #[derive(Clone, Copy)]
-pub struct Attribute<'a> {
+pub struct LineAttribute<'a> {
     pub(crate) path: Path<'a>,
     pub(crate) value: Text<'a>,
     /// The number of attributes before it in the line.
@@ -20,14 +20,14 @@ pub struct Attribute<'a> {
     pub(crate) is_replaced: bool,
 }
 
-impl<'a> Attribute<'a> {
+impl<'a> LineAttribute<'a> {
     /// Returns the attribute with this path and value.
     ///
     /// Errors: Attribute if the path is invalid; Escape.
-    pub fn new(path: &'a [u8], value: &'a [u8]) -> Result<Attribute<'a>, LineReason>
+    pub fn new(path: &'a [u8], value: &'a [u8]) -> Result<LineAttribute<'a>, LineReason>
         ensures { IfOk result (λ _. IsText value.now) }
     {
-        Ok(Attribute {
+        Ok(LineAttribute {
             path: Path::of(path).ok_or(LineReason::Attribute)?,
             value: Text::of(value).ok_or(LineReason::Escape)?,
             place: 0,
@@ -38,11 +38,11 @@ impl<'a> Attribute<'a> {
     /// Returns the attribute that is written as `path=value`.
     ///
     /// Errors: Attribute; Escape.
-    fn of(word: &'a [u8]) -> Result<Attribute<'a>, LineReason> {
+    fn of(word: &'a [u8]) -> Result<LineAttribute<'a>, LineReason> {
         let Some(end) = word.iter().position(|byte| *byte == b'=') else {
             return Err(LineReason::Attribute);
         };
-        Attribute::new(&word[..end], &word[end + 1..])
+        LineAttribute::new(&word[..end], &word[end + 1..])
     }
 }
 
@@ -51,7 +51,7 @@ impl<'a> Attribute<'a> {
 /// Errors: lack of memory.
 fn mark_below<A: Allocator + Copy>(
     alloc: A,
-    sorted: &mut [Attribute<'_>],
+    sorted: &mut [LineAttribute<'_>],
 ) -> Result<(), AllocError> {
     // the values around the current attribute, each later than the one before it
     let mut round = Vec::new(alloc);
@@ -76,7 +76,7 @@ fn leave<A: Allocator + Copy>(round: &mut Vec<(Path<'_>, u32), A>, path: Path<'_
 }
 
 /// Marks each value that is replaced by a later one of its own element, or by a later one in its items.
-fn mark_above(sorted: &mut [Attribute<'_>]) {
+fn mark_above(sorted: &mut [LineAttribute<'_>]) {
     let mut behind: Option<Path<'_>> = None;
     for attribute in sorted.iter_mut().rev() {
         let path = attribute.path;
@@ -91,8 +91,8 @@ fn mark_above(sorted: &mut [Attribute<'_>]) {
 
 /// Appends the attributes of arguments.
 fn push_arguments<'a, A: Allocator + Copy>(
-    attributes: &mut Vec<Attribute<'a>, A>,
-    arguments: &[Option<Attribute<'a>>],
+    attributes: &mut Vec<LineAttribute<'a>, A>,
+    arguments: &[Option<LineAttribute<'a>>],
 ) -> Result<(), AllocError> {
     for argument in arguments.iter().flatten() {
         attributes.push(*argument)?;
@@ -104,10 +104,10 @@ fn push_arguments<'a, A: Allocator + Copy>(
 ///
 /// Errors: EmptyWord, Attribute or Escape if the word is not an attribute; lack of memory.
 fn push_word<'a, A: Allocator + Copy>(
-    attributes: &mut Vec<Attribute<'a>, A>,
+    attributes: &mut Vec<LineAttribute<'a>, A>,
     word: &'a [u8],
 ) -> Result<(), LineFault> {
-    let mut attribute = Attribute::of(filled(word)?)?;
+    let mut attribute = LineAttribute::of(filled(word)?)?;
     attribute.place = u32::try_from(attributes.len()).unwrap_or(u32::MAX);
     attributes.push(attribute)?;
     Ok(())
@@ -117,7 +117,7 @@ fn push_word<'a, A: Allocator + Copy>(
 ///
 /// Errors: those of `push_word`.
 fn push_words<'a, A: Allocator + Copy>(
-    attributes: &mut Vec<Attribute<'a>, A>,
+    attributes: &mut Vec<LineAttribute<'a>, A>,
     words: Words<'a>,
 ) -> Result<(), LineFault> {
     for word in words {
@@ -127,7 +127,7 @@ fn push_words<'a, A: Allocator + Copy>(
 }
 
 /// Sorts attributes into the order of a data set, those of one element into the order of the line.
-fn sort(attributes: &mut [Attribute<'_>]) {
+fn sort(attributes: &mut [LineAttribute<'_>]) {
     attributes.sort_unstable_by(|one, two| {
         one.path.cmp(two.path).then(one.place.cmp(&two.place))
     });
@@ -139,9 +139,9 @@ fn sort(attributes: &mut [Attribute<'_>]) {
 /// Errors: EmptyWord, Attribute or Escape if a word is not an attribute; lack of memory.
 pub fn attributes_of<'a, A: Allocator + Copy>(
     alloc: A,
-    arguments: &[Option<Attribute<'a>>],
+    arguments: &[Option<LineAttribute<'a>>],
     words: Words<'a>,
-) -> Result<Vec<Attribute<'a>, A>, LineFault> {
+) -> Result<Vec<LineAttribute<'a>, A>, LineFault> {
     let count = arguments.len().saturating_add(words.count());
     let mut attributes = Vec::with_capacity(alloc, count)?;
     push_arguments(&mut attributes, arguments)?;

@@ -12,7 +12,7 @@ mod spelling;
 mod text;
 mod words;
 
-pub use attributes::{Attribute, attributes_of};
+pub use attributes::{LineAttribute, attributes_of};
 pub use fault::{LineFault, LineReason};
 pub use laws::what_is_printed_is_read_again;
 pub use limits::limits_are_as_defined;

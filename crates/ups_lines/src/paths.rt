@@ -10,14 +10,14 @@ use ups_dataset::Tag;
 /// A part of a path: an element, and the number of its item in which the path continues, counted from 1, or None if the
 /// path ends at the element.
 #[derive(Clone, Copy, PartialEq, Eq, PartialOrd, Ord)]
-pub(crate) struct Part {
+pub(crate) struct PathPart {
     pub tag: Tag,
     pub item: Option<u32>,
 }
 
-impl Part {
+impl PathPart {
     /// Returns whether another part is of the same element, and in the same item if this one is in an item.
-    fn covers(self, other: Part) -> bool {
+    fn covers(self, other: PathPart) -> bool {
         self == other || self.item.is_none() && self.tag == other.tag
     }
 }
@@ -35,18 +35,18 @@ fn item_at(text: &[u8]) -> Option<(u32, &[u8])>
 }
 
 /// Reads the first part of a path, and returns it with what follows: nothing after the last part.
-fn part_at(text: &[u8]) -> Option<(Part, &[u8])>
+fn part_at(text: &[u8]) -> Option<(PathPart, &[u8])>
     ensures { IfSome result (λ x. length x.1.now < length text.now) }
 {
     let (digits, behind) = text.split_at_checked(8)?;
     let tag = tag_of(digits)?;
     match behind {
-        [] => Some((Part { tag, item: None }, behind)),
-        [b'/', rest @ ..] => Some((Part { tag, item: Some(1) }, rest)),
+        [] => Some((PathPart { tag, item: None }, behind)),
+        [b'/', rest @ ..] => Some((PathPart { tag, item: Some(1) }, rest)),
         [b'.', number @ ..] => {
             let (item, rest) = item_at(number)?;
             Some((
-                Part {
+                PathPart {
                     tag,
                     item: Some(item),
                 },
@@ -94,14 +94,14 @@ impl<'a> Path<'a> {
 }
 
 impl<'a> Iterator for Path<'a> {
-    type Item = Part;
+    type Item = PathPart;
 
     ghost use Rattle.std.specs.Prelude.{length};
     ghost use Rattle.std.specs.Iterator.{at_most};
 
     ghost remaining = { λ p. at_most (length p.text.now) };
 
-    fn next(&mut self) -> Option<Part> {
+    fn next(&mut self) -> Option<PathPart> {
         let (part, rest) = part_at(self.text)?;
         self.text = rest;
         Some(part)

@@ -7,10 +7,10 @@ ghost use Rattle.ups_pdu.specs.declared.syntax.TransferSyntax.TheVariants.{Expli
 ghost use Rattle.ups_lines.specs.Escapes.{StandsFor};
 ghost use Rattle.ups_lines.specs.Forms.{pad_of, vr_for, element_for};
 
-use crate::attributes::Attribute;
+use crate::attributes::LineAttribute;
 use crate::fault::{LineFault, LineReason};
 use crate::limits::MAX_ITEMS;
-use crate::paths::{Part, Path};
+use crate::paths::{Path, PathPart};
 use crate::text::Text;
 use std::alloc::{AllocError, Allocator};
 use std::iter::Skip;
@@ -146,7 +146,7 @@ impl<'a, A: Allocator + Copy> Spelling<'a, A> {
     }
 
     /// Enters the element of a part: begins its sequence, or encodes the value if the path ends there.
-    fn enter(&mut self, part: Part, value: Text<'_>) -> Result<(), LineFault> {
+    fn enter(&mut self, part: PathPart, value: Text<'_>) -> Result<(), LineFault> {
         let Some(number) = part.item else {
             return put_value(&mut self.out, part.tag, value);
         };
@@ -155,7 +155,7 @@ impl<'a, A: Allocator + Copy> Spelling<'a, A> {
     }
 
     /// Goes from one part to another in the same item, or to a later item of the same sequence.
-    fn go(&mut self, from: Part, to: Part, value: Text<'_>) -> Result<(), LineFault> {
+    fn go(&mut self, from: PathPart, to: PathPart, value: Text<'_>) -> Result<(), LineFault> {
         match (from.item, to.item) {
             (Some(before), Some(number)) if from.tag == to.tag => {
                 self.end_item()?;
@@ -188,7 +188,7 @@ impl<'a, A: Allocator + Copy> Spelling<'a, A> {
     }
 
     /// Encodes an attribute that comes after the last one in the order of a data set.
-    fn put(&mut self, attribute: &Attribute<'a>) -> Result<(), LineFault> {
+    fn put(&mut self, attribute: &LineAttribute<'a>) -> Result<(), LineFault> {
         let shared = self.path.shared(attribute.path);
         let mut left = self.path.skip(shared);
         let mut next = attribute.path.skip(shared);
@@ -219,7 +219,7 @@ impl<'a, A: Allocator + Copy> Spelling<'a, A> {
 /// Errors: TooManyItems if it has more than 131,072; lack of memory.
 pub fn spelled<A: Allocator + Copy>(
     alloc: A,
-    attributes: &[Attribute<'_>],
+    attributes: &[LineAttribute<'_>],
 ) -> Result<Vec<u8, A>, LineFault> {
     let mut spelling = Spelling::new(alloc);
     for attribute in attributes {

@@ -48,19 +48,19 @@ use Rattle.ups_life.specs.contracts.entry.Entry as Entry
 use Rattle.ups_life.specs.contracts.row.Row as Row
 use Rattle.ups_life.specs.contracts.configuration.Configuration as Configuration
 use Rattle.ups_watch.specs.contracts.cover.Cover as Cover
-use Rattle.ups_watch.specs.contracts.row.Row as Cells
+use Rattle.ups_watch.specs.contracts.row.WatchRow as Cells
 use Rattle.ups_watch.specs.contracts.watchers.Watchers as Watchers
-use Rattle.ups_events.proofs.slots.Slot.TheSendSync as slot
+use Rattle.ups_events.proofs.slots.EventSlot.TheSendSync as slot
 use Rattle.ups_events.specs.contracts.queue.Queue as Queue
 use Rattle.ups_events.specs.contracts.queues.Queues as Queues
 use Rattle.ups_keep.proofs.due.Final.TheSendSync as final
 use Rattle.ups_keep.specs.contracts.due.Due as Due
-use Rattle.ups_steps.specs.contracts.held.Held as Held
+use Rattle.ups_steps.specs.contracts.held.HeldRow as HeldRow
 use Rattle.ups_steps.specs.contracts.steps.Steps as Steps
 use Rattle.ups_index.proofs.posts.Post.TheSendSync as post
 use Rattle.ups_index.specs.contracts.values.StoredText as StoredText
 use Rattle.ups_index.specs.contracts.values.Values as Values
-use Rattle.ups_index.specs.contracts.slots.Slot as IndexSlot
+use Rattle.ups_index.specs.contracts.slots.StepSlot as IndexSlot
 use Rattle.ups_index.specs.contracts.posts.Posts as Posts
 use Rattle.ups_index.specs.contracts.index.Index as Index
 use Rattle.ups_tables.specs.contracts.tables.Tables as Tables
@@ -119,14 +119,14 @@ module _ (A : RattleType) (g : Allocator.Ghosts A.Denot) where
   Row-send : IsSend A → Frees g g.dealloc_token → IsSend (Row.the_field A g).row
   Row-send s f = let d = DataSet-send s f in search (sendable, leaves) depth 40
 
-  Held-send : IsSend A → Frees g g.dealloc_token → IsSend (Held.the_field A g).row
-  Held-send s f = let r = Row-send s f in search (sendable, leaves) depth 40
+  HeldRow-send : IsSend A → Frees g g.dealloc_token → IsSend (HeldRow.the_field A g).row
+  HeldRow-send s f = let r = Row-send s f in search (sendable, leaves) depth 40
 
 -- THE TABLES
 
 module _ (A : RattleType) (g : Allocator.Ghosts A.Denot) where
   Steps-send : IsSend A → Frees g g.dealloc_token → IsSend (Steps.the_field A g).row
-  Steps-send s f = let h = Held-send A g s f in let o : IsSend (Option.the_row (Held.the_row A g)) = search sendable depth 20 in search (sendable, IndexMap-send, leaves) depth 40
+  Steps-send s f = let h = HeldRow-send A g s f in let o : IsSend (Option.the_row (HeldRow.the_row A g)) = search sendable depth 20 in search (sendable, IndexMap-send, leaves) depth 40
 
   Cover-send : IsSend A → Frees g g.dealloc_token → IsSend (Cover.the_field A g).row
   Cover-send s f = let k = Keys-send A g s f in search (sendable, leaves) depth 40

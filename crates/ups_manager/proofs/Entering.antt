@@ -4,7 +4,6 @@ use Rattle.std.specs.Prelude.{nat_lt, not}
 use Rattle.std.specs.Option.{option_or, unwrap_or}
 use Rattle.std.specs.List.{AllByRecursion}
 use Rattle.std.proofs.lemmas.Bool.Decides.{nat_tests}
-use Rattle.std.proofs.lemmas.List.{append-nil}
 use Rattle.std.proofs.lemmas.List.Elements.{All-cons, All-append}
 use Rattle.ups_cycle.specs.declared.status.Status.{Status}
 use Rattle.ups_cycle.specs.declared.status.Status.TheVariants.{Success, ResourceLimitation, UnknownInstance}
@@ -25,12 +24,12 @@ use Rattle.ups_life.proofs.Past.{length-past}
 use Rattle.ups_tables.specs.declared.rows.HeldStep.{HeldStep}
 use Rattle.ups_tables.specs.HeldSteps.{held_steps, step_at, row_in, row_of_step, holder_in, claims_it, put_step}
 use Rattle.ups_tables.proofs.Holding.{row_in-held_steps, row_of_step-held_steps, held_steps-after}
-use Rattle.ups_steps.specs.declared.held.Held.{Held}
+use Rattle.ups_steps.specs.declared.held.HeldRow.{HeldRow}
 use Rattle.ups_tables.specs.declared.tables.Tables.{Tables}
 use Rattle.ups_tables.specs.Held.{held_at}
 use Rattle.ups_tables.specs.Keyed.{step_with_held, as_steps, row_held, holder_held}
 use Rattle.ups_tables.proofs.Keyed.{row_found, holder_found}
-use Rattle.ups_service.specs.Law.{is_granted, OrLacking, Answers, SmallReply, is_legal, entry, entered}
+use Rattle.ups_service.specs.Law.{is_granted, OrLacking, Answers, is_legal, entry}
 use Rattle.ups_service.proofs.Legality.{no_room}
 use Rattle.ups_manager.specs.declared.deciding.Decision.{Decision}
 use Rattle.ups_manager.specs.declared.deciding.Kind.TheVariants.{OfStep}
@@ -67,12 +66,6 @@ pub answers_full : {A : Type 0} (s : Settings) (history : List (Entry A)) (call 
     → Answers s history call.caller call.ae call.moment (Do call.request) (Answered ResourceLimitation)
 answers_full {A} s history call x is ok = lacks s history call x is (done_granted A x ok)
 
-pub none_entered : {A : Type 0} (history : List (Entry A)) (call : Entry A) (x : Reply A) → accepts x ≡ false → history ≡ history ++ entered call.caller call.ae call.moment (Do call.request) x
-none_entered history call x n = sym (ap (λ b. history ++ cond b (call ∷ []) []) n ∙ append-nil history)
-
-pub one_entered : {A : Type 0} (history : List (Entry A)) (call : Entry A) (x : Reply A) → accepts x ≡ true → history ++ call ∷ [] ≡ history ++ entered call.caller call.ae call.moment (Do call.request) x
-one_entered history call x ok = sym (ap (λ b. history ++ cond b (call ∷ []) []) ok)
-
 within : (n m : ℕ) → n < m → nat_lt n m ≡ true
 within n m h = grind (arith, nat_tests)
 
@@ -91,11 +84,6 @@ pub legal_with : {A : Type 0} (s : Settings) (history : List (Entry A)) (call : 
     → legal s (call ∷ past history) ≡ true
 legal_with s history call x so decided ok room =
     ap (λ y. accepts y && legal s (past history)) (succeeds s history call x decided room) ∙ ap (λ b. b && legal s (past history)) ok ∙ so
-
-pub small_done : (A : Type 0) (x : Reply A) → accepts x ≡ true → SmallReply x
-small_done A (Answered status) h = tt
-small_done A (Swept count) h = tt
-small_done A x h = absurd cc
 
 -- the room in a slice is that in what it lends
 pub room_of_slice : {A : Type 0} (limit : ℕ) (slice history : List (Entry A)) → slice ≡ history → length slice < limit → length history < limit
@@ -231,7 +219,7 @@ step_not_done offset moment row used r f (inl h) = ap (λ x. is_done (status_of 
 step_not_done offset moment row used r f (inr h) = ap is_done (lack_of offset moment (unwrap_or row nothing) r f h.1)
 
 -- what is allowed by the row in the table, and made of it, is accepted
-pub accepted : {A : Type 0} (s : Settings) (history : List (Entry A)) (es : List (List ℕ × Held A)) (call : Entry A) (step : List ℕ) (held : Held A) (offset : ℤ) → offset ≡ s.offset
+pub accepted : {A : Type 0} (s : Settings) (history : List (Entry A)) (es : List (List ℕ × HeldRow A)) (call : Entry A) (step : List ℕ) (held : HeldRow A) (offset : ℤ) → offset ≡ s.offset
     → step_of call.request ≡ Some step → verdict (row_held (held_at step es)) (repeats (past history) call.request) call.request ≡ Success
     → held.row ≡ row_after offset call.moment (unwrap_or (row_held (held_at step es)) nothing) call.request → held.holder ≡ option_or (claims_it call) (holder_held (held_at step es))
     → (is_sized call.request ≡ true → fits held.row.attributes ≡ true) → Accepted s history (as_steps es) call (step_with_held step held)
@@ -245,7 +233,7 @@ accepted {A} s history es call step held offset zone on allowed row holder fits 
 }
 
 -- what fails by the row in the table fails by the steps held
-pub fails : {A : Type 0} (offset : ℤ) (moment : ℕ) (es : List (List ℕ × Held A)) (step : List ℕ) (used : Bool) (r : Request A) (f : SubmitFault) → step_of r ≡ Some step
+pub fails : {A : Type 0} (offset : ℤ) (moment : ℕ) (es : List (List ℕ × HeldRow A)) (step : List ℕ) (used : Bool) (r : Request A) (f : SubmitFault) → step_of r ≡ Some step
     → StepFails offset moment (row_held (held_at step es)) used r f → StepFails offset moment (row_of_step (step_of r) (as_steps es)) used r f
 fails {A} offset moment es step used r f on h = subst (λ (o : Option (Row A)). StepFails offset moment o used r f) (row_found step es ∙ sym (ap (λ o. row_of_step o (as_steps es)) on)) h
 

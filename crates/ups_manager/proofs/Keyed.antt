@@ -9,7 +9,7 @@ use Rattle.ups_life.specs.Steps.{past}
 use Rattle.ups_life.specs.Watching.{held}
 use Rattle.ups_tables.specs.declared.rows.HeldStep.{HeldStep}
 use Rattle.ups_tables.specs.HeldSteps.{held_step, step_at}
-use Rattle.ups_steps.specs.declared.held.Held.{Held}
+use Rattle.ups_steps.specs.declared.held.HeldRow.{HeldRow}
 use Rattle.ups_tables.specs.declared.tables.Tables.{Tables}
 use Rattle.ups_tables.specs.Held.{held_at}
 use Rattle.ups_tables.specs.Keyed.{step_with_held, as_steps}
@@ -22,11 +22,11 @@ use Rattle.ups_manager.proofs.Matches.{uids_are}
 -- A STEP
 
 -- what was looked up is the step of the definitions
-pub is_found : {A : Type 0} (u : List ℕ) (es : List (List ℕ × Held A)) (o : Option (Held A)) → o ≡ held_at u es → option_map (step_with_held u) o ≡ step_at u (as_steps es)
+pub is_found : {A : Type 0} (u : List ℕ) (es : List (List ℕ × HeldRow A)) (o : Option (HeldRow A)) → o ≡ held_at u es → option_map (step_with_held u) o ≡ step_at u (as_steps es)
 is_found u es o is = ap (option_map (step_with_held u)) is ∙ found_at u es
 
 -- the UIDs of the table are those of the steps held
-keys_are : {A : Type 0} (es : List (List ℕ × Held A)) → keys_of es ≡ map (λ (h : HeldStep A). h.step) (as_steps es)
+keys_are : {A : Type 0} (es : List (List ℕ × HeldRow A)) → keys_of es ≡ map (λ (h : HeldStep A). h.step) (as_steps es)
 keys_are [] = refl
 keys_are (e ∷ es) = ap (λ l. e.0 ∷ l) (keys_are es)
 
@@ -38,7 +38,7 @@ keys_if_ok s history t (Ok v) st is = is ∙ keys_held_are s history t st
 keys_if_ok s history t (Err e) st is = is
 
 -- and there are as many
-pub steps_many : {A : Type 0} (es : List (List ℕ × Held A)) → length (as_steps es) ≡ length es
+pub steps_many : {A : Type 0} (es : List (List ℕ × HeldRow A)) → length (as_steps es) ≡ length es
 steps_many [] = refl
 steps_many (e ∷ es) = ap suc (steps_many es)
 

@@ -10,17 +10,17 @@ ghost use Rattle.ups_tables.specs.Keyed.{as_steps, row_held};
 
 use std::alloc::{AllocError, Allocator};
 use ups_life::{Row, StepUid};
-use ups_tables::{Held, Tables};
+use ups_tables::{HeldRow, Tables};
 
 /// Returns the row and the holder of a step, or None if the step is not held.
-pub(crate) fn find<A: Allocator + Copy>(tables: &Tables<A>, step: StepUid) -> Option<&Held<A>>
+pub(crate) fn find<A: Allocator + Copy>(tables: &Tables<A>, step: StepUid) -> Option<&HeldRow<A>>
     ensures { option_copied result ≡ held_at step tables.now.steps.entries }
 {
     tables.steps.get(step)
 }
 
 /// Returns the row of a step without its holder.
-pub(crate) fn row_of<A: Allocator + Copy>(held: Option<&Held<A>>) -> Option<&Row<A>>
+pub(crate) fn row_of<A: Allocator + Copy>(held: Option<&HeldRow<A>>) -> Option<&Row<A>>
     ensures { option_copied result ≡ row_held (option_copied held.entry) }
 {
     match held {

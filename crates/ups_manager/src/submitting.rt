@@ -23,7 +23,7 @@ use ups_life::{
     ChangeFault, Configuration, Entry, Holder, MAX_ROW_BYTES, Request, Row, StepUid, Transaction,
 };
 use ups_rules::{change, verdict};
-use ups_tables::{Held, Tables};
+use ups_tables::{HeldRow, Tables};
 
 /// The reason why a request is not entered.
 #[derive(Clone, Copy, Debug, PartialEq, Eq)]
@@ -133,7 +133,7 @@ fn row_for<A: Allocator + Copy>(
 }
 
 /// Returns the holder of a step after an accepted call on it.
-fn holder_after<A: Allocator + Copy>(before: Option<&Held<A>>, call: &Entry<A>) -> Option<Holder>
+fn holder_after<A: Allocator + Copy>(before: Option<&HeldRow<A>>, call: &Entry<A>) -> Option<Holder>
     ensures { result ≡ option_or (claims_it call.now) (holder_held (option_copied before.entry)) }
 {
     if let Request::Change {
@@ -160,7 +160,7 @@ pub(crate) fn step_for<A: Allocator + Copy>(
     tables: &Tables<A>,
     call: &Entry<A>,
     step: StepUid,
-) -> Result<Held<A>, SubmitFault>
+) -> Result<HeldRow<A>, SubmitFault>
     requires moment { IsMoment call.now.moment }
     requires offset { IsOffset offset }
     requires used { (u : List ℕ) → uses tables.now u ≡ used (past history.now) u }
@@ -175,5 +175,5 @@ pub(crate) fn step_for<A: Allocator + Copy>(
     decide(row, history, &call.request, tables)?;
     let row = row_for(alloc, row, &call.request, call.moment, offset)?;
     let holder = holder_after(held, call);
-    Ok(Held { row, holder })
+    Ok(HeldRow { row, holder })
 }

@@ -1,20 +1,26 @@
 -- A row that matches all keys matches the first indexed one.
 use Rattle.std.proofs.Common.{◌≡◌, ℕ, ℤ, Bool, true, false, ◌||◌, ◌&&◌, not, cond, List, [], ◌∷◌, filter, refl, sym, ap, ◌∙◌, arith, true≢false}
 use Rattle.std.specs.Prelude.{Option, None, Some}
-use Rattle.std.specs.List.{list_any, onto_first, slice_split}
+use Rattle.std.specs.List.{list_any, list_all, onto_first, slice_split}
 use Rattle.std.specs.Ordering.{int_eq}
 use Rattle.std.specs.Str.{bytes_eq}
 use Rattle.std.specs.Cmp.Lexicographic.{same_text}
+use Rattle.std.proofs.lemmas.Bool.{not-true}
 use Rattle.ups_pdu.specs.Padding.{is_nil, is_padding, without_padding}
 use Rattle.ups_dataset.specs.declared.tag.Tag.{Tag}
-use Rattle.ups_dataset.specs.declared.dictionary.TheConstants.{CODE_VALUE, PATIENT_ID, PROCEDURE_STEP_STATE, SCHEDULED_PROCEDURE_STEP_PRIORITY, SCHEDULED_PROCEDURE_STEP_START_DATE_TIME, SCHEDULED_STATION_NAME_CODE_SEQUENCE, SOP_INSTANCE_UID, WORKLIST_LABEL}
+use Rattle.ups_dataset.specs.declared.dictionary.TheConstants.{CODE_VALUE, SCHEDULED_PROCEDURE_STEP_START_DATE_TIME}
 use Rattle.ups_dataset.specs.Dictionary.{vr_of}
+use Rattle.ups_dataset.specs.Head.{is_sequence}
 use Rattle.ups_dataset.specs.Tag.{is_tag}
 use Rattle.ups_dataset.specs.Data.{Data, bytes, items, Items, no_items, item, Elements, no_elements, element, El, elements_of}
+use Rattle.ups_match.specs.declared.indexed.Indexed.{Indexed}
+use Rattle.ups_match.specs.declared.indexed.KeyKind.{KeyKind}
+use Rattle.ups_match.specs.declared.indexed.KeyKind.TheVariants.{Value, Code}
 use Rattle.ups_match.specs.declared.ranges.Span.{Span}
 use Rattle.ups_match.specs.declared.rule.Rule.{Rule}
-use Rattle.ups_match.specs.declared.rule.Rule.TheVariants.{UidList, WildCards, Range}
-use Rattle.ups_match.specs.Class.{is_special, plain, plain_value, plain_code, FirstKey, value, all, or_else, range_key, start_key, first_among, first_key, moment_stored, start_of, meets_first, class}
+use Rattle.ups_match.specs.declared.rule.Rule.TheVariants.{UidList, WildCards, WildCardsInText, Range, OneOfValues, WholeValue}
+use Rattle.ups_match.specs.Class.{is_special, plain, plain_value, plain_code, text_asked, FirstKey, value, all, or_else, range_key, start_key, first_of, first_among, first_key, moment_stored, start_of, meets_first, class}
+use Rattle.ups_match.specs.IndexedKeys.{indexed_keys, is_code_key}
 use Rattle.ups_match.specs.Matching.{KeySet, key_rule, matches, value_at, any_item, any_stored_item, matches_stored_text, all_match, value_matches, is_universal, is_universal_key, all_universal, has_no_items, is_match}
 use Rattle.ups_match.specs.Met.{stored_text_met}
 use Rattle.ups_match.specs.Ranges.{span_of, spans}
@@ -153,10 +159,6 @@ stored_uid offset b text (Some (bytes c)) p =
     ∙ ap (λ (t : List ℕ). any_value (bytes_eq t) c) same
     ∙ sym (shares_plain text c (sym (ap without_padding same) ∙ unpadded_again b ∙ same) (sym (ap (list_any is_special) same) ∙ none))
 
-uid_rule : key_rule SOP_INSTANCE_UID ≡ UidList
-unfolding vr_of
-uid_rule = refl
-
 -- a text with wild cards is matched as it stands
 stored : (offset : ℤ) (b text : List ℕ) (s : Option Data) → without_padding b ≡ text → matches_stored_text WildCards offset b s ≡ stored_text_met WildCards offset text s
 stored offset b text None e = refl
@@ -165,7 +167,7 @@ stored offset b text (Some (items is)) e = refl
 
 module _ (offset : ℤ) (keys row : Elements) (m : all_match offset keys row ≡ true) where
   -- the key of a tag that has one plain value matches, by a rule that takes such a value as it stands
-  plain_key : (rule : Rule) (tag : Tag) → is_no_key tag ≡ false → is_tag tag SCHEDULED_STATION_NAME_CODE_SEQUENCE ≡ false → key_rule tag ≡ rule → (text : List ℕ)
+  plain_key : (rule : Rule) (tag : Tag) → is_no_key tag ≡ false → is_code_key tag ≡ false → key_rule tag ≡ rule → (text : List ℕ)
       → ((b : List ℕ) → plain (without_padding b) ≡ Some text → matches_stored_text rule offset b (value_at tag row) ≡ stored_text_met rule offset text (value_at tag row)) → plain_value (value_at tag keys) ≡ Some text
       → meets_first offset (value tag text) row ≡ true
   plain_key rule tag own other is_rule text stands p = here (value_at tag keys) refl p
@@ -175,18 +177,17 @@ module _ (offset : ℤ) (keys row : Elements) (m : all_match offset keys row ≡
       here (Some (items is)) at p = absurd (never_none text p)
       here (Some (bytes b)) at p =
           let matched = key_matches offset keys row tag (bytes b) own m at (is_plain b text p) in
-          ap (λ (c : Bool). cond c (any_stored_item (λ station. stored_text_met (key_rule CODE_VALUE) offset text (value_at CODE_VALUE station)) (value_at tag row)) (stored_text_met (key_rule tag) offset text (value_at tag row))) other
+          ap (λ (c : Bool). cond c (any_stored_item (λ code. stored_text_met (key_rule CODE_VALUE) offset text (value_at CODE_VALUE code)) (value_at tag row)) (stored_text_met (key_rule tag) offset text (value_at tag row))) other
           ∙ ap (λ (r : Rule). stored_text_met r offset text (value_at tag row)) is_rule
           ∙ sym (stands b p)
           ∙ sym (ap (λ (r : Rule). matches_stored_text r offset b (value_at tag row)) is_rule)
           ∙ matched
 
-  pub text_key : (tag : Tag) → is_no_key tag ≡ false → is_tag tag SCHEDULED_STATION_NAME_CODE_SEQUENCE ≡ false → key_rule tag ≡ WildCards → (text : List ℕ) → plain_value (value_at tag keys) ≡ Some text
-      → meets_first offset (value tag text) row ≡ true
+  text_key : (tag : Tag) → is_no_key tag ≡ false → is_code_key tag ≡ false → key_rule tag ≡ WildCards → (text : List ℕ) → plain_value (value_at tag keys) ≡ Some text → meets_first offset (value tag text) row ≡ true
   text_key tag own other rule text p = plain_key WildCards tag own other rule text (λ b q. stored offset b text (value_at tag row) (text_of_plain (without_padding b) text q)) p
 
-  uid_key : (text : List ℕ) → plain_value (value_at SOP_INSTANCE_UID keys) ≡ Some text → meets_first offset (value SOP_INSTANCE_UID text) row ≡ true
-  uid_key text p = plain_key UidList SOP_INSTANCE_UID refl refl uid_rule text (λ b q. stored_uid offset b text (value_at SOP_INSTANCE_UID row) q) p
+  uid_key : (tag : Tag) → is_no_key tag ≡ false → is_code_key tag ≡ false → key_rule tag ≡ UidList → (text : List ℕ) → plain_value (value_at tag keys) ≡ Some text → meets_first offset (value tag text) row ≡ true
+  uid_key tag own other rule text p = plain_key UidList tag own other rule text (λ b q. stored_uid offset b text (value_at tag row) q) p
 
 -- one key that isn't universal makes the keys of an item so
 not_all_universal : (keys : Elements) (tag : Tag) (d : Data) → is_no_key tag ≡ false → value_at tag keys ≡ Some d → is_universal d ≡ false → all_universal keys ≡ false
@@ -228,21 +229,48 @@ start_rule : key_rule SCHEDULED_PROCEDURE_STEP_START_DATE_TIME ≡ Range
 unfolding vr_of
 start_rule = refl
 
-patient_rule : key_rule PATIENT_ID ≡ WildCards
-unfolding vr_of
-patient_rule = refl
+-- the rule takes one plain value as it stands
+abbrev pub takes_plain : Rule → Bool
+takes_plain UidList = true
+takes_plain WildCards = true
+takes_plain WildCardsInText = false
+takes_plain Range = false
+takes_plain OneOfValues = false
+takes_plain WholeValue = false
 
-label_rule : key_rule WORKLIST_LABEL ≡ WildCards
-unfolding vr_of
-label_rule = refl
+-- an attribute with a tag can be looked up so: it can be a key, and what is looked up is what the key is compared with,
+-- its values by such a rule or the code values of a sequence
+abbrev pub fits : Tag → KeyKind → Bool
+fits tag Value = not (is_no_key tag) && (not (is_code_key tag) && takes_plain (key_rule tag))
+fits tag Code = not (is_no_key tag) && (is_code_key tag && is_sequence (vr_of tag) 0)
 
-state_rule : key_rule PROCEDURE_STEP_STATE ≡ WildCards
-unfolding vr_of
-state_rule = refl
+abbrev pub all_fit : List Indexed → Bool
+all_fit ks = list_all (λ k. fits k.tag k.kind) ks
 
-priority_rule : key_rule SCHEDULED_PROCEDURE_STEP_PRIORITY ≡ WildCards
+pub indexed_fit : all_fit indexed_keys ≡ true
 unfolding vr_of
-priority_rule = refl
+indexed_fit = refl
+
+pub record FitsValue (tag : Tag) : Type 0 where
+  pub own : is_no_key tag ≡ false
+  pub other : is_code_key tag ≡ false
+  pub rule : takes_plain (key_rule tag) ≡ true
+
+pub fits_value : (tag : Tag) → fits tag Value ≡ true → FitsValue tag
+fits_value tag h =
+    let (own, rest) = both (not (is_no_key tag)) (not (is_code_key tag) && takes_plain (key_rule tag)) h in
+    let (other, rule) = both (not (is_code_key tag)) (takes_plain (key_rule tag)) rest in
+    record { own = not-true (is_no_key tag) own; other = not-true (is_code_key tag) other; rule = rule }
+
+pub record FitsCode (tag : Tag) : Type 0 where
+  pub own : is_no_key tag ≡ false
+  pub code : is_code_key tag ≡ true
+
+pub fits_code : (tag : Tag) → fits tag Code ≡ true → FitsCode tag
+fits_code tag h =
+    let (own, rest) = both (not (is_no_key tag)) (is_code_key tag && is_sequence (vr_of tag) 0) h in
+    let (code, sequence) = both (is_code_key tag) (is_sequence (vr_of tag) 0) rest in
+    record { own = not-true (is_no_key tag) own; code = code }
 
 neither : (a b : Bool) → b ≡ false → (a && b) ≡ false
 neither true b e = e
@@ -265,12 +293,19 @@ stored_equal text None = false
 stored_equal text (Some (bytes b)) = any_value (bytes_eq text) b
 stored_equal text (Some (items is)) = false
 
+-- of a tag that isn't that of a code sequence, the value itself is compared; of a code sequence, the code values
+of_value : (offset : ℤ) (tag : Tag) (text : List ℕ) (row : Elements) → is_code_key tag ≡ false → meets_first offset (value tag text) row ≡ stored_text_met (key_rule tag) offset text (value_at tag row)
+of_value offset tag text row other = ap (λ (c : Bool). cond c (any_stored_item (λ code. stored_text_met (key_rule CODE_VALUE) offset text (value_at CODE_VALUE code)) (value_at tag row)) (stored_text_met (key_rule tag) offset text (value_at tag row))) other
+
+of_code : (offset : ℤ) (tag : Tag) (text : List ℕ) (row : Elements) → is_code_key tag ≡ true → meets_first offset (value tag text) row ≡ any_stored_item (λ code. stored_text_met (key_rule CODE_VALUE) offset text (value_at CODE_VALUE code)) (value_at tag row)
+of_code offset tag text row code = ap (λ (c : Bool). cond c (any_stored_item (λ code. stored_text_met (key_rule CODE_VALUE) offset text (value_at CODE_VALUE code)) (value_at tag row)) (stored_text_met (key_rule tag) offset text (value_at tag row))) code
+
 -- what meets the first indexed key, where it is a value
-pub meets_uid : (offset : ℤ) (key : Option Data) (text : List ℕ) (row : Elements) → plain_value key ≡ Some text → meets_first offset (value SOP_INSTANCE_UID text) row ≡ stored_equal text (value_at SOP_INSTANCE_UID row)
-meets_uid offset None text row p = absurd (never_none text p)
-meets_uid offset (Some (items is)) text row p = absurd (never_none text p)
-meets_uid offset (Some (bytes b)) text row p =
-    ap (λ (r : Rule). stored_text_met r offset text (value_at SOP_INSTANCE_UID row)) uid_rule ∙ here (value_at SOP_INSTANCE_UID row)
+pub meets_value : (offset : ℤ) (tag : Tag) (key : Option Data) (text : List ℕ) (row : Elements) → FitsValue tag → plain_value key ≡ Some text → stored_equal text (value_at tag row) ≡ stored_like text (value_at tag row)
+    → meets_first offset (value tag text) row ≡ stored_like text (value_at tag row)
+meets_value offset tag None text row fit p equal = absurd (never_none text p)
+meets_value offset tag (Some (items is)) text row fit p equal = absurd (never_none text p)
+meets_value offset tag (Some (bytes b)) text row fit p equal = of_value offset tag text row fit.other ∙ by_rule (key_rule tag) refl fit.rule
   where
     same : without_padding b ≡ text
     same = text_of_plain (without_padding b) text p
@@ -280,17 +315,13 @@ meets_uid offset (Some (bytes b)) text row p =
     here (Some (items is)) = refl
     here (Some (bytes c)) = shares_plain text c (sym (ap without_padding same) ∙ unpadded_again b ∙ same) (sym (ap (list_any is_special) same) ∙ no_special (without_padding b) text p)
 
-pub meets_patient : (offset : ℤ) (text : List ℕ) (row : Elements) → meets_first offset (value PATIENT_ID text) row ≡ stored_like text (value_at PATIENT_ID row)
-meets_patient offset text row = like offset PATIENT_ID text (value_at PATIENT_ID row) patient_rule
-
-pub meets_label : (offset : ℤ) (text : List ℕ) (row : Elements) → meets_first offset (value WORKLIST_LABEL text) row ≡ stored_like text (value_at WORKLIST_LABEL row)
-meets_label offset text row = like offset WORKLIST_LABEL text (value_at WORKLIST_LABEL row) label_rule
-
-pub meets_state : (offset : ℤ) (text : List ℕ) (row : Elements) → meets_first offset (value PROCEDURE_STEP_STATE text) row ≡ stored_like text (value_at PROCEDURE_STEP_STATE row)
-meets_state offset text row = like offset PROCEDURE_STEP_STATE text (value_at PROCEDURE_STEP_STATE row) state_rule
-
-pub meets_priority : (offset : ℤ) (text : List ℕ) (row : Elements) → meets_first offset (value SCHEDULED_PROCEDURE_STEP_PRIORITY text) row ≡ stored_like text (value_at SCHEDULED_PROCEDURE_STEP_PRIORITY row)
-meets_priority offset text row = like offset SCHEDULED_PROCEDURE_STEP_PRIORITY text (value_at SCHEDULED_PROCEDURE_STEP_PRIORITY row) priority_rule
+    by_rule : (r : Rule) → key_rule tag ≡ r → takes_plain r ≡ true → stored_text_met (key_rule tag) offset text (value_at tag row) ≡ stored_like text (value_at tag row)
+    by_rule UidList e t = ap (λ (r : Rule). stored_text_met r offset text (value_at tag row)) e ∙ here (value_at tag row) ∙ equal
+    by_rule WildCards e t = like offset tag text (value_at tag row) e
+    by_rule WildCardsInText e t = absurd cc
+    by_rule Range e t = absurd cc
+    by_rule OneOfValues e t = absurd cc
+    by_rule WholeValue e t = absurd cc
 
 any_same_item : (f g : Elements → Bool) → ((e : Elements) → f e ≡ g e) → (is : Items) → any_item f is ≡ any_item g is
 any_same_item f g same no_items = refl
@@ -301,31 +332,52 @@ any_same_stored f g same None = refl
 any_same_stored f g same (Some (bytes b)) = refl
 any_same_stored f g same (Some (items is)) = any_same_item f g same is
 
-pub meets_station : (offset : ℤ) (text : List ℕ) (row : Elements)
-    → meets_first offset (value SCHEDULED_STATION_NAME_CODE_SEQUENCE text) row ≡ any_stored_item (λ station. stored_like text (value_at CODE_VALUE station)) (value_at SCHEDULED_STATION_NAME_CODE_SEQUENCE row)
-meets_station offset text row =
-    any_same_stored (λ station. stored_text_met (key_rule CODE_VALUE) offset text (value_at CODE_VALUE station)) (λ station. stored_like text (value_at CODE_VALUE station))
-    (λ e. like offset CODE_VALUE text (value_at CODE_VALUE e) code_rule) (value_at SCHEDULED_STATION_NAME_CODE_SEQUENCE row)
+pub meets_code : (offset : ℤ) (tag : Tag) (text : List ℕ) (row : Elements) → is_code_key tag ≡ true → meets_first offset (value tag text) row ≡ any_stored_item (λ code. stored_like text (value_at CODE_VALUE code)) (value_at tag row)
+meets_code offset tag text row code =
+    of_code offset tag text row code
+    ∙ any_same_stored (λ code. stored_text_met (key_rule CODE_VALUE) offset text (value_at CODE_VALUE code)) (λ code. stored_like text (value_at CODE_VALUE code))
+    (λ e. like offset CODE_VALUE text (value_at CODE_VALUE e) code_rule) (value_at tag row)
 
 module _ (offset : ℤ) (keys row : Elements) (m : all_match offset keys row ≡ true) where
-  station_key : (text : List ℕ) → plain_code (value_at SCHEDULED_STATION_NAME_CODE_SEQUENCE keys) ≡ Some text → meets_first offset (value SCHEDULED_STATION_NAME_CODE_SEQUENCE text) row ≡ true
-  station_key text p = here (value_at SCHEDULED_STATION_NAME_CODE_SEQUENCE keys) refl p
+  code_key : (tag : Tag) → FitsCode tag → (text : List ℕ) → plain_code (value_at tag keys) ≡ Some text → meets_first offset (value tag text) row ≡ true
+  code_key tag fit text p = of_code offset tag text row fit.code ∙ here (value_at tag keys) refl p
     where
       by_code : (es : Elements) (o : Option Data) → value_at CODE_VALUE es ≡ o → plain_value o ≡ Some text → (d : Data) × (o ≡ Some d) × (is_universal d ≡ false)
       by_code es None at p = absurd (never_none text p)
       by_code es (Some (items is)) at p = absurd (never_none text p)
       by_code es (Some (bytes b)) at p = (bytes b, refl, is_plain b text p)
 
-      here : (o : Option Data) → value_at SCHEDULED_STATION_NAME_CODE_SEQUENCE keys ≡ o → plain_code o ≡ Some text → meets_first offset (value SCHEDULED_STATION_NAME_CODE_SEQUENCE text) row ≡ true
+      here : (o : Option Data) → value_at tag keys ≡ o → plain_code o ≡ Some text → any_stored_item (λ code. stored_text_met (key_rule CODE_VALUE) offset text (value_at CODE_VALUE code)) (value_at tag row) ≡ true
       here None at p = absurd (never_none text p)
       here (Some (bytes b)) at p = absurd (never_none text p)
       here (Some (items no_items)) at p = absurd (never_none text p)
       here (Some (items (item es more))) at p =
           let (d, is, u) = by_code es (value_at CODE_VALUE es) refl p in
           let no : is_universal (items (item es more)) ≡ false = neither (has_no_items more) (all_universal es) (not_all_universal es CODE_VALUE d refl is u) in
-          let matched = key_matches offset keys row SCHEDULED_STATION_NAME_CODE_SEQUENCE (items (item es more)) refl m at no in
-          any_stored_weaker (all_match offset es) (λ station. stored_text_met (key_rule CODE_VALUE) offset text (value_at CODE_VALUE station))
-          (λ station all. text_key offset es station all CODE_VALUE refl refl code_rule text p) (value_at SCHEDULED_STATION_NAME_CODE_SEQUENCE row) matched
+          let matched = key_matches offset keys row tag (items (item es more)) fit.own m at no in
+          any_stored_weaker (all_match offset es) (λ code. stored_text_met (key_rule CODE_VALUE) offset text (value_at CODE_VALUE code))
+          (λ code all. sym (of_value offset CODE_VALUE text code refl) ∙ text_key offset es code all CODE_VALUE refl refl code_rule text p) (value_at tag row) matched
+
+  value_key : (tag : Tag) → FitsValue tag → (text : List ℕ) → plain_value (value_at tag keys) ≡ Some text → meets_first offset (value tag text) row ≡ true
+  value_key tag fit text p = by_rule (key_rule tag) refl fit.rule
+    where
+      by_rule : (r : Rule) → key_rule tag ≡ r → takes_plain r ≡ true → meets_first offset (value tag text) row ≡ true
+      by_rule UidList e t = uid_key offset keys row m tag fit.own fit.other e text p
+      by_rule WildCards e t = text_key offset keys row m tag fit.own fit.other e text p
+      by_rule WildCardsInText e t = absurd cc
+      by_rule Range e t = absurd cc
+      by_rule OneOfValues e t = absurd cc
+      by_rule WholeValue e t = absurd cc
+
+  indexed_key : (tag : Tag) (kind : KeyKind) → fits tag kind ≡ true → (text : List ℕ) → text_asked kind (value_at tag keys) ≡ Some text → meets_first offset (value tag text) row ≡ true
+  indexed_key tag Value fit text p = value_key tag (fits_value tag fit) text p
+  indexed_key tag Code fit text p = code_key tag (fits_code tag fit) text p
+
+  first_matches : (ks : List Indexed) (later : FirstKey) → all_fit ks ≡ true → meets_first offset later row ≡ true → meets_first offset (first_of ks keys later) row ≡ true
+  first_matches [] later fit rest = rest
+  first_matches (k ∷ ks) later fit rest =
+      let (now, others) = both (fits k.tag k.kind) (all_fit ks) fit in
+      step offset row k.tag (text_asked k.kind (value_at k.tag keys)) (first_of ks keys later) (indexed_key k.tag k.kind now) (first_matches ks later others rest)
 
   range_of : (span : Option Span) → spans span (start_of offset row) ≡ true → meets_first offset (range_key span) row ≡ true
   range_of None h = refl
@@ -353,14 +405,7 @@ module _ (offset : ℤ) (keys row : Elements) (m : all_match offset keys row ≡
       here (Some (bytes b)) at = by_offset b at (is_universal_text b) refl (not (int_eq offset configured))
 
   first_matched : (configured : ℤ) → meets_first offset (first_among configured offset keys) row ≡ true
-  first_matched configured =
-      step offset row SOP_INSTANCE_UID _ _ (uid_key offset keys row m)
-      (step offset row PATIENT_ID _ _ (text_key offset keys row m PATIENT_ID refl refl patient_rule)
-      (step offset row WORKLIST_LABEL _ _ (text_key offset keys row m WORKLIST_LABEL refl refl label_rule)
-      (step offset row SCHEDULED_STATION_NAME_CODE_SEQUENCE _ _ station_key
-      (step offset row PROCEDURE_STEP_STATE _ _ (text_key offset keys row m PROCEDURE_STEP_STATE refl refl state_rule)
-      (step offset row SCHEDULED_PROCEDURE_STEP_PRIORITY _ _ (text_key offset keys row m SCHEDULED_PROCEDURE_STEP_PRIORITY refl refl priority_rule)
-      (start_matched configured))))))
+  first_matched configured = first_matches indexed_keys (start_key configured offset (value_at SCHEDULED_PROCEDURE_STEP_START_DATE_TIME keys)) indexed_fit (start_matched configured)
 
 -- a row that matches keys is of their class
 pub matches_first : (configured : ℤ) (keys : KeySet) (row : List El) → is_match keys row ≡ true → meets_first keys.offset (first_key configured keys) (elements_of row) ≡ true

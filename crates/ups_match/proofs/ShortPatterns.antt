@@ -1,7 +1,6 @@
 -- A pattern with one * for each row of them.
 use Rattle.std.proofs.Common.{◌≡◌, ◌+◌, ◌<◌, ◌≤◌, ◌&&◌, ℕ, Bool, true, false, cond, List, [], ◌∷◌, ◌++◌, length, drop, take, get_or, sym, ap, ◌∙◌, append_assoc, append-nil}
 use Rattle.std.specs.List.{list_any}
-use Rattle.std.proofs.lemmas.Bool.{eqb-true}
 use Rattle.std.proofs.lemmas.Bool.Decides.{same_from_decides}
 use Rattle.std.proofs.lemmas.List.{take_all, take_more}
 use Rattle.ups_match.specs.Likeness.{is_star, is_like, begins_like, ends_of}
@@ -33,17 +32,7 @@ more_first : (pattern ps : List ℕ) (i byte : ℕ) → i < length pattern → b
 more_first pattern ps i byte low is =
     ap (λ b. take i pattern ++ b ∷ ps) is ∙ sym (append_assoc (take i pattern) (get_or pattern i 0 ∷ []) ps) ∙ ap (λ p. p ++ ps) (sym (take_more pattern i 0 low))
 
--- a byte is kept
-pub keeps_byte : (pattern short : List ℕ) (i byte : ℕ) (behind_star : Bool) → Keeps pattern short i behind_star → i < length pattern → byte ≡ get_or pattern i 0 → Keeps pattern (short ++ byte ∷ []) (i + 1) (is_star byte)
-keeps_byte pattern short i byte behind_star old low is = record {
-  same = λ ps text.
-      ap (λ p. is_like p text) (append_assoc short (byte ∷ []) ps)
-      ∙ old.same (byte ∷ ps) text
-      ∙ ap (λ p. is_like p text) (more_first pattern ps i byte low is);
-  star = λ h. (short, ap (λ b. short ++ b ∷ []) (eqb-true byte 42 h));
-}
-
--- or it is a * behind another one
+-- a * behind another one is left out
 pub keeps_star : (pattern short : List ℕ) (i : ℕ) (behind_star : Bool) → Keeps pattern short i behind_star → i < length pattern → 42 ≡ get_or pattern i 0 → behind_star ≡ true → Keeps pattern short (i + 1) behind_star
 keeps_star pattern short i behind_star old low is behind =
     let star = old.star behind in record {

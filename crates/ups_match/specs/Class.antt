@@ -1,16 +1,19 @@
 -- The first indexed key of a query: the held steps are looked up by it, and only those found are compared with the
 -- other keys.
-use Rattle.std.specs.Prelude.{ℕ, ℤ, Bool, true, false, ◌||◌, not, List, Option, None, Some, filter, if◌then◌else◌}
+use Rattle.std.specs.Prelude.{ℕ, ℤ, Bool, true, false, ◌||◌, not, List, [], ◌∷◌, Option, None, Some, filter, if◌then◌else◌}
 use Rattle.std.specs.List.{list_any}
 use Rattle.std.specs.Ordering.{int_eq}
 use Rattle.ups_pdu.specs.Padding.{is_nil, without_padding}
 use Rattle.ups_dataset.specs.declared.tag.Tag.{Tag}
-use Rattle.ups_dataset.specs.declared.dictionary.TheConstants.{CODE_VALUE, PATIENT_ID, PROCEDURE_STEP_STATE, SCHEDULED_PROCEDURE_STEP_PRIORITY, SCHEDULED_PROCEDURE_STEP_START_DATE_TIME, SCHEDULED_STATION_NAME_CODE_SEQUENCE, SOP_INSTANCE_UID, WORKLIST_LABEL}
-use Rattle.ups_dataset.specs.Tag.{is_tag}
+use Rattle.ups_dataset.specs.declared.dictionary.TheConstants.{CODE_VALUE, SCHEDULED_PROCEDURE_STEP_START_DATE_TIME}
 use Rattle.ups_dataset.specs.Data.{Data, bytes, items, no_items, item, Elements, El, elements_of}
 use Rattle.ups_match.specs.declared.first.First.{First}
 use Rattle.ups_match.specs.declared.first.First.TheVariants as variants
+use Rattle.ups_match.specs.declared.indexed.Indexed.{Indexed}
+use Rattle.ups_match.specs.declared.indexed.KeyKind.{KeyKind}
+use Rattle.ups_match.specs.declared.indexed.KeyKind.TheVariants.{Value, Code}
 use Rattle.ups_match.specs.declared.ranges.Span.{Span}
+use Rattle.ups_match.specs.IndexedKeys.{indexed_keys, is_code_key}
 use Rattle.ups_match.specs.Likeness.{is_star, is_question_mark}
 use Rattle.ups_match.specs.Matching.{KeySet, key_rule, value_at, any_stored_item}
 use Rattle.ups_match.specs.Met.{stored_text_met}
@@ -60,15 +63,18 @@ start_key configured offset None = all
 start_key configured offset (Some (bytes b)) = if is_universal_text b || not (int_eq offset configured) then all else range_key (span_of offset (without_padding b))
 start_key configured offset (Some (items is)) = all
 
+-- the one value or code value that a key asks for
+abbrev pub text_asked : KeyKind → Option Data → Option (List ℕ)
+text_asked Value key = plain_value key
+text_asked Code key = plain_code key
+
+-- the first key of a table that asks for one value; otherwise the later one
+abbrev pub first_of : List Indexed → Elements → FirstKey → FirstKey
+first_of [] keys later = later
+first_of (k ∷ ks) keys later = or_else k.tag (text_asked k.kind (value_at k.tag keys)) (first_of ks keys later)
+
 abbrev pub first_among : ℤ → ℤ → Elements → FirstKey
-first_among configured offset keys =
-    or_else SOP_INSTANCE_UID (plain_value (value_at SOP_INSTANCE_UID keys))
-    (or_else PATIENT_ID (plain_value (value_at PATIENT_ID keys))
-    (or_else WORKLIST_LABEL (plain_value (value_at WORKLIST_LABEL keys))
-    (or_else SCHEDULED_STATION_NAME_CODE_SEQUENCE (plain_code (value_at SCHEDULED_STATION_NAME_CODE_SEQUENCE keys))
-    (or_else PROCEDURE_STEP_STATE (plain_value (value_at PROCEDURE_STEP_STATE keys))
-    (or_else SCHEDULED_PROCEDURE_STEP_PRIORITY (plain_value (value_at SCHEDULED_PROCEDURE_STEP_PRIORITY keys))
-    (start_key configured offset (value_at SCHEDULED_PROCEDURE_STEP_START_DATE_TIME keys)))))))
+first_among configured offset keys = first_of indexed_keys keys (start_key configured offset (value_at SCHEDULED_PROCEDURE_STEP_START_DATE_TIME keys))
 
 -- the first indexed key of a query, for a service with this offset
 unfoldable pub first_key : ℤ → KeySet → FirstKey
@@ -83,11 +89,11 @@ moment_stored offset (Some (items is)) = None
 abbrev pub start_of : ℤ → Elements → Option ℤ
 start_of offset row = moment_stored offset (value_at SCHEDULED_PROCEDURE_STEP_START_DATE_TIME row)
 
--- a data set matches the first indexed key alone; of the station names, only the code value is compared
+-- a data set matches the first indexed key alone; of a code sequence, only the code values are compared
 abbrev pub meets_first : ℤ → FirstKey → Elements → Bool
 meets_first offset (value tag text) row =
-    if is_tag tag SCHEDULED_STATION_NAME_CODE_SEQUENCE
-    then any_stored_item (λ station. stored_text_met (key_rule CODE_VALUE) offset text (value_at CODE_VALUE station)) (value_at tag row)
+    if is_code_key tag
+    then any_stored_item (λ code. stored_text_met (key_rule CODE_VALUE) offset text (value_at CODE_VALUE code)) (value_at tag row)
     else stored_text_met (key_rule tag) offset text (value_at tag row)
 meets_first offset (start span) row = spans (Some span) (start_of offset row)
 meets_first offset all row = true
@@ -99,5 +105,5 @@ class configured keys rows = filter (λ row. meets_first keys.offset (first_key 
 -- the first indexed key that the code returns
 abbrev pub first_view : First → FirstKey
 first_view (variants.Value tag text) = value tag text.now
-first_view (variants.Start least greatest) = start (record { least = least; greatest = greatest })
+first_view (variants.Start span) = start span
 first_view variants.All = all

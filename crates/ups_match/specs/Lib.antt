@@ -1,4 +1,5 @@
 pub mod Class
+pub mod IndexedKeys
 pub mod KeyCode
 pub mod Lanes
 pub mod Likeness

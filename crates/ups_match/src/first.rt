@@ -5,29 +5,25 @@ ghost use Rattle.std.specs.List.{list_any};
 ghost use Rattle.std.specs.Ordering.{int_eq};
 ghost use Rattle.ups_pdu.specs.Padding.{is_nil};
 ghost use Rattle.ups_dataset.specs.Data.{bytes, items, elements_of, items_of};
-ghost use Rattle.ups_dataset.specs.declared.dictionary.TheConstants.{SCHEDULED_STATION_NAME_CODE_SEQUENCE, SCHEDULED_PROCEDURE_STEP_START_DATE_TIME};
-ghost use Rattle.ups_match.specs.Class.{is_special, plain, plain_value, plain_code, range_key, start_key, first_among, first_view};
+ghost use Rattle.ups_dataset.specs.declared.dictionary.TheConstants.{SCHEDULED_PROCEDURE_STEP_START_DATE_TIME};
+ghost use Rattle.ups_match.specs.Class.{is_special, plain, plain_value, plain_code, text_asked, range_key, start_key, first_of, first_among, first_view};
 ghost use Rattle.ups_match.specs.Matching.{value_at};
 
+use crate::indexed::{INDEXED, Indexed, KeyKind};
 use crate::ranges::{Span, span_of};
 use crate::texts::is_universal_text;
 use std::alloc::Allocator;
-use ups_dataset::dictionary::{
-    CODE_VALUE, PATIENT_ID, PROCEDURE_STEP_STATE, SCHEDULED_PROCEDURE_STEP_PRIORITY,
-    SCHEDULED_PROCEDURE_STEP_START_DATE_TIME, SCHEDULED_STATION_NAME_CODE_SEQUENCE,
-    SOP_INSTANCE_UID, WORKLIST_LABEL,
-};
+use ups_dataset::dictionary::{CODE_VALUE, SCHEDULED_PROCEDURE_STEP_START_DATE_TIME};
 use ups_dataset::{DataSet, Tag, Value};
 use ups_pdu::without_padding;
 
 /// The key by which the held steps are looked up.
 #[derive(Clone, Copy, Debug)]
 pub enum First<'a> {
-    /// The value of an attribute, without padding. In Scheduled Station Name Code Sequence it is the code value of an
-    /// item.
+    /// The value of an attribute, without padding. In a code sequence it is the code value of an item.
     Value(Tag, &'a [u8]),
-    /// The least and the greatest moment of the start, in microseconds since 1970-01-01 UTC; None for an open end.
-    Start(Option<i64>, Option<i64>),
+    /// The moments of the start.
+    Start(Span),
     /// No key: every step is looked at.
     All,
 }
@@ -86,16 +82,26 @@ fn code_of<A: Allocator + Copy>(sets: &[DataSet<A>]) -> Option<&[u8]>
     plain_value(item, CODE_VALUE)
 }
 
-/// Returns the single code value that the first item of Scheduled Station Name Code Sequence asks for.
-fn plain_code<A: Allocator + Copy>(keys: &DataSet<A>) -> Option<&[u8]>
-    ensures { option_copied result ≡ plain_code (value_at SCHEDULED_STATION_NAME_CODE_SEQUENCE (elements_of keys.now)) }
+/// Returns the single code value that the first item of the key with a tag asks for.
+fn plain_code<A: Allocator + Copy>(keys: &DataSet<A>, tag: Tag) -> Option<&[u8]>
+    ensures { option_copied result ≡ plain_code (value_at tag (elements_of keys.now)) }
 {
-    let Some(key) = keys.get(SCHEDULED_STATION_NAME_CODE_SEQUENCE) else {
+    let Some(key) = keys.get(tag) else {
         return None;
     };
     match &key.value {
         Value::Bytes(_) => None,
         Value::Items(sets) => code_of(sets),
+    }
+}
+
+/// Returns the single value or code value that an indexed key asks for.
+fn text_asked<A: Allocator + Copy>(keys: &DataSet<A>, indexed: Indexed) -> Option<&[u8]>
+    ensures { option_copied result ≡ text_asked indexed.kind (value_at indexed.tag (elements_of keys.now)) }
+{
+    match indexed.kind {
+        KeyKind::Value => plain_value(keys, indexed.tag),
+        KeyKind::Code => plain_code(keys, indexed.tag),
     }
 }
 
@@ -133,6 +139,26 @@ fn start_range<A: Allocator + Copy>(keys: &DataSet<A>, offset: i16, configured: 
     }
 }
 
+/// Returns the first key of a table among the keys, or else the range of the start.
+fn first_of<'a, A: Allocator + Copy>(
+    table: &[Indexed],
+    keys: &'a DataSet<A>,
+    offset: i16,
+    configured: i16,
+) -> First<'a>
+    ensures { first_view result ≡ first_of table.now (elements_of keys.now) (start_key configured offset (value_at SCHEDULED_PROCEDURE_STEP_START_DATE_TIME (elements_of keys.now))) }
+{
+    for indexed in table {
+        if let Some(text) = text_asked(keys, *indexed) {
+            return First::Value(indexed.tag, text);
+        }
+    }
+    match start_range(keys, offset, configured) {
+        Some(span) => First::Start(span),
+        None => First::All,
+    }
+}
+
 /// Returns the first indexed key among the keys.
 pub(crate) fn first_among<A: Allocator + Copy>(
     keys: &DataSet<A>,
@@ -141,26 +167,5 @@ pub(crate) fn first_among<A: Allocator + Copy>(
 ) -> First<'_>
     ensures { first_view result ≡ first_among configured offset (elements_of keys.now) }
 {
-    if let Some(text) = plain_value(keys, SOP_INSTANCE_UID) {
-        return First::Value(SOP_INSTANCE_UID, text);
-    }
-    if let Some(text) = plain_value(keys, PATIENT_ID) {
-        return First::Value(PATIENT_ID, text);
-    }
-    if let Some(text) = plain_value(keys, WORKLIST_LABEL) {
-        return First::Value(WORKLIST_LABEL, text);
-    }
-    if let Some(text) = plain_code(keys) {
-        return First::Value(SCHEDULED_STATION_NAME_CODE_SEQUENCE, text);
-    }
-    if let Some(text) = plain_value(keys, PROCEDURE_STEP_STATE) {
-        return First::Value(PROCEDURE_STEP_STATE, text);
-    }
-    if let Some(text) = plain_value(keys, SCHEDULED_PROCEDURE_STEP_PRIORITY) {
-        return First::Value(SCHEDULED_PROCEDURE_STEP_PRIORITY, text);
-    }
-    match start_range(keys, offset, configured) {
-        Some(span) => First::Start(span.least, span.greatest),
-        None => First::All,
-    }
+    first_of(&INDEXED, keys, offset, configured)
 }

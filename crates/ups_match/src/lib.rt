@@ -6,6 +6,7 @@ mod digits;
 mod fault;
 mod faults;
 mod first;
+mod indexed;
 mod key_tag;
 mod keys;
 mod lanes;
@@ -27,8 +28,10 @@ mod universal;
 
 pub use fault::KeyFault;
 pub use first::First;
+pub use indexed::{INDEXED, Indexed, KeyKind, indexed_keys_are_those_defined};
 pub use keys::Keys;
 pub use likeness::likes;
 pub use matcher::{Matcher, Probe};
 pub use moments::read_dt;
+pub use ranges::Span;
 pub use stamps::{stamps_are_read_back, write_dt};

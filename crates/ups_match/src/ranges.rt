@@ -11,7 +11,7 @@ use crate::moments::{offset_of, read_dt};
 
 /// The moments that a key includes, in microseconds since 1970-01-01 UTC; None for an open end.
 #[derive(Clone, Copy, Debug)]
-pub(crate) struct Span {
+pub struct Span {
     /// The first moment.
     pub least: Option<i64>,
     /// The last moment.
@@ -20,7 +20,7 @@ pub(crate) struct Span {
 
 impl Span {
     /// Returns whether the span includes a moment.
-    pub(crate) fn takes_in(self, moment: i64) -> bool
+    pub fn takes_in(self, moment: i64) -> bool
         ensures { result ≡ contains_moment self moment }
     {
         is_from(self.least, moment) && is_up_to(self.greatest, moment)

@@ -5,18 +5,11 @@ use Rattle.std.specs.Vec.Iter.{into_iter_items, into_iter_len}
 use Rattle.std.specs.declared.vec.IntoIter.{IntoIter}
 use Rattle.std.proofs.lemmas.List.{append_assoc, append-nil, length-append, map-append, nil_from_length}
 use Rattle.ups_turn.specs.Pass.{PassView}
-use Rattle.ups_net.specs.declared.options.ServerOptions.{ServerOptions}
+use Rattle.ups_net.specs.declared.threads.options.ServerOptions.{ServerOptions}
 use Rattle.ups_net.specs.Working.{EndThreads, Ran}
 use Rattle.ups_net.specs.Sweeping.{Sweeps}
 
 module _ {A : Type 0} (options : ServerOptions) where
-  -- some threads, and some more
-  pub ends_append : (begun : Bool) (olds news more then : List (PassView A)) → EndThreads options begun olds news → EndThreads options begun more then → EndThreads options begun (olds ++ more) (news ++ then)
-  ends_append begun [] [] more then h k = k
-  ends_append begun [] (new ∷ news) more then h k = absurd h
-  ends_append begun (old ∷ olds) [] more then h k = absurd h
-  ends_append begun (old ∷ olds) (new ∷ news) more then h k = (h.0, ends_append begun olds news more then h.1 k)
-
   -- of threads that haven't begun the passes are as they were
   pub unbegun_alike : (olds news : List (PassView A)) → EndThreads options false olds news → news ≡ olds
   unbegun_alike [] [] h = refl

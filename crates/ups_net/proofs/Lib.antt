@@ -1,7 +1,6 @@
 pub mod Crosses
 pub mod Ending
 mod Leaving
-pub mod Sent
 pub mod Served
 pub mod Staying
 pub mod Watching

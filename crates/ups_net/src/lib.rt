@@ -2,66 +2,40 @@
 //!
 //! Nothing is promised about what a socket carries, or when: a contract here says what becomes of the passes, whatever
 //! was read. No contract covers time limits, the start of a round or the door.
+//!
+//! The folders are layers: the log, the transport connection, the threads. A module uses those of its own folder, of the
+//! folders before it, and the ones beside them, which use none.
 #![tactic(auto)]
 
-mod account;
-mod arrival;
-mod backlog;
-mod bell;
 mod clock;
-mod committer;
-mod connection;
-mod counted;
-mod delivering;
-mod digest;
-mod door;
-mod grace;
-mod heading;
-mod inspected;
-mod journal;
-mod line_queue;
-mod lookout;
-mod lossy_log;
-mod network;
-mod options;
-mod outbox;
-mod outward;
-mod patience;
-mod premises;
+mod logging;
 mod requests;
-mod responses;
-mod roster;
-mod serving;
-mod sink;
-mod socket;
-mod sweeping;
-mod tally;
-mod wire;
-mod wire_fault;
-mod workers;
+mod threads;
+mod transport;
 
-pub use account::Account;
-pub use backlog::waiting_at;
 pub use clock::{HostClock, moment_of};
-pub use connection::{Connection, Inlet, Outlet, ends_of};
-pub use delivering::deliver_rounds;
-pub use door::{Caller, Door};
-pub use grace::{Pressure, idle_grace, message_grace, request_grace};
-pub use heading::LineStyle;
-pub use journal::end_told;
-pub use lossy_log::LossyLog;
-pub use network::Network;
-pub use options::ServerOptions;
-pub use outward::Departing;
-pub use patience::{Patience, answer_seconds, opening_milliseconds};
-pub use premises::Premises;
-pub use roster::{Roster, Share, is_passed_over, longer_pause, may_take, share_of};
-pub use serving::serve_one;
-pub use sink::Sink;
-pub use socket::tune;
-pub use sweeping::sweep;
-pub use tally::Tally;
+pub use logging::account::Account;
+pub use logging::heading::LineStyle;
+pub use logging::journal::end_told;
+pub use logging::lossy_log::LossyLog;
+pub use logging::tally::Tally;
+pub use threads::delivering::deliver_rounds;
+pub use threads::options::ServerOptions;
+pub use threads::roster::{Roster, Share, is_passed_over, longer_pause, may_take, share_of};
+pub use threads::server_state::ServerState;
+pub use threads::serving::serve_one;
+pub use threads::site::Site;
+pub use threads::sweeping::sweep;
+pub use threads::workers::{run, work};
+pub use transport::backlog::waiting_at;
+pub use transport::connection::{Connection, Inlet, Outlet, ends_of};
+pub use transport::door::{Caller, Door};
+pub use transport::grace::{Pressure, idle_grace, message_grace, request_grace};
+pub use transport::network::Network;
+pub use transport::outward::Departing;
+pub use transport::patience::{Patience, answer_seconds, opening_milliseconds};
+pub use transport::sink::Sink;
+pub use transport::socket::tune;
+pub use transport::wire::{Deadline, TimeLimits, Wire, WireReader, WireWriter};
+pub use transport::wire_fault::WireFault;
 pub use ups_peers::Watcher;
-pub use wire::{Deadline, TimeLimits, Wire, WireReader, WireWriter};
-pub use wire_fault::WireFault;
-pub use workers::{run, work};

@@ -11,9 +11,6 @@ pub record Collects {X : Type 0} (Spells : List ℕ → X → Type 0) (kind : �
   pub spelled : EachSpells Spells left tail
   pub on : (xs : List X) → EachSpells Spells left xs → EachSpells Spells found (done ++ xs)
 
-pub collects_start : {X : Type 0} (Spells : List ℕ → X → Type 0) (kind : ℕ) (bytes : List ℕ) (found : List (List ℕ)) → HasContents kind bytes found → (xs : List X) → EachSpells Spells found xs → Collects Spells kind bytes found []
-collects_start Spells kind bytes found h xs s = record { left = found; has = h; tail = xs; spelled = s; on = λ ys e. e }
-
 -- the contents that are spelled begin with one that is
 pub record First {X : Type 0} (Spells : List ℕ → X → Type 0) (content : List ℕ) (others : List (List ℕ)) : Type 0 where
   pub thing : X

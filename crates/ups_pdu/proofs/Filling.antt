@@ -20,9 +20,6 @@ fill_back Front bytes x rest is (xs, each) = (x ∷ xs, (rest, is, each))
 pub fill_on : {X : Type 0} (Front : List ℕ → X → List ℕ → Type 0) → IsOneWay Front → (bytes : List ℕ) (x : X) (rest : List ℕ) → Front bytes x rest → Fill Front bytes → Fill Front rest
 fill_on Front way bytes x rest is (xs, each) = let s = splits Front way bytes x rest is xs each in (s.tail, s.more)
 
-filled_way : (Filled : ℕ → List ℕ → Type 0) → IsOneWay (IsFilledItem Filled)
-filled_way Filled = record { one = λ bytes x y r s p q. item_way.one bytes x y r s p.is q.is; some = λ bytes x r p. item_way.some bytes x r p.is }
-
 pub not_filled : (Filled : ℕ → List ℕ → Type 0) (bytes : List ℕ) → 0 < length bytes → ((item : Item) → (rest : List ℕ) → IsItem bytes item rest → ⊥) → AreFilled Filled bytes → ⊥
 not_filled Filled bytes some none f = fill_none (IsFilledItem Filled) bytes some (λ x r p. none x r p.is) f
 

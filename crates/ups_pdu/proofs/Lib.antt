@@ -18,5 +18,4 @@ pub mod Trailing
 pub mod UidText
 pub mod UidWalk
 pub mod UserWays
-pub mod Waiting
 pub mod Whole

@@ -41,9 +41,6 @@ unfolding item_sizes
 length_items text [] e = ap length e
 length_items text (i ∷ is) (r, first, more) = omega (arith, length_items r is more, ap length first.parts, length-append i.content r)
 
-size_with : Bool → List ℕ → ℕ → ℕ
-size_with b content n = cond b (4 + length content + n) n
-
 sizes_with : (b : Bool) (content : List ℕ) (found : List (List ℕ)) → sizes (cond b (content ∷ found) found) ≡ cond b (4 + length content + sizes found) (sizes found)
 unfolding sizes
 sizes_with true content found = refl

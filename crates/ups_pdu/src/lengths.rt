@@ -9,7 +9,7 @@ use crate::kind::PduKind;
 use crate::role::split_role;
 
 /// A place for items in a PDU, which determines the lengths inside the items.
-pub(crate) trait Place {
+pub(crate) trait ItemPlace {
     ghost filled: { ℕ → List ℕ → Type 0 };
 
     /// Returns whether the lengths inside the content of an item of type `kind` fill it exactly.
@@ -20,7 +20,7 @@ pub(crate) trait Place {
 /// A place for items with no lengths inside.
 pub(crate) struct Plain;
 
-impl Place for Plain {
+impl ItemPlace for Plain {
     ghost filled = { AnyContent };
 
     fn is_filled(_kind: u8, _content: &[u8]) -> bool {
@@ -31,7 +31,7 @@ impl Place for Plain {
 /// The sub-items of the user information, of which a role selection has a length inside.
 struct InUserInformation;
 
-impl Place for InUserInformation {
+impl ItemPlace for InUserInformation {
     ghost filled = { UserItemFills };
 
     fn is_filled(kind: u8, content: &[u8]) -> bool {
@@ -42,7 +42,7 @@ impl Place for InUserInformation {
 /// The items of an A-ASSOCIATE-RQ.
 struct InRequest;
 
-impl Place for InRequest {
+impl ItemPlace for InRequest {
     ghost filled = { AssociationItemFills 0x20 };
 
     fn is_filled(kind: u8, content: &[u8]) -> bool {
@@ -53,7 +53,7 @@ impl Place for InRequest {
 /// The items of an A-ASSOCIATE-AC.
 struct InAnswer;
 
-impl Place for InAnswer {
+impl ItemPlace for InAnswer {
     ghost filled = { AssociationItemFills 0x21 };
 
     fn is_filled(kind: u8, content: &[u8]) -> bool {
@@ -62,7 +62,7 @@ impl Place for InAnswer {
 }
 
 /// Returns whether items fill the bytes exactly, and the lengths inside each item fill it exactly.
-pub(crate) fn items_fill<P: Place>(bytes: &[u8]) -> bool
+pub(crate) fn items_fill<P: ItemPlace>(bytes: &[u8]) -> bool
     ensures { IsTrue result ↔ AreFilled P.filled bytes.now }
 {
     let mut rest = bytes;
@@ -100,7 +100,7 @@ fn association_item_fills(context_kind: u8, kind: u8, content: &[u8]) -> bool
 }
 
 /// Returns whether items exactly fill the body of an association PDU after its first 68 bytes.
-fn association_fills<P: Place>(body: &[u8]) -> bool
+fn association_fills<P: ItemPlace>(body: &[u8]) -> bool
     ensures { IsTrue result ↔ ((68 ≤ length body.now) × AreFilled P.filled (drop 68 body.now)) }
 {
     if body.len() < 68 {

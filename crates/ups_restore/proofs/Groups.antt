@@ -8,10 +8,6 @@ use Rattle.ups_ledger.specs.Keeping.{AreFirst}
 use Rattle.ups_ledger.proofs.Growing.{more_first}
 
 module _ {X : Type 0} (most : ℕ) (xs : List X) (i : ℕ) where
-  -- a group is not empty
-  pub some_more : 0 < most → i < length xs → 0 < length (take most (drop i xs))
-  some_more big low = omega (arith, length-take most (drop i xs), length-drop i xs)
-
   -- and ends within the list
   pub within : i ≤ length xs → i + length (take most (drop i xs)) ≤ length xs
   within low = omega (arith, length-take most (drop i xs), length-drop i xs)

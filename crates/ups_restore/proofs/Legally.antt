@@ -28,7 +28,3 @@ only_room s h e rest NoRoom l m w = refl
 
 pub refusal_of : {A : Type 0} (s t : Settings) (h k : List (Entry A)) (e : Entry A) (r : Refusal) → s ≡ t → h ≡ k → IsRefusal s h e r → IsRefusal t k e r
 refusal_of {A} s t h k e r p q w = subst (λ (x : Settings). IsRefusal x k e r) p (subst (λ (x : List (Entry A)). IsRefusal s x e r) q w)
-
--- of a record of an entry that is accepted only memory or room is wanting
-pub wanting : {A : Type 0} (s : Settings) (h : List (Entry A)) (e : Entry A) (r : Refusal) → is_legal s (h ++ e ∷ []) → IsMoment e.moment → IsRefusal s h e r → r ≡ NoRoom
-wanting s h e r l m w = only_room s h e [] r l m w

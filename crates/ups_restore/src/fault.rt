@@ -4,7 +4,7 @@ ghost use Rattle.std.specs.Prelude.{◌≡◌};
 
 use std::alloc::{AllocError, AllocFailed};
 use thiserror::Error;
-use ups_journal::{Operation, RecordFault, RecordingFault};
+use ups_journal::{RecordFault, RecordedOperation, RecordingFault};
 use ups_ledger::LedgerFault;
 
 /// The reason why an entry was not entered again. Each text follows the number of its request.
@@ -49,7 +49,7 @@ pub struct RestoreFault {
     /// The number of the record, counted from 1.
     pub number: u64,
     /// The operation of the record.
-    pub operation: Operation,
+    pub operation: RecordedOperation,
     /// The reason why it was not entered.
     pub refusal: RestoreRefusal,
 }

@@ -3,9 +3,7 @@ use Rattle.std.proofs.Common.{◌≡◌, ◌∷◌, ℕ, List, inl, inr}
 use Rattle.ups_lines.specs.declared.fault.LineFault.{LineFault}
 use Rattle.ups_lines.specs.declared.fault.LineFault.TheVariants.{Malformed, Memory}
 use Rattle.ups_lines.specs.declared.fault.LineReason.{LineReason}
-use Rattle.ups_lines.specs.Words.{words_of}
-use Rattle.ups_script.specs.declared.line.Verb.{Verb}
-use Rattle.ups_script.specs.Questions.{IsHeading, NoTitle, FailsVerb, FailsTitle, FailsHeading, FailsArguments, IsBad, OnBad}
+use Rattle.ups_script.specs.Questions.{NoTitle, FailsVerb, FailsTitle, FailsHeading, OnBad}
 
 -- the words behind a moment fail
 behind_moment : (words : List (List ℕ)) (moment : List ℕ) (rest : List (List ℕ)) (reason : LineReason) → words ≡ moment ∷ rest → FailsTitle rest reason → FailsHeading words reason
@@ -21,14 +19,3 @@ pub at_title : (words : List (List ℕ)) (moment : List ℕ) (rest : List (List 
     → words ≡ moment ∷ rest → rest ≡ title ∷ left → OnBad fault (NoTitle title) → OnBad fault (FailsHeading words)
 at_title words moment rest title left (Malformed reason) begins then h = behind_moment words moment rest reason begins (inr (title, left, then, inl h))
 at_title words moment rest title left Memory begins then h = tt
-
--- by its heading
-pub by_heading : (line : List ℕ) (fault : LineFault) → OnBad fault (FailsHeading (words_of line)) → OnBad fault (IsBad line)
-by_heading line (Malformed reason) h = inr (inl h)
-by_heading line Memory h = tt
-
--- by what stands behind its verb
-pub by_arguments : (line : List ℕ) (moment : ℕ) (ae : List ℕ) (verb : Verb) (arguments : List (List ℕ)) (fault : LineFault) → IsHeading (words_of line) moment ae verb arguments
-    → OnBad fault (λ _. FailsArguments verb arguments) → OnBad fault (IsBad line)
-by_arguments line moment ae verb arguments (Malformed reason) at h = inr (inr (record { moment = moment; ae = ae; verb = verb; arguments = arguments; heading = at; fails = h }))
-by_arguments line moment ae verb arguments Memory at h = tt

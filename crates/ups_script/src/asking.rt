@@ -9,12 +9,12 @@ ghost use Rattle.ups_lines.specs.Words.{words_of, words_left};
 ghost use Rattle.ups_script.specs.Questions.{AsksAt, FailsArguments, IsAction, IsBad, IsCount, IsMessageOf, IsOf, Names, NamesInstance, OnBad};
 
 use crate::limits::MAX_LINE;
-use crate::line::{Heading, Verb};
+use crate::line::{LineHeading, Verb};
 use std::alloc::Allocator;
 use ups_dimse::{Operation, Tags};
 use ups_life::{CHANGE_STATE, REQUEST_CANCEL, SUBSCRIBE, SUSPEND, UNSUBSCRIBE};
 use ups_lines::{
-    Attribute, LineFault, LineReason, Text, Words, attributes_of, filled, number_of, spelled,
+    LineAttribute, LineFault, LineReason, Text, Words, attributes_of, filled, number_of, spelled,
     tag_of,
 };
 use ups_pdu::{Ae, RegisteredUid, Uid};
@@ -103,24 +103,27 @@ fn instance_of<A: Allocator + Copy>(
 /// Reads the next word as the value of an attribute.
 ///
 /// Errors: MissingWord or EmptyWord; Escape.
-fn argument_of<'a>(tag: &'static [u8], words: &mut Words<'a>) -> Result<Attribute<'a>, LineReason>
+fn argument_of<'a>(
+    tag: &'static [u8],
+    words: &mut Words<'a>,
+) -> Result<LineAttribute<'a>, LineReason>
     ensures taken { OnOk result (length (words_left (option_copied words.old.rest)) ≡ length (words_left (option_copied words.new.rest)) + 1) }
 {
     let word = words.word()?;
-    Attribute::new(tag, word)
+    LineAttribute::new(tag, word)
 }
 
 /// Reads the next word as a Transaction UID, or None if it is `-`.
 ///
 /// Errors: MissingWord or EmptyWord; Escape.
-fn transaction_of<'a>(words: &mut Words<'a>) -> Result<Option<Attribute<'a>>, LineReason>
+fn transaction_of<'a>(words: &mut Words<'a>) -> Result<Option<LineAttribute<'a>>, LineReason>
     ensures taken { OnOk result (length (words_left (option_copied words.old.rest)) ≡ length (words_left (option_copied words.new.rest)) + 1) }
 {
     let word = words.word()?;
     if word == b"-".as_slice() {
         return Ok(None);
     }
-    Ok(Some(Attribute::new(TRANSACTION, word)?))
+    Ok(Some(LineAttribute::new(TRANSACTION, word)?))
 }
 
 /// Returns the tags in words.
@@ -139,7 +142,7 @@ fn tags_of<A: Allocator + Copy>(alloc: A, words: Words<'_>) -> Result<Tags<A>, L
 /// Errors: EmptyWord, Attribute or Escape if a word is not an attribute; TooManyItems; lack of memory.
 fn data_set_of<'a, A: Allocator + Copy>(
     alloc: A,
-    arguments: &[Option<Attribute<'a>>],
+    arguments: &[Option<LineAttribute<'a>>],
     words: Words<'a>,
 ) -> Result<Vec<u8, A>, LineFault> {
     let attributes = attributes_of(alloc, arguments, words)?;
@@ -152,7 +155,7 @@ fn data_set_of<'a, A: Allocator + Copy>(
 fn message<'a, A: Allocator + Copy>(
     alloc: A,
     operation: Operation<A>,
-    arguments: &[Option<Attribute<'a>>],
+    arguments: &[Option<LineAttribute<'a>>],
     words: Words<'a>,
 ) -> Result<Question<A>, LineFault>
     ensures { IfOk result (IsMessageOf (λ asked. asked ≡ operation)) }
@@ -324,7 +327,7 @@ pub(crate) fn asked_by<A: Allocator + Copy>(alloc: A, bytes: &[u8]) -> Result<As
         return Err(LineFault::Malformed(LineReason::TooLong));
     }
     let mut words = Words::of(bytes);
-    let heading = Heading::of(alloc, &mut words)?;
+    let heading = LineHeading::of(alloc, &mut words)?;
     Ok(Asked {
         moment: heading.moment,
         ae: heading.ae,

@@ -104,7 +104,7 @@ impl Verb {
 
 /// The first words of a line: `MOMENT AE VERB`.
 #[derive(Clone, Copy)]
-pub(crate) struct Heading {
+pub(crate) struct LineHeading {
     /// The time of the request, in seconds since 1970-01-01 UTC.
     pub moment: u64,
     /// The title of the application entity that makes the request.
@@ -149,14 +149,14 @@ fn verb_in(words: &mut Words<'_>) -> Result<Verb, LineReason>
     Verb::of(word).ok_or(LineReason::Verb)
 }
 
-impl Heading {
+impl LineHeading {
     /// Reads the heading from the next words.
     ///
     /// Errors: MissingWord or EmptyWord; Moment; Escape or Title; Verb; lack of memory.
     pub(crate) fn of<A: Allocator + Copy>(
         alloc: A,
         words: &mut Words<'_>,
-    ) -> Result<Heading, LineFault>
+    ) -> Result<LineHeading, LineFault>
         ensures moment { IfOk result (λ heading. IsMoment heading.moment) }
         ensures words { IfOk result (λ heading. IsHeading (words_left (option_copied words.old.rest)) heading.moment heading.ae heading.verb (words_left (option_copied words.new.rest))) }
         ensures fault { IfErr result (λ fault. OnBad fault (FailsHeading (words_left (option_copied words.old.rest)))) }
@@ -164,6 +164,6 @@ impl Heading {
         let moment = moment_of(words.word()?).ok_or(LineReason::Moment)?;
         let ae = title_of(alloc, words.word()?)?;
         let verb = verb_in(words)?;
-        Ok(Heading { moment, ae, verb })
+        Ok(LineHeading { moment, ae, verb })
     }
 }

@@ -1,6 +1,6 @@
 -- What a server's ledger has of what its passes have seen, from its beginning to its end.
-use Rattle.std.proofs.Common.{◌≡◌, ℕ, List, [], ◌∷◌, Option, None, Some, refl, sym, subst, ◌∙◌}
-use Rattle.std.specs.Prelude.{All, IfSome, MatchOption}
+use Rattle.std.proofs.Common.{◌≡◌, List, [], ◌∷◌, Option, None, Some, refl, ◌∙◌}
+use Rattle.std.specs.Prelude.{All, IfSome}
 use Rattle.std.specs.Global.{Global}
 use Rattle.std.proofs.lemmas.List.Elements.{All-head, All-tail, All-weaker}
 use Rattle.ups_ledger.specs.declared.keeper.Keeper.{Keeper}
@@ -8,12 +8,10 @@ use Rattle.ups_ledger.specs.declared.ledger.Ledger.{Ghosts}
 use Rattle.ups_ledger.specs.Keeping.{AreKept, AreSafe, KeepsSeen}
 use Rattle.ups_ledger.proofs.Leaving.{keeps_seen}
 use Rattle.ups_life.specs.declared.entry.Entry.{Entry}
-use Rattle.ups_life.specs.Settings.{Settings}
 use Rattle.ups_net.specs.Working.{seen_last}
 use Rattle.ups_service.specs.Law.{BeginsHistory}
 use Rattle.ups_turn.specs.Pass.{PassView, EndsFor, part_of}
 use Rattle.ups_turn.specs.Rule.{Behind}
-use Rattle.ups_terms.specs.declared.choices.StartChoices.{StartChoices}
 use Rattle.ups_server.specs.Serving.{HasBegun}
 
 module _ {L : Type 0} (g : Ghosts L) where
@@ -43,9 +41,3 @@ module _ {L : Type 0} (g : Ghosts L) where
   all_kept (Some keeper) history passes ends kept safe =
       All-weaker (λ (p : PassView Global). Behind history (part_of p)) (λ (p : PassView Global). KeepsSeen g keeper p.seen)
       (λ p behind. keeps_seen g keeper (seen_last passes) p.seen history (last_begins history passes ends) (behind_begins history p behind) kept safe) passes ends
-
--- a server begins as it may, by the file, the settings and the history alone
-pub begins_same : {A T : Type 0} (Before After : List ℕ → StartChoices → Settings → List (Entry A) → Type 0) (text : T → List ℕ) (choices : StartChoices) (store : Option T) (s t : Settings) (h k : List (Entry A)) → t ≡ s → k ≡ h
-    → ((file : List ℕ) → Before file choices s h → After file choices s h) → MatchOption store (h ≡ []) (λ f. Before (text f) choices s h) → MatchOption store (k ≡ []) (λ f. After (text f) choices t k)
-begins_same Before After text choices None s t h k same is may begins = is ∙ begins
-begins_same Before After text choices (Some file) s t h k same is may begins = subst (λ (u : Settings). After (text file) choices u k) (sym same) (subst (λ (l : List (Entry _)). After (text file) choices s l) (sym is) (may (text file) begins))

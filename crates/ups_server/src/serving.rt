@@ -28,7 +28,7 @@ use ups_assoc::Config;
 use ups_ledger::{Commits, Keeper, Keeping, Ledger};
 use ups_life::MAX_HISTORY;
 use ups_manager::Manager;
-use ups_net::{Door, Network, Premises, ServerOptions, run};
+use ups_net::{Door, Network, ServerOptions, ServerState, run};
 use ups_peers::MAX_WORKERS;
 use ups_turn::{Desk, Pass};
 
@@ -100,7 +100,8 @@ struct Begun<L: Ledger> {
     keeper: Option<Keeper<L>>,
 }
 
-/// Listens where the command line says. Prints the port if port 0 was requested, so that a client can be told.
+/// Listens where the command line says. Prints the port if port 0 was requested, so that a client can be told, and tells
+/// the supervisor that the server is ready.
 ///
 /// Errors: those of the network, and of the output.
 fn listen<R: Network + Print + Log>(rt: &R, asked: &ServeArguments<'_>) -> io::Result<Door> {
@@ -112,6 +113,7 @@ fn listen<R: Network + Print + Log>(rt: &R, asked: &ServeArguments<'_>) -> io::R
     }
     let title = str::from_utf8(asked.ae.as_bytes()).unwrap_or("");
     info!(rt; target: "upsd", "{title} listens on {address} with {} workers", asked.limits.workers);
+    rt.tell_supervisor("READY=1");
     Ok(door)
 }
 
@@ -257,7 +259,7 @@ where
     let watchers = asked.watchers.len();
     let deliverers = deliverers_of(asked.limits.workers, watchers);
     let commits: Commits<K> = commits_of(&keeper);
-    let Ok(premises) = Premises::new(alloc, door, watchers, deliverers, commits) else {
+    let Ok(state) = ServerState::new(alloc, door, watchers, deliverers, commits) else {
         return Err(AllocError);
     };
     let seats = asked.limits.workers + deliverers + 1;
@@ -265,7 +267,7 @@ where
         return Err(AllocError);
     };
     let options = options_of(alloc, asked, associations, rounds);
-    let (begun, passes, keeper) = run(rt, &premises, &desk, passes, &options, keeper);
+    let (begun, passes, keeper) = run(rt, &state, &desk, passes, &options, keeper);
     Ok(RanServer {
         begun,
         desk,

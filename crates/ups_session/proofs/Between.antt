@@ -9,7 +9,7 @@ use Rattle.ups_session.specs.declared.fault.SessionFault.{SessionFault}
 use Rattle.ups_session.specs.declared.gate.GateCall.{GateCall}
 use Rattle.ups_session.specs.Fold.{Visit, replied, wrote}
 use Rattle.ups_session.specs.Tells.{Told, AreAlways, Tells}
-use Rattle.ups_session.specs.Visits.{calls_of, asks_of, moments_of, replies_of, pdus_of, IsCutShort, FallsShort, LeavesUnsent, Sends}
+use Rattle.ups_session.specs.Visits.{calls_of, asks_of, moments_of, replies_of, pdus_of, IsCutShort, LeavesUnsent, Sends}
 use Rattle.ups_session.specs.Wire.{IsPrefix, IsCut, pdu_bytes}
 use Rattle.ups_session.specs.World.{World, world, ServesAll, Changes}
 use Rattle.ups_session.proofs.Spoken.{calls-append, asks-append, replies-append, pdus-append, bytes-append}

@@ -7,7 +7,7 @@ use Rattle.ups_pdu.specs.declared.fault.PduFault.{PduFault}
 use Rattle.ups_session.specs.declared.fault.End.{End}
 use Rattle.ups_session.specs.Fold.{Side, Arrival, pdu, bad, closed, brings, Chain, Happens, Processes, IsOpen}
 use Rattle.ups_session.specs.World.{World, Performed}
-use Rattle.ups_session.specs.Session.{Spells, SpellsAll, AtEnd, NoEnd, cut, failed, lost, within, GoesOn, okay, failing, Progress, IsSession}
+use Rattle.ups_session.specs.Session.{Spells, SpellsAll, AtEnd, NoEnd, lost, within, GoesOn, okay, failing, Progress, IsSession}
 use Rattle.ups_session.specs.Visits.{FallsShort}
 use Rattle.ups_session.specs.Turn.{IsTurn}
 use Rattle.ups_session.proofs.Chains.{chain_one}
@@ -110,22 +110,12 @@ session_unbegun side ending start last turns now u v Turns g = absurd (no_turns 
     no_turns (inl (e, really, part)) = cc
     no_turns (inr (e, part)) = cc
 
-abbrev pub lost_for : SessionFault → Result PduRead SessionFault
-lost_for fault = Err fault
-
 abbrev pub got : PduRead → Result PduRead SessionFault
 got x = Ok x
 
 -- memory ran out while something was read
 pub turned_lost : {A L W : Type 0} (side : Side A L W) (association after : L) (now : Input) (input : List ℕ) (u : World A) (fault : SessionFault) → fault ≡ Memory → IsLost A input → IsTurn side association after now input u u (failing fault)
 turned_lost side association after now input u fault is begun = rw is (lost, association, begun, refl, goes_short (Happens side) [] association association u)
-
--- the input ended inside a PDU, or a read failed
-pub turned_cut : {A L W : Type 0} (side : Side A L W) (association after : L) (now : Input) (input : List ℕ) (u : World A) (bytes : List ℕ) → reading.IsRead A now input bytes (got reads.Cut) → IsTurn side association after now input u u (failing Read)
-turned_cut side association after now input u bytes t = (cut, t, refl, refl)
-
-pub turned_failed : {A L W : Type 0} (side : Side A L W) (association after : L) (now : Input) (input : List ℕ) (u : World A) (bytes : List ℕ) → reading.IsRead A now input bytes (got reads.Failed) → IsTurn side association after now input u u (failing Read)
-turned_failed side association after now input u bytes t = (failed, t, refl, refl)
 
 -- something came, and not all that it brings happened
 pub turned_part : {A L W : Type 0} (side : Side A L W) (association after : L) (now : Input) (input : List ℕ) (a : Arrival A) (u v : World A) (fault : SessionFault) → Spells input a → AtEnd now (a ∷ []) → Performed (Happens side) (brings a) association after u v (failing fault)

@@ -36,9 +36,9 @@ use Rattle.ups_session.specs.Dispatch.{DispatchView, answered_at_once, asking, A
 use Rattle.ups_session.specs.Fold.{Indication, event, request, confirmation, presentation_data, invalid, Visit, replied, wrote, Reaction, Side, Settles, Happens}
 use Rattle.ups_session.specs.Proposing.{agreement}
 use Rattle.ups_session.specs.Reports.{route_of}
-use Rattle.ups_session.specs.Requestor.{DeliveryReaction, along, releasing, reporting, reporting_next, most_messages, proceeding, on_reply, on_response, event_answered, refusing, on_command, Understands, Assembles, Receives, OnFragment, on_agreement, on_answer, proposing, with_association, requestor}
+use Rattle.ups_session.specs.Requestor.{DeliveryReaction, releasing, reporting, reporting_next, most_messages, proceeding, on_reply, on_response, event_answered, refusing, on_command, Understands, Assembles, Receives, OnFragment, on_agreement, on_answer, proposing, with_association, requestor}
 use Rattle.ups_session.specs.Sides.{ReactionOf, transition, releases, on_action, on_event, unexpected, reason_of, with_begun, context_at}
-use Rattle.ups_session.specs.Visits.{pdus_of, RepliesFirst}
+use Rattle.ups_session.specs.Visits.{RepliesFirst}
 use Rattle.ups_session.proofs.Delivered.{pendings_silent}
 
 -- a reaction that awaits a reply sends nothing before it

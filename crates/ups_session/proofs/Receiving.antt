@@ -74,11 +74,6 @@ faultless (more b) begun why is lost other e = absurd cc
 faultless (whole m) begun why is lost other e = absurd cc
 faultless (fault f) begun why is lost other e = cc
 
-pub not_faulty : {A : Type 0} (f : Fed A) (begun : Begun A) (message : RawMessage A) → Feeds f begun (fed_on (Some message)) → (other : AssocFault) → f ≡ fault other → other ≡ faults.Memory
-not_faulty (more b) begun message is other e = absurd is
-not_faulty (whole m) begun message is other e = absurd cc
-not_faulty (fault f) begun message is other e = absurd is
-
 other_action : {A : Type 0} (offset : ℤ) (association : AssociationView A) (pdv : Pdv A) (action : UlAction) (state : UlState) (reaction : ReactionOf A) → action ≢ Dt2
     → reaction ≡ on_action false unexpected (transition association events.Data action state) action → Indicated false offset association pdv (Some (action, state)) reaction
 other_action offset association pdv Dt2 state reaction unlike e = absurd (unlike refl)

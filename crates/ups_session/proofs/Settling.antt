@@ -1,19 +1,19 @@
 -- How a reaction is settled, and what an indication comes to then.
-use Rattle.std.proofs.Common.{◌≡◌, ℕ, List, [], ◌∷◌, map, refl, sym, ◌∙◌, append-nil, subst, Some, None, Result, Ok, Err, OnOk}
+use Rattle.std.proofs.Common.{◌≡◌, ℕ, List, [], ◌∷◌, map, refl, sym, ap, ◌∙◌, append-nil, subst, Some, None, Result, Ok, Err, OnOk}
+use Rattle.std.specs.Io.KnownBytes.{Appends}
 use Rattle.ups_pdu.specs.declared.pdu.Pdu.{Pdu}
 use Rattle.ups_life.specs.Settings.{Settings}
 use Rattle.ups_life.specs.declared.request.Reply.{Reply}
-use Rattle.ups_service.specs.Law.{Others, Seen, Serves}
+use Rattle.ups_service.specs.Law.{Others, Seen}
 use Rattle.ups_session.specs.declared.fault.SessionFault.{SessionFault}
 use Rattle.ups_session.specs.declared.gate.GateCall.TheVariants.{Moment}
 use Rattle.ups_session.specs.Fold.{Asked, Indication, Visit, replied, wrote, Reaction, Side, Happens}
 use Rattle.ups_session.specs.declared.effect.Effect.{Effect}
 use Rattle.ups_session.specs.Party.{said_by, awaited_by, reaction_with}
 use Rattle.ups_session.specs.Settled.{IsSettled}
-use Rattle.ups_session.specs.Tells.{Told, Tells}
-use Rattle.ups_session.specs.Visits.{calls_of, asks_of, moments_of, replies_of, SendsPdus}
+use Rattle.ups_session.specs.Visits.{calls_of, asks_of, moments_of, replies_of}
 use Rattle.ups_session.specs.WatchedIo.{Output}
-use Rattle.ups_session.specs.World.{World, world, ServesAll, Changes, IsDone, Performed}
+use Rattle.ups_session.specs.World.{World, ServesAll, SendsAlone, AsksOnce, IsDone, Performed}
 use Rattle.ups_session.proofs.Chains.{chain_one}
 use Rattle.ups_session.specs.declared.fault.SessionFault.TheVariants.{Memory}
 use Rattle.ups_session.proofs.Spoken.{stopping, says_lost, sends_replied}
@@ -36,56 +36,63 @@ served_none s o k seen (replied asked moment reply ∷ visits) none = absurd (cl
     clash e = cc
 
 -- nothing is asked, and what is due is said, or a beginning of it
-pub settled_said : {A L W Y : Type 0} (side : Side A L W) (reaction : Reaction A L W) (after : L) (c0 c1 : Output) (m0 m1 : Told) (s : Settings) (o : Others) (k : ℕ) (seen : Seen A) (r : Result Y SessionFault)
-    → reaction.waiting ≡ None → OnOk r (reaction.association ≡ after) → SendsPdus reaction.send c0 c1 m0 m1 r → IsSettled side reaction after (world c0 m0 s o k seen) (world c1 m1 s o k seen) r
-settled_said side reaction after c0 c1 m0 m1 s o k seen r silent done is = record {
+pub settled_said : {A L W Y : Type 0} (side : Side A L W) (reaction : Reaction A L W) (after : L) (u v : World A) (r : Result Y SessionFault)
+    → reaction.waiting ≡ None → OnOk r (reaction.association ≡ after) → SendsAlone reaction.send u v r → IsSettled side reaction after u v r
+settled_said {A} side reaction after u v r silent done (is, same) = record {
   replies = [];
   due = map wrote reaction.send;
   end = reaction.association;
   visits = is.visits;
   sent = is.sent;
   settles = (silent, refl, refl);
-  changes = record { settings = refl; others = refl; caller = refl; writes = is.writes; tells = is.tells; calls = served_none s o k seen is.visits is.timeless };
+  changes = record {
+    settings = ap (λ (w : World A). w.settings) same;
+    others = ap (λ (w : World A). w.others) same;
+    caller = ap (λ (w : World A). w.caller) same;
+    writes = is.writes;
+    tells = is.tells;
+    calls = subst (λ (seen : Seen A). ServesAll u.settings u.others u.caller u.seen (asks_of is.visits) (moments_of is.visits) (replies_of is.visits) seen) (sym (ap (λ (w : World A). w.seen) same)) (served_none u.settings u.others u.caller u.seen is.visits is.timeless);
+  };
   did = done;
   sends = is.sends;
 }
 
 -- memory ran out before it was said
-pub settled_lost : {A L W Y : Type 0} (side : Side A L W) (reaction : Reaction A L W) (after : L) (c : Output) (m : Told) (s : Settings) (o : Others) (k : ℕ) (seen : Seen A) → reaction.waiting ≡ None
-    → IsSettled side reaction after (world c m s o k seen) (world c m s o k seen) (stopping {Y = Y} Memory)
-settled_lost side reaction after c m s o k seen silent = settled_said side reaction after c c m m s o k seen (stopping Memory) silent tt (says_lost reaction.send c m)
+pub settled_lost : {A L W Y : Type 0} (side : Side A L W) (reaction : Reaction A L W) (after : L) (u : World A) → reaction.waiting ≡ None → IsSettled side reaction after u u (stopping {Y = Y} Memory)
+settled_lost side reaction after u silent = settled_said side reaction after u u (stopping Memory) silent tt (says_lost reaction.send u.output u.told, refl)
 
 pub on_ok : {L Y : Type 0} (l : L) (r : Result Y SessionFault) → OnOk r (l ≡ l)
 on_ok l (Ok y) = refl
 on_ok l (Err e) = tt
 
 -- something is asked, and then what the reply comes to
-pub settled_asked : {A L W Y : Type 0} (side : Side A L W) (association after : L) (waiting : W) (m : ℕ) (q : Reply A) (next : Reaction A L W) (c0 : Output) (m0 m1 : Told) (s s1 : Settings) (o o1 : Others) (k k1 : ℕ) (seen seen1 : Seen A) (w : World A) (r : Result Y SessionFault)
-    → Tells m0 m1 (Moment m ∷ []) → s1 ≡ s → o1 ≡ o → k1 ≡ k → Serves s o k seen (side.asked waiting).ae m (side.asked waiting).ask q seen1
-    → side.OnReply association waiting q next → IsSettled side next after (world c0 m1 s1 o1 k1 seen1) w r
-    → IsSettled side (record { association = association; send = []; waiting = Some waiting }) after (world c0 m0 s o k seen) w r
-settled_asked {A} side association after waiting m q next c0 m0 m1 s s1 o o1 k k1 seen seen1 w r told same shared one serves hears is = record {
-  replies = q ∷ is.replies;
-  due = replied (side.asked waiting) m q ∷ is.due;
-  end = is.end;
-  visits = replied (side.asked waiting) m q ∷ is.visits;
-  sent = is.sent;
-  settles = (waiting, m, next, is.due, refl, hears, is.settles, refl);
-  changes = record {
-    settings = is.changes.settings ∙ same;
-    others = is.changes.others ∙ shared;
-    caller = is.changes.caller ∙ one;
-    writes = is.changes.writes;
-    tells = Tells-trans m0 m1 w.told (Moment m ∷ []) (calls_of is.visits) told is.changes.tells;
-    calls = (
-      seen1,
-      serves,
-      ServesAll-at s s1 o o1 k k1 seen1 w.seen (asks_of is.visits) (moments_of is.visits) (replies_of is.visits) same shared one is.changes.calls,
-    );
-  };
-  did = is.did;
-  sends = sends_replied (side.asked waiting) m q is.due is.visits is.sent w.output.failed r is.sends;
-}
+pub settled_asked : {A L W Y : Type 0} (side : Side A L W) (association after : L) (waiting : W) (q : Reply A) (next : Reaction A L W) (u v w : World A) (r : Result Y SessionFault)
+    → AsksOnce (side.asked waiting) q u v → side.OnReply association waiting q next → IsSettled side next after v w r
+    → IsSettled side (record { association = association; send = []; waiting = Some waiting }) after u w r
+settled_asked {A} side association after waiting q next u v w r (m, asked, same) hears is =
+    let (then, serves, last) = asked.calls in
+    let more = subst (λ (seen : Seen A). ServesAll v.settings v.others v.caller seen (asks_of is.visits) (moments_of is.visits) (replies_of is.visits) w.seen) last is.changes.calls in record {
+      replies = q ∷ is.replies;
+      due = replied (side.asked waiting) m q ∷ is.due;
+      end = is.end;
+      visits = replied (side.asked waiting) m q ∷ is.visits;
+      sent = is.sent;
+      settles = (waiting, m, next, is.due, refl, hears, is.settles, refl);
+      changes = record {
+        settings = is.changes.settings ∙ asked.settings;
+        others = is.changes.others ∙ asked.others;
+        caller = is.changes.caller ∙ asked.caller;
+        writes = subst (λ (o : Output). Appends o.written w.output.written is.sent) same is.changes.writes;
+        tells = Tells-trans u.told v.told w.told (Moment m ∷ []) (calls_of is.visits) asked.tells is.changes.tells;
+        calls = (
+          then,
+          serves,
+          ServesAll-at u.settings v.settings u.others v.others u.caller v.caller then w.seen (asks_of is.visits) (moments_of is.visits) (replies_of is.visits) asked.settings asked.others asked.caller more,
+        );
+      };
+      did = is.did;
+      sends = sends_replied (side.asked waiting) m q is.due is.visits is.sent w.output.failed r is.sends;
+    }
 
 did_one : {A L Y : Type 0} (end after : L) (h : Indication A) (r : Result Y SessionFault) → OnOk r (end ≡ after) → IsDone end after (h ∷ []) (h ∷ []) r
 did_one end after h (Ok y) e = (e, refl)
@@ -107,8 +114,7 @@ performed_settled side from after h reaction u v r reacts is = record {
 }
 
 -- an effect that only says something
-pub settled_effect : {A L W C Y : Type 0} (side : Side A L W) (waits : C → W) (after : L) (effect : Effect A C) (said : List (Pdu A)) (c0 c1 : Output) (m0 m1 : Told) (s : Settings) (o : Others) (k : ℕ) (seen : Seen A) (r : Result Y SessionFault)
-    → awaited_by waits effect ≡ None → said_by effect ≡ said → SendsPdus said c0 c1 m0 m1 r
-    → IsSettled side (reaction_with waits after effect) after (world c0 m0 s o k seen) (world c1 m1 s o k seen) r
-settled_effect {A} side waits after effect said c0 c1 m0 m1 s o k seen r silent says is =
-    settled_said side (reaction_with waits after effect) after c0 c1 m0 m1 s o k seen r silent (on_ok after r) (subst (λ (l : List (Pdu A)). SendsPdus l c0 c1 m0 m1 r) (sym says) is)
+pub settled_effect : {A L W C Y : Type 0} (side : Side A L W) (waits : C → W) (after : L) (effect : Effect A C) (said : List (Pdu A)) (u v : World A) (r : Result Y SessionFault)
+    → awaited_by waits effect ≡ None → said_by effect ≡ said → SendsAlone said u v r → IsSettled side (reaction_with waits after effect) after u v r
+settled_effect {A} side waits after effect said u v r silent says is =
+    settled_said side (reaction_with waits after effect) after u v r silent (on_ok after r) (subst (λ (l : List (Pdu A)). SendsAlone l u v r) (sym says) is)

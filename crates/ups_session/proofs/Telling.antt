@@ -10,10 +10,6 @@ always_none : (m : Option ℕ) → AreAlways m []
 always_none None = tt
 always_none (Some m) = tt
 
-always_one : (m : Option ℕ) (x : GateCall) → m ≡ None → AreAlways m (x ∷ [])
-always_one None x e = tt
-always_one (Some m) x e = absurd cc
-
 always_on : (m : Option ℕ) (xs ys : List GateCall) → AreAlways m xs → AreAlways m ys → AreAlways m (xs ++ ys)
 always_on None xs ys p q = tt
 always_on (Some m) [] ys p q = q

@@ -1,6 +1,7 @@
 -- The effects of a part of a session on its writer, its gate and its service.
 use Rattle.std.specs.Prelude.{◌≡◌, ℕ, List, [], ◌∷◌, Result, Ok, Err}
 use Rattle.std.specs.Io.KnownBytes.{Appends}
+use Rattle.ups_pdu.specs.declared.pdu.Pdu.{Pdu}
 use Rattle.ups_life.specs.Settings.{Settings}
 use Rattle.ups_life.specs.declared.request.Reply.{Reply}
 use Rattle.ups_service.specs.Law.{Others, Seen, Grants, Serves}
@@ -8,8 +9,8 @@ use Rattle.ups_session.specs.declared.fault.SessionFault.{SessionFault}
 use Rattle.ups_session.specs.Tells.{Told, Tells}
 use Rattle.ups_session.specs.WatchedIo.{Output}
 use Rattle.ups_session.specs.Wire.{IsPrefix}
-use Rattle.ups_session.specs.Visits.{calls_of, asks_of, moments_of, replies_of, Sends}
-use Rattle.ups_session.specs.Fold.{Asked, Visit, Chain}
+use Rattle.ups_session.specs.Visits.{calls_of, asks_of, moments_of, replies_of, Sends, SendsPdus}
+use Rattle.ups_session.specs.Fold.{Asked, Visit, replied, Chain}
 
 -- the state of the writer, the calls that the gate recorded, and the service with what it has seen
 pub record World (A : Type 0) : Type 0 where
@@ -46,6 +47,14 @@ pub record Changes {A : Type 0} (visits : List (Visit A)) (sent : List ℕ) (old
   pub writes : Appends old.output.written new.output.written sent
   pub tells : Tells old.told new.told (calls_of visits)
   pub calls : ServesAll old.settings old.others old.caller old.seen (asks_of visits) (moments_of visits) (replies_of visits) new.seen
+
+-- these PDUs were sent, or only the first of them, and the service was not called
+abbrev pub SendsAlone : {A X : Type 0} → List (Pdu A) → World A → World A → Result X SessionFault → Type 0
+SendsAlone said old new result = SendsPdus said old.output new.output old.told new.told result × (new ≡ record old { output = new.output; told = new.told })
+
+-- the service gave this reply to an ask, at the moment that the gate gave just before, and nothing was written
+abbrev pub AsksOnce : {A : Type 0} → Asked A → Reply A → World A → World A → Type 0
+AsksOnce asked reply old new = (moment : ℕ) × Changes (replied asked moment reply ∷ []) [] old new × (new.output ≡ old.output)
 
 -- all of the list was processed, or a beginning of it
 abbrev pub IsDone : {L X Y : Type 0} → L → L → List X → List X → Result Y SessionFault → Type 0

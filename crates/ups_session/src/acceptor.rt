@@ -1,6 +1,6 @@
 //! The acceptor of an association (PS3.8 section 9.2).
 
-ghost use Rattle.std.specs.Prelude.{List, ℕ};
+ghost use Rattle.std.specs.Prelude.{◌≡◌, List, ℕ};
 ghost use Rattle.std.specs.Io.KnownBytes.{Consumes};
 ghost use Rattle.ups_assoc.specs.declared.negotiating.Config.{Config};
 ghost use Rattle.ups_session.specs.Acceptor.{acceptor, opened};
@@ -11,15 +11,14 @@ ghost use Rattle.ups_session.specs.Session.{IsSession};
 ghost use Rattle.ups_session.specs.Settled.{IsSettled};
 ghost use Rattle.ups_session.specs.World.{world};
 
-use crate::asking::answer;
 use crate::association::{ACCEPTOR, Association, UNEXPECTED, reason_of};
 use crate::driver::drive;
 use crate::effect::{AwaitedRequest, Effect};
+use crate::environment::{BorrowedEnvironment, Environment};
 use crate::fault::{End, SessionFault};
 use crate::gate::Gate;
 use crate::indication::{UlIndication, take_pdv};
 use crate::party::Party;
-use crate::response::send_reply;
 use crate::watched_io::{WatchedReader, WatchedWriter};
 use std::alloc::Allocator;
 use std::io::{Read, Write};
@@ -40,30 +39,18 @@ pub(crate) struct Acceptor<'a, A: Allocator + Copy> {
 /// Calls the service with what a request asks, and sends its reply. The buffer is for the bytes of one PDU after the other.
 ///
 /// Errors: a failed write; out of memory. What the service accepted stays accepted.
-fn respond<A: Allocator + Copy, W: Write, S: Service<A>, G: Gate>(
-    writer: &mut WatchedWriter<W>,
-    service: &mut S,
-    gate: &mut G,
+fn respond<A: Allocator + Copy, E: Environment<A>>(
+    environment: &mut E,
     buffer: &mut Vec<u8, A>,
     mut waiting: AwaitedRequest<A>,
 ) -> Result<(), SessionFault>
     requires { HasRoom waiting }
-    ensures { (config : Config) → (association : AssociationView A) → IsSettled (acceptor config) (awaiting_reply association (awaited_view waiting)) association
-        (world writer.old (G.told gate.old) (S.settings service.old) (S.others service.old) (S.caller service.old) (S.seen service.old))
-        (world writer.new (G.told gate.new) (S.settings service.new) (S.others service.new) (S.caller service.new) (S.seen service.new)) result }
+    ensures settled { (config : Config) → (association : AssociationView A) → IsSettled (acceptor config) (awaiting_reply association (awaited_view waiting)) association (E.world environment.old) (E.world environment.new) result }
+    ensures names { E.names environment.new ≡ E.names environment.old }
 {
     let parts = &mut *waiting.parts;
-    let moment = gate.now();
-    let reply = answer(service, gate, parts.ae, moment, &mut parts.ask);
-    send_reply(
-        writer,
-        gate,
-        buffer,
-        parts.max,
-        &parts.context,
-        &parts.command,
-        &reply,
-    )
+    let reply = environment.answer(parts.ae, &mut parts.ask);
+    environment.send_reply(buffer, parts.max, &parts.context, &parts.command, &reply)
 }
 
 impl<'a, A: Allocator + Copy> Party<A> for Acceptor<'a, A> {
@@ -97,11 +84,10 @@ impl<'a, A: Allocator + Copy> Party<A> for Acceptor<'a, A> {
 
     ghost is_roomy = { HasRoom };
 
-    fn begin<W: Write, G: Gate>(
+    fn begin<E: Environment<A>>(
         &mut self,
         _alloc: A,
-        _writer: &mut WatchedWriter<W>,
-        _gate: &mut G,
+        _environment: &mut E,
     ) -> Result<(), SessionFault> {
         Ok(())
     }
@@ -145,15 +131,13 @@ impl<'a, A: Allocator + Copy> Party<A> for Acceptor<'a, A> {
         self.association.on_fragment(alloc, self.config, pdv)
     }
 
-    fn settle<W: Write, S: Service<A>, G: Gate>(
+    fn settle<E: Environment<A>>(
         &mut self,
-        writer: &mut WatchedWriter<W>,
-        service: &mut S,
-        gate: &mut G,
+        environment: &mut E,
         buffer: &mut Vec<u8, A>,
         call: AwaitedRequest<A>,
     ) -> Result<(), SessionFault> {
-        respond(writer, service, gate, buffer, call)
+        respond(environment, buffer, call)
     }
 
     fn end(&self) -> Option<End> {
@@ -186,5 +170,10 @@ pub fn serve<A: Allocator + Copy, R: Read, W: Write, S: Service<A>, G: Gate>(
         config,
         association: Association::opened(),
     };
-    drive(alloc, &mut party, reader, writer, service, gate, turns)
+    let mut environment = BorrowedEnvironment {
+        writer,
+        service,
+        gate,
+    };
+    drive(alloc, &mut party, reader, &mut environment, turns)
 }

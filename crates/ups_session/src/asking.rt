@@ -29,20 +29,3 @@ pub(crate) fn answer<A: Allocator + Copy, S: Service<A>, G: Gate>(
 {
     service.answer(ae, moment, ask)
 }
-
-/// Has the service answer an ask at the moment that the gate gave just before.
-pub(crate) fn call<A: Allocator + Copy, S: Service<A>, G: Gate>(
-    service: &mut S,
-    gate: &G,
-    ae: Ae,
-    moment: u64,
-    ask: Ask<A>,
-) -> Reply<A>
-    requires timed { IsTimed moment (G.told gate.now) }
-    requires moment { IsMoment moment }
-    ensures same { (S.settings service.new ≡ S.settings service.old) × (S.others service.new ≡ S.others service.old) × (S.caller service.new ≡ S.caller service.old) }
-    ensures serves { Serves (S.settings service.old) (S.others service.old) (S.caller service.old) (S.seen service.old) ae moment ask result (S.seen service.new) }
-    ensures small { SmallReply result }
-{
-    service.call(ae, moment, ask)
-}

@@ -12,6 +12,7 @@ mod devices;
 mod dispatch;
 mod driver;
 mod effect;
+mod environment;
 mod fault;
 mod gate;
 mod indication;

@@ -1,27 +1,22 @@
 //! A party of an association: its requestor or its acceptor.
 
-ghost use Rattle.std.specs.Prelude.{◌≡◌, ◌∷◌, [], ℕ, IfOk, IfErr, OnOk, MatchOption};
+ghost use Rattle.std.specs.Prelude.{◌≡◌, IfOk, IfErr, OnOk, MatchOption};
 
 use crate::effect::Effect;
+use crate::environment::Environment;
 use crate::fault::{End, SessionFault};
-use crate::gate::Gate;
 use crate::indication::UlIndication;
-use crate::watched_io::WatchedWriter;
 use std::alloc::Allocator;
-use std::io::Write;
 use ups_pdu::Pdv;
-use ups_service::Service;
 
 /// A party of an association (PS3.8 section 7.1): its requestor or its acceptor.
 pub(crate) trait Party<A: Allocator + Copy> {
-    ghost use Rattle.ups_life.specs.Settings.{Settings};
-    ghost use Rattle.ups_service.specs.Law.{Others, Seen};
     ghost use Rattle.ups_session.specs.declared.fault.End.{End};
     ghost use Rattle.ups_session.specs.declared.fault.SessionFault.TheVariants.{Memory};
     ghost use Rattle.ups_session.specs.Fold.{Side, Happens, IsOpen, presentation_data};
     ghost use Rattle.ups_session.specs.Party.{indication_of, Comes, awaiting_reply, reaction_with, CanSend, IsOver};
     ghost use Rattle.ups_session.specs.Settled.{IsSettled};
-    ghost use Rattle.ups_session.specs.World.{world, Performed};
+    ghost use Rattle.ups_session.specs.World.{Performed};
 
     /// The type of its calls to the service.
     type Call: Drop;
@@ -62,19 +57,18 @@ pub(crate) trait Party<A: Allocator + Copy> {
     /// Begins the association: the requestor sends its A-ASSOCIATE-RQ, and the acceptor awaits one.
     ///
     /// Errors: a failed write; out of memory.
-    fn begin<W: Write, G: Gate>(
+    fn begin<E: Environment<A>>(
         &mut self,
         alloc: A,
-        writer: &mut WatchedWriter<W>,
-        gate: &mut G,
+        environment: &mut E,
     ) -> Result<(), SessionFault>
         requires start { view self.old ≡ start }
         requires ready { is_ready self.old }
-        ensures begins { (settings : Settings) → (others : Others) → (caller : ℕ) → (seen : Seen A) → Performed (Happens (side (setup self.old))) (side (setup self.old)).first start (view self.new)
-            (world writer.old (G.told gate.old) settings others caller seen) (world writer.new (G.told gate.new) settings others caller seen) result }
+        ensures begins { Performed (Happens (side (setup self.old))) (side (setup self.old)).first start (view self.new) (E.world environment.old) (E.world environment.new) result }
         ensures open { OnOk result (IsOpen ((side (setup self.old)).state (view self.new))) }
         ensures ready { OnOk result (is_ready self.new) }
-        ensures setup { setup self.new ≡ setup self.old };
+        ensures setup { setup self.new ≡ setup self.old }
+        ensures names { E.names environment.new ≡ E.names environment.old };
 
     /// Reacts to an indication other than a PDV, by the state transition table (PS3.8 section 9.2).
     ///
@@ -111,21 +105,18 @@ pub(crate) trait Party<A: Allocator + Copy> {
     /// Calls the service, and sends what its reply leads to. The buffer is for the bytes of one PDU after the other.
     ///
     /// Errors: a failed write; out of memory. What the service accepted stays accepted.
-    fn settle<W: Write, S: Service<A>, G: Gate>(
+    fn settle<E: Environment<A>>(
         &mut self,
-        writer: &mut WatchedWriter<W>,
-        service: &mut S,
-        gate: &mut G,
+        environment: &mut E,
         buffer: &mut Vec<u8, A>,
         call: Self::Call,
     ) -> Result<(), SessionFault>
         requires ready { is_ready self.old }
         requires roomy { is_roomy call }
-        ensures settled { IsSettled (side (setup self.old)) (awaiting_reply (view self.old) (call_view call)) (view self.new)
-            (world writer.old (G.told gate.old) (S.settings service.old) (S.others service.old) (S.caller service.old) (S.seen service.old))
-            (world writer.new (G.told gate.new) (S.settings service.new) (S.others service.new) (S.caller service.new) (S.seen service.new)) result }
+        ensures settled { IsSettled (side (setup self.old)) (awaiting_reply (view self.old) (call_view call)) (view self.new) (E.world environment.old) (E.world environment.new) result }
         ensures ready { OnOk result (is_ready self.new) }
-        ensures setup { setup self.new ≡ setup self.old };
+        ensures setup { setup self.new ≡ setup self.old }
+        ensures names { E.names environment.new ≡ E.names environment.old };
 
     /// Returns how the association ended, or None while it goes on. Once the transport connection is closed, the
     /// association has ended.

@@ -4,8 +4,6 @@ ghost use Rattle.std.specs.Prelude.{◌≡◌, [], ◌∷◌, ℕ, List};
 ghost use Rattle.std.specs.Io.KnownBytes.{Consumes};
 ghost use Rattle.ups_ulstate.specs.declared.state.UlEvent.TheVariants.{AssociateRequest, TransportConfirmed};
 ghost use Rattle.ups_assoc.specs.declared.negotiating.Config.{Config};
-ghost use Rattle.ups_life.specs.Settings.{Settings};
-ghost use Rattle.ups_service.specs.Law.{Others, Seen};
 ghost use Rattle.ups_session.specs.declared.delivery.DeliveryCall.TheVariants.{Pendings, Acknowledgement};
 ghost use Rattle.ups_session.specs.Fold.{event as happened, Happens};
 ghost use Rattle.ups_session.specs.Requestor.{awaiting, requestor, unconnected, proposed};
@@ -15,16 +13,15 @@ ghost use Rattle.ups_session.specs.Settled.{IsSettled};
 ghost use Rattle.ups_session.specs.World.{world, Performed};
 ghost use Rattle.ups_session.specs.Session.{IsSession};
 
-use crate::asking::call;
 use crate::association::{UNEXPECTED, reason_of};
 use crate::delivery::{Delivery, DeliveryCall};
 use crate::driver::drive;
 use crate::effect::Effect;
+use crate::environment::{BorrowedEnvironment, Environment};
 use crate::fault::{End, SessionFault};
 use crate::gate::Gate;
 use crate::indication::{UlIndication, take_pdv};
 use crate::party::Party;
-use crate::pdu_io::{send_pdu, send_pdus};
 use crate::proposing::association_request;
 use crate::watched_io::{WatchedReader, WatchedWriter};
 use std::alloc::Allocator;
@@ -53,74 +50,65 @@ pub(crate) struct Requestor<'a, A: Allocator + Copy> {
 /// association.
 ///
 /// Errors: a failed write; out of memory.
-fn ask_pendings<A: Allocator + Copy, W: Write, S: Service<A>, G: Gate>(
+fn ask_pendings<A: Allocator + Copy, E: Environment<A>>(
     alloc: A,
     ae: Ae,
     delivery: &mut Delivery<A>,
-    writer: &mut WatchedWriter<W>,
-    service: &mut S,
-    gate: &mut G,
+    environment: &mut E,
 ) -> Result<(), SessionFault>
     requires roomy { IsRoomy delivery.old.association.established }
-    ensures settled { (config : Config) → IsSettled (requestor config ae) (awaiting (delivery_view delivery.old) Pendings) (delivery_view delivery.new)
-        (world writer.old (G.told gate.old) (S.settings service.old) (S.others service.old) (S.caller service.old) (S.seen service.old))
-        (world writer.new (G.told gate.new) (S.settings service.new) (S.others service.new) (S.caller service.new) (S.seen service.new)) result }
+    ensures settled { (config : Config) → IsSettled (requestor config ae) (awaiting (delivery_view delivery.old) Pendings) (delivery_view delivery.new) (E.world environment.old) (E.world environment.new) result }
     ensures established { delivery.new.association.established ≡ delivery.old.association.established }
+    ensures names { E.names environment.new ≡ E.names environment.old }
 {
-    let moment = gate.now();
     let ask = Ask::Pending {
         max: EVENTS_ASKED_FOR,
     };
-    let reply = call(service, gate, ae, moment, ask);
+    let reply = environment.call(ae, ask);
     let said = delivery.on_pendings(alloc, reply)?;
-    send_pdus(alloc, writer, gate, said.as_slice())
+    environment.send_pdus(alloc, said.as_slice())
 }
 
 /// Passes the acknowledgement of the events up to a number to the service, and goes on with the next report.
 ///
 /// Errors: a failed write; out of memory. What the service accepted stays accepted.
-fn acknowledge<A: Allocator + Copy, W: Write, S: Service<A>, G: Gate>(
+fn acknowledge<A: Allocator + Copy, E: Environment<A>>(
     alloc: A,
     ae: Ae,
     delivery: &mut Delivery<A>,
-    writer: &mut WatchedWriter<W>,
-    service: &mut S,
-    gate: &mut G,
+    environment: &mut E,
     number: u64,
 ) -> Result<(), SessionFault>
     requires roomy { IsRoomy delivery.old.association.established }
-    ensures settled { (config : Config) → IsSettled (requestor config ae) (awaiting (delivery_view delivery.old) (Acknowledgement number)) (delivery_view delivery.new)
-        (world writer.old (G.told gate.old) (S.settings service.old) (S.others service.old) (S.caller service.old) (S.seen service.old))
-        (world writer.new (G.told gate.new) (S.settings service.new) (S.others service.new) (S.caller service.new) (S.seen service.new)) result }
+    ensures settled { (config : Config) → IsSettled (requestor config ae) (awaiting (delivery_view delivery.old) (Acknowledgement number)) (delivery_view delivery.new) (E.world environment.old) (E.world environment.new) result }
     ensures established { delivery.new.association.established ≡ delivery.old.association.established }
+    ensures names { E.names environment.new ≡ E.names environment.old }
 {
-    let moment = gate.now();
     let acknowledgement = Ask::Do(Request::Ack { upto: number });
-    let reply = call(service, gate, ae, moment, acknowledgement);
+    let reply = environment.call(ae, acknowledgement);
     match delivery.on_acknowledged(alloc, &reply)? {
-        Effect::Send(said) => send_pdus(alloc, writer, gate, said.as_slice()),
+        Effect::Send(said) => environment.send_pdus(alloc, said.as_slice()),
         Effect::Respond(_) => unreachable!(),
-        Effect::Call(_) => ask_pendings(alloc, ae, delivery, writer, service, gate),
+        Effect::Call(_) => ask_pendings(alloc, ae, delivery, environment),
     }
 }
 
 /// Requests the association: sends the A-ASSOCIATE-RQ (PS3.8 table 9-6, AE-2).
 ///
 /// Errors: a failed write; out of memory.
-fn propose<A: Allocator + Copy, W: Write, G: Gate>(
+fn propose<A: Allocator + Copy, E: Environment<A>>(
     alloc: A,
     config: &Config,
     ae: Ae,
-    writer: &mut WatchedWriter<W>,
-    gate: &mut G,
+    environment: &mut E,
 ) -> Result<(), SessionFault>
-    ensures { (settings : Settings) → (others : Others) → (caller : ℕ) → (seen : Seen A) → Performed (Happens (requestor config.now ae)) (happened AssociateRequest ∷ happened TransportConfirmed ∷ []) unconnected proposed
-        (world writer.old (G.told gate.old) settings others caller seen) (world writer.new (G.told gate.new) settings others caller seen) result }
+    ensures performed { Performed (Happens (requestor config.now ae)) (happened AssociateRequest ∷ happened TransportConfirmed ∷ []) unconnected proposed (E.world environment.old) (E.world environment.new) result }
+    ensures names { E.names environment.new ≡ E.names environment.old }
 {
     let Ok(request) = association_request(alloc, config.ae, ae) else {
         return Err(SessionFault::Memory);
     };
-    send_pdu(alloc, writer, gate, &Pdu::AssociateRq(request))
+    environment.send_pdu(alloc, &Pdu::AssociateRq(request))
 }
 
 impl<'a, A: Allocator + Copy> Party<A> for Requestor<'a, A> {
@@ -156,14 +144,13 @@ impl<'a, A: Allocator + Copy> Party<A> for Requestor<'a, A> {
 
     ghost is_roomy = { λ call. Unit {0} };
 
-    fn begin<W: Write, G: Gate>(
+    fn begin<E: Environment<A>>(
         &mut self,
         alloc: A,
-        writer: &mut WatchedWriter<W>,
-        gate: &mut G,
+        environment: &mut E,
     ) -> Result<(), SessionFault> {
         self.delivery.on_connected();
-        propose(alloc, self.config, self.ae, writer, gate)
+        propose(alloc, self.config, self.ae, environment)
     }
 
     #[tactic(auto, using(crate::proofs::Delivered::sendable))]
@@ -200,20 +187,18 @@ impl<'a, A: Allocator + Copy> Party<A> for Requestor<'a, A> {
         self.delivery.on_fragment(alloc, take_pdv(alloc, pdv))
     }
 
-    fn settle<W: Write, S: Service<A>, G: Gate>(
+    fn settle<E: Environment<A>>(
         &mut self,
-        writer: &mut WatchedWriter<W>,
-        service: &mut S,
-        gate: &mut G,
+        environment: &mut E,
         buffer: &mut Vec<u8, A>,
         call: DeliveryCall,
     ) -> Result<(), SessionFault> {
         let alloc = *buffer.allocator();
         let (ae, delivery) = (self.ae, &mut self.delivery);
         match call {
-            DeliveryCall::Pendings => ask_pendings(alloc, ae, delivery, writer, service, gate),
+            DeliveryCall::Pendings => ask_pendings(alloc, ae, delivery, environment),
             DeliveryCall::Acknowledgement(number) => {
-                acknowledge(alloc, ae, delivery, writer, service, gate, number)
+                acknowledge(alloc, ae, delivery, environment, number)
             }
         }
     }
@@ -251,5 +236,10 @@ pub fn deliver<A: Allocator + Copy, R: Read, W: Write, S: Service<A>, G: Gate>(
         ae,
         delivery: Delivery::unconnected(alloc),
     };
-    drive(alloc, &mut party, reader, writer, service, gate, turns)
+    let mut environment = BorrowedEnvironment {
+        writer,
+        service,
+        gate,
+    };
+    drive(alloc, &mut party, reader, &mut environment, turns)
 }

@@ -1,26 +1,18 @@
 -- The digest of records behind others.
 use Rattle.std.proofs.Common.{◌≡◌, ℕ, ◌+◌, List, [], ◌∷◌, ◌++◌, length, sym, subst, ap, ◌∙◌}
-use Rattle.std.proofs.lemmas.List.{length-append, map-append}
+use Rattle.std.proofs.lemmas.List.{length-append}
 use Rattle.std.proofs.lemmas.List.Sums.{fold-append}
 use Rattle.std.specs.declared.alloc.Global.{Global}
 use Rattle.ups_journal.specs.declared.record.Record.{Record}
 use Rattle.ups_store.specs.Digest.{digest_with, digest_after, digest_of}
-use Rattle.ups_store.specs.declared.request.StoredRequest.{StoredRequest}
 use Rattle.ups_ledger.specs.Behind.{AreBehind}
 use Rattle.ups_start.specs.declared.front.Front.{Front}
 use Rattle.ups_start.specs.Front.{AreFront, front_with}
 use Rattle.ups_start.specs.Reopened.{AreBehindSame}
-use Rattle.ups_start.specs.Started.{said}
 
 -- records behind others
 pub digest_behind : (old records : List (Record Global)) (digest : ℕ) → digest_of old ≡ digest → digest_of (old ++ records) ≡ digest_after digest records
 digest_behind old records digest is = fold-append digest_with 0 old records ∙ ap (λ (d : ℕ). digest_after d records) is
-
--- one more request
-pub digest_next : (old new : List StoredRequest) (request : StoredRequest) (digest : ℕ) → digest ≡ digest_of (said old) → new ≡ old ++ request ∷ [] → digest_with digest request.asked ≡ digest_of (said new)
-digest_next old new request digest is more =
-    let all : said new ≡ said old ++ request.asked ∷ [] = ap said more ∙ map-append (λ r. r.asked) old (request ∷ []) in
-    sym (ap digest_of all ∙ digest_behind (said old) (request.asked ∷ []) digest (sym is))
 
 -- the front with these records behind it
 pub front_behind : (old new records : List (Record Global)) (front : Front) → AreFront old front → new ≡ old ++ records → AreFront new (front_with front records)

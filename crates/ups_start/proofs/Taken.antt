@@ -1,5 +1,5 @@
 -- Records that were entered or left out one behind the other.
-use Rattle.std.proofs.Common.{◌≡◌, ◌⊎◌, inl, inr, rules, ℕ, Bool, false, IsTrue, List, [], ◌∷◌, ◌++◌, map, refl, sym, subst, ap, ◌∙◌, arith, append_assoc}
+use Rattle.std.proofs.Common.{◌≡◌, ◌⊎◌, inl, inr, rules, ℕ, Bool, false, List, [], ◌∷◌, ◌++◌, map, refl, sym, subst, ap, ◌∙◌, arith, append_assoc}
 use Rattle.std.proofs.lemmas.List.{append-nil, map-append}
 use Rattle.ups_life.specs.declared.entry.Entry.{Entry}
 use Rattle.ups_life.specs.Settings.{Settings}
@@ -10,11 +10,11 @@ use Rattle.ups_restore.specs.declared.leaving.Restored.TheVariants.{Entered, Lef
 use Rattle.ups_restore.specs.declared.leaving.Restoration.{Restoration}
 use Rattle.ups_restore.specs.Leaving.{Becomes, counted_with, all_counted, BecomeAll, AreTaken}
 use Rattle.ups_restore.specs.Replaying.{GoesOnBy}
-use Rattle.ups_restore.specs.declared.acknowledging.TheConstants.{COMPACTOR}
-use Rattle.ups_compact.specs.Compacting.{compacted}
-use Rattle.ups_life.specs.Steps.{past}
 use Rattle.std.specs.declared.alloc.Global.{Global}
 use Rattle.ups_terms.specs.declared.choices.StartChoices.{StartChoices}
+use Rattle.sqlite_trees.specs.View.{View}
+use Rattle.ups_start.specs.Noted.{PermitsNoted}
+use Rattle.ups_start.specs.Opened.{records_shown, terms_shown, BeginsFrom}
 use Rattle.ups_start.specs.Started.{without_compaction, Begins}
 
 become_more : {A : Type 0} (s : Settings) (h : List (Entry A)) (rs : List (Record A)) (may : Bool) (os : List Restored) (now then : List (Entry A)) (r : Record A) (o : Restored)
@@ -73,16 +73,6 @@ all_kept s h (r ∷ rs) [] after b = absurd b
 pub all_entered : {A : Type 0} (s : Settings) (h : List (Entry A)) (rs : List (Record A)) (may : Bool) (c : Restoration) (after : List (Entry A)) → AreTaken s h rs may c after → c.left_out ≡ 0 → map recorded after ≡ map recorded h ++ rs
 all_entered s h rs may c after taken none = entered_all s h rs may (record { entered = 0; left_out = 0 }) taken.0 after taken.1 (sym (ap (λ (x : Restoration). x.left_out) taken.2) ∙ none)
 
--- a start begins with what was taken, or with its compaction
-pub begins_taken : (s t : Settings) (first : List (Entry Global)) (found shown : List (Record Global)) (choices : StartChoices) (moment : ℕ) (counts : Restoration) (entered after : List (Entry Global)) → first ≡ [] → t ≡ s → shown ≡ found
-    → AreTaken s first shown choices.may_leave_out counts entered → (after ≡ entered) ⊎ (IsTrue choices.may_compact × (past after ≡ compacted COMPACTOR moment t (past entered))) → Begins s found choices moment after
-begins_taken s t first found shown choices moment counts entered after new same all taken becomes = record {
-  entered = entered;
-  counts = counts;
-  taken = subst (λ (rs : List (Record Global)). AreTaken s [] rs choices.may_leave_out counts entered) all (subst (λ (h : List (Entry Global)). AreTaken s h shown choices.may_leave_out counts entered) new taken);
-  becomes = subst (λ (u : Settings). (after ≡ entered) ⊎ (IsTrue choices.may_compact × (past after ≡ compacted COMPACTOR moment u (past entered)))) same becomes;
-}
-
 -- a start that does not compact begins as one that may
 pub begins_without : (s t : Settings) (found : List (Record Global)) (choices fewer : StartChoices) (moment : ℕ) (after : List (Entry Global)) → t ≡ s → fewer ≡ without_compaction choices → Begins t found fewer moment after → Begins s found choices moment after
 begins_without s t found choices fewer moment after same is begins =
@@ -93,3 +83,11 @@ begins_without s t found choices fewer moment after same is begins =
       taken = begins.taken;
       becomes = elim begins.becomes [ inl same ↦ inl same | inr both ↦ absurd (search rules) ];
     }
+
+-- the same on a store that was opened
+pub begins_from_without : (s t : Settings) (shown : View) (choices fewer : StartChoices) (moment : ℕ) (after : List (Entry Global)) → t ≡ s → fewer ≡ without_compaction choices → BeginsFrom shown t fewer moment after → BeginsFrom shown s choices moment after
+begins_from_without s t shown choices fewer moment after same is from = record {
+  clean = from.clean;
+  begins = begins_without s t (records_shown shown) choices fewer moment after same is from.begins;
+  permits = λ keeps. subst (λ (u : Settings). PermitsNoted u (terms_shown shown)) same (from.permits (ap (λ (x : StartChoices). x.may_change_terms) is ∙ keeps));
+}

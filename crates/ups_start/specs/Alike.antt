@@ -7,13 +7,13 @@ use Rattle.ups_journal.specs.declared.record.Columns.{Columns}
 pub record HaveOneTarget (a b : Columns Global) : Type 0 where
   pub operation : a.operation ≡ b.operation
   pub instance : a.instance ≡ b.instance
-  pub transaction : a.transaction ≡ b.transaction
+  pub transaction_uid : a.transaction_uid ≡ b.transaction_uid
   pub state : a.state ≡ b.state
 
 -- the same Receiving AE, Deletion Lock, event number, offset and attributes
 pub record HaveOneWatcher (a b : Columns Global) : Type 0 where
   pub receiver : a.receiver ≡ b.receiver
-  pub lock : a.lock ≡ b.lock
-  pub number : a.number ≡ b.number
-  pub offset : a.offset ≡ b.offset
+  pub deletion_lock : a.deletion_lock ≡ b.deletion_lock
+  pub event : a.event ≡ b.event
+  pub utc_offset : a.utc_offset ≡ b.utc_offset
   pub attributes : a.attributes ≡ b.attributes

@@ -1,6 +1,7 @@
 pub mod Faults
 pub mod Started
 pub mod Noted
+pub mod Opened
 pub mod Front
 pub mod Shelved
 pub mod Anew

@@ -8,8 +8,8 @@ use Rattle.ups_journal.specs.declared.record.Record.{Record}
 use Rattle.ups_store.specs.Rows.{requests_in}
 use Rattle.ups_store.specs.declared.store.RequestStore.{RequestStore}
 use Rattle.ups_store.specs.Shown.{requests_shown, requests}
-use Rattle.ups_start.specs.declared.shelf.Held.{Held}
-use Rattle.ups_start.specs.declared.shelf.Held.TheVariants.{Open, Shut, Lost}
+use Rattle.ups_start.specs.declared.shelf.HeldStore.{HeldStore}
+use Rattle.ups_start.specs.declared.shelf.HeldStore.TheVariants.{Open, Shut, Lost}
 use Rattle.ups_start.specs.declared.shelf.Shelf.{Shelf}
 use Rattle.ups_start.specs.Front.{AreFront}
 use Rattle.ups_start.specs.Started.{said}
@@ -27,24 +27,24 @@ module _ {S : Type 0} {g : Ghosts S} where
     pub are : said (requests_in db) ≡ rs
 
   -- the committed records, if the store is open
-  abbrev pub records_in : Held S g → List (Record Global)
+  abbrev pub records_in : HeldStore S g → List (Record Global)
   records_in (Open store) = said (requests store)
   records_in Shut = []
   records_in Lost = []
 
-  abbrev pub IsOpenStore : Held S g → Type 0
+  abbrev pub IsOpenStore : HeldStore S g → Type 0
   IsOpenStore (Open store) = IsTrue (requests_shown store).is_open
   IsOpenStore Shut = ⊥
   IsOpenStore Lost = ⊥
 
   -- no wrong answer of the disk was taken as true since the store was opened, if it is open
-  abbrev pub IsHonestStore : Held S g → Type 0
+  abbrev pub IsHonestStore : HeldStore S g → Type 0
   IsHonestStore (Open store) = IsClean (requests_shown store)
   IsHonestStore Shut = ⊤
   IsHonestStore Lost = ⊤
 
   -- a crash can leave these records: any, if the store is not open
-  abbrev pub Recovers : Held S g → List (Record Global) → Type 0
+  abbrev pub Recovers : HeldStore S g → List (Record Global) → Type 0
   Recovers (Open store) rs = LeavesRecords store rs
   Recovers Shut rs = ⊤
   Recovers Lost rs = ⊤

@@ -1,18 +1,17 @@
 //! The start of a server on a store.
 
-ghost use Rattle.std.specs.Prelude.{◌≡◌, ◌⊎◌, ℕ, [], List, Option, map, length, false, IfOk, IsTrue};
-ghost use Rattle.sqlite_trees.specs.View.{IsClean};
+ghost use Rattle.std.specs.Prelude.{◌≡◌, ◌⊎◌, [], map, length, IfOk, IsTrue};
+ghost use Rattle.sqlite_trees.specs.View.{View, IsClean};
 ghost use Rattle.ups_journal.specs.Columns.{recorded};
 ghost use Rattle.ups_compact.specs.Compacting.{compacted};
 ghost use Rattle.ups_life.specs.Steps.{past};
 ghost use Rattle.ups_ledger.specs.Keeping.{IsKept, IsSafe};
 ghost use Rattle.ups_restore.specs.declared.acknowledging.TheConstants.{COMPACTOR};
-ghost use Rattle.ups_store.specs.declared.request.StoredRequest.{StoredRequest};
-ghost use Rattle.ups_store.specs.Shown.{requests_shown, requests, shown_by, all_of, given_out, last_terms_of};
+ghost use Rattle.ups_store.specs.Shown.{requests_shown, requests, shown_by, all_of, given_out};
 ghost use Rattle.ups_store.specs.Digest.{digest_of};
 ghost use Rattle.ups_start.specs.Digested.{AreDigested};
-ghost use Rattle.ups_start.specs.Started.{said, moment_in, without_compaction, Begins};
-ghost use Rattle.ups_start.specs.Noted.{PermitsNoted};
+ghost use Rattle.ups_start.specs.Opened.{BeginsFrom};
+ghost use Rattle.ups_start.specs.Started.{said, moment_in, without_compaction};
 
 use crate::compacting::{compacted, emptied};
 use crate::fault::StartFault;
@@ -34,7 +33,7 @@ use ups_terms::StartChoices;
 
 /// A store in which a run has begun.
 #[derive(Drop)]
-pub(crate) struct Begun<S: Store> {
+pub(crate) struct StartedRun<S: Store> {
     /// The store.
     pub(crate) store: RequestStore<S>,
     /// The number of the run.
@@ -50,7 +49,7 @@ pub(crate) struct Begun<S: Store> {
 pub(crate) fn begin_run<S: Alter + Drop>(
     reading: Reading<S>,
     about: &Run<'_>,
-) -> Result<Begun<S>, StartFault>
+) -> Result<StartedRun<S>, StartFault>
     requires digested { AreDigested reading }
     ensures clean { IfOk result (λ b. IsClean (requests_shown b.store) → IsClean (shown_by reading.replay)) }
     ensures same { IfOk result (λ b. IsClean (requests_shown b.store) → requests b.store ≡ all_of reading.replay) }
@@ -64,7 +63,7 @@ pub(crate) fn begin_run<S: Alter + Drop>(
         return Err(StartFault::Write(fault));
     }
     match store.begin_run(about) {
-        Ok(run) => Ok(Begun { store, run, digest }),
+        Ok(run) => Ok(StartedRun { store, run, digest }),
         Err(fault) => Err(StartFault::Write(fault)),
     }
 }
@@ -117,12 +116,12 @@ fn is_to_be_compacted<R: Log>(
 fn settled<S: Store + Drop, R: Log>(
     alloc: Global,
     telling: &R,
-    begun: Begun<S>,
+    begun: StartedRun<S>,
     about: &Run<'_>,
     manager: &mut Manager<Global>,
     left_out: u64,
     may_compact: bool,
-) -> Result<Begun<S>, Unsettled>
+) -> Result<StartedRun<S>, Unsettled>
     requires whole { left_out ≡ 0 → IsClean (requests_shown begun.store) → said (requests begun.store) ≡ map recorded manager.old.history }
     requires is_open { IsClean (requests_shown begun.store) → IsTrue (requests_shown begun.store).is_open }
     ensures kept { IfOk result (λ b. IsClean (requests_shown b.store) → said (requests b.store) ≡ map recorded manager.new.history) }
@@ -161,12 +160,11 @@ fn begin_over<S: Alter + Drop, R: Clock + Log>(
     choices: StartChoices,
     about: &Run<'_>,
     manager: &mut Manager<Global>,
-) -> Result<Begun<S>, Unsettled>
+) -> Result<StartedRun<S>, Unsettled>
     requires new { manager.old.history ≡ [] }
     ensures kept { IfOk result (λ b. IsClean (requests_shown b.store) → said (requests b.store) ≡ map recorded manager.new.history) }
     ensures is_open { IfOk result (λ b. IsClean (requests_shown b.store) → IsTrue (requests_shown b.store).is_open) }
-    ensures begins { IfOk result (λ b. IsClean (requests_shown b.store) → Begins manager.old.settings (said (all_of replay)) choices (moment_in about.now) manager.new.history) }
-    ensures permits { IfOk result (λ b. choices.may_change_terms ≡ false → IsClean (requests_shown b.store) → PermitsNoted manager.old.settings (last_terms_of replay)) }
+    ensures begins { IfOk result (λ b. IsClean (requests_shown b.store) → BeginsFrom (shown_by replay) manager.old.settings choices (moment_in about.now) manager.new.history) }
     ensures settings { manager.new.settings ≡ manager.old.settings }
 {
     match check_terms(
@@ -202,8 +200,7 @@ fn begin_over<S: Alter + Drop, R: Clock + Log>(
 /// Opens the store at a place.
 pub(crate) fn opened<P: StorePlace>(place: &P) -> Result<Replay<P::Store>, StartFault>
     ensures first { IfOk result (λ r. given_out r ≡ []) }
-    ensures found { IfOk result (λ r. P.finds place.now (all_of r)) }
-    ensures noted { IfOk result (λ r. P.notes place.now (last_terms_of r)) }
+    ensures found { IfOk result (λ r. P.finds place.now (shown_by r)) }
 {
     match place.open() {
         Ok(replay) => Ok(replay),
@@ -221,12 +218,11 @@ fn begin_at<P: StorePlace, R: Clock + Log>(
     choices: StartChoices,
     about: &Run<'_>,
     manager: &mut Manager<Global>,
-) -> Result<Begun<P::Store>, Unsettled>
+) -> Result<StartedRun<P::Store>, Unsettled>
     requires new { manager.old.history ≡ [] }
     ensures kept { IfOk result (λ b. IsClean (requests_shown b.store) → said (requests b.store) ≡ map recorded manager.new.history) }
     ensures is_open { IfOk result (λ b. IsClean (requests_shown b.store) → IsTrue (requests_shown b.store).is_open) }
-    ensures begins { IfOk result (λ b. (found : List StoredRequest) × P.finds place.now found × (IsClean (requests_shown b.store) → Begins manager.old.settings (said found) choices (moment_in about.now) manager.new.history)) }
-    ensures permits { IfOk result (λ b. (noted : Option (List ℕ)) × P.notes place.now noted × (choices.may_change_terms ≡ false → IsClean (requests_shown b.store) → PermitsNoted manager.old.settings noted)) }
+    ensures begins { IfOk result (λ b. (found : View) × P.finds place.now found × (IsClean (requests_shown b.store) → BeginsFrom found manager.old.settings choices (moment_in about.now) manager.new.history)) }
     ensures settings { manager.new.settings ≡ manager.old.settings }
 {
     let replay = match opened(place) {
@@ -257,11 +253,10 @@ fn begin_uncompacted<P: StorePlace, R: Clock + Log>(
     choices: StartChoices,
     about: &Run<'_>,
     manager: &mut Manager<Global>,
-) -> Result<Begun<P::Store>, StartFault>
+) -> Result<StartedRun<P::Store>, StartFault>
     ensures kept { IfOk result (λ b. IsClean (requests_shown b.store) → said (requests b.store) ≡ map recorded manager.new.history) }
     ensures is_open { IfOk result (λ b. IsClean (requests_shown b.store) → IsTrue (requests_shown b.store).is_open) }
-    ensures begins { IfOk result (λ b. (found : List StoredRequest) × P.finds place.now found × (IsClean (requests_shown b.store) → Begins manager.old.settings (said found) choices (moment_in about.now) manager.new.history)) }
-    ensures permits { IfOk result (λ b. (noted : Option (List ℕ)) × P.notes place.now noted × (choices.may_change_terms ≡ false → IsClean (requests_shown b.store) → PermitsNoted manager.old.settings noted)) }
+    ensures begins { IfOk result (λ b. (found : View) × P.finds place.now found × (IsClean (requests_shown b.store) → BeginsFrom found manager.old.settings choices (moment_in about.now) manager.new.history)) }
     ensures settings { manager.new.settings ≡ manager.old.settings }
 {
     *manager = emptied(alloc, manager)?;
@@ -283,12 +278,11 @@ fn begin_in<P: StorePlace, R: Clock + Log>(
     choices: StartChoices,
     about: &Run<'_>,
     manager: &mut Manager<Global>,
-) -> Result<Begun<P::Store>, StartFault>
+) -> Result<StartedRun<P::Store>, StartFault>
     requires new { manager.old.history ≡ [] }
     ensures kept { IfOk result (λ b. IsClean (requests_shown b.store) → said (requests b.store) ≡ map recorded manager.new.history) }
     ensures is_open { IfOk result (λ b. IsClean (requests_shown b.store) → IsTrue (requests_shown b.store).is_open) }
-    ensures begins { IfOk result (λ b. (found : List StoredRequest) × P.finds place.now found × (IsClean (requests_shown b.store) → Begins manager.old.settings (said found) choices (moment_in about.now) manager.new.history)) }
-    ensures permits { IfOk result (λ b. (noted : Option (List ℕ)) × P.notes place.now noted × (choices.may_change_terms ≡ false → IsClean (requests_shown b.store) → PermitsNoted manager.old.settings noted)) }
+    ensures begins { IfOk result (λ b. (found : View) × P.finds place.now found × (IsClean (requests_shown b.store) → BeginsFrom found manager.old.settings choices (moment_in about.now) manager.new.history)) }
     ensures settings { manager.new.settings ≡ manager.old.settings }
 {
     match begin_at(alloc, telling, place, choices, about, manager) {
@@ -327,10 +321,7 @@ pub fn begin<'a, P: StorePlace, R: Clock + Log>(
     ensures sound { IfOk result (λ k. ⟦<StoreLedger<'a, P> as Ledger>⟧.is_honest k.ledger → ⟦<StoreLedger<'a, P> as Ledger>⟧.is_sound k.ledger) }
     ensures honest { IfOk result (λ k. ⟦<StoreLedger<'a, P> as Ledger>⟧.is_sound k.ledger → ⟦<StoreLedger<'a, P> as Ledger>⟧.is_honest k.ledger) }
     ensures safe { IfOk result (λ k. IsSafe ⟦<StoreLedger<'a, P> as Ledger>⟧ k manager.new.history) }
-    ensures begins { IfOk result (λ k. (found : List StoredRequest) × P.finds place found × (⟦<StoreLedger<'a, P> as Ledger>⟧.is_honest k.ledger → Begins manager.old.settings (said found) choices (moment_in about.entry) manager.new.history)) }
-    ensures permits { IfOk result (λ k. (noted : Option (List ℕ)) × P.notes place noted × (choices.may_change_terms ≡ false → ⟦<StoreLedger<'a, P> as Ledger>⟧.is_honest k.ledger → PermitsNoted manager.old.settings noted)) }
-    ensures resumes { IfOk result (λ k. (found : List StoredRequest) × P.finds place found × (noted : Option (List ℕ)) × P.notes place noted
-        × (⟦<StoreLedger<'a, P> as Ledger>⟧.is_sound k.ledger → Begins manager.old.settings (said found) choices (moment_in about.entry) manager.new.history × (choices.may_change_terms ≡ false → PermitsNoted manager.old.settings noted))) }
+    ensures begins { IfOk result (λ k. (found : View) × P.finds place found × (⟦<StoreLedger<'a, P> as Ledger>⟧.is_honest k.ledger → BeginsFrom found manager.old.settings choices (moment_in about.entry) manager.new.history)) }
     ensures all { IfOk result (λ k. k.committed ≡ length manager.new.history) }
 {
     let begun = begin_in(alloc, telling, &place, choices, &about, manager)?;

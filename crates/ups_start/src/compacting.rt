@@ -10,7 +10,7 @@ ghost use Rattle.ups_restore.specs.declared.acknowledging.TheConstants.{COMPACTO
 ghost use Rattle.ups_store.specs.Shown.{requests_shown, requests};
 ghost use Rattle.ups_start.specs.Started.{said, moment_in};
 
-use crate::beginning::Begun;
+use crate::beginning::StartedRun;
 use crate::fault::StartFault;
 use crate::rewriting::Anew;
 use log::{Log, info};
@@ -61,11 +61,11 @@ fn moment_of(about: &Run<'_>) -> u64
 /// Errors: Write, Compact. The store keeps its requests, or may have the new ones if the commit failed.
 pub(crate) fn compacted_to<S: Store + Drop>(
     alloc: Global,
-    begun: Begun<S>,
+    begun: StartedRun<S>,
     about: &Run<'_>,
     manager: &Manager<Global>,
     fresh: &mut Manager<Global>,
-) -> Result<Begun<S>, StartFault>
+) -> Result<StartedRun<S>, StartFault>
     requires settings { fresh.old.settings ≡ manager.now.settings }
     requires new { fresh.old.history ≡ [] }
     ensures compacted { OnOk result (past fresh.new.history ≡ compacted COMPACTOR (moment_in about.now) manager.now.settings (past manager.now.history)) }
@@ -96,10 +96,10 @@ fn tell_compacted<R: Log>(telling: &R, before: usize, after: usize) {
 pub(crate) fn compacted<S: Store + Drop, R: Log>(
     alloc: Global,
     telling: &R,
-    begun: Begun<S>,
+    begun: StartedRun<S>,
     about: &Run<'_>,
     manager: &mut Manager<Global>,
-) -> Result<Begun<S>, StartFault>
+) -> Result<StartedRun<S>, StartFault>
     ensures compacted { OnOk result (past manager.new.history ≡ compacted COMPACTOR (moment_in about.now) manager.old.settings (past manager.old.history)) }
     ensures kept { IfOk result (λ b. IsClean (requests_shown b.store) → said (requests b.store) ≡ map recorded manager.new.history) }
     ensures is_open { IfOk result (λ b. IsClean (requests_shown b.store) → IsTrue (requests_shown b.store).is_open) }

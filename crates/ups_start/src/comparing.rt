@@ -28,14 +28,14 @@ fn same_target(a: &Columns<Global>, b: &Columns<Global>) -> bool
     if !same_bytes(&a.instance, &b.instance) {
         return false;
     }
-    same_bytes(&a.transaction, &b.transaction)
+    same_bytes(&a.transaction_uid, &b.transaction_uid)
 }
 
 /// Returns whether both are for the same watcher, with the same attributes.
 fn same_watcher(a: &Columns<Global>, b: &Columns<Global>) -> bool
     ensures { IsTrue result → HaveOneWatcher a.now b.now }
 {
-    if a.lock != b.lock || a.number != b.number || a.offset != b.offset {
+    if a.deletion_lock != b.deletion_lock || a.event != b.event || a.utc_offset != b.utc_offset {
         return false;
     }
     if !same_bytes(&a.receiver, &b.receiver) {

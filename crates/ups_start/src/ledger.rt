@@ -11,7 +11,7 @@ ghost use Rattle.ups_start.specs.Front.{front_with};
 ghost use Rattle.ups_start.specs.Reopened.{HasBehind, AreBehindSame};
 ghost use Rattle.ups_start.specs.Shelved.{kept_in, LeavesRecords, Recovers, IsSound, IsHonest, IsCounted};
 
-use crate::beginning::Begun;
+use crate::beginning::StartedRun;
 use crate::front::Front;
 use crate::place::StorePlace;
 use crate::reopening::{Reopened, append_rest, fault_of_open, go_through};
@@ -38,7 +38,7 @@ impl<'a, P: StorePlace> StoreLedger<'a, P> {
     pub(crate) fn of(
         place: P,
         about: Run<'a>,
-        begun: Begun<P::Store>,
+        begun: StartedRun<P::Store>,
         committed: u64,
     ) -> StoreLedger<'a, P>
         requires { IsTrue (requests_shown begun.store).is_open → length (said (requests begun.store)) ≡ committed }
@@ -50,7 +50,7 @@ impl<'a, P: StorePlace> StoreLedger<'a, P> {
         ensures kept { kept_in result.shelf ≡ said (requests begun.store) }
         ensures committed { result.shelf.front.count ≡ committed }
     {
-        let Begun { store, run, digest } = begun;
+        let StartedRun { store, run, digest } = begun;
         StoreLedger {
             place,
             about,

@@ -23,13 +23,14 @@ mod terms;
 
 pub use beginning::begin;
 pub use fault::StartFault;
-pub use file::{FileLedger, FilePlace};
+pub use file::{FilePlace, FileStoreOf};
 pub use laws::a_start_has_what_answers_rest_on;
 pub use ledger::StoreLedger;
 pub use making::create;
 pub use place::StorePlace;
 pub use shrinking::{Compacted, compact};
+pub use sqlite_disk::Start;
 pub use terms::last_terms;
 pub use ups_restore::CompactFault;
-pub use ups_store::{OpenFault, Run, StoreFault};
+pub use ups_store::{OpenFault, Replay, RequestStore, Run, StoreFault};
 pub use ups_terms::{Difference, StartChoices, Terms};

@@ -1,10 +1,9 @@
 //! The place of a store.
 
-ghost use Rattle.std.specs.Prelude.{◌≡◌, ◌≤◌, ℕ, [], List, Option, IsTrue, IfOk};
+ghost use Rattle.std.specs.Prelude.{◌≡◌, ◌≤◌, [], IsTrue, IfOk};
 ghost use Rattle.sqlite_trees.specs.Tree.{Trees};
-ghost use Rattle.sqlite_trees.specs.View.{doubt};
-ghost use Rattle.ups_store.specs.declared.request.StoredRequest.{StoredRequest};
-ghost use Rattle.ups_store.specs.Shown.{requests_shown, all_of, given_out, last_terms_of};
+ghost use Rattle.sqlite_trees.specs.View.{View, doubt};
+ghost use Rattle.ups_store.specs.Shown.{requests_shown, shown_by, given_out};
 ghost use Rattle.ups_start.specs.Shelved.{CanLeave};
 
 use sqlite_trees::store::Alter;
@@ -16,11 +15,8 @@ pub trait StorePlace: Drop {
     /// The store.
     type Store: Alter + Drop;
 
-    /// That the store there can be opened with these requests.
-    ghost finds: { Self → List StoredRequest → Type 0 };
-
-    /// That the store there can be opened with these terms of its last run, or with none.
-    ghost notes: { Self → Option (List ℕ) → Type 0 };
+    /// That an open of the store there can show this.
+    ghost finds: { Self → View → Type 0 };
 
     /// Opens the store for reading its requests. A store that is missing is not made.
     ///
@@ -29,8 +25,7 @@ pub trait StorePlace: Drop {
     /// Those of [`ups_store::open`].
     fn open(&self) -> Result<Replay<Self::Store>, OpenFault>
         ensures first { IfOk result (λ r. given_out r ≡ []) }
-        ensures found { IfOk result (λ r. finds self.now (all_of r)) }
-        ensures noted { IfOk result (λ r. notes self.now (last_terms_of r)) };
+        ensures found { IfOk result (λ r. finds self.now (shown_by r)) };
 
     /// Copies what is stored next to an open store into it.
     ///

@@ -8,7 +8,7 @@ ghost use Rattle.ups_store.specs.Shown.{requests_shown, requests};
 ghost use Rattle.ups_start.specs.Started.{said};
 ghost use Rattle.ups_store.specs.Rewriting.{seen, written_anew};
 
-use crate::beginning::Begun;
+use crate::beginning::StartedRun;
 use crate::fault::{StartFault, fault_of};
 use sqlite_trees::store::Store;
 use std::alloc::Global;
@@ -40,11 +40,11 @@ impl<S: Store + Drop> Anew<S> {
     /// Begins to replace the requests of a store in which a run has begun.
     ///
     /// Errors: Write.
-    pub(crate) fn begin(begun: Begun<S>) -> Result<Anew<S>, StartFault>
+    pub(crate) fn begin(begun: StartedRun<S>) -> Result<Anew<S>, StartFault>
         ensures empty { IfOk result (λ anew. IsPutting anew → put_so_far anew ≡ []) }
         ensures clean { IfOk result (λ anew. IsPutting anew → IsClean (requests_shown begun.store)) }
     {
-        let Begun {
+        let StartedRun {
             store,
             run,
             digest: _,
@@ -65,7 +65,7 @@ impl<S: Store + Drop> Anew<S> {
     /// Commits: the store then has exactly what was put.
     ///
     /// Errors: Write.
-    pub(crate) fn commit(self, about: &Run<'_>) -> Result<Begun<S>, StartFault>
+    pub(crate) fn commit(self, about: &Run<'_>) -> Result<StartedRun<S>, StartFault>
         ensures replaced { IfOk result (λ b. IsClean (requests_shown b.store) → said (requests b.store) ≡ put_so_far self) }
         ensures sound { IfOk result (λ b. IsClean (requests_shown b.store) → IsPutting self) }
         ensures is_open { IfOk result (λ b. IsClean (requests_shown b.store) → IsTrue (requests_shown b.store).is_open) }
@@ -84,7 +84,7 @@ impl<S: Store + Drop> Anew<S> {
             return Err(StartFault::Write(fault));
         }
         match rewrite.finish() {
-            Some(store) => Ok(Begun { store, run, digest }),
+            Some(store) => Ok(StartedRun { store, run, digest }),
             None => Err(StartFault::Write(StoreFault::Shut)),
         }
     }
@@ -138,10 +138,10 @@ impl<S: Store + Drop> Ledger for Anew<S> {
 /// commit failed.
 pub(crate) fn rewritten<S: Store + Drop>(
     alloc: Global,
-    begun: Begun<S>,
+    begun: StartedRun<S>,
     about: &Run<'_>,
     manager: &Manager<Global>,
-) -> Result<Begun<S>, StartFault>
+) -> Result<StartedRun<S>, StartFault>
     ensures kept { IfOk result (λ b. IsClean (requests_shown b.store) → said (requests b.store) ≡ map recorded manager.now.history) }
     ensures is_open { IfOk result (λ b. IsClean (requests_shown b.store) → IsTrue (requests_shown b.store).is_open) }
     ensures clean { IfOk result (λ b. IsClean (requests_shown b.store) → IsClean (requests_shown begun.store)) }

@@ -10,7 +10,7 @@ ghost use Rattle.ups_start.specs.Front.{AreFront, front_with};
 ghost use Rattle.ups_start.specs.Reopened.{AreBehindSame};
 ghost use Rattle.ups_start.specs.Started.{said};
 ghost use Rattle.ups_start.specs.Shelved.{records_in, IsOpenStore, IsHonestStore, LeavesRecords, Recovers, kept_in, IsSound, IsHonest, IsCounted};
-ghost use Rattle.ups_start.specs.declared.shelf.Held.TheVariants.{Open, Lost};
+ghost use Rattle.ups_start.specs.declared.shelf.HeldStore.TheVariants.{Open, Lost};
 
 use crate::fault::fault_of_append;
 use crate::front::Front;
@@ -23,7 +23,7 @@ use ups_store::{RequestStore, Run};
 
 /// A store, open or not.
 #[derive(Drop)]
-pub enum Held<S: Store> {
+pub enum HeldStore<S: Store> {
     /// It is open.
     Open(RequestStore<S>),
     /// It has to be reopened.
@@ -35,7 +35,7 @@ pub enum Held<S: Store> {
 /// A store in which records are kept.
 #[derive(Drop)]
 pub struct Shelf<S: Store> {
-    held: Held<S>,
+    held: HeldStore<S>,
     /// The requests that are committed: those that it had at first, and those that an append returned `Ok` for. A store
     /// that a failed sync has shut may have more.
     front: Front,
@@ -45,7 +45,7 @@ pub struct Shelf<S: Store> {
 
 /// Appends records.
 fn append_to<S: Store>(
-    held: &mut Held<S>,
+    held: &mut HeldStore<S>,
     run: u64,
     records: &[Record<Global>],
 ) -> Result<(), LedgerFault>
@@ -58,23 +58,23 @@ fn append_to<S: Store>(
     ensures crash { (rs : List (Record Global)) → Recovers held.new rs → Recovers held.old rs ⊎ (IsOpenStore held.old × (rs ≡ records_in held.old ++ records.now)) }
 {
     match held {
-        Held::Open(store) => match store.append(run, records) {
+        HeldStore::Open(store) => match store.append(run, records) {
             Ok(()) => Ok(()),
             Err(fault) => Err(fault_of_append(fault, store.is_shut())),
         },
-        Held::Shut => Err(LedgerFault::Shut),
-        Held::Lost => Err(LedgerFault::Lost),
+        HeldStore::Shut => Err(LedgerFault::Shut),
+        HeldStore::Lost => Err(LedgerFault::Lost),
     }
 }
 
 /// Writes the number of requests into an open store, and returns whether it did.
-fn note_in<S: Store>(held: &mut Held<S>, run: u64, about: &Run<'_>) -> bool
+fn note_in<S: Store>(held: &mut HeldStore<S>, run: u64, about: &Run<'_>) -> bool
     ensures same { IsOpenStore held.new → records_in held.new ≡ records_in held.old }
     ensures sound { IsOpenStore held.new → IsOpenStore held.old }
     ensures crash { (rs : List (Record Global)) → Recovers held.new rs → Recovers held.old rs ⊎ (IsOpenStore held.old × (rs ≡ records_in held.old)) }
 {
     match held {
-        Held::Open(store) => match store.note_requests(run, about) {
+        HeldStore::Open(store) => match store.note_requests(run, about) {
             Ok(()) => true,
             Err(_) => false,
         },
@@ -83,12 +83,12 @@ fn note_in<S: Store>(held: &mut Held<S>, run: u64, about: &Run<'_>) -> bool
 }
 
 /// Copies what is stored next to an open store into it.
-fn copy_in<P: StorePlace>(held: &mut Held<P::Store>)
+fn copy_in<P: StorePlace>(held: &mut HeldStore<P::Store>)
     ensures same { IsOpenStore held.new → records_in held.new ≡ records_in held.old }
     ensures sound { IsOpenStore held.new → IsOpenStore held.old }
     ensures crash { (rs : List (Record Global)) → Recovers held.new rs → Recovers held.old rs }
 {
-    if let Held::Open(store) = held {
+    if let HeldStore::Open(store) = held {
         let _ = P::checkpoint(store);
     }
 }
@@ -107,7 +107,7 @@ impl<S: Store> Shelf<S> {
         ensures front { result.front ≡ front }
     {
         Shelf {
-            held: Held::Open(store),
+            held: HeldStore::Open(store),
             front,
             is_first: true,
         }
@@ -161,10 +161,10 @@ impl<S: Store> Shelf<S> {
         ensures shut { ¬ IsOpenStore self.new.held }
     {
         self.is_first = false;
-        if let Held::Lost = &self.held {
+        if let HeldStore::Lost = &self.held {
             return Err(LedgerFault::Lost);
         }
-        self.held = Held::Shut;
+        self.held = HeldStore::Shut;
         Ok(self.front)
     }
 
@@ -176,7 +176,7 @@ impl<S: Store> Shelf<S> {
     {
         self.is_first = false;
         self.front = front;
-        self.held = Held::Open(store);
+        self.held = HeldStore::Open(store);
     }
 
     /// Gives up the store for good.
@@ -186,7 +186,7 @@ impl<S: Store> Shelf<S> {
         ensures { self.new ≡ record { held = Lost; front = self.old.front; is_first = false } }
     {
         self.is_first = false;
-        self.held = Held::Lost;
+        self.held = HeldStore::Lost;
     }
 }
 

@@ -1,7 +1,7 @@
 //! Compacting a store on which no server runs.
 
-ghost use Rattle.std.specs.Prelude.{◌≡◌, ℕ, [], List, Option, map, length, false, IfOk, OnOk};
-ghost use Rattle.sqlite_trees.specs.View.{IsClean};
+ghost use Rattle.std.specs.Prelude.{◌≡◌, [], map, length, false, IfOk, OnOk};
+ghost use Rattle.sqlite_trees.specs.View.{View, IsClean};
 ghost use Rattle.ups_life.specs.Steps.{past};
 ghost use Rattle.ups_compact.specs.Compacting.{compacted};
 ghost use Rattle.ups_journal.specs.Columns.{recorded};
@@ -9,6 +9,7 @@ ghost use Rattle.ups_restore.specs.declared.acknowledging.TheConstants.{COMPACTO
 ghost use Rattle.ups_store.specs.declared.store.RequestStore.{RequestStore};
 ghost use Rattle.ups_store.specs.Shown.{requests_shown, requests, last_terms_of};
 ghost use Rattle.ups_start.specs.Noted.{PermitsNoted};
+ghost use Rattle.ups_start.specs.Opened.{terms_shown};
 ghost use Rattle.ups_start.specs.Started.{said, moment_in};
 
 use crate::beginning::{begin_run, opened};
@@ -125,7 +126,7 @@ pub fn compact<P: StorePlace, R: Clock + Log>(
     requires settings { fresh.old.settings ≡ manager.old.settings }
     requires new { fresh.old.history ≡ [] }
     ensures compacted { OnOk result (past fresh.new.history ≡ compacted COMPACTOR (moment_in about.now) manager.new.settings (past manager.new.history)) }
-    ensures permits { OnOk result ((noted : Option (List ℕ)) × P.notes place.now noted × (shrunk : RequestStore P.Store P.Store.Store) × (choices.may_change_terms ≡ false → IsClean (requests_shown shrunk) → PermitsNoted manager.old.settings noted)) }
+    ensures permits { OnOk result ((found : View) × P.finds place.now found × (shrunk : RequestStore P.Store P.Store.Store) × (choices.may_change_terms ≡ false → IsClean (requests_shown shrunk) → PermitsNoted manager.old.settings (terms_shown found))) }
     ensures settings { manager.new.settings ≡ manager.old.settings }
 {
     let replay = opened(place)?;

@@ -1,10 +1,11 @@
 //! The terms of the service that the last run on a store noted.
 
-ghost use Rattle.std.specs.Prelude.{◌≡◌, [], ℕ, List, Option, Some, false, IfOk, OnOk};
-ghost use Rattle.sqlite_trees.specs.View.{IsClean};
+ghost use Rattle.std.specs.Prelude.{◌≡◌, [], Some, false, IfOk, OnOk};
+ghost use Rattle.sqlite_trees.specs.View.{View, IsClean};
 ghost use Rattle.ups_store.specs.declared.reading.Replay.{Replay};
 ghost use Rattle.ups_store.specs.Shown.{shown_by, all_of, given_out, last_terms_of};
 ghost use Rattle.ups_start.specs.Noted.{IsTextOf, PermitsNoted, AreNoted};
+ghost use Rattle.ups_start.specs.Opened.{terms_shown};
 
 use crate::beginning::opened;
 use crate::fault::StartFault;
@@ -115,7 +116,7 @@ pub fn last_terms<P: StorePlace>(
     alloc: Global,
     place: &P,
 ) -> Result<Option<Terms<Global>>, StartFault>
-    ensures { IfOk result (λ terms. (noted : Option (List ℕ)) × P.notes place.now noted × (read : Replay P.Store P.Store.Store) × (IsClean (shown_by read) → AreNoted terms noted)) }
+    ensures { IfOk result (λ terms. (found : View) × P.finds place.now found × (read : Replay P.Store P.Store.Store) × (IsClean (shown_by read) → AreNoted terms (terms_shown found))) }
 {
     let mut replay = opened(place)?;
     let noted = noted_in(&mut replay)?;

@@ -5,7 +5,7 @@ use ups_life::{Holder, Row};
 
 /// The row and the holder of a step.
 #[derive(Drop)]
-pub struct Held<A: Allocator + Copy> {
+pub struct HeldRow<A: Allocator + Copy> {
     /// The attributes of the step, its state, and the rest of its row.
     pub row: Row<A>,
     /// The caller that has claimed the step (PS3.4 CC.2.1), or None if nobody has.

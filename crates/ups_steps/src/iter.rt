@@ -8,7 +8,7 @@ ghost use Rattle.std.specs.Map.Iter.{TakesFirst, deref_pair};
 ghost use Rattle.std.specs.Str.{bytes_eq};
 ghost use Rattle.ups_steps.specs.Places.{held_in};
 
-use crate::held::Held;
+use crate::held::HeldRow;
 use crate::places::Places;
 use indexmap::map;
 use std::alloc::Allocator;
@@ -19,12 +19,12 @@ use ups_life::StepUid;
 /// steps that are left.
 #[derive(Drop)]
 pub struct Iter<'a, A: Allocator + Copy> {
-    places: map::Iter<'a, StepUid, Option<Held<A>>>,
+    places: map::Iter<'a, StepUid, Option<HeldRow<A>>>,
 }
 
 impl<'a, A: Allocator + Copy> Model for Iter<'a, A> {
     ghost use Rattle.std.specs.Prelude.{List, ℕ};
-    ghost use Rattle.ups_steps.specs.declared.held.Held.{Held as HeldOf};
+    ghost use Rattle.ups_steps.specs.declared.held.HeldRow.{HeldRow as HeldOf};
     ghost use Rattle.ups_steps.specs.Places.{held_in};
 
     ghost Value = { List (List ℕ × HeldOf A) };
@@ -50,13 +50,13 @@ impl<'a, A: Allocator + Copy> Iter<'a, A> {
 }
 
 impl<'a, A: Allocator + Copy> Iterator for Iter<'a, A> {
-    type Item = (&'a StepUid, &'a Held<A>);
+    type Item = (&'a StepUid, &'a HeldRow<A>);
 
     ghost next_gives = { TakesFirst deref_pair };
 
     ghost remaining = { λ s. at_most (length s) };
 
-    fn next(&mut self) -> Option<(&'a StepUid, &'a Held<A>)> {
+    fn next(&mut self) -> Option<(&'a StepUid, &'a HeldRow<A>)> {
         while let Some((step, place)) = self.places.next() {
             if let Some(held) = place {
                 return Some((step, held));

@@ -6,6 +6,6 @@ mod iter;
 mod places;
 mod steps;
 
-pub use held::Held;
+pub use held::HeldRow;
 pub use iter::Iter;
 pub use steps::Steps;

@@ -9,7 +9,7 @@ ghost use Rattle.ups_keep.specs.Waits.{steps_of};
 ghost use Rattle.ups_steps.specs.Held.{held_at, put_held};
 ghost use Rattle.ups_steps.specs.Places.{held_in};
 
-use crate::held::Held;
+use crate::held::HeldRow;
 use indexmap::IndexMap;
 use std::alloc::Allocator;
 use std::hash::{BuildHasherDefault, FoldHasher};
@@ -17,10 +17,15 @@ use ups_keep::Final;
 use ups_life::StepUid;
 
 /// The places, keyed by the UID of the step that was put there; None if the place is free.
-pub(crate) type Places<A> = IndexMap<StepUid, Option<Held<A>>, BuildHasherDefault<FoldHasher>, A>;
+pub(crate) type Places<A> = IndexMap<
+    StepUid,
+    Option<HeldRow<A>>,
+    BuildHasherDefault<FoldHasher>,
+    A,
+>;
 
 /// Returns the row and the holder of a step, or None if it is not held.
-pub(crate) fn find<A: Allocator + Copy>(places: &Places<A>, step: StepUid) -> Option<&Held<A>>
+pub(crate) fn find<A: Allocator + Copy>(places: &Places<A>, step: StepUid) -> Option<&HeldRow<A>>
     ensures { option_copied result ≡ held_at step (held_in places.now.entries) }
 {
     places.len();
@@ -31,7 +36,7 @@ pub(crate) fn find<A: Allocator + Copy>(places: &Places<A>, step: StepUid) -> Op
 }
 
 /// Appends a step that is not held. There is room for it.
-pub(crate) fn add<A: Allocator + Copy>(places: &mut Places<A>, step: StepUid, held: Held<A>)
+pub(crate) fn add<A: Allocator + Copy>(places: &mut Places<A>, step: StepUid, held: HeldRow<A>)
     requires fresh { held_at step (held_in places.old.entries) ≡ None }
     requires room { 0 < spare places.old }
     ensures steps { held_in places.new.entries ≡ held_in places.old.entries ++ (step, held) ∷ [] }
@@ -48,7 +53,7 @@ pub(crate) fn add<A: Allocator + Copy>(places: &mut Places<A>, step: StepUid, he
 }
 
 /// Replaces the row and the holder of a step.
-pub(crate) fn replace<A: Allocator + Copy>(places: &mut Places<A>, step: StepUid, held: Held<A>)
+pub(crate) fn replace<A: Allocator + Copy>(places: &mut Places<A>, step: StepUid, held: HeldRow<A>)
     requires { is_some (held_at step (held_in places.old.entries)) ≡ true }
     ensures steps { held_in places.new.entries ≡ put_held step held (held_in places.old.entries) }
     ensures spare { spare places.new ≡ spare places.old }

@@ -8,10 +8,10 @@ ghost use Rattle.std.specs.Option.{option_copied};
 ghost use Rattle.std.specs.Str.{bytes_eq};
 ghost use Rattle.ups_life.specs.Watching.{is_among};
 ghost use Rattle.ups_keep.specs.Waits.{steps_of};
-ghost use Rattle.ups_steps.specs.declared.held.Held.{Held as HeldOf};
+ghost use Rattle.ups_steps.specs.declared.held.HeldRow.{HeldRow as HeldOf};
 ghost use Rattle.ups_steps.specs.Held.{held_at, final_of, put_held};
 
-use crate::held::Held;
+use crate::held::HeldRow;
 use crate::iter::Iter;
 use crate::places::{Places, add, close_up, find, free_each, replace};
 use indexmap::IndexMap;
@@ -82,7 +82,7 @@ impl<A: Allocator + Copy> Steps<A> {
     }
 
     /// Returns the row and the holder of a step, or None if it is not held.
-    pub fn get(&self, step: StepUid) -> Option<&Held<A>>
+    pub fn get(&self, step: StepUid) -> Option<&HeldRow<A>>
         ensures { option_copied result ≡ held_at step self.now.entries }
     {
         find(&self.places, step)
@@ -122,7 +122,7 @@ impl<A: Allocator + Copy> Steps<A> {
     }
 
     /// Appends a step that is not held. It uses the room of one step.
-    pub fn push(&mut self, step: StepUid, held: Held<A>)
+    pub fn push(&mut self, step: StepUid, held: HeldRow<A>)
         requires fresh { held_at step self.old.entries ≡ None }
         requires room { 0 < self.old.spare }
         ensures entries { self.new.entries ≡ self.old.entries ++ (step, held) ∷ [] }
@@ -134,7 +134,7 @@ impl<A: Allocator + Copy> Steps<A> {
     }
 
     /// Replaces the row and the holder of a step.
-    pub fn put(&mut self, step: StepUid, held: Held<A>)
+    pub fn put(&mut self, step: StepUid, held: HeldRow<A>)
         requires { is_some (held_at step self.old.entries) ≡ true }
         ensures entries { self.new.entries ≡ put_held step held self.old.entries }
         ensures spare { self.new.spare ≡ self.old.spare }

@@ -29,21 +29,6 @@ adding_beside old new count edit was sets =
 pub counted_in : (v : View) (count : ℕ) → Holds v count → count ≡ length (requests_in v.committed)
 counted_in v count holds = sym (length-map (v.committed 0) request_in ∙ ap (λ (db : Trees). length (db 0)) (sym holds.same) ∙ holds.adding.counted)
 
--- what is committed once the row of a run is
-pub record HasRun (old new : View) (number : ℕ) (run : Run) : Type 0 where
-  pub noted : new.committed 1 ≡ put_row (row_of_run number run (length (requests_in old.committed))) (old.committed 1)
-  pub requests : requests_in new.committed ≡ requests_in old.committed
-
-pub has_run : (old mid new : View) (number count : ℕ) (run : Run) → Holds old count → SetsTree old mid 1 (put_row (row_of_run number run count)) → Commits mid new → HasRun old new number run
-has_run old mid new number count run holds sets done =
-    let new_is : new.committed ≡ mid.trees = ap (λ (v : View). v.committed) done.is in
-    let rows : new.committed 0 ≡ old.committed 0 = ap (λ (db : Trees). db 0) new_is ∙ ap (λ (v : View). v.trees 0) sets.is ∙ ap (λ (db : Trees). db 0) holds.same in
-    record {
-      noted = ap (λ (db : Trees). db 1) new_is ∙ ap (λ (v : View). v.trees 1) sets.is ∙ ap (λ (db : Trees). put_row (row_of_run number run count) (db 1)) holds.same
-          ∙ ap (λ (n : ℕ). put_row (row_of_run number run n) (old.committed 1)) (counted_in old count holds);
-      requests = rw rows refl;
-    }
-
 -- the row of a run that is entered leaves the requests
 pub adding_entered : (old mid : View) (number count : ℕ) (run : Run) → IsAdding old count → Enters old mid number run count → IsAdding mid count
 adding_entered old mid number count run was enters = record {

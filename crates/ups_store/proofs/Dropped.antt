@@ -1,9 +1,8 @@
 -- The runs that are left once old ones are deleted.
-use Rattle.std.proofs.Common.{◌≡◌, ◌⊎◌, inl, inr, ℕ, ℤ, ◌-◌, ◌≤◌, Bool, true, false, nat_le, if◌then◌else◌, None, Some, List, [], ◌∷◌, refl, sym, ap, subst, ◌∙◌, arith, Ordering, Less, Equal, Greater}
+use Rattle.std.proofs.Common.{◌≡◌, ◌⊎◌, ℕ, ℤ, ◌-◌, ◌≤◌, Bool, true, false, nat_le, if◌then◌else◌, None, Some, List, [], ◌∷◌, refl, sym, ap, subst, ◌∙◌, Ordering, Less, Equal, Greater}
 use Rattle.std.specs.Int.{w64, cast_unsigned}
 use Rattle.std.specs.List.{AllByRecursion}
 use Rattle.std.specs.Ordering.{ordering_reverse}
-use Rattle.sqlite_disk.specs.Disk.{MoreFaults}
 use Rattle.sqlite_value.specs.declared.value.Value.{Value}
 use Rattle.sqlite_value.specs.declared.value.Value.TheVariants.{Null, Int, Real, Text, Blob}
 use Rattle.sqlite_value.specs.Order.{Row, value_cmp}
@@ -12,21 +11,14 @@ use Rattle.sqlite_trees.specs.Tree.{Trees, rowid, IsTable, without_rowid, from_k
 use Rattle.sqlite_trees.specs.declared.store.Direction.TheVariants.{Forward}
 use Rattle.sqlite_trees.specs.declared.store.Shape.{Shape}
 use Rattle.sqlite_trees.specs.declared.store.Shape.TheVariants.{Table}
-use Rattle.sqlite_trees.specs.declared.error.StoreError.{StoreError}
-use Rattle.sqlite_trees.specs.declared.error.StoreError.TheVariants.{OutOfMemory, Io, Corrupt, Full, Broken, Unstorable}
-use Rattle.sqlite_trees.specs.View.{View, HasCause, SetsTree, IsOrdered, IsShaped, with_cursor}
-use Rattle.ups_store.specs.Runs.{old_in, first_old, last_runs, IsFirst, DropsTo, DropsRuns}
+use Rattle.sqlite_trees.specs.View.{View, SetsTree, IsOrdered, IsShaped, with_cursor}
+use Rattle.ups_store.specs.Runs.{old_in, first_old, last_runs, DropsRuns}
 use Rattle.ups_store.proofs.Scans.{from_start}
 
 -- a cursor that was placed at the start has all runs left
 pub placed_first : (old new : View) (key : Row) → key ≡ [] → new ≡ with_cursor old 0 (sought (order_of (old.shape 1)) Forward key (old.trees 1)) → new.cursors 0 ≡ Some (old.trees 1)
 placed_first old new key none is =
     ap (λ (v : View). v.cursors 0) is ∙ ap (λ (k : Row). Some (from_key (order_of (old.shape 1)) k (old.trees 1))) none ∙ ap Some (from_start (order_of (old.shape 1)) (old.trees 1))
-
--- the first of the runs, as a cursor gives it, is old or not as the first of the rows
-pub first_given : (number : ℕ) (rows : List Row) (row : Row) → IsFirst (Some rows) row → old_in number (rowid row) ≡ first_old number rows
-first_given number [] row is = ap (λ (r : Row). old_in number (rowid r)) is
-first_given number (first ∷ rows) row is = ap (λ (r : Row). old_in number (rowid r)) is
 
 id_of : (number : ℕ) (v : Value) (id : ℤ) → old_in number v ≡ Some id → v ≡ Int id
 id_of number Null id h = cc
@@ -67,28 +59,6 @@ pub none_dropped : (number : ℕ) (rows : List Row) → first_old number rows �
 none_dropped number [] h = refl
 none_dropped number (row ∷ rows) h = rw h refl
 
--- a step after others
-pub drops_on : (old mid new : View) (number : ℕ) (goes_on : Bool) → DropsRuns old mid number true → DropsRuns mid new number goes_on → DropsRuns old new number goes_on
-drops_on old mid new number goes_on first next = record {
-  sound = first.sound;
-  stays = next.stays;
-  requests = next.requests ∙ first.requests;
-  runs = joined goes_on next.runs;
-}
-  where
-    joined : (b : Bool) → DropsTo number (mid.trees 1) (new.trees 1) b → DropsTo number (old.trees 1) (new.trees 1) b
-    joined true h = h ∙ first.runs
-    joined false h = h ∙ first.runs
-
--- a cause of a step is one of all, where the state is as broken as it was
-pub step_cause : (old mid : View) (first between last : ℕ) (Large : Type 0) (e : StoreError) → first ≤ between → mid.is_broken ≡ old.is_broken → HasCause mid (MoreFaults between last) Large e → HasCause old (MoreFaults first last) Large e
-step_cause old mid first between last L OutOfMemory below same cause = tt
-step_cause old mid first between last L Io below same cause = omega (arith, cause, below)
-step_cause old mid first between last L Corrupt below same cause = omega (arith, cause, below)
-step_cause old mid first between last L Full below same cause = omega (arith, cause, below)
-step_cause old mid first between last L Broken below same cause = sym same ∙ cause
-step_cause old mid first between last L Unstorable below same cause = cause
-
 -- the first run was old, and is deleted
 pub drops_one : (old mid new : View) (number : ℕ) (id : ℤ) → mid ≡ record old { cursors = mid.cursors } → old.is_broken ≡ false → IsTable (old.trees 1) → first_old number (old.trees 1) ≡ Some id → SetsTree mid new 1 (without_rowid id) → DropsRuns old new number true
 drops_one old mid new number id same sound table first sets =
@@ -103,12 +73,3 @@ drops_one old mid new number id same sound table first sets =
 -- the runs are rows of a table
 pub ordered_runs : (v : View) → v.shape 1 ≡ Table → IsOrdered v.shape v.trees → IsTable (v.trees 1)
 ordered_runs v shape ordered = let is : IsShaped Table (v.trees 1) = subst (λ (s : Shape). IsShaped s (v.trees 1)) shape (ordered 1) in is.0
-
--- as broken as it was after each step
-pub as_broken : (old now : View) (number : ℕ) (goes_on : Bool) → (now ≡ old) ⊎ DropsRuns old now number goes_on → now.is_broken ≡ old.is_broken
-as_broken old now number goes_on (inl same) = ap (λ (v : View). v.is_broken) same
-as_broken old now number goes_on (inr drops) = drops.stays ∙ sym drops.sound
-
-pub drops_from : (old mid new : View) (number : ℕ) (goes_on : Bool) → (mid ≡ old) ⊎ DropsRuns old mid number true → DropsRuns mid new number goes_on → DropsRuns old new number goes_on
-drops_from old mid new number goes_on (inl same) next = subst (λ (v : View). DropsRuns v new number goes_on) same next
-drops_from old mid new number goes_on (inr first) next = drops_on old mid new number goes_on first next

@@ -51,8 +51,8 @@ use Rattle.sqlite_wal.specs.Opening.{RefusesLog}
 use Rattle.sqlite_wal.specs.Files.{IsHuge}
 use Rattle.sqlite_wal.specs.Recovery.{IsLogFor}
 use Rattle.sqlite_pool.specs.Opening.{IsBlankFile}
-use Rattle.ups_store.specs.Found.{whole_page, used_page, image_of, HoldsAs, HoldsTables, HoldsOnly, HoldsNone, IsUnused, ListsNothing, StandAlike, ReadAs}
-use Rattle.ups_store.specs.Refused.{faults_in, AreCleanFiles, MeetsLimit, IsLongLog, HasLog, OpenReasons, because, HasOpenReason, reasons, fault_of_opening, refuses_log, fault_of_log, IsKind}
+use Rattle.ups_store.specs.Found.{whole_page, used_page, image_of, HoldsAs, HoldsTables, HoldsOnly, HoldsNone, IsUnused, StandAlike, ReadAs}
+use Rattle.ups_store.specs.Refused.{faults_in, AreCleanFiles, MeetsLimit, IsLongLog, HasLog, OpenReasons, because, HasOpenReason, reasons, fault_of_opening, refuses_log, IsKind}
 
 shape_first : (schema : List Wanted) → shape_at schema 0 ≡ Table → all_shapes schema 0 ≡ Table
 unfolding all_shapes
@@ -65,12 +65,6 @@ shape_second schema h = h
 unreal_second : (format : Format) → all_reals (tables_of format) 1 ≡ 0
 unfolding all_reals
 unreal_second format = refl
-
-pub ok_in : {T E : Type 0} (P : T → Type 0) (r : Result T E) (x : T) → r ≡ Ok x → IfOk r P → P x
-ok_in P r x is h = subst (λ (r : Result _ _). IfOk r P) is h
-
-pub err_in : {T E : Type 0} (P : E → Type 0) (r : Result T E) (x : E) → r ≡ Err x → IfErr r P → P x
-err_in P r x is h = subst (λ (r : Result _ _). IfErr r P) is h
 
 pub if_ok : {T E : Type 0} (P Q : T → Type 0) (r : Result T E) → ((x : T) → P x → Q x) → IfOk r P → IfOk r Q
 if_ok P Q (Ok x) f h = f x h
@@ -126,10 +120,6 @@ none_kept format pages none file =
     let trees = file.db.trees in
     trees.apart 1 2 0 (λ (e : 1 ≡ 2). omega (arith, e)) (owns_root (file.db.layouts 1) _ (trees.kept 1) (ap (λ (r : List ℕ). slice_index r 0) roots)) (owns_root (file.db.layouts 2) _ (trees.kept 2) (ap (λ (r : List ℕ). slice_index r 1) roots))
 
--- files that list nothing do not hold the tables
-pub nothing_held : (image : Image) → ListsNothing used_page image → ¬ HoldsTables image
-nothing_held image (p, found, none) (format, (q, again, ours)) = none_kept format q (subst (λ (x : PageMap). rows_at used_page (in_use used_page x) Table 1 ≡ []) (pages_once used_page image p q found again) none) ours.file
-
 -- the two rows under which a store of this format lists its tables
 entries_in : (format : Format) (pages : PageMap) (rows : List Row) → rows ≡ entries_of 1 (tables_of format) (roots_of used_page (tables_of format) pages) → format ≡ format_in rows
 unfolding roots_of sql_of
@@ -167,9 +157,6 @@ module _ {D : Type 0} {g : Ghosts D} where
   pub clean_files : (it : Unopened D g) (log db : D) → files_of it ≡ (log, db) → IsTrue (state_of it).is_clean → AreClean g log db
   clean_files it log db is clean = ap (λ (f : D × D). are_clean g f.0 f.1) (sym is) ∙ sym (pool_clean it.pool) ∙ clean
 
-  pub clean_same : (a b : Unopened D g) → files_of b ≡ files_of a → IsTrue (state_of b).is_clean → IsTrue (state_of a).is_clean
-  clean_same a b is clean = pool_clean a.pool ∙ ap (λ (f : D × D). are_clean g f.0 f.1) (sym is) ∙ sym (pool_clean b.pool) ∙ clean
-
   pub seen_in : (it : Unopened D g) (log db log2 db2 : D) → files_of it ≡ (log2, db2) → OnlyReads g log log2 → OnlyReads g db db2 → image it ≡ seen_image g log db
   seen_in it log db log2 db2 is a b = ap (λ (f : D × D). seen_image g f.0 f.1) is ∙ ap (λ (l : List ℕ). let i : Image = record { log = l; db = g.seen db2 } in i) a.seen ∙ ap (λ (d : List ℕ). let i : Image = record { log = g.seen log; db = d } in i) b.seen
 
@@ -183,9 +170,6 @@ module _ {D : Type 0} {g : Ghosts D} where
 
   pub faults_back : (it : Unopened D g) (left : Files D) → (left.log, left.db) ≡ files_of it → (state_of it).faults ≡ faults_in g left
   faults_back it left is = pool_faults it.pool ∙ ap (λ (f : D × D). g.faults f.0 + g.faults f.1) (sym is)
-
-  pub faults_same : (a b : Unopened D g) → files_of b ≡ files_of a → (state_of b).faults ≡ (state_of a).faults
-  faults_same a b is = pool_faults b.pool ∙ ap (λ (f : D × D). g.faults f.0 + g.faults f.1) is ∙ sym (pool_faults a.pool)
 
   -- reads of the files return what they did
   pub image_kept : (old new : Files D) → OnlyReads g old.log new.log → OnlyReads g old.db new.db → image_of g new ≡ image_of g old
@@ -254,17 +238,6 @@ module _ {D : Type 0} {g : Ghosts D} where
       (λ f. subst (MoreFaults old) (faults_back left r files) f) (λ l. (left, sym files, limit l)) (λ w. w) there
       )
 
-  -- the files after reads of both, one after the other
-  pub reads_on : (a b c : D) → OnlyReads g a b → OnlyReads g b c → OnlyReads g a c
-  reads_on a b c first then = record {
-    seen = then.seen ∙ first.seen;
-    clean = λ h. first.clean (then.clean h);
-    usable = then.usable;
-    key = then.key ∙ first.key;
-    rot = then.rot ∙ first.rot;
-    crash = λ bytes h. first.crash bytes (then.crash bytes h);
-  }
-
 pub kind_reason : (r : OpenReasons) (fault : OpenFault) → IsKind fault → r.Refused → HasOpenReason r fault
 kind_reason r faults.Memory k w = tt
 kind_reason r faults.Busy k w = k
@@ -298,15 +271,6 @@ log_refused old new bytes log.NoSuchPage is h = inr (log.NoSuchPage, h)
 log_refused old new bytes log.Full is h = inr (log.Full, h)
 log_refused old new bytes log.Corrupt is h = inr (log.Corrupt, h)
 log_refused old new bytes log.Exists is h = inr (log.Exists, h)
-
-pub log_failed : (old new : ℕ) (bytes : List ℕ) (e : Error) → refuses_log e ≡ false → HasCause old new (RefusesLog whole_page bytes) e → HasOpenReason (because (MoreFaults old new) ⊥ ⊥) (fault_of_log e)
-log_failed old new bytes (log.Io e) is h = h
-log_failed old new bytes log.OutOfMemory is h = tt
-log_failed old new bytes log.Closed is h = absurd (true≢false is)
-log_failed old new bytes log.NoSuchPage is h = absurd (true≢false is)
-log_failed old new bytes log.Full is h = absurd (true≢false is)
-log_failed old new bytes log.Corrupt is h = absurd (true≢false is)
-log_failed old new bytes log.Exists is h = absurd (true≢false is)
 
 module _ {D : Type 0} {g : Ghosts D} where
   -- the files are clean before the log is read alone, if they are after it

@@ -1,45 +1,19 @@
 -- What a store has once its tables are listed anew.
-use Rattle.std.proofs.Common.{◌≡◌, ◌⊎◌, inl, inr, ℕ, ◌+◌, pos, false, if◌then◌else◌, List, [], ◌∷◌, length, IsTrue, refl, sym, ap, ap₂, subst, ◌∙◌}
+use Rattle.std.proofs.Common.{◌≡◌, ◌⊎◌, inl, inr, ℕ, ◌+◌, pos, false, if◌then◌else◌, List, [], ◌∷◌, length, IsTrue, refl, sym, ap, subst, ◌∙◌}
 use Rattle.std.specs.declared.cmp.Ordering.{Ordering}
 use Rattle.std.specs.declared.cmp.Ordering.TheVariants.{Less, Equal, Greater}
 use Rattle.sqlite_value.specs.declared.value.Value.TheVariants.{Int}
 use Rattle.sqlite_value.specs.Order.{Row, value_cmp}
 use Rattle.sqlite_value.proofs.OrderLemmas.{value_cmp-Int}
-use Rattle.sqlite_trees.specs.Tree.{Trees, rowid, with_tree, put_row}
-use Rattle.sqlite_trees.specs.Objects.{catalog_tree, version_tree, version_rows, with_version, object_row, row_for, set_at, Relists}
-use Rattle.sqlite_trees.specs.declared.schema.Object.{Object}
+use Rattle.sqlite_trees.specs.Tree.{Trees, rowid, put_row}
+use Rattle.sqlite_trees.specs.Objects.{catalog_tree, row_for}
 use Rattle.sqlite_trees.specs.declared.store.Shape.{Shape}
 use Rattle.sqlite_trees.specs.View.{View, IsClean, SetsTree, IsRolledBack, Commits}
 use Rattle.ups_store.specs.Rows.{IsNumbered}
-use Rattle.ups_store.specs.Format.{format_number, current_format, run_listing, upgraded, IsCurrent}
+use Rattle.ups_store.specs.Format.{run_listing, upgraded, IsCurrent}
 use Rattle.ups_store.specs.Held.{Holds, HoldsIfOpen}
 use Rattle.ups_store.specs.Upgrading.{ListsAnew, KeepsLastCommit}
 use Rattle.ups_store.proofs.Steps.{sound_open, open_clean}
-
-pub lists_anew : (old mid new : View) (o : Object) → object_row 1 o ≡ run_listing → o.reals ≡ 0 → Relists old mid ((1, o) ∷ []) → SetsTree mid new version_tree (λ _. version_rows (format_number current_format)) → ListsAnew old new
-lists_anew old mid new o row unreal lists sets = record {
-  sound = lists.sound;
-  is = sets.is ∙ ap (λ (v : View). let w : View = record v { trees = with_tree v.trees version_tree (version_rows (format_number current_format)); cursors = new.cursors } in w) lists.is
-      ∙ ap₂ (λ (r : Row) (n : ℕ). let w : View = record old { trees = with_version (with_tree old.trees catalog_tree (put_row r (old.trees catalog_tree))) (format_number current_format); reals = set_at old.reals 1 n; cursors = new.cursors } in w) row unreal;
-}
-
-pub stands_listed : (old mid : View) (changes : List (ℕ × Object)) → Relists old mid changes → KeepsLastCommit old mid
-stands_listed old mid changes lists = record {
-  shape = ap (λ (v : View). v.committed_shape) lists.is;
-  reals = ap (λ (v : View). v.committed_reals) lists.is;
-  numbered = ap (λ (v : View). v.is_numbered) lists.is;
-  was_open = λ up. sym (ap (λ (v : View). v.is_open) lists.is) ∙ up;
-  committed = λ up. ap (λ (v : View). v.committed) lists.is;
-}
-
-pub stands_through : (old mid new : View) → KeepsLastCommit old mid → KeepsLastCommit mid new → KeepsLastCommit old new
-stands_through old mid new a b = record {
-  shape = b.shape ∙ a.shape;
-  reals = b.reals ∙ a.reals;
-  numbered = b.numbered ∙ a.numbered;
-  was_open = λ up. a.was_open (b.was_open up);
-  committed = λ up. b.committed up ∙ a.committed (b.was_open up);
-}
 
 pub stands_set : (old new : View) (tree : ℕ) (edit : List Row → List Row) → SetsTree old new tree edit → KeepsLastCommit old new
 stands_set old new tree edit sets = record {

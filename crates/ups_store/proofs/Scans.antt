@@ -131,10 +131,6 @@ ends old new count has left (none, is) =
     let trees : new.trees ≡ old.trees = ap (λ (v : View). v.trees) is in
     (given_as old new count is has, ap (λ (db : Trees). length (db 0)) trees ∙ omega (arith, dropped_all count (old.trees 0) at, has.within))
 
-pub all_given : (v : View) (count : ℕ) → HasGiven v count → length (v.trees 0) ≡ count → take count (requests_in v.committed) ≡ requests_in v.committed
-all_given v count has all =
-    take_all count (requests_in v.committed) (omega (arith, length-map (v.committed 0) request_in, ap (λ (db : Trees). length (db 0)) has.fresh.same, all))
-
 -- a row that is not the request with its place as its number
 pub not_numbered : (old new : View) (count : ℕ) → HasGiven old count → old.cursors 0 ≡ Some (drop count (old.trees 0)) → TakesNext old new count Other → IsNumbered (old.committed 0) → ⊥
 not_numbered old new count has left (row, other, steps) numbered =

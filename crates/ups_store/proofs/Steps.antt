@@ -1,7 +1,6 @@
 -- What the calls of a store do to its records.
 use Rattle.std.proofs.Common.{◌≡◌, ℕ, pos, ◌+◌, Bool, true, false, List, [], ◌∷◌, ◌++◌, map, length, Result, Ok, Err, IsTrue, ◌≤◌, ◌⊎◌, inl, inr, IfErr, OnOk, OnErr, refl, sym, ap, subst, ◌∙◌, arith, true≢false, append_assoc, length-append}
 use Rattle.std.proofs.lemmas.List.{length-map}
-use Rattle.std.proofs.lemmas.List.{append-nil}
 use Rattle.sqlite_value.specs.Order.{Row}
 use Rattle.sqlite_trees.specs.declared.store.Shape.{Shape}
 use Rattle.sqlite_trees.specs.Tree.{Trees, put_row}
@@ -55,12 +54,6 @@ adds old new k count was again sets =
     length-last [] x = refl
     length-last (y ∷ xs) x = omega (arith, length-last xs x)
 
-pub adds_none : (v : View) (count : ℕ) → IsAdding v count → Adds v v [] count
-adds_none v count adding = record {
-  adding = subst (IsAdding v) (omega arith) adding;
-  more = sym (append-nil (requests_in v.trees));
-}
-
 pub adds_more : (old mid new : View) (rs : List StoredRequest) (r : StoredRequest) (count all : ℕ) → all ≡ count + length rs → Adds old mid rs count → Adds mid new (r ∷ []) all → Adds old new (rs ++ r ∷ []) count
 adds_more old mid new rs r count all is first then = record {
   adding = subst (IsAdding new) (omega (arith, is, length-append rs (r ∷ []))) then.adding;
@@ -100,10 +93,6 @@ writes_kept old new schema shut only = go new.is_clean refl
 pub failed_kept : {T : Type 0} (r : Result T StoreError) (old new : View) → IfErr r (IsFailure old new) → IfErr r (λ _. KeepsCommitted old new)
 failed_kept (Ok x) old new h = tt
 failed_kept (Err e) old new h = h.kept
-
-pub onto_clean : {T C : Type 0} (P : Type 0) (r : Result T StoreError) → OnOk r (C → P) → C → OnOk r P
-onto_clean P (Ok x) h clean = h clean
-onto_clean P (Err e) h clean = tt
 
 pub mapped : {T E A B : Type 0} (r : Result T E) → (A → B) → OnOk r A → OnOk r B
 mapped (Ok x) f h = f h

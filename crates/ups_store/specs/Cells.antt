@@ -6,8 +6,8 @@ use Rattle.sqlite_value.specs.declared.value.Value.TheVariants.{Null, Int, Text,
 use Rattle.sqlite_value.specs.Order.{bytes}
 use Rattle.ups_cycle.specs.States.{state_text}
 use Rattle.ups_cycle.specs.declared.state.StepState.{StepState}
-use Rattle.ups_journal.specs.declared.operation.Operation.{Operation}
-use Rattle.ups_journal.specs.declared.operation.Operation.TheVariants.{Create}
+use Rattle.ups_journal.specs.declared.operation.RecordedOperation.{RecordedOperation}
+use Rattle.ups_journal.specs.declared.operation.RecordedOperation.TheVariants.{Create}
 use Rattle.ups_store.specs.Words.{operation_named, state_named}
 
 -- a number of 64 bits; one of 2^63 or more is stored as a negative integer
@@ -72,5 +72,5 @@ state_cell (Some state) = Text (state_text state)
 abbrev pub state_in : Value → Option StepState
 state_in v = state_named (bytes v)
 
-abbrev pub operation_in : Value → Operation
+abbrev pub operation_in : Value → RecordedOperation
 operation_in v = unwrap_or (operation_named (bytes v)) Create

@@ -23,12 +23,12 @@ record_cells r =
     ∷ Text r.title
     ∷ Text (name_of r.request.operation)
     ∷ text_cell r.request.instance
-    ∷ text_cell r.request.transaction
+    ∷ text_cell r.request.transaction_uid
     ∷ state_cell r.request.state
     ∷ text_cell r.request.receiver
-    ∷ lock_cell r.request.lock
-    ∷ event_cell r.request.number
-    ∷ offset_cell r.request.offset
+    ∷ lock_cell r.request.deletion_lock
+    ∷ event_cell r.request.event
+    ∷ offset_cell r.request.utc_offset
     ∷ blob_cell r.request.attributes
     ∷ []
 
@@ -40,12 +40,12 @@ abbrev pub columns_in : Row → Columns Global
 columns_in row = record {
   operation = operation_in (column row 6);
   instance = bytes_in (column row 7);
-  transaction = bytes_in (column row 8);
+  transaction_uid = bytes_in (column row 8);
   state = state_in (column row 9);
   receiver = bytes_in (column row 10);
-  lock = lock_in_cell (column row 11);
-  number = event_in (column row 12);
-  offset = offset_in (column row 13);
+  deletion_lock = lock_in_cell (column row 11);
+  event = event_in (column row 12);
+  utc_offset = offset_in (column row 13);
   attributes = bytes_in (column row 14);
 }
 
@@ -60,9 +60,9 @@ request_in row = record { run = number_in (column row 2); asked = record_in row 
 pub record IsReadAgain (r : Record Global) : Type 0 where
   pub caller : short_in (number_cell r.caller) ≡ r.caller
   pub moment : number_in (number_cell r.moment) ≡ r.moment
-  pub lock : lock_in_cell (lock_cell r.request.lock) ≡ r.request.lock
-  pub event : event_in (event_cell r.request.number) ≡ r.request.number
-  pub offset : offset_in (offset_cell r.request.offset) ≡ r.request.offset
+  pub lock : lock_in_cell (lock_cell r.request.deletion_lock) ≡ r.request.deletion_lock
+  pub event : event_in (event_cell r.request.event) ≡ r.request.event
+  pub offset : offset_in (offset_cell r.request.utc_offset) ≡ r.request.utc_offset
 
 -- the rows of these requests, numbered from this number on
 abbrev pub rows_from : ℕ → List StoredRequest → List Row

@@ -5,10 +5,10 @@ use Rattle.ups_cycle.specs.States.{state_text}
 use Rattle.ups_cycle.specs.declared.state.StepState.{StepState}
 use Rattle.ups_cycle.specs.declared.state.StepState.TheVariants.{Scheduled, InProgress, Completed, Canceled}
 use Rattle.ups_journal.specs.Operations.{name_of}
-use Rattle.ups_journal.specs.declared.operation.Operation.{Operation}
-use Rattle.ups_journal.specs.declared.operation.Operation.TheVariants.{Create, Change, AskCancel, Set, Subscribe, Unsubscribe, Suspend, Acknowledge, Sweep}
+use Rattle.ups_journal.specs.declared.operation.RecordedOperation.{RecordedOperation}
+use Rattle.ups_journal.specs.declared.operation.RecordedOperation.TheVariants.{Create, Change, AskCancel, Set, Subscribe, Unsubscribe, Suspend, Acknowledge, Sweep}
 
-unfoldable pub operation_named : List ℕ → Option Operation
+unfoldable pub operation_named : List ℕ → Option RecordedOperation
 operation_named text =
     if bytes_eq text (name_of Create) then Some Create else (
     if bytes_eq text (name_of Change) then Some Change else (

@@ -11,7 +11,7 @@ use sqlite_value::row::Row;
 use sqlite_value::value::ValueRef;
 use std::alloc::{AllocError, Global};
 use ups_cycle::StepState;
-use ups_journal::Operation;
+use ups_journal::RecordedOperation;
 use ups_pdu::Bytes;
 
 /// Returns the cell of a number. One of 2^63 or more becomes a negative integer.
@@ -187,8 +187,8 @@ pub(crate) fn state_in(cell: ValueRef<'_>) -> Option<StepState>
     state_named(lent(cell))
 }
 
-pub(crate) fn operation_in(cell: ValueRef<'_>) -> Operation
+pub(crate) fn operation_in(cell: ValueRef<'_>) -> RecordedOperation
     ensures { result ≡ operation_in (owned cell.entry) }
 {
-    operation_named(lent(cell)).unwrap_or(Operation::Create)
+    operation_named(lent(cell)).unwrap_or(RecordedOperation::Create)
 }

@@ -21,7 +21,7 @@ mod words;
 pub use digest::{digest_after, digest_with};
 pub use fault::{OpenFault, StoreFault};
 pub use laws::append_then_crash;
-pub use opening::{Refusal, create_files, open_files};
+pub use opening::{OpenRefusal, create_files, open_files};
 pub use path::{create, open};
 pub use reading::Replay;
 pub use replaced::rewrite_then_crash;

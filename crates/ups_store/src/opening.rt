@@ -36,7 +36,7 @@ const PAGE: usize = 1024;
 
 /// Files that were not opened, and why.
 #[derive(Drop)]
-pub struct Refusal<D: Disk> {
+pub struct OpenRefusal<D: Disk> {
     /// Why they were not opened.
     pub fault: OpenFault,
     /// The files.
@@ -63,7 +63,7 @@ fn unopened<D: Disk + Drop>(
     files: Files<D>,
     seed: u64,
     format: Format,
-) -> Result<Unopened<D>, Refusal<D>>
+) -> Result<Unopened<D>, OpenRefusal<D>>
     ensures files { IfOk result (λ it. files_of it ≡ (files.log, files.db)) }
     ensures size { IfOk result (λ it. (state_of it).page_size ≡ used_page) }
     ensures table { IfOk result (λ it. wanted_by it ≡ tables_of format) }
@@ -74,7 +74,7 @@ fn unopened<D: Disk + Drop>(
     let pager = match Pager::new(alloc, files, size, Options::new(seed)) {
         Ok(pager) => pager,
         Err(failed) => {
-            return Err(Refusal {
+            return Err(OpenRefusal {
                 fault: OpenFault::Memory,
                 files: failed.value,
             });
@@ -83,7 +83,7 @@ fn unopened<D: Disk + Drop>(
     let tables = [request_table(), run_table(format)];
     match Unopened::with_sums(alloc, pager, &tables, true) {
         Ok(unopened) => Ok(unopened),
-        Err(failed) => Err(Refusal {
+        Err(failed) => Err(OpenRefusal {
             fault: OpenFault::Memory,
             files: failed.value.close(),
         }),
@@ -183,18 +183,18 @@ fn is_new<D: Disk>(alloc: Global, files: &mut Files<D>) -> Result<bool, OpenFaul
 }
 
 /// Returns the files with the fault for the error of opening them.
-fn refused<D: Disk>(error: StoreOpenError, named: StoreError, left: Unopened<D>) -> Refusal<D>
+fn refused<D: Disk>(error: StoreOpenError, named: StoreError, left: Unopened<D>) -> OpenRefusal<D>
     ensures fault { result.fault ≡ fault_of_opening error named }
     ensures files { pair result.files ≡ files_of left }
 {
-    Refusal {
+    OpenRefusal {
         fault: fault_of_open(error, named),
         files: left.close(),
     }
 }
 
 /// Creates the tables in files without a database.
-fn made<D: Disk + Drop>(files: Unopened<D>) -> Result<FileStore<D>, Refusal<D>>
+fn made<D: Disk + Drop>(files: Unopened<D>) -> Result<FileStore<D>, OpenRefusal<D>>
     requires usable { AreUsable files }
     requires table { wanted_by files ≡ the_schema }
     ensures fresh { IfOk result (λ store. IsClean (view store) → IsFresh (view store)) }
@@ -211,7 +211,7 @@ fn made<D: Disk + Drop>(files: Unopened<D>) -> Result<FileStore<D>, Refusal<D>>
 }
 
 /// Opens files that have the tables of a format.
-fn attached<D: Disk + Drop>(files: Unopened<D>) -> Result<FileStore<D>, Refusal<D>>
+fn attached<D: Disk + Drop>(files: Unopened<D>) -> Result<FileStore<D>, OpenRefusal<D>>
     requires usable { AreUsable files }
     requires table { IsSchema (wanted_by files) }
     ensures fresh { IfOk result (λ store. IsClean (view store) → IsFresh (view store)) }
@@ -250,7 +250,7 @@ fn format_of<D: Disk + Drop>(files: &mut Unopened<D>) -> Result<Option<Format>, 
 }
 
 /// Creates the tables in files with an empty catalog, which an interrupted creation leaves.
-fn completed<D: Disk + Drop>(mut files: Unopened<D>) -> Result<FileStore<D>, Refusal<D>>
+fn completed<D: Disk + Drop>(mut files: Unopened<D>) -> Result<FileStore<D>, OpenRefusal<D>>
     requires usable { AreUsable files }
     requires table { wanted_by files ≡ the_schema }
     requires size { (state_of files).page_size ≡ used_page }
@@ -269,11 +269,11 @@ fn completed<D: Disk + Drop>(mut files: Unopened<D>) -> Result<FileStore<D>, Ref
 {
     match format_of(&mut files) {
         Ok(None) => made(files),
-        Ok(Some(_)) | Err(OpenFault::NotStore) => Err(Refusal {
+        Ok(Some(_)) | Err(OpenFault::NotStore) => Err(OpenRefusal {
             fault: OpenFault::Exists,
             files: files.close(),
         }),
-        Err(fault) => Err(Refusal {
+        Err(fault) => Err(OpenRefusal {
             fault,
             files: files.close(),
         }),
@@ -285,7 +285,7 @@ fn made_in<D: Disk + Drop>(
     alloc: Global,
     files: Files<D>,
     seed: u64,
-) -> Result<FileStore<D>, Refusal<D>>
+) -> Result<FileStore<D>, OpenRefusal<D>>
     requires log { IsTrue (D.Disk.is_usable files.log) }
     requires db { IsTrue (D.Disk.is_usable files.db) }
     ensures fresh { IfOk result (λ store. IsClean (view store) → IsFresh (view store)) }
@@ -304,7 +304,7 @@ fn completed_in<D: Disk + Drop>(
     alloc: Global,
     files: Files<D>,
     seed: u64,
-) -> Result<FileStore<D>, Refusal<D>>
+) -> Result<FileStore<D>, OpenRefusal<D>>
     requires log { IsTrue (D.Disk.is_usable files.log) }
     requires db { IsTrue (D.Disk.is_usable files.db) }
     ensures fresh { IfOk result (λ store. IsClean (view store) → IsFresh (view store)) }
@@ -329,7 +329,7 @@ fn new_store_over<D: Disk + Drop>(
     alloc: Global,
     mut files: Files<D>,
     seed: u64,
-) -> Result<FileStore<D>, Refusal<D>>
+) -> Result<FileStore<D>, OpenRefusal<D>>
     requires log { IsTrue (D.Disk.is_usable files.log) }
     requires db { IsTrue (D.Disk.is_usable files.db) }
     ensures fresh { IfOk result (λ store. IsClean (view store) → IsFresh (view store)) }
@@ -339,7 +339,7 @@ fn new_store_over<D: Disk + Drop>(
     match is_new(alloc, &mut files) {
         Ok(true) => made_in(alloc, files, seed),
         Ok(false) => completed_in(alloc, files, seed),
-        Err(fault) => Err(Refusal { fault, files }),
+        Err(fault) => Err(OpenRefusal { fault, files }),
     }
 }
 
@@ -351,7 +351,7 @@ struct Known<D: Disk> {
 }
 
 /// Returns the files, which are not blank, with the format of the store in them.
-fn recognized<D: Disk + Drop>(mut files: Unopened<D>) -> Result<Known<D>, Refusal<D>>
+fn recognized<D: Disk + Drop>(mut files: Unopened<D>) -> Result<Known<D>, OpenRefusal<D>>
     requires usable { AreUsable files }
     requires size { (state_of files).page_size ≡ used_page }
     ensures usable { IfOk result (λ k. IsTrue (D.Disk.is_usable k.files.log) × IsTrue (D.Disk.is_usable k.files.db)) }
@@ -368,7 +368,7 @@ fn recognized<D: Disk + Drop>(mut files: Unopened<D>) -> Result<Known<D>, Refusa
     }) r.fault) }
 {
     match format_of(&mut files) {
-        Ok(None) => Err(Refusal {
+        Ok(None) => Err(OpenRefusal {
             fault: OpenFault::Missing,
             files: files.close(),
         }),
@@ -376,7 +376,7 @@ fn recognized<D: Disk + Drop>(mut files: Unopened<D>) -> Result<Known<D>, Refusa
             files: files.close(),
             format,
         }),
-        Err(fault) => Err(Refusal {
+        Err(fault) => Err(OpenRefusal {
             fault,
             files: files.close(),
         }),
@@ -388,7 +388,7 @@ fn recognized_in<D: Disk + Drop>(
     alloc: Global,
     files: Files<D>,
     seed: u64,
-) -> Result<Known<D>, Refusal<D>>
+) -> Result<Known<D>, OpenRefusal<D>>
     requires log { IsTrue (D.Disk.is_usable files.log) }
     requires db { IsTrue (D.Disk.is_usable files.db) }
     ensures usable { IfOk result (λ k. IsTrue (D.Disk.is_usable k.files.log) × IsTrue (D.Disk.is_usable k.files.db)) }
@@ -409,7 +409,7 @@ fn opened<D: Disk + Drop>(
     files: Files<D>,
     seed: u64,
     format: Format,
-) -> Result<FileStore<D>, Refusal<D>>
+) -> Result<FileStore<D>, OpenRefusal<D>>
     requires log { IsTrue (D.Disk.is_usable files.log) }
     requires db { IsTrue (D.Disk.is_usable files.db) }
     ensures fresh { IfOk result (λ store. IsClean (view store) → IsFresh (view store)) }
@@ -429,7 +429,7 @@ fn held_in<D: Disk + Drop>(
     alloc: Global,
     files: Files<D>,
     seed: u64,
-) -> Result<FileStore<D>, Refusal<D>>
+) -> Result<FileStore<D>, OpenRefusal<D>>
     requires log { IsTrue (D.Disk.is_usable files.log) }
     requires db { IsTrue (D.Disk.is_usable files.db) }
     ensures fresh { IfOk result (λ store. IsClean (view store) → IsFresh (view store)) }
@@ -446,7 +446,7 @@ fn store_over<D: Disk + Drop>(
     alloc: Global,
     mut files: Files<D>,
     seed: u64,
-) -> Result<FileStore<D>, Refusal<D>>
+) -> Result<FileStore<D>, OpenRefusal<D>>
     requires log { IsTrue (D.Disk.is_usable files.log) }
     requires db { IsTrue (D.Disk.is_usable files.db) }
     ensures fresh { IfOk result (λ store. IsClean (view store) → IsFresh (view store)) }
@@ -454,12 +454,12 @@ fn store_over<D: Disk + Drop>(
     ensures cause { IfErr result (λ r. AreCleanFiles D.Disk r.files → HasOpenReason (reasons D.Disk files r.files) r.fault) }
 {
     match is_new(alloc, &mut files) {
-        Ok(true) => Err(Refusal {
+        Ok(true) => Err(OpenRefusal {
             fault: OpenFault::Missing,
             files,
         }),
         Ok(false) => held_in(alloc, files, seed),
-        Err(fault) => Err(Refusal { fault, files }),
+        Err(fault) => Err(OpenRefusal { fault, files }),
     }
 }
 
@@ -511,7 +511,7 @@ fn kind_of<D: Disk + Drop>(files: &mut Unopened<D>) -> OpenFault
 }
 
 /// Returns the refusal, with a more precise fault if the files have no sound database of the tables.
-fn told_apart<D: Disk + Drop>(alloc: Global, refusal: Refusal<D>, seed: u64) -> Refusal<D>
+fn told_apart<D: Disk + Drop>(alloc: Global, refusal: OpenRefusal<D>, seed: u64) -> OpenRefusal<D>
     ensures fault { (result ≡ refusal) ⊎ ((refusal.fault ≡ faults.NotStore) × IsKind result.fault) }
     ensures falls { AreCleanFiles D.Disk result.files → AreCleanFiles D.Disk refusal.files × (faults_in D.Disk refusal.files ≤ faults_in D.Disk result.files) }
 {
@@ -522,11 +522,11 @@ fn told_apart<D: Disk + Drop>(alloc: Global, refusal: Refusal<D>, seed: u64) -> 
     if !refusal.files.may_be_used() {
         return refusal;
     }
-    let Refusal { fault: _, files } = refusal;
+    let OpenRefusal { fault: _, files } = refusal;
     match unopened(alloc, files, seed, CURRENT) {
         Ok(mut again) => {
             let fault = kind_of(&mut again);
-            Refusal {
+            OpenRefusal {
                 fault,
                 files: again.close(),
             }
@@ -546,7 +546,7 @@ pub fn open_files<D: Disk + Drop>(
     alloc: Global,
     files: Files<D>,
     seed: u64,
-) -> Result<Replay<FileStore<D>>, Refusal<D>>
+) -> Result<Replay<FileStore<D>>, OpenRefusal<D>>
     requires log { IsTrue (D.Disk.is_usable files.log) }
     requires db { IsTrue (D.Disk.is_usable files.db) }
     ensures first { IfOk result (λ r. given_out r ≡ []) }
@@ -568,7 +568,7 @@ pub fn create_files<D: Disk + Drop>(
     alloc: Global,
     files: Files<D>,
     seed: u64,
-) -> Result<Replay<FileStore<D>>, Refusal<D>>
+) -> Result<Replay<FileStore<D>>, OpenRefusal<D>>
     requires log { IsTrue (D.Disk.is_usable files.log) }
     requires db { IsTrue (D.Disk.is_usable files.db) }
     ensures first { IfOk result (λ r. given_out r ≡ []) }

@@ -30,12 +30,12 @@ pub(crate) fn cells_of(asked: &Record<Global>) -> [ValueRef<'_>; 12]
         ValueRef::Text(asked.title.as_slice()),
         ValueRef::Text(asked.request.operation.name()),
         cells::text_cell(&asked.request.instance),
-        cells::text_cell(&asked.request.transaction),
+        cells::text_cell(&asked.request.transaction_uid),
         cells::state_cell(asked.request.state),
         cells::text_cell(&asked.request.receiver),
-        cells::lock_cell(asked.request.lock),
-        cells::event_cell(asked.request.number),
-        cells::offset_cell(asked.request.offset),
+        cells::lock_cell(asked.request.deletion_lock),
+        cells::event_cell(asked.request.event),
+        cells::offset_cell(asked.request.utc_offset),
         cells::blob_cell(&asked.request.attributes),
     ]
 }
@@ -63,12 +63,12 @@ fn columns_in(alloc: Global, row: &Row) -> Result<Columns<Global>, AllocError>
     Ok(Columns {
         operation: cells::operation_in(row.get(6)),
         instance: cells::bytes_in(alloc, row.get(7))?,
-        transaction: cells::bytes_in(alloc, row.get(8))?,
+        transaction_uid: cells::bytes_in(alloc, row.get(8))?,
         state: cells::state_in(row.get(9)),
         receiver: cells::bytes_in(alloc, row.get(10))?,
-        lock: cells::lock_in(row.get(11)),
-        number: cells::event_in(row.get(12)),
-        offset: cells::offset_in(row.get(13)),
+        deletion_lock: cells::lock_in(row.get(11)),
+        event: cells::event_in(row.get(12)),
+        utc_offset: cells::offset_in(row.get(13)),
         attributes: cells::bytes_in(alloc, row.get(14))?,
     })
 }

@@ -4,31 +4,31 @@ ghost use Rattle.std.specs.Prelude.{◌≡◌};
 ghost use Rattle.ups_store.specs.Words.{operation_named, state_named};
 
 use ups_cycle::StepState;
-use ups_journal::Operation;
+use ups_journal::RecordedOperation;
 
 /// Returns the operation with this name.
 #[tactic(auto, unfolding(crate::specs::Words::operation_named))]
-pub(crate) fn operation_named(text: &[u8]) -> Option<Operation>
+pub(crate) fn operation_named(text: &[u8]) -> Option<RecordedOperation>
     ensures { result ≡ operation_named text.now }
 {
-    if text == Operation::Create.name() {
-        Some(Operation::Create)
-    } else if text == Operation::Change.name() {
-        Some(Operation::Change)
-    } else if text == Operation::AskCancel.name() {
-        Some(Operation::AskCancel)
-    } else if text == Operation::Set.name() {
-        Some(Operation::Set)
-    } else if text == Operation::Subscribe.name() {
-        Some(Operation::Subscribe)
-    } else if text == Operation::Unsubscribe.name() {
-        Some(Operation::Unsubscribe)
-    } else if text == Operation::Suspend.name() {
-        Some(Operation::Suspend)
-    } else if text == Operation::Acknowledge.name() {
-        Some(Operation::Acknowledge)
-    } else if text == Operation::Sweep.name() {
-        Some(Operation::Sweep)
+    if text == RecordedOperation::Create.name() {
+        Some(RecordedOperation::Create)
+    } else if text == RecordedOperation::Change.name() {
+        Some(RecordedOperation::Change)
+    } else if text == RecordedOperation::AskCancel.name() {
+        Some(RecordedOperation::AskCancel)
+    } else if text == RecordedOperation::Set.name() {
+        Some(RecordedOperation::Set)
+    } else if text == RecordedOperation::Subscribe.name() {
+        Some(RecordedOperation::Subscribe)
+    } else if text == RecordedOperation::Unsubscribe.name() {
+        Some(RecordedOperation::Unsubscribe)
+    } else if text == RecordedOperation::Suspend.name() {
+        Some(RecordedOperation::Suspend)
+    } else if text == RecordedOperation::Acknowledge.name() {
+        Some(RecordedOperation::Acknowledge)
+    } else if text == RecordedOperation::Sweep.name() {
+        Some(RecordedOperation::Sweep)
     } else {
         None
     }

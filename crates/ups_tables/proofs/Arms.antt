@@ -19,7 +19,7 @@ use Rattle.ups_tables.proofs.Among.{among_push, among_filter}
 use Rattle.ups_tables.proofs.Finals.{not_held, final_create}
 use Rattle.ups_events.specs.Queue as lists
 use Rattle.ups_watch.specs.declared.cover.Cover.{Cover}
-use Rattle.ups_steps.specs.declared.held.Held.{Held}
+use Rattle.ups_steps.specs.declared.held.HeldRow.{HeldRow}
 use Rattle.ups_tables.specs.declared.tables.Tables.{Tables}
 use Rattle.ups_tables.specs.Held.{held_at}
 use Rattle.ups_tables.specs.Effects.{RoomFor}
@@ -32,10 +32,10 @@ use Rattle.ups_tables.proofs.Saying.{holds_is}
 use Rattle.ups_tables.proofs.Carried.{fresh_step}
 
 module _ {A : Type 0} (s : Settings) (history : List (Entry A)) (e : Entry A) (t : Tables A) (st : Stands s history t) (l : legal s (e ∷ past history) ≡ true) where
-  pub fresh_now : (step : List ℕ) (held_now : Held A) (told : List Report) → PlansCreate s (past history) e step held_now told → held_at step t.steps.entries ≡ None
+  pub fresh_now : (step : List ℕ) (held_now : HeldRow A) (told : List Report) → PlansCreate s (past history) e step held_now told → held_at step t.steps.entries ≡ None
   fresh_now step held_now told p = fresh_step s history (history ++ e ∷ []) e t t st refl l (length history) refl step held_now told p
 
-  pub unfinished : (step : List ℕ) (held_now : Held A) (told : List Report) → PlansCreate s (past history) e step held_now told → held_now.row.final_at ≡ None
+  pub unfinished : (step : List ℕ) (held_now : HeldRow A) (told : List Report) → PlansCreate s (past history) e step held_now told → held_now.row.final_at ≡ None
   unfinished step held_now told p =
       ap (λ (r : Row A). r.final_at) p.on.row
       ∙ sym (ap (λ b. cond b (final_at (e ∷ past history) step) None) held_here)
@@ -64,11 +64,11 @@ module _ {A : Type 0} (s : Settings) (history : List (Entry A)) (e : Entry A) (t
       new (Ack upto) n = refl
       new Sweep n = refl
 
-  pub set_here : (step : List ℕ) (held_now : Held A) (told : List Report) (newly : List (Option Subscription)) (first : List Report) → PlansSet s (past history) e t step held_now told newly first → holds t step ≡ true
+  pub set_here : (step : List ℕ) (held_now : HeldRow A) (told : List Report) (newly : List (Option Subscription)) (first : List Report) → PlansSet s (past history) e t step held_now told newly first → holds t step ≡ true
   set_here step held_now told newly first p =
       holds_is s history t st step ∙ on_held s (past history) step (Set (Some step) p.transaction p.attributes) (sym (ap (said s (past history)) p.request) ∙ succeeded s e (past history) l) (text_is_itself step) refl
 
-  pub set_apart : (step : List ℕ) (held_now : Held A) (told : List Report) (newly lent : List (Option Subscription)) (first : List Report) → PlansSet s (past history) e t step held_now told newly first → lent ≡ newly → (p : ℕ) → is_some (how t p step) ≡ true → get_or lent p None ≡ None
+  pub set_apart : (step : List ℕ) (held_now : HeldRow A) (told : List Report) (newly lent : List (Option Subscription)) (first : List Report) → PlansSet s (past history) e t step held_now told newly first → lent ≡ newly → (p : ℕ) → is_some (how t p step) ≡ true → get_or lent p None ≡ None
   set_apart step held_now told newly lent first plan same p h = ap (λ xs. get_or xs p None) same ∙ plan.newly_are p ∙ ap (λ b. cond b None (newly_by (get_or t.watchers.covers p None) (row s (past history) step) held_now.row.attributes)) h
 
   pub chosen_held : (peer : ℕ) (k : Cover A) (steps lent : List (List ℕ)) (freed : List Final) (told : List Report) → PlansGlobal s (past history) e t peer k steps freed told → lent ≡ steps → (u : List ℕ) → is_among u lent ≡ true → holds t u ≡ true

@@ -40,7 +40,7 @@ use Rattle.ups_tables.proofs.Asking.{chosen_one}
 use Rattle.ups_events.specs.Telling.{Line, empty_line, told, acked_to}
 use Rattle.ups_watch.specs.declared.cover.Cover.{Cover}
 use Rattle.ups_watch.specs.Covers.{covered}
-use Rattle.ups_steps.specs.declared.held.Held.{Held}
+use Rattle.ups_steps.specs.declared.held.HeldRow.{HeldRow}
 use Rattle.ups_steps.proofs.Putting.{put_new}
 use Rattle.ups_tables.specs.declared.tables.Tables.{Tables}
 use Rattle.ups_tables.specs.Held.{held_at, put_held}
@@ -92,11 +92,11 @@ module _ {A : Type 0} (s : Settings) (history after : List (Entry A)) (e : Entry
   here_is : place ≡ length (past history)
   here_is = at ∙ sym (length-past history)
 
-  pub fresh_step : (step : List ℕ) (held : Held A) (told : List Report) → PlansCreate s (past history) e step held told → held_at step t.steps.entries ≡ None
+  pub fresh_step : (step : List ℕ) (held : HeldRow A) (told : List Report) → PlansCreate s (past history) e step held told → held_at step t.steps.entries ≡ None
   fresh_step step held told p =
       held_is s history t old step ∙ ap (λ b. cond b (Some (bare (held_step s (past history) step))) None) (not_held s (past history) step (created_fresh s (past history) step p.attributes (sym (ap (said s (past history)) p.request) ∙ succeeded s e (past history) l)))
 
-  pub stands_create : (step : List ℕ) (held : Held A) (told lent : List Report) → PlansCreate s (past history) e step held told → lent ≡ told → IsCreated place step held lent t t' → TablesFit t' → Stands s after t'
+  pub stands_create : (step : List ℕ) (held : HeldRow A) (told lent : List Report) → PlansCreate s (past history) e step held told → lent ≡ told → IsCreated place step held lent t t' → TablesFit t' → Stands s after t'
   stands_create step held told lent p same c0 fits =
       let c1 : IsCreated (length (past history)) step held lent t t' = subst (λ (n : ℕ). IsCreated n step held lent t t') here_is c0 in
       let c : IsCreated (length (past history)) step held (news s (past history) e step) t t' = subst (λ (xs : List Report). IsCreated (length (past history)) step held xs t t') (same ∙ p.on.news) c1 in
@@ -115,7 +115,7 @@ module _ {A : Type 0} (s : Settings) (history after : List (Entry A)) (e : Entry
 
   -- WHAT IS HELD OF A STEP CHANGES
 
-  pub stands_change : (step : List ℕ) (held : Held A) (told lent : List Report) (newly : List (Option Subscription)) (first : List Report) → PlansChange s (past history) e step held told → lent ≡ told → newly ≡ [] → IsChanged place step held lent newly first t t' → TablesFit t' → Stands s after t'
+  pub stands_change : (step : List ℕ) (held : HeldRow A) (told lent : List Report) (newly : List (Option Subscription)) (first : List Report) → PlansChange s (past history) e step held told → lent ≡ told → newly ≡ [] → IsChanged place step held lent newly first t t' → TablesFit t' → Stands s after t'
   stands_change step held told lent newly first p same none c0 fits =
       let c1 : IsChanged (length (past history)) step held lent newly first t t' = subst (λ (n : ℕ). IsChanged n step held lent newly first t t') here_is c0 in
       let c2 : IsChanged (length (past history)) step held lent [] first t t' = subst (λ (ns : List (Option Subscription)). IsChanged (length (past history)) step held lent ns first t t') none c1 in
@@ -165,7 +165,7 @@ module _ {A : Type 0} (s : Settings) (history after : List (Entry A)) (e : Entry
   first_of_two None x = refl
   first_of_two (Some y) x = refl
 
-  set_pairs : (step : List ℕ) (held : Held A) (newly : List (Option Subscription)) (transaction : Transaction) (attributes : List El) → e.request ≡ Set (Some step) transaction attributes → is_held s (past history) step ≡ true
+  set_pairs : (step : List ℕ) (held : HeldRow A) (newly : List (Option Subscription)) (transaction : Transaction) (attributes : List El) → e.request ≡ Set (Some step) transaction attributes → is_held s (past history) step ≡ true
       → held.row.attributes ≡ row s (e ∷ past history) step
       → ((q : ℕ) → get_or newly q None ≡ cond (is_some (how t q step)) None (newly_by (get_or t.watchers.covers q None) (row s (past history) step) held.row.attributes))
       → ((q : ℕ) (u : List ℕ) → how t' q u ≡ cond (bytes_eq step u) (option_or (how t q u) (get_or newly q None)) (how t q u))
@@ -194,7 +194,7 @@ module _ {A : Type 0} (s : Settings) (history after : List (Entry A)) (e : Entry
               ∙ ap (option_or (how t q u)) (covered_then w step (get_or t.watchers.covers q None) cover_at ∙ ap (newly_covered s (past history) e w) (same_text step u d))
               ∙ ap (λ o. option_or o (newly_covered s (past history) e w u)) (live_at u)
 
-  set_queues : (step : List ℕ) (held : Held A) (newly : List (Option Subscription)) (transaction : Transaction) (attributes : List El) → e.request ≡ Set (Some step) transaction attributes → is_held s (past history) step ≡ true
+  set_queues : (step : List ℕ) (held : HeldRow A) (newly : List (Option Subscription)) (transaction : Transaction) (attributes : List El) → e.request ≡ Set (Some step) transaction attributes → is_held s (past history) step ≡ true
       → ((q : ℕ) → get_or newly q None ≡ cond (is_some (how t q step)) None (newly_by (get_or t.watchers.covers q None) (row s (past history) step) held.row.attributes))
       → ((q : ℕ) (u : List ℕ) → how t' q u ≡ cond (bytes_eq step u) (option_or (how t q u) (get_or newly q None)) (how t q u))
       → ((q : ℕ) → queue_line t' q ≡ cond (is_some (how t q step)) (told (length (past history)) (news s (past history) e step) (queue_line t q)) (cond (is_some (get_or newly q None)) (told (length (past history)) (as_it_is s (e ∷ past history) step ∷ []) (queue_line t q)) (queue_line t q)))
@@ -231,7 +231,7 @@ module _ {A : Type 0} (s : Settings) (history after : List (Entry A)) (e : Entry
               ∙ ap (λ k. cond (is_some k) (told (length (past history)) (news s (past history) e step) (queue s (past history) w))
               (cond (is_some (live s (e ∷ past history) w step)) (told (length (past history)) (as_it_is s (e ∷ past history) step ∷ []) (queue s (past history) w)) (queue s (past history) w))) f
 
-  pub stands_set : (step : List ℕ) (held : Held A) (told lent : List Report) (newly lent_newly : List (Option Subscription)) (first lent_first : List Report) → PlansSet s (past history) e t step held told newly first → lent ≡ told → lent_newly ≡ newly → lent_first ≡ first
+  pub stands_set : (step : List ℕ) (held : HeldRow A) (told lent : List Report) (newly lent_newly : List (Option Subscription)) (first lent_first : List Report) → PlansSet s (past history) e t step held told newly first → lent ≡ told → lent_newly ≡ newly → lent_first ≡ first
       → IsChanged place step held lent lent_newly lent_first t t' → TablesFit t' → Stands s after t'
   stands_set step held told lent newly lent_newly first lent_first p same same_newly same_first c0 fits =
       let c1 : IsChanged (length (past history)) step held lent lent_newly lent_first t t' = subst (λ (n : ℕ). IsChanged n step held lent lent_newly lent_first t t') here_is c0 in
@@ -389,7 +389,7 @@ module _ {A : Type 0} (s : Settings) (history after : List (Entry A)) (e : Entry
     pub stands_swept : Stands s after t'
     stands_swept =
         stands s history after e t t' old is l
-        (c.steps ∙ ap (filter (λ (x : List ℕ × Held A). not (is_among x.0 due))) old.steps ∙ left_entries (λ u. not (is_among u due)) (held_steps s (past history)) ∙ ap entries_of (steps_sweep s e (past history) due (held_steps s (past history)) request gone refl))
+        (c.steps ∙ ap (filter (λ (x : List ℕ × HeldRow A). not (is_among x.0 due))) old.steps ∙ left_entries (λ u. not (is_among u due)) (held_steps s (past history)) ∙ ap entries_of (steps_sweep s e (past history) due (held_steps s (past history)) request gone refl))
         (ap length c.covers) fits
         (from_live s (e ∷ past history) t' _ _
         (after_sweep s e (past history) due (cover_of s.peers t) (cover_of s.peers t') (how_of s.peers t) (how_of s.peers t') (final s (past history)) (λ u. cond (is_among u due) None (final s (past history) u))
@@ -410,6 +410,6 @@ stands_idle {A} s history after e t old is l p =
       queues = λ q. refl;
     }) old.fits
   where
-    all_stay : (xs : List (List ℕ × Held A)) → filter (λ (x : List ℕ × Held A). true) xs ≡ xs
+    all_stay : (xs : List (List ℕ × HeldRow A)) → filter (λ (x : List ℕ × HeldRow A). true) xs ≡ xs
     all_stay [] = refl
     all_stay (x ∷ xs) = ap (λ r. x ∷ r) (all_stay xs)

@@ -28,14 +28,14 @@ use Rattle.std.proofs.lemmas.Bool.{cases_lt}
 use Rattle.ups_watch.specs.declared.cover.Cover.{Cover}
 use Rattle.ups_watch.specs.Covers.{covered}
 use Rattle.ups_tables.specs.Effects.{Reserved}
-use Rattle.ups_steps.specs.declared.held.Held.{Held}
+use Rattle.ups_steps.specs.declared.held.HeldRow.{HeldRow}
 use Rattle.ups_tables.specs.declared.tables.Tables.{Tables}
 use Rattle.ups_tables.specs.Held.{held_at, final_of, put_held}
 use Rattle.ups_tables.specs.Fit.{how, cells_at, has_lock, kept_if, final_in, holds, TablesFit, AreFreed}
 
 -- WHAT IS HELD
 
-pub held_pushed : {A : Type 0} (step u : List ℕ) (h : Held A) (hs : List (List ℕ × Held A)) → held_at step hs ≡ None → held_at u (hs ++ (step, h) ∷ []) ≡ cond (bytes_eq step u) (Some h) (held_at u hs)
+pub held_pushed : {A : Type 0} (step u : List ℕ) (h : HeldRow A) (hs : List (List ℕ × HeldRow A)) → held_at step hs ≡ None → held_at u (hs ++ (step, h) ∷ []) ≡ cond (bytes_eq step u) (Some h) (held_at u hs)
 held_pushed step u h [] none = ap (λ b. cond b (Some h) None) (other_text u step)
 held_pushed {A} step u h (x ∷ xs) none = by (bytes_eq step x.0) refl none (λ n. held_pushed step u h xs n) (bytes_eq u x.0) refl
   where
@@ -45,7 +45,7 @@ held_pushed {A} step u h (x ∷ xs) none = by (bytes_eq step x.0) refl none (λ 
     by false e n rest true f = sym (ap (λ k. cond k (Some h) (Some x.1)) (is_false (bytes_eq step u) (λ s. true≢false (sym (ap (λ v. bytes_eq v x.0) (same_text step u s) ∙ f) ∙ e))))
     by false e n rest false f = rest n
 
-pub held_put : {A : Type 0} (step u : List ℕ) (h : Held A) (hs : List (List ℕ × Held A)) → held_at u (put_held step h hs) ≡ cond (bytes_eq step u) (Some h) (held_at u hs)
+pub held_put : {A : Type 0} (step u : List ℕ) (h : HeldRow A) (hs : List (List ℕ × HeldRow A)) → held_at u (put_held step h hs) ≡ cond (bytes_eq step u) (Some h) (held_at u hs)
 held_put step u h [] = ap (λ b. cond b (Some h) None) (other_text u step)
 held_put {A} step u h (x ∷ xs) = by (bytes_eq step x.0) refl (held_put step u h xs) (bytes_eq u x.0) refl
   where
@@ -105,7 +105,7 @@ Wide t = (u : List ℕ) → knows t.watchers u ≡ true → length (cells_at t u
 
 -- A STEP IS CREATED
 
-module _ {A : Type 0} (t t' : Tables A) (step : List ℕ) (h : Held A) (old : TablesFit t) (fresh : held_at step t.steps.entries ≡ None) (open_yet : h.row.final_at ≡ None)
+module _ {A : Type 0} (t t' : Tables A) (step : List ℕ) (h : HeldRow A) (old : TablesFit t) (fresh : held_at step t.steps.entries ≡ None) (open_yet : h.row.final_at ≡ None)
     (steps : t'.steps.entries ≡ t.steps.entries ++ (step, h) ∷ []) (new_hows : (p : ℕ) (u : List ℕ) → bytes_eq step u ≡ false → how t' p u ≡ how t p u)
     (new_known : (u : List ℕ) → knows t'.watchers u ≡ (bytes_eq step u || knows t.watchers u)) (queues : length t'.queues ≡ length t'.watchers.covers) (wide : Wide t') (due : t'.due.steps ≡ t.due.steps) where
   pub fits_created : TablesFit t'
@@ -120,7 +120,7 @@ module _ {A : Type 0} (t t' : Tables A) (step : List ℕ) (h : Held A) (old : Ta
       now : (u : List ℕ) → held_at u t'.steps.entries ≡ cond (bytes_eq step u) (Some h) (held_at u t.steps.entries)
       now u = ap (held_at u) steps ∙ held_pushed step u h t.steps.entries fresh
 
-      either : (b : Bool) (o : Option (Held A)) → is_some (cond b (Some h) o) ≡ (b || is_some o)
+      either : (b : Bool) (o : Option (HeldRow A)) → is_some (cond b (Some h) o) ≡ (b || is_some o)
       either true o = refl
       either false o = refl
 
@@ -259,7 +259,7 @@ passed (Some k) m b e = by (leb k m) e
     by false f = ap (λ x. cond x None (Some k)) f
 
 module _ {A : Type 0} (t t' : Tables A) (old : TablesFit t) (due : List Final) (m : ℕ) (due_is : due ≡ due_until m t.due.steps)
-    (steps : t'.steps.entries ≡ filter (λ (e : List ℕ × Held A). not (is_among e.0 (steps_of due))) t.steps.entries) (new_hows : (p : ℕ) (u : List ℕ) → how t' p u ≡ cond (is_among u (steps_of due)) None (how t p u))
+    (steps : t'.steps.entries ≡ filter (λ (e : List ℕ × HeldRow A). not (is_among e.0 (steps_of due))) t.steps.entries) (new_hows : (p : ℕ) (u : List ℕ) → how t' p u ≡ cond (is_among u (steps_of due)) None (how t p u))
     (new_known : (u : List ℕ) → knows t'.watchers u ≡ (not (is_among u (steps_of due)) && knows t.watchers u)) (queues : length t'.queues ≡ length t'.watchers.covers) (wide : Wide t') (left : t'.due.steps ≡ later_than m t.due.steps) where
   among_due : (u : List ℕ) → is_among u (steps_of due) ≡ is_some (only_where (λ k. leb k m) (waits u t.due.steps))
   among_due u = among_waits u due ∙ ap (λ xs. is_some (waits u xs)) due_is ∙ ap is_some (waits_kept (λ (x : Final). leb x.moment m) t.due.steps old.once u)
@@ -277,7 +277,7 @@ module _ {A : Type 0} (t t' : Tables A) (old : TablesFit t) (due : List Final) (
         ap (waits u) left ∙ waits_kept (λ (x : Final). not (leb x.moment m)) t.due.steps old.once u ∙ passed (waits u t.due.steps) m (is_among u (steps_of due)) (sym (among_due u)) ∙ by u (is_among u (steps_of due)) refl;
   }
     where
-      either : (b : Bool) (o : Option (Held A)) → is_some (cond b o None) ≡ (b && is_some o)
+      either : (b : Bool) (o : Option (HeldRow A)) → is_some (cond b o None) ≡ (b && is_some o)
       either true o = refl
       either false o = refl
 
@@ -302,17 +302,17 @@ stays_none t fits u out chosen here peer p s =
 
 -- WHAT IS HELD STAYS
 
-pub put_holds : {A : Type 0} (step u : List ℕ) (h : Held A) (hs : List (List ℕ × Held A)) → is_some (held_at step hs) ≡ true → is_some (held_at u (put_held step h hs)) ≡ is_some (held_at u hs)
+pub put_holds : {A : Type 0} (step u : List ℕ) (h : HeldRow A) (hs : List (List ℕ × HeldRow A)) → is_some (held_at step hs) ≡ true → is_some (held_at u (put_held step h hs)) ≡ is_some (held_at u hs)
 put_holds {A} step u h hs here = ap is_some (held_put step u h hs) ∙ by (bytes_eq step u) refl
   where
     by : (b : Bool) → bytes_eq step u ≡ b → is_some (cond b (Some h) (held_at u hs)) ≡ is_some (held_at u hs)
     by true e = sym here ∙ ap (λ v. is_some (held_at v hs)) (same_text step u e)
     by false e = refl
 
-pub put_final : {A : Type 0} (step u : List ℕ) (h : Held A) (hs : List (List ℕ × Held A)) → bytes_eq step u ≡ false → final_of (held_at u (put_held step h hs)) ≡ final_of (held_at u hs)
+pub put_final : {A : Type 0} (step u : List ℕ) (h : HeldRow A) (hs : List (List ℕ × HeldRow A)) → bytes_eq step u ≡ false → final_of (held_at u (put_held step h hs)) ≡ final_of (held_at u hs)
 put_final step u h hs e = ap final_of (held_put step u h hs ∙ ap (λ b. cond b (Some h) (held_at u hs)) e)
 
-pub put_final_here : {A : Type 0} (step : List ℕ) (h : Held A) (hs : List (List ℕ × Held A)) → final_of (held_at step (put_held step h hs)) ≡ h.row.final_at
+pub put_final_here : {A : Type 0} (step : List ℕ) (h : HeldRow A) (hs : List (List ℕ × HeldRow A)) → final_of (held_at step (put_held step h hs)) ≡ h.row.final_at
 put_final_here step h hs = ap final_of (held_put step step h hs ∙ ap (λ b. cond b (Some h) (held_at step hs)) (text_is_itself step))
 
 -- what is so of one step is so of no other

@@ -14,7 +14,7 @@ use Rattle.ups_life.proofs.Texts.{same_text, text_is_itself}
 use Rattle.ups_keep.specs.declared.due.Final.{Final}
 use Rattle.ups_keep.specs.Waits.{steps_of, waits, final_since}
 use Rattle.ups_keep.proofs.Waiting.{is_false, other_text, waits_append, distinct_append, distinct_to}
-use Rattle.ups_steps.specs.declared.held.Held.{Held}
+use Rattle.ups_steps.specs.declared.held.HeldRow.{HeldRow}
 use Rattle.ups_tables.specs.declared.tables.Tables.{Tables}
 use Rattle.ups_tables.specs.Held.{held_at, final_of}
 use Rattle.ups_tables.specs.Fit.{has_lock, kept_if, freed_if, holds, AreFreed}
@@ -99,7 +99,7 @@ among_keys {X} u (e ∷ es) = ap (λ b. b || is_among u (keys_of es)) (other_tex
 nothing_freed : {A : Type 0} (t : Tables A) (peer : ℕ) (s : Option Subscription) (u : List ℕ) → holds t u ≡ false → freed_if t peer s u ≡ None
 nothing_freed {A} t peer s u out = by (held_at u t.steps.entries) out (has_lock t u && not (kept_if t peer s u))
   where
-    by : (o : Option (Held A)) → is_some o ≡ false → (b : Bool) → cond b (final_of o) None ≡ None
+    by : (o : Option (HeldRow A)) → is_some o ≡ false → (b : Bool) → cond b (final_of o) None ≡ None
     by None h true = refl
     by None h false = refl
     by (Some x) h b = absurd (true≢false h)

@@ -36,7 +36,7 @@ use Rattle.ups_tables.proofs.Among.{among_filter, distinct_filter}
 use Rattle.ups_tables.proofs.Holding.{step_at-held_steps, row_in-held_steps}
 use Rattle.ups_tables.proofs.Living.{newly-met}
 use Rattle.ups_tables.proofs.StepFacts.{Allowed, steps_are, row_is, was_row, news_are, set_held, not_of_watch}
-use Rattle.ups_steps.specs.declared.held.Held.{Held}
+use Rattle.ups_steps.specs.declared.held.HeldRow.{HeldRow}
 use Rattle.ups_tables.specs.declared.tables.Tables.{Tables}
 use Rattle.ups_tables.specs.Held.{held_at}
 use Rattle.ups_tables.specs.Fit.{how, holds, AreFreed}
@@ -51,13 +51,13 @@ use Rattle.ups_life.proofs.Accepted.{for_peer}
 -- REQUESTS ON A STEP
 
 -- the request is allowed, and this is what is to be held of its step then
-pub record Fresh {A : Type 0} (s : Settings) (es : List (Entry A)) (e : Entry A) (t : Tables A) (step : List ℕ) (x : Held A) : Type 0 where
+pub record Fresh {A : Type 0} (s : Settings) (es : List (Entry A)) (e : Entry A) (t : Tables A) (step : List ℕ) (x : HeldRow A) : Type 0 where
   pub named : step_of e.request ≡ Some step
   pub allowed : verdict (row_held (held_at step t.steps.entries)) (repeats es e.request) e.request ≡ Success
   pub row : x.row ≡ row_after s.offset e.moment (unwrap_or (row_held (held_at step t.steps.entries)) nothing) e.request
   pub holder : x.holder ≡ option_or (claims_it e) (holder_held (held_at step t.steps.entries))
 
-module _ {A : Type 0} (s : Settings) (history : List (Entry A)) (e : Entry A) (t : Tables A) (step : List ℕ) (x : Held A) (old : Stands s history t) (fresh : Fresh s (past history) e t step x) where
+module _ {A : Type 0} (s : Settings) (history : List (Entry A)) (e : Entry A) (t : Tables A) (step : List ℕ) (x : HeldRow A) (old : Stands s history t) (fresh : Fresh s (past history) e t step x) where
   kept : as_steps t.steps.entries ≡ held_steps s (past history)
   kept = steps_kept s history t old
 
@@ -179,10 +179,10 @@ module _ {A : Type 0} (s : Settings) (history : List (Entry A)) (t : Tables A) (
   not_missing u here miss = true≢false (sym here ∙ sym (holds_is s history t st u) ∙ sym (ap is_some miss))
 
   -- what is found is held, and this is its row
-  pub found_held : (u : List ℕ) (h : Held A) → Some h ≡ held_at u t.steps.entries → is_held s (past history) u ≡ true
+  pub found_held : (u : List ℕ) (h : HeldRow A) → Some h ≡ held_at u t.steps.entries → is_held s (past history) u ≡ true
   found_held u h is = sym (holds_is s history t st u) ∙ sym (ap is_some is)
 
-  pub found_row : (u : List ℕ) (h : Held A) → Some h ≡ held_at u t.steps.entries → h.row ≡ row_of s (past history) u
+  pub found_row : (u : List ℕ) (h : HeldRow A) → Some h ≡ held_at u t.steps.entries → h.row ≡ row_of s (past history) u
   found_row u h is =
       by (is_held s (past history) u) (ap (option_map (step_with_held u)) is ∙ found_at u t.steps.entries ∙ ap (step_at u) (steps_kept s history t st) ∙ step_at-held_steps s (past history) u)
     where

@@ -18,7 +18,7 @@ use Rattle.ups_events.specs.Telling.{empty_line}
 use Rattle.ups_watch.specs.declared.cover.Cover.{Cover}
 use Rattle.ups_watch.specs.Rows.{Cells}
 use Rattle.ups_watch.specs.Table.{is_locked_by_any}
-use Rattle.ups_steps.specs.declared.held.Held.{Held}
+use Rattle.ups_steps.specs.declared.held.HeldRow.{HeldRow}
 use Rattle.ups_tables.specs.declared.tables.Tables.{Tables}
 use Rattle.ups_tables.specs.Held.{held_at, final_of, put_held}
 use Rattle.ups_tables.specs.Fit.{how, cells_at, has_lock, holds, queue_line}
@@ -31,7 +31,7 @@ use Rattle.ups_tables.proofs.Titled.{same_at, kept_by_titles, any_same, nobody_l
 
 -- WHAT IS HELD
 
-abbrev pub bare : {A : Type 0} → HeldStep A → Held A
+abbrev pub bare : {A : Type 0} → HeldStep A → HeldRow A
 bare h = record { row = h.row; holder = h.holder }
 
 held_entries : {A : Type 0} (u : List ℕ) (hs : List (HeldStep A)) → held_at u (entries_of hs) ≡ option_map bare (step_at u hs)
@@ -42,7 +42,7 @@ held_entries {A} u (h ∷ hs) = ap (λ b. cond b (Some (bare h)) (held_at u (ent
     by true rest = refl
     by false rest = rest
 
-pub put_entries : {A : Type 0} (step : List ℕ) (x : Held A) (hs : List (HeldStep A)) → put_held step x (entries_of hs) ≡ entries_of (put_step (step_with_held step x) hs)
+pub put_entries : {A : Type 0} (step : List ℕ) (x : HeldRow A) (hs : List (HeldStep A)) → put_held step x (entries_of hs) ≡ entries_of (put_step (step_with_held step x) hs)
 put_entries step x [] = refl
 put_entries {A} step x (h ∷ hs) =
     ap (λ b. cond b ((h.step, x) ∷ entries_of hs) (entry_of h ∷ put_held step x (entries_of hs))) (other_text step h.step) ∙ by (bytes_eq h.step step) refl (put_entries step x hs)
@@ -51,12 +51,12 @@ put_entries {A} step x (h ∷ hs) =
     by true same rest = ap (λ v. (v, x) ∷ entries_of hs) (same_text h.step step same)
     by false other rest = ap (λ r. entry_of h ∷ r) rest
 
-pub left_entries : {A : Type 0} (p : List ℕ → Bool) (hs : List (HeldStep A)) → filter (λ (e : List ℕ × Held A). p e.0) (entries_of hs) ≡ entries_of (filter (λ (h : HeldStep A). p h.step) hs)
+pub left_entries : {A : Type 0} (p : List ℕ → Bool) (hs : List (HeldStep A)) → filter (λ (e : List ℕ × HeldRow A). p e.0) (entries_of hs) ≡ entries_of (filter (λ (h : HeldStep A). p h.step) hs)
 left_entries p [] = refl
 left_entries {A} p (h ∷ hs) = by (p h.step) (left_entries p hs)
   where
-    by : (b : Bool) → filter (λ (e : List ℕ × Held A). p e.0) (entries_of hs) ≡ entries_of (filter (λ (h : HeldStep A). p h.step) hs)
-        → cond b (entry_of h ∷ filter (λ (e : List ℕ × Held A). p e.0) (entries_of hs)) (filter (λ (e : List ℕ × Held A). p e.0) (entries_of hs)) ≡ entries_of (cond b (h ∷ filter (λ (h : HeldStep A). p h.step) hs) (filter (λ (h : HeldStep A). p h.step) hs))
+    by : (b : Bool) → filter (λ (e : List ℕ × HeldRow A). p e.0) (entries_of hs) ≡ entries_of (filter (λ (h : HeldStep A). p h.step) hs)
+        → cond b (entry_of h ∷ filter (λ (e : List ℕ × HeldRow A). p e.0) (entries_of hs)) (filter (λ (e : List ℕ × HeldRow A). p e.0) (entries_of hs)) ≡ entries_of (cond b (h ∷ filter (λ (h : HeldStep A). p h.step) hs) (filter (λ (h : HeldStep A). p h.step) hs))
     by true rest = ap (λ r. entry_of h ∷ r) rest
     by false rest = rest
 

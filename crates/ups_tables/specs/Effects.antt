@@ -13,14 +13,14 @@ use Rattle.ups_events.specs.Telling.{told, acked_to}
 use Rattle.ups_watch.specs.declared.cover.Cover.{Cover}
 use Rattle.ups_watch.specs.Covers.{covers_left}
 use Rattle.ups_watch.specs.Table.{covering, knows}
-use Rattle.ups_steps.specs.declared.held.Held.{Held}
+use Rattle.ups_steps.specs.declared.held.HeldRow.{HeldRow}
 use Rattle.ups_tables.specs.declared.tables.Tables.{Tables}
 use Rattle.ups_tables.specs.Held.{put_held}
 use Rattle.ups_tables.specs.Fit.{how, cells_at, queue_line, uses}
 
 -- a step is created (PS3.4 CC.2.5): each peer is subscribed to it as its global subscription says, and the subscribed
 -- peers are told the news
-pub record IsCreated {A : Type 0} (entry : ℕ) (step : List ℕ) (held : Held A) (news : List Report) (t t' : Tables A) : Type 0 where
+pub record IsCreated {A : Type 0} (entry : ℕ) (step : List ℕ) (held : HeldRow A) (news : List Report) (t t' : Tables A) : Type 0 where
   pub steps : t'.steps.entries ≡ t.steps.entries ++ (step, held) ∷ []
   pub used : (u : List ℕ) → uses t' u ≡ (bytes_eq step u || uses t u)
   pub covers : t'.watchers.covers ≡ t.watchers.covers
@@ -29,7 +29,7 @@ pub record IsCreated {A : Type 0} (entry : ℕ) (step : List ℕ) (held : Held A
 
 -- what is held of a step changes (PS3.4 CC.2.1, CC.2.2, CC.2.6): each peer that watches the step is told the news; a
 -- peer that does not, and that `newly` subscribes to it with this change, is told `first` alone (PS3.4 CC.2.3, CC.2.4)
-pub record IsChanged {A : Type 0} (entry : ℕ) (step : List ℕ) (held : Held A) (news : List Report) (newly : List (Option Subscription)) (first : List Report) (t t' : Tables A) : Type 0 where
+pub record IsChanged {A : Type 0} (entry : ℕ) (step : List ℕ) (held : HeldRow A) (news : List Report) (newly : List (Option Subscription)) (first : List Report) (t t' : Tables A) : Type 0 where
   pub steps : t'.steps.entries ≡ put_held step held t.steps.entries
   pub used : (u : List ℕ) → uses t' u ≡ uses t u
   pub covers : t'.watchers.covers ≡ t.watchers.covers
@@ -76,7 +76,7 @@ pub record AcknowledgesUpto {A : Type 0} (peer upto : ℕ) (t t' : Tables A) : T
 
 -- steps are removed, with all subscriptions to them (defined by the profile, with PS3.4 CC.2.3)
 pub record IsSwept {A : Type 0} (due : List (List ℕ)) (t t' : Tables A) : Type 0 where
-  pub steps : t'.steps.entries ≡ filter (λ (e : List ℕ × Held A). not (is_among e.0 due)) t.steps.entries
+  pub steps : t'.steps.entries ≡ filter (λ (e : List ℕ × HeldRow A). not (is_among e.0 due)) t.steps.entries
   pub used : (u : List ℕ) → uses t' u ≡ uses t u
   pub covers : t'.watchers.covers ≡ t.watchers.covers
   pub hows : (p : ℕ) (u : List ℕ) → how t' p u ≡ (if is_among u due then None else how t p u)

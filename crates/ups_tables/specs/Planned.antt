@@ -21,7 +21,7 @@ use Rattle.ups_keep.specs.declared.due.Final.{Final}
 use Rattle.ups_keep.specs.Due.{due_until}
 use Rattle.ups_events.specs.Queue.{ack_fault, queue_at}
 use Rattle.ups_watch.specs.declared.cover.Cover.{Cover}
-use Rattle.ups_steps.specs.declared.held.Held.{Held}
+use Rattle.ups_steps.specs.declared.held.HeldRow.{HeldRow}
 use Rattle.ups_tables.specs.declared.tables.Tables.{Tables}
 use Rattle.ups_tables.specs.declared.plan.Plan.{Plan}
 use Rattle.ups_tables.specs.declared.plan.Plan.TheVariants.{Create as ToCreate, Change as ToChange, Set as ToSet, Single as ToSingle, Global as ToGlobal, End as ToEnd, EndAll as ToEndAll, Suspend as ToSuspend, Ack as ToAck, Sweep as ToSweep, Idle as ToIdle}
@@ -34,26 +34,26 @@ use Rattle.ups_tables.specs.Places.{place_of_title}
 
 -- `held` is what the definitions hold of the step of the entry after it, and `told` is the news of the entry on the
 -- step (PS3.4 CC.2.4)
-pub record PlansStep {A : Type 0} (s : Settings) (es : List (Entry A)) (e : Entry A) (step : List ℕ) (held : Held A) (told : List Report) : Type 0 where
+pub record PlansStep {A : Type 0} (s : Settings) (es : List (Entry A)) (e : Entry A) (step : List ℕ) (held : HeldRow A) (told : List Report) : Type 0 where
   pub steps : put_step (step_with_held step held) (held_steps s es) ≡ held_steps s (e ∷ es)
   pub row : held.row ≡ row_of s (e ∷ es) step
   pub news : told ≡ news s es e step
 
 -- a step is to be created (PS3.4 CC.2.5)
-pub record PlansCreate {A : Type 0} (s : Settings) (es : List (Entry A)) (e : Entry A) (step : List ℕ) (held : Held A) (told : List Report) : Type 0 where
+pub record PlansCreate {A : Type 0} (s : Settings) (es : List (Entry A)) (e : Entry A) (step : List ℕ) (held : HeldRow A) (told : List Report) : Type 0 where
   pub attributes : List El
   pub request : e.request ≡ Create step attributes
   pub on : PlansStep s es e step held told
 
 -- the state of a step is to change, or its cancellation is requested (PS3.4 CC.2.1, CC.2.2); neither subscribes anybody
-pub record PlansChange {A : Type 0} (s : Settings) (es : List (Entry A)) (e : Entry A) (step : List ℕ) (held : Held A) (told : List Report) : Type 0 where
+pub record PlansChange {A : Type 0} (s : Settings) (es : List (Entry A)) (e : Entry A) (step : List ℕ) (held : HeldRow A) (told : List Report) : Type 0 where
   pub request : step_of e.request ≡ Some step
   pub old : is_of_watch e.request ≡ false
   pub on : PlansStep s es e step held told
 
 -- attributes of a step are to be set (PS3.4 CC.2.6); this subscribes the peers that are not subscribed to the step and
 -- whose global subscriptions cover it only after the change, and they are told of the step as it is then
-pub record PlansSet {A : Type 0} (s : Settings) (es : List (Entry A)) (e : Entry A) (t : Tables A) (step : List ℕ) (held : Held A) (told : List Report) (newly : List (Option Subscription)) (first : List Report) : Type 0 where
+pub record PlansSet {A : Type 0} (s : Settings) (es : List (Entry A)) (e : Entry A) (t : Tables A) (step : List ℕ) (held : HeldRow A) (told : List Report) (newly : List (Option Subscription)) (first : List Report) : Type 0 where
   pub transaction : Transaction
   pub attributes : List El
   pub request : e.request ≡ Set (Some step) transaction attributes

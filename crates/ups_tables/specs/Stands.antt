@@ -12,7 +12,7 @@ use Rattle.ups_tables.specs.Live.{global, live, queue}
 use Rattle.ups_tables.specs.Seen.{Once}
 use Rattle.ups_events.specs.Telling.{Line, empty_line}
 use Rattle.ups_watch.specs.declared.cover.Cover.{Cover}
-use Rattle.ups_steps.specs.declared.held.Held.{Held}
+use Rattle.ups_steps.specs.declared.held.HeldRow.{HeldRow}
 use Rattle.ups_tables.specs.declared.tables.Tables.{Tables}
 use Rattle.ups_tables.specs.Fit.{how, queue_line, uses, TablesFit}
 use Rattle.ups_tables.specs.Places.{place_of_title, by_place}
@@ -34,11 +34,11 @@ queue_of peers t w = by_place empty_line (λ p. queue_line t p) (place_of_title 
 -- WHAT THE TABLES SAY ABOUT STEPS
 
 -- a held step as an entry of the table, under its UID
-abbrev pub entry_of : {A : Type 0} → HeldStep A → List ℕ × Held A
+abbrev pub entry_of : {A : Type 0} → HeldStep A → List ℕ × HeldRow A
 entry_of h = (h.step, record { row = h.row; holder = h.holder })
 
 -- held steps as entries of the table, in their order
-abbrev pub entries_of : {A : Type 0} → List (HeldStep A) → List (List ℕ × Held A)
+abbrev pub entries_of : {A : Type 0} → List (HeldStep A) → List (List ℕ × HeldRow A)
 entries_of hs = map entry_of hs
 
 -- THE TABLES STAND

@@ -18,7 +18,7 @@ use crate::used::use_uid;
 use std::alloc::Allocator;
 use ups_keep::Final;
 use ups_life::{Place, Report, StepUid, Subscription};
-use ups_steps::Held;
+use ups_steps::HeldRow;
 use ups_watch::Cover;
 
 /// Creates a step (PS3.4 CC.2.5). Each peer whose global subscription takes the step in is subscribed to it and told
@@ -27,7 +27,7 @@ pub(crate) fn create<A: Allocator + Copy>(
     tables: &mut Tables<A>,
     entry: u64,
     step: StepUid,
-    held: Held<A>,
+    held: HeldRow<A>,
     news: &[Report],
 )
     requires fits { TablesFit tables.old }
@@ -56,7 +56,7 @@ pub(crate) fn change<A: Allocator + Copy>(
     tables: &mut Tables<A>,
     entry: u64,
     step: StepUid,
-    held: Held<A>,
+    held: HeldRow<A>,
     news: &[Report],
     newly: &[Option<Subscription>],
     first: &[Report],
@@ -89,7 +89,7 @@ pub(crate) fn change_alone<A: Allocator + Copy>(
     tables: &mut Tables<A>,
     entry: u64,
     step: StepUid,
-    held: Held<A>,
+    held: HeldRow<A>,
     news: &[Report],
 )
     requires fits { TablesFit tables.old }

@@ -29,5 +29,5 @@ pub use rows::HeldStep;
 pub use step_plans::plan_step;
 pub use sweeping::plan_sweep;
 pub use tables::Tables;
-pub use ups_steps::Held;
+pub use ups_steps::HeldRow;
 pub use watch_plans::{plan_end, plan_subscription, plan_suspend};

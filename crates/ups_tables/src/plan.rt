@@ -7,7 +7,7 @@ ghost use Rattle.ups_tables.specs.Planned.{removed_by, swept_by};
 use std::alloc::Allocator;
 use ups_keep::Final;
 use ups_life::{Report, StepUid, Subscription};
-use ups_steps::Held;
+use ups_steps::HeldRow;
 use ups_watch::Cover;
 
 /// The effect of a request on the tables.
@@ -16,20 +16,20 @@ pub enum Plan<A: Allocator + Copy> {
     /// The creation of a step (PS3.4 CC.2.5). The peers that a global subscription subscribes to it are told `news`.
     Create {
         step: StepUid,
-        held: Held<A>,
+        held: HeldRow<A>,
         news: Vec<Report, A>,
     },
     /// A change of the row or the holder of a step (PS3.4 CC.2.1, CC.2.2). Its watchers are told `news`.
     Change {
         step: StepUid,
-        held: Held<A>,
+        held: HeldRow<A>,
         news: Vec<Report, A>,
     },
     /// A change of attributes of a step (PS3.4 CC.2.6). Its watchers are told `news`; the peers that `newly`, indexed
     /// by peer, subscribes to it as a result are told only `first`.
     Set {
         step: StepUid,
-        held: Held<A>,
+        held: HeldRow<A>,
         news: Vec<Report, A>,
         newly: Vec<Option<Subscription>, A>,
         first: Vec<Report, A>,

@@ -20,10 +20,10 @@ use crate::telling::{alone, news, report_now};
 use std::alloc::{AllocError, Allocator};
 use ups_dataset::DataSet;
 use ups_life::{Configuration, Entry, Request, Row, StepUid, Subscription};
-use ups_steps::Held;
+use ups_steps::HeldRow;
 
 /// Returns the row of a step, or None if the step is not held.
-fn row_of<A: Allocator + Copy>(held: Option<&Held<A>>) -> Option<&Row<A>>
+fn row_of<A: Allocator + Copy>(held: Option<&HeldRow<A>>) -> Option<&Row<A>>
     ensures { option_copied result ≡ row_held (option_copied held.entry) }
 {
     match held {
@@ -65,7 +65,7 @@ pub fn plan_step<A: Allocator + Copy>(
     tables: &Tables<A>,
     entry: &Entry<A>,
     step: StepUid,
-    held: Held<A>,
+    held: HeldRow<A>,
 ) -> Result<Plan<A>, AllocError>
     requires stands { Stands configuration.now history.now tables.now }
     requires step { step_of entry.now.request ≡ Some step }

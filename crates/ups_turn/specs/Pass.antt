@@ -8,8 +8,8 @@ use Rattle.ups_life.specs.declared.request.Reply.TheVariants.{Status as Answered
 use Rattle.ups_life.specs.Settings.{Settings}
 use Rattle.ups_service.specs.State.{State}
 use Rattle.ups_service.specs.Law.{Seen, bounded, seen_so, is_legal, BeginsHistory, Answers, entered, lacking}
-use Rattle.ups_turn.specs.declared.fault.OpenFault.{OpenFault}
-use Rattle.ups_turn.specs.declared.fault.OpenFault.TheVariants.{BadSeats, Memory}
+use Rattle.ups_turn.specs.declared.fault.DeskFault.{DeskFault}
+use Rattle.ups_turn.specs.declared.fault.DeskFault.TheVariants.{BadSeats, Memory}
 use Rattle.ups_turn.specs.declared.view.Part.{Part}
 use Rattle.ups_turn.specs.declared.view.View.{View}
 use Rattle.ups_turn.specs.Rule.{Behind, IsPassNumber}
@@ -44,12 +44,12 @@ seen_by p = seen_so p.seen (bounded p.calls most_calls)
 abbrev pub are_seats : ℕ → Bool
 are_seats seats = nat_le 1 seats && nat_le seats most_seats
 
-abbrev pub seats_fault : Bool → OpenFault
+abbrev pub seats_fault : Bool → DeskFault
 seats_fault true = Memory
 seats_fault false = BadSeats
 
 -- why a desk with this many seats does not open
-abbrev pub open_fault : ℕ → OpenFault
+abbrev pub open_fault : ℕ → DeskFault
 open_fault seats = seats_fault (are_seats seats)
 
 abbrev pub part : {A : Type 0} → ℕ → List (Entry A) → List (Part A)

@@ -11,10 +11,10 @@ ghost use Rattle.ups_turn.specs.Plays.{longer};
 ghost use Rattle.ups_turn.specs.Rule.{Behind, EnteredByPasses, opening_view};
 
 use crate::at::At;
-use crate::fault::{CloseFault, OpenFault};
+use crate::fault::{CloseFault, DeskFault};
 use crate::held::Held;
 use crate::pass::Pass;
-use crate::rule::{InTurn, Place, Shelf};
+use crate::rule::{DeskTable, InTurn, PassSeat};
 use crate::turn::{
     COUNT, absorb, call_in_turn, deal, low_half, note, observe_in_turn, settle, waiting_in_turn,
 };
@@ -91,9 +91,9 @@ fn are_seats(seats: u32) -> bool
 
 // Joins the seats of all these passes into one.
 fn gather<M: SharedService<A>, A: Allocator + Copy>(
-    shelf: &Shelf<M, A>,
+    shelf: &DeskTable<M, A>,
     mut passes: Vec<Pass<M, A>, A>,
-) -> Place<M, A>
+) -> PassSeat<M, A>
     requires some { 0 < length passes.items }
     requires table { (shelf.now.table_id.words ≡ 3) × (shelf.now.table_id.slots ≡ 1) × All (λ p. p.table ≡ shelf.now.table_id) passes.items }
     ensures table { result.table_id ≡ shelf.now.table_id }
@@ -128,8 +128,8 @@ fn back<M: SharedService<A>, A: Allocator + Copy>(
 
 // Deals out the passes of a new desk, in the order of their numbers.
 fn deal_out<M: SharedService<A>, A: Allocator + Copy>(
-    shelf: &Shelf<M, A>,
-    place: Place<M, A>,
+    shelf: &DeskTable<M, A>,
+    place: PassSeat<M, A>,
     passes: &mut Vec<Pass<M, A>, A>,
     seats: u32,
     front: u64,
@@ -175,22 +175,22 @@ impl<M: SharedService<A>, A: Allocator + Copy> Desk<M, A> {
         alloc: A,
         manager: M,
         seats: u32,
-    ) -> Result<(Desk<M, A>, Vec<Pass<M, A>, A>), (M, OpenFault)>
+    ) -> Result<(Desk<M, A>, Vec<Pass<M, A>, A>), (M, DeskFault)>
         ensures allowed { OnOk result (are_seats seats ≡ true) }
         ensures desk { IfOk result (λ r. (r.0.seats ≡ seats) × (r.0.opening ≡ M.state manager)) }
         ensures passes { IfOk result (λ r. r.1.items ≡ passes_from r.0.table (M.state manager) 1 seats) }
         ensures refused { IfErr result (λ r. (M.state r.0 ≡ M.state manager) × (r.1 ≡ open_fault seats)) }
     {
         if !are_seats(seats) {
-            return Err((manager, OpenFault::BadSeats));
+            return Err((manager, DeskFault::BadSeats));
         }
         let held = match Held::new(alloc, manager) {
             Ok(held) => held,
-            Err(manager) => return Err((manager, OpenFault::Memory)),
+            Err(manager) => return Err((manager, DeskFault::Memory)),
         };
         match Desk::with_seats(alloc, held, seats) {
             Ok(opened) => Ok(opened),
-            Err(held) => Err((held.into_shared(), OpenFault::Memory)),
+            Err(held) => Err((held.into_shared(), DeskFault::Memory)),
         }
     }
 

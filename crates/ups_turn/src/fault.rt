@@ -4,7 +4,7 @@ use thiserror::Error;
 
 /// The reason why no desk was opened: the first of the tests that fails.
 #[derive(Clone, Copy, Debug, PartialEq, Eq, Error)]
-pub enum OpenFault {
+pub enum DeskFault {
     /// There are no seats, or more than 1,024.
     #[error("a desk has from 1 to 1024 seats")]
     BadSeats,

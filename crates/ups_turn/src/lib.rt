@@ -20,6 +20,6 @@ mod view;
 
 pub use at::At;
 pub use desk::Desk;
-pub use fault::{CloseFault, OpenFault};
+pub use fault::{CloseFault, DeskFault};
 pub use pass::Pass;
 pub use seated::{Fixed, Seated};

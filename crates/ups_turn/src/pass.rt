@@ -2,7 +2,7 @@
 ghost use Rattle.std.specs.Prelude.{◌≡◌, [], ◌∷◌, ◌+◌, ◌<◌, ◌^◌, false, None, length};
 ghost use Rattle.ups_turn.specs.Pass.{part_of};
 
-use crate::rule::Place;
+use crate::rule::PassSeat;
 use std::alloc::Allocator;
 use std::marker::Model;
 use ups_service::SharedService;
@@ -12,7 +12,7 @@ use ups_service::SharedService;
 /// seen.
 #[derive(Drop)]
 pub struct Pass<M: SharedService<A>, A: Allocator + Copy> {
-    pub(crate) place: Place<M, A>,
+    pub(crate) place: PassSeat<M, A>,
     pub(crate) number: u32,
     pub(crate) calls: u64,
     /// The number of entries that it has seen.
@@ -52,7 +52,7 @@ impl<M: SharedService<A>, A: Allocator + Copy> Pass<M, A> {
     }
 
     /// Returns the seat of the pass.
-    pub(crate) fn into_place(self) -> Place<M, A>
+    pub(crate) fn into_place(self) -> PassSeat<M, A>
         ensures table { result.table_id ≡ self.table }
         ensures rests { (result.me.0.ticket ≡ None) × (result.me.0.turn ≡ false) × (result.me.1 ≡ []) }
         ensures part { result.me.0.parts ≡ part_of self ∷ [] }

@@ -97,7 +97,7 @@ impl<A: Allocator + Copy> Join<View<A>> for Both {
 }
 
 /// The words and the slot, as all passes share them.
-pub type Shelf<M, A> = Shared<Option<Held<M, A>>, View<A>, Opening<M, A>, InTurn>;
+pub type DeskTable<M, A> = Shared<Option<Held<M, A>>, View<A>, Opening<M, A>, InTurn>;
 
 /// The seat of a pass.
-pub type Place<M, A> = Seat<Option<Held<M, A>>, View<A>>;
+pub type PassSeat<M, A> = Seat<Option<Held<M, A>>, View<A>>;

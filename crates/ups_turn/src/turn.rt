@@ -10,7 +10,7 @@ ghost use Rattle.ups_turn.specs.Pass.{HasObserved, IsAtRest, IsServed, IsShelf, 
 ghost use Rattle.ups_turn.specs.Plays.{with_ticket, at_turn, served, history_in, TakesTurn, MayDecide, MayServe, Took, MayGive, note_of, joined_views, kept_back, dealt, settled, CaughtUp};
 
 use crate::held::Held;
-use crate::rule::{Both, Deal, Decide, Draw, Look, Note, Place, Serve, Settle, Shelf};
+use crate::rule::{Both, Deal, Decide, DeskTable, Draw, Look, Note, PassSeat, Serve, Settle};
 use std::alloc::Allocator;
 use std::hint::spin_loop;
 use std::sync::Wait;
@@ -33,8 +33,8 @@ const LOOKS: u32 = 100;
 
 /// Draws a ticket.
 fn draw<M: SharedService<A>, A: Allocator + Copy>(
-    shelf: &Shelf<M, A>,
-    place: &mut Place<M, A>,
+    shelf: &DeskTable<M, A>,
+    place: &mut PassSeat<M, A>,
 ) -> u64
     requires table { IsShelf place.old.table_id shelf.now.table_id }
     requires rests { place.old.me.0.ticket ≡ None }
@@ -47,8 +47,8 @@ fn draw<M: SharedService<A>, A: Allocator + Copy>(
 
 /// Reads which ticket is served, and returns it. If it is the seat's own, the seat has the turn, and the manager.
 fn look<M: SharedService<A>, A: Allocator + Copy>(
-    shelf: &Shelf<M, A>,
-    place: &mut Place<M, A>,
+    shelf: &DeskTable<M, A>,
+    place: &mut PassSeat<M, A>,
     ticket: u64,
 ) -> u64
     requires table { IsShelf place.old.table_id shelf.now.table_id }
@@ -61,8 +61,8 @@ fn look<M: SharedService<A>, A: Allocator + Copy>(
 
 /// Looks a number of times, or until the ticket is served. Returns the ticket that was served at the last look.
 fn look_often<M: SharedService<A>, A: Allocator + Copy>(
-    shelf: &Shelf<M, A>,
-    place: &mut Place<M, A>,
+    shelf: &DeskTable<M, A>,
+    place: &mut PassSeat<M, A>,
     ticket: u64,
 ) -> u64
     requires table { IsShelf place.old.table_id shelf.now.table_id }
@@ -83,8 +83,8 @@ fn look_often<M: SharedService<A>, A: Allocator + Copy>(
 /// Waits for the turn: looks, and then sleeps until another ticket is served than the one that was found.
 fn wait<M: SharedService<A>, A: Allocator + Copy, R: Wait>(
     rt: &R,
-    shelf: &Shelf<M, A>,
-    place: &mut Place<M, A>,
+    shelf: &DeskTable<M, A>,
+    place: &mut PassSeat<M, A>,
     ticket: u64,
 )
     requires table { IsShelf place.old.table_id shelf.now.table_id }
@@ -109,8 +109,8 @@ pub(crate) fn low_half(word: u64) -> u32 {
 
 /// Enters `entered` requests: as many as the manager in the seat's hands has beyond those that the pass has seen.
 fn decide<M: SharedService<A>, A: Allocator + Copy>(
-    shelf: &Shelf<M, A>,
-    place: &mut Place<M, A>,
+    shelf: &DeskTable<M, A>,
+    place: &mut PassSeat<M, A>,
     entered: u64,
 )
     requires table { IsShelf place.old.table_id shelf.now.table_id }
@@ -123,8 +123,8 @@ fn decide<M: SharedService<A>, A: Allocator + Copy>(
 
 /// Gives up the manager and serves the next ticket. Returns the ticket that was served until then.
 fn serve<M: SharedService<A>, A: Allocator + Copy>(
-    shelf: &Shelf<M, A>,
-    place: &mut Place<M, A>,
+    shelf: &DeskTable<M, A>,
+    place: &mut PassSeat<M, A>,
 ) -> u64
     requires table { IsShelf place.old.table_id shelf.now.table_id }
     requires may { MayServe place.old.me }
@@ -136,7 +136,7 @@ fn serve<M: SharedService<A>, A: Allocator + Copy>(
 
 /// Wakes the sleeping passes if a ticket was drawn after the one that was served until now. Otherwise nobody waits, and
 /// the system is not called.
-fn wake<M: SharedService<A>, A: Allocator + Copy>(shelf: &Shelf<M, A>, served: u64)
+fn wake<M: SharedService<A>, A: Allocator + Copy>(shelf: &DeskTable<M, A>, served: u64)
     requires { shelf.now.table_id.words ≡ 3 }
 {
     if shelf.peek(TICKET) != served.wrapping_add(1) {
@@ -147,8 +147,8 @@ fn wake<M: SharedService<A>, A: Allocator + Copy>(shelf: &Shelf<M, A>, served: u
 /// Waits for a turn, and takes the manager.
 fn take<M: SharedService<A>, A: Allocator + Copy, R: Wait>(
     rt: &R,
-    shelf: &Shelf<M, A>,
-    place: &mut Place<M, A>,
+    shelf: &DeskTable<M, A>,
+    place: &mut PassSeat<M, A>,
 ) -> Held<M, A>
     requires table { IsShelf place.old.table_id shelf.now.table_id }
     requires rests { (place.old.me.0.ticket ≡ None) × (place.old.me.0.turn ≡ false) × (place.old.me.1 ≡ []) }
@@ -166,8 +166,8 @@ fn take<M: SharedService<A>, A: Allocator + Copy, R: Wait>(
 
 /// Gives the manager back with `count` new entries, and ends the turn.
 fn give<M: SharedService<A>, A: Allocator + Copy>(
-    shelf: &Shelf<M, A>,
-    place: &mut Place<M, A>,
+    shelf: &DeskTable<M, A>,
+    place: &mut PassSeat<M, A>,
     manager: Held<M, A>,
     count: u64,
 )
@@ -188,8 +188,8 @@ fn give<M: SharedService<A>, A: Allocator + Copy>(
 /// reply, and the number of requests that are entered then.
 pub(crate) fn call_in_turn<M: SharedService<A>, A: Allocator + Copy, R: Wait>(
     rt: &R,
-    shelf: &Shelf<M, A>,
-    place: &mut Place<M, A>,
+    shelf: &DeskTable<M, A>,
+    place: &mut PassSeat<M, A>,
     number: u32,
     ae: Ae,
     moment: u64,
@@ -219,8 +219,8 @@ pub(crate) fn call_in_turn<M: SharedService<A>, A: Allocator + Copy, R: Wait>(
 /// Returns the number of entered requests.
 pub(crate) fn observe_in_turn<M: SharedService<A>, O: Observer<A>, A: Allocator + Copy, R: Wait>(
     rt: &R,
-    shelf: &Shelf<M, A>,
-    place: &mut Place<M, A>,
+    shelf: &DeskTable<M, A>,
+    place: &mut PassSeat<M, A>,
     number: u32,
     observer: &mut O,
 ) -> u64
@@ -245,8 +245,8 @@ pub(crate) fn observe_in_turn<M: SharedService<A>, O: Observer<A>, A: Allocator 
 /// was. Returns their number, and the number of entered requests.
 pub(crate) fn waiting_in_turn<M: SharedService<A>, A: Allocator + Copy, R: Wait>(
     rt: &R,
-    shelf: &Shelf<M, A>,
-    place: &mut Place<M, A>,
+    shelf: &DeskTable<M, A>,
+    place: &mut PassSeat<M, A>,
     number: u32,
     ae: Ae,
 ) -> (usize, u64)
@@ -269,9 +269,9 @@ pub(crate) fn waiting_in_turn<M: SharedService<A>, A: Allocator + Copy, R: Wait>
 
 /// Splits off a note of what the seat's passes have seen.
 pub(crate) fn note<M: SharedService<A>, A: Allocator + Copy>(
-    shelf: &Shelf<M, A>,
-    place: &mut Place<M, A>,
-) -> Place<M, A>
+    shelf: &DeskTable<M, A>,
+    place: &mut PassSeat<M, A>,
+) -> PassSeat<M, A>
     requires table { IsShelf place.old.table_id shelf.now.table_id }
     ensures same { (place.new.table_id ≡ place.old.table_id) × (place.new.id ≡ place.old.id) × (place.new.me ≡ place.old.me) }
     ensures note { (result.table_id ≡ place.old.table_id) × (result.me ≡ (note_of place.old.me.0, [])) }
@@ -281,9 +281,9 @@ pub(crate) fn note<M: SharedService<A>, A: Allocator + Copy>(
 
 /// Splits off a seat for the first of the seat's passes.
 pub(crate) fn deal<M: SharedService<A>, A: Allocator + Copy>(
-    shelf: &Shelf<M, A>,
-    place: &mut Place<M, A>,
-) -> Place<M, A>
+    shelf: &DeskTable<M, A>,
+    place: &mut PassSeat<M, A>,
+) -> PassSeat<M, A>
     requires table { IsShelf place.old.table_id shelf.now.table_id }
     requires fresh { (place.old.me.0.draws ≡ 0) × (place.old.me.0.turn ≡ false) }
     ensures same { (place.new.table_id ≡ place.old.table_id) × (place.new.id ≡ place.old.id) × (place.new.me ≡ (kept_back place.old.me.0, place.old.me.1)) }
@@ -294,9 +294,9 @@ pub(crate) fn deal<M: SharedService<A>, A: Allocator + Copy>(
 
 /// Joins another seat to this one, which then represents the other's passes too, and has its notes.
 pub(crate) fn absorb<M: SharedService<A>, A: Allocator + Copy>(
-    shelf: &Shelf<M, A>,
-    place: &mut Place<M, A>,
-    other: Place<M, A>,
+    shelf: &DeskTable<M, A>,
+    place: &mut PassSeat<M, A>,
+    other: PassSeat<M, A>,
 )
     requires table { IsShelf place.old.table_id shelf.now.table_id × (other.table_id ≡ shelf.now.table_id) }
     requires rests { (place.old.me.0.turn ≡ false) × (other.me.0.ticket ≡ None) × (other.me.0.turn ≡ false) × (other.me.1 ≡ []) }
@@ -309,8 +309,8 @@ pub(crate) fn absorb<M: SharedService<A>, A: Allocator + Copy>(
 
 /// Makes the seat's passes learn what was noted.
 pub(crate) fn settle<M: SharedService<A>, A: Allocator + Copy>(
-    shelf: &Shelf<M, A>,
-    place: &mut Place<M, A>,
+    shelf: &DeskTable<M, A>,
+    place: &mut PassSeat<M, A>,
 )
     requires table { IsShelf place.old.table_id shelf.now.table_id }
     requires rests { (place.old.me.0.turn ≡ false) × (0 < length place.old.me.0.parts) }

@@ -1,15 +1,8 @@
 -- Blank rows: one more, one less.
-use Rattle.std.proofs.Common.{◌≡◌, ℕ, List, [], ◌∷◌, ◌++◌, None, length, replicate, refl, sym, ap, ◌∙◌, inl, inr, arith, length-append}
-use Rattle.std.proofs.lemmas.Bool.{cases_lt}
+use Rattle.std.proofs.Common.{◌≡◌, ℕ, List, [], ◌∷◌, ◌++◌, None, length, refl, sym, ap, ◌∙◌, arith, length-append}
 use Rattle.std.proofs.lemmas.List.{get_or_append_left, get_or_push, length-replicate}
 use Rattle.ups_watch.specs.Rows.{Cells}
 use Rattle.ups_watch.specs.Table.{AreBlank}
-
-pub blank_push : (n : ℕ) (rows : List Cells) (row : Cells) → AreBlank n rows → row ≡ replicate n None → AreBlank n (rows ++ row ∷ [])
-blank_push n rows row blank is k l = elim (cases_lt k (length rows)) [
-  | inl a ↦ get_or_append_left rows (row ∷ []) [] k a ∙ blank k a
-  | inr a ↦ let w = length-append rows (row ∷ []) in get_or_push rows row [] k (omega (arith, a, l, w)) ∙ is
-]
 
 module _ (n : ℕ) (rows : List Cells) (row : Cells) (blank : AreBlank n (rows ++ row ∷ [])) where
   pub blank_left : AreBlank n rows

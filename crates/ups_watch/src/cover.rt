@@ -3,7 +3,7 @@
 ghost use Rattle.std.specs.Prelude.{◌≡◌, ◌<◌, ℕ, None, IfOk, length, slice_index_or};
 ghost use Rattle.ups_watch.specs.Covers.{are_met, covered, covering_in, is_newly_met, subscription_gained, covers_left};
 
-use crate::row::{Row, cell_at};
+use crate::row::{WatchRow, cell_at};
 use std::alloc::{AllocError, Allocator};
 use ups_dataset::DataSet;
 use ups_life::{Place, Subscription};
@@ -43,7 +43,7 @@ fn covered<A: Allocator + Copy>(
 
 /// Fills the row of a step that is created with these attributes: subscribes each peer as its global subscription says.
 pub(crate) fn fill<A: Allocator + Copy>(
-    row: &mut Row<A>,
+    row: &mut WatchRow<A>,
     covers: &[Option<Cover<A>>],
     attributes: &DataSet<A>,
 )

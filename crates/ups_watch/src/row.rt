@@ -10,11 +10,11 @@ use ups_life::Subscription;
 /// The subscriptions of all peers to one step: a cell for each peer, at the index of the peer. A contract sees the list
 /// of the cells.
 #[derive(Drop)]
-pub(crate) struct Row<A: Allocator + Copy> {
+pub(crate) struct WatchRow<A: Allocator + Copy> {
     cells: Vec<Option<Subscription>, A>,
 }
 
-impl<A: Allocator + Copy> Model for Row<A> {
+impl<A: Allocator + Copy> Model for WatchRow<A> {
     ghost use Rattle.std.specs.Prelude.{List, Option};
     ghost use Rattle.ups_life.specs.declared.watching.Subscription.{Subscription};
 
@@ -23,15 +23,15 @@ impl<A: Allocator + Copy> Model for Row<A> {
     ghost view = { λ r. r.cells.items };
 }
 
-impl<A: Allocator + Copy> Row<A> {
+impl<A: Allocator + Copy> WatchRow<A> {
     /// Returns a row for `width` peers, none of which is subscribed.
     ///
     /// Errors: if memory runs out.
-    pub fn blank(alloc: A, width: usize) -> Result<Row<A>, AllocError>
+    pub fn blank(alloc: A, width: usize) -> Result<WatchRow<A>, AllocError>
         ensures { IfOk result (λ r. r ≡ replicate width None) }
     {
         let cells = vec![in alloc; None; width]?;
-        Ok(Row { cells })
+        Ok(WatchRow { cells })
     }
 
     /// Returns the cells.

@@ -10,14 +10,14 @@ ghost use Rattle.std.specs.Str.{bytes_eq};
 ghost use Rattle.ups_life.specs.Watching.{is_among, is_at};
 ghost use Rattle.ups_watch.specs.Rows.{watching_in, knows_in, HasWidth};
 
-use crate::row::Row;
+use crate::row::WatchRow;
 use std::alloc::{AllocError, Allocator};
 use std::collections::HashMap;
 use std::hash::{BuildHasherDefault, FoldHasher};
 use ups_life::{Place, StepUid, Subscription};
 
 /// The row of each known step.
-pub(crate) type Rows<A> = HashMap<StepUid, Row<A>, BuildHasherDefault<FoldHasher>, A>;
+pub(crate) type Rows<A> = HashMap<StepUid, WatchRow<A>, BuildHasherDefault<FoldHasher>, A>;
 
 /// Sets the subscription of a peer to a known step.
 pub(crate) fn set_cell<A: Allocator + Copy>(
@@ -71,7 +71,7 @@ pub(crate) fn put_row<A: Allocator + Copy>(
     rows: &mut Rows<A>,
     width: usize,
     step: StepUid,
-    row: Row<A>,
+    row: WatchRow<A>,
 )
     requires width { HasWidth width rows.old.entries }
     requires row { length row ≡ width }
@@ -91,7 +91,7 @@ pub(crate) fn put_row<A: Allocator + Copy>(
 /// Errors: if memory runs out, but never if there are that many already.
 pub(crate) fn add_blanks<A: Allocator + Copy>(
     alloc: A,
-    blanks: &mut Vec<Row<A>, A>,
+    blanks: &mut Vec<WatchRow<A>, A>,
     width: usize,
     count: usize,
 ) -> Result<(), AllocError>
@@ -102,7 +102,7 @@ pub(crate) fn add_blanks<A: Allocator + Copy>(
     ensures more { vec_len blanks.old ≤ vec_len blanks.new }
 {
     while blanks.len() < count {
-        blanks.push(Row::blank(alloc, width)?)?;
+        blanks.push(WatchRow::blank(alloc, width)?)?;
     }
     Ok(())
 }

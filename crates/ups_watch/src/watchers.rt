@@ -8,7 +8,7 @@ ghost use Rattle.ups_watch.specs.Covers.{covers_left, subscription_gained};
 ghost use Rattle.ups_watch.specs.Table.{watching, knows, covering, cells_of, is_locked_by_any, locks};
 
 use crate::cover::{Cover, end_cover, fill, newly_all};
-use crate::row::{Row, cell_at, is_kept, is_kept_with, is_locked};
+use crate::row::{WatchRow, cell_at, is_kept, is_kept_with, is_locked};
 use crate::rows::{Rows, add_blanks, end_at, put_each, put_row, set_cell, set_cells, take_row};
 use std::alloc::{AllocError, Allocator};
 use std::collections::HashMap;
@@ -23,7 +23,7 @@ pub struct Watchers<A: Allocator + Copy> {
     alloc: A,
     covers: Vec<Option<Cover<A>>, A>,
     rows: Rows<A>,
-    blanks: Vec<Row<A>, A>,
+    blanks: Vec<WatchRow<A>, A>,
 }
 
 impl<A: Allocator + Copy> Drop for Watchers<A> {

@@ -1,41 +1,12 @@
 -- What reading digits does to the bytes that they spell.
-use Rattle.std.proofs.Common.{◌≡◌, ℕ, ◌+◌, ◌*◌, true, false, nat_lt, List, [], ◌∷◌, Option, Some, None, option_map, refl, sym, ◌∙◌, ap}
-use Rattle.std.specs.Char.{digit_value, is_ascii_whitespace}
+use Rattle.std.proofs.Common.{◌≡◌, ℕ, ◌+◌, ◌*◌, List, [], ◌∷◌, Option, Some, None, option_map, sym, ◌∙◌, ap}
 use Rattle.std.specs.Io.KnownBytes.{Consumes, IsAtEnd, Keeps}
 use Rattle.upsd.specs.declared.hexing.DigitFault.{DigitFault}
 use Rattle.upsd.specs.declared.hexing.DigitFault.TheVariants.{HalfByte}
-use Rattle.upsd.specs.Hexing.{values, paired, values_after, bytes_left, no_digit}
+use Rattle.upsd.specs.Hexing.{values, paired, values_after, bytes_left}
 
 abbrev pub Known : Type 0
 Known = Option (List ℕ)
-
--- a digit is read
-values_digit : (c : ℕ) (cs : List ℕ) → nat_lt (digit_value c) 16 ≡ true → values (c ∷ cs) ≡ digit_value c ∷ values cs
-values_digit c cs d = rw d refl
-
-values_space : (c : ℕ) (cs : List ℕ) → nat_lt (digit_value c) 16 ≡ false → is_ascii_whitespace c ≡ true → values (c ∷ cs) ≡ values cs
-values_space c cs d w = rw (d, w) refl
-
-values_wrong : (c : ℕ) (cs : List ℕ) → nat_lt (digit_value c) 16 ≡ false → is_ascii_whitespace c ≡ false → values (c ∷ cs) ≡ []
-values_wrong c cs d w = rw (d, w) refl
-
-pub digit_read : (a b o : Known) (c d : ℕ) → Keeps (option_map values o) (option_map values a) → Consumes a b (c ∷ []) → d ≡ digit_value c → nat_lt (digit_value c) 16 ≡ true → Consumes (option_map values o) (option_map values b) (d ∷ [])
-digit_read a b None c d k p e t = tt
-digit_read None b (Some z) c d k p e t = absurd k
-digit_read (Some x) None (Some z) c d k p e t = absurd p
-digit_read (Some x) (Some y) (Some z) c d k p e t = sym k ∙ ap values p ∙ values_digit c y t ∙ ap (λ v. v ∷ values y) (sym e)
-
-pub space_read : (a b o : Known) (c : ℕ) → Keeps (option_map values o) (option_map values a) → Consumes a b (c ∷ []) → nat_lt (digit_value c) 16 ≡ false → is_ascii_whitespace c ≡ true → Keeps (option_map values o) (option_map values b)
-space_read a b None c k p d w = tt
-space_read None b (Some z) c k p d w = absurd k
-space_read (Some x) None (Some z) c k p d w = absurd p
-space_read (Some x) (Some y) (Some z) c k p d w = sym (ap values p ∙ values_space c y d w) ∙ k
-
-pub wrong_read : (a b o : Known) (c : ℕ) → Keeps (option_map values o) (option_map values a) → Consumes a b (c ∷ []) → nat_lt (digit_value c) 16 ≡ false → is_ascii_whitespace c ≡ false → Keeps (option_map values o) (option_map (values_after no_digit) b)
-wrong_read a b None c k p d w = tt
-wrong_read None b (Some z) c k p d w = absurd k
-wrong_read (Some x) None (Some z) c k p d w = absurd p
-wrong_read (Some x) (Some y) (Some z) c k p d w = sym (ap values p ∙ values_wrong c y d w) ∙ k
 
 -- nothing is read
 pub none_read : (a b o : Known) → Keeps (option_map values o) (option_map values a) → Keeps a b → Keeps (option_map values o) (option_map values b)
@@ -43,18 +14,6 @@ none_read a b None k p = tt
 none_read None b (Some z) k p = absurd k
 none_read (Some x) None (Some z) k p = absurd p
 none_read (Some x) (Some y) (Some z) k p = ap values p ∙ k
-
--- bytes, by the digits
-pub high_read : (a b : Known) (f g : Option DigitFault) (h : ℕ) → Consumes (option_map (values_after f) a) (option_map (values_after g) b) (h ∷ []) → Keeps (bytes_left None f a) (bytes_left (Some h) g b)
-high_read None b f g h p = tt
-high_read (Some x) None f g h p = absurd p
-high_read (Some x) (Some y) f g h p = ap paired (sym p)
-
-pub low_read : (a b o : Known) (f g e : Option DigitFault) (i : Option ℕ) (h l : ℕ) → Keeps (bytes_left i e o) (bytes_left (Some h) f a) → Consumes (option_map (values_after f) a) (option_map (values_after g) b) (l ∷ []) → Consumes (bytes_left i e o) (bytes_left None g b) ((h * 16 + l) ∷ [])
-low_read a b None f g e i h l k p = tt
-low_read None b (Some z) f g e i h l k p = absurd k
-low_read (Some x) None (Some z) f g e i h l k p = absurd p
-low_read (Some x) (Some y) (Some z) f g e i h l k p = sym k ∙ ap (λ ds. paired (h ∷ ds)) p
 
 pub kept : (a b : Known) (f g : Option DigitFault) (h : Option ℕ) → Keeps (option_map (values_after f) a) (option_map (values_after g) b) → Keeps (bytes_left h f a) (bytes_left h g b)
 kept None b f g h p = tt

@@ -1,3 +1,4 @@
+pub mod Contents
 pub mod Hexing
 pub mod Limits
 pub mod Piping

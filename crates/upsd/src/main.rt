@@ -11,6 +11,7 @@ mod gate;
 mod hexing;
 mod limits;
 mod piping;
+mod place;
 mod scripting;
 mod storing;
 
@@ -18,7 +19,7 @@ use crate::ending::{refuse, server_status};
 use crate::scripting::answer_script;
 use crate::storing::{Stores, perform_compact, perform_init, terms_asked};
 use clap::ArgMatches;
-pub use ending::{Status, parse_status, script_status, session_status};
+pub use ending::{ExitStatus, parse_status, script_status, session_status};
 pub use hexing::DigitFault;
 pub use limits::limits_are_as_defined;
 use log::{LevelFilter, Log, Logged};
@@ -43,7 +44,7 @@ pub use ups_session::{End, SessionFault, WatchedReader, WatchedWriter};
 fn answer<R: Input + Print + Eprint + AllocGlobal>(
     rt: &R,
     asked: &PipeArguments,
-) -> Result<Status, AllocError>
+) -> Result<ExitStatus, AllocError>
     requires few { length asked.now.peers.items ≤ peer_limit }
     requires allowed { refusal asked.now.peers.items local_offset history_limit ≡ None }
 {
@@ -81,7 +82,7 @@ fn tell<R: Eprint>(rt: &R, piped: &Piped) {
 fn perform<R: Input + Print + Eprint + AllocGlobal>(
     rt: &R,
     matches: &ArgMatches<'_>,
-) -> Result<Status, AllocError> {
+) -> Result<ExitStatus, AllocError> {
     match matches.subcommand() {
         Some(("script", matches)) => match script_arguments(rt.alloc(), matches) {
             Ok(asked) => answer_script(rt, &asked),
@@ -91,7 +92,7 @@ fn perform<R: Input + Print + Eprint + AllocGlobal>(
             Ok(asked) => answer(rt, &asked),
             Err(fault) => refuse(rt, fault),
         },
-        None => Ok(Status::Usage),
+        None => Ok(ExitStatus::Usage),
     }
 }
 
@@ -102,7 +103,7 @@ fn perform_network<'a, R>(
     rt: &R,
     stores: &Stores<'a, R>,
     matches: &ArgMatches<'a>,
-) -> Result<Status, AllocError>
+) -> Result<ExitStatus, AllocError>
 where
     R: Threads + Wait + Clock + Log + Sync + AllocGlobal + Print + Eprint + Network,
 {
@@ -119,7 +120,7 @@ where
 fn matches_of<'a, R: Print + Eprint + AllocGlobal>(
     rt: &R,
     words: &'a [String],
-) -> Result<Result<ArgMatches<'a>, Status>, AllocError> {
+) -> Result<Result<ArgMatches<'a>, ExitStatus>, AllocError> {
     match command(rt.alloc())?.try_get_matches_from(words) {
         Ok(matches) => Ok(Ok(matches)),
         Err(error) => {
@@ -130,19 +131,19 @@ fn matches_of<'a, R: Print + Eprint + AllocGlobal>(
 }
 
 /// Returns how the program ends, and prints if that is for lack of memory.
-fn end_of<R: Eprint>(rt: &R, performed: Result<Status, AllocError>) -> Status {
+fn end_of<R: Eprint>(rt: &R, performed: Result<ExitStatus, AllocError>) -> ExitStatus {
     match performed {
         Ok(status) => status,
         Err(_) => {
             let _ = eprintln!(rt; "upsd: out of memory");
-            Status::Memory
+            ExitStatus::Memory
         }
     }
 }
 
 /// Does what the command line asks, and returns how the program ends. A server has its own runtime, whose log does not
 /// keep its threads waiting.
-fn run<'a, R, S>(rt: &R, serving: &S, stores: &Stores<'a, S>, words: &'a [String]) -> Status
+fn run<'a, R, S>(rt: &R, serving: &S, stores: &Stores<'a, S>, words: &'a [String]) -> ExitStatus
 where
     R: AllocGlobal + Input + Print + Eprint,
     S: Threads + Wait + Clock + Log + Sync + AllocGlobal + Print + Eprint + Network,
@@ -168,13 +169,13 @@ fn words(rt: &HostRuntime) -> io::Result<Vec<String>> {
 
 /// Prints why the words of the command line could not be read, and returns how the program ends: they are not UTF-8, or
 /// memory ran out.
-fn unread<R: Eprint>(rt: &R, error: ErrorKind) -> Status {
+fn unread<R: Eprint>(rt: &R, error: ErrorKind) -> ExitStatus {
     if error == ErrorKind::OutOfMemory {
         let _ = eprintln!(rt; "upsd: out of memory");
-        return Status::Memory;
+        return ExitStatus::Memory;
     }
     let _ = eprintln!(rt; "upsd: the command line is not UTF-8");
-    Status::Usage
+    ExitStatus::Usage
 }
 
 /// Returns the words after the name of the program as one text, which a store keeps for those who want to know how it

@@ -4,7 +4,7 @@ ghost use Rattle.std.specs.Prelude.{◌≡◌, ◌≤◌, length, None};
 ghost use Rattle.ups_settings.specs.Refusal.{refusal};
 ghost use Rattle.ups_life.specs.Limits.{history_limit, peer_limit};
 
-use crate::ending::{Status, script_status};
+use crate::ending::{ExitStatus, script_status};
 use std::alloc::AllocError;
 use std::io::{self, BufReader, BufWriter};
 use ups_args::ScriptArguments;
@@ -17,7 +17,7 @@ use ups_script::run;
 pub(crate) fn answer_script<R: Input + Print + Eprint + AllocGlobal>(
     rt: &R,
     asked: &ScriptArguments,
-) -> Result<Status, AllocError>
+) -> Result<ExitStatus, AllocError>
     requires few { length asked.now.peers.items ≤ peer_limit }
     requires allowed { refusal asked.now.peers.items asked.now.offset history_limit ≡ None }
 {

@@ -3,9 +3,11 @@
 ghost use Rattle.std.specs.Prelude.{◌≡◌, ◌≤◌, [], length, IfOk, IfSome};
 ghost use Rattle.ups_ledger.specs.Keeping.{IsKept, IsSafe};
 ghost use Rattle.ups_life.specs.Limits.{peer_limit};
-ghost use Rattle.upsd.specs.Storing.{compaction_settings, Resumes};
+ghost use Rattle.ups_start.specs.Opened.{ShowsFiles, Resumes};
+ghost use Rattle.upsd.specs.Storing.{compaction_settings};
 
-use crate::ending::{Status, refuse};
+use crate::ending::{ExitStatus, refuse};
+use crate::place::{AnyContents, ServerPlace};
 use clap::ArgMatches;
 use log::{Log, info};
 use std::alloc::{AllocError, Global};
@@ -22,8 +24,8 @@ use ups_net::moment_of;
 use ups_server::{StoreOpener, Unopened};
 use ups_settings::ManagerFault;
 use ups_start::{
-    CompactFault, FileLedger, FilePlace, OpenFault, Run, StartFault, StoreFault, StoreLedger,
-    StorePlace, begin, compact, create, last_terms,
+    CompactFault, OpenFault, Run, Start, StartFault, StoreFault, StoreLedger, StorePlace, begin,
+    compact, create, last_terms,
 };
 use ups_terms::{StartChoices, Terms, terms_text};
 
@@ -31,21 +33,21 @@ use ups_terms::{StartChoices, Terms, terms_text};
 /// parameter, the proof of a server exceeds the prover's limit of steps.
 #[derive(Drop)]
 pub(crate) struct ServerLedger<'a> {
-    ledger: FileLedger<'a>,
+    ledger: StoreLedger<'a, ServerPlace<'a>>,
 }
 
 impl<'a> Ledger for ServerLedger<'a> {
-    ghost kept = { λ l. ⟦<FileLedger<'a> as Ledger>⟧.kept l.ledger };
+    ghost kept = { λ l. ⟦<StoreLedger<'a, ServerPlace<'a>> as Ledger>⟧.kept l.ledger };
 
-    ghost told = { λ l. ⟦<FileLedger<'a> as Ledger>⟧.told l.ledger };
+    ghost told = { λ l. ⟦<StoreLedger<'a, ServerPlace<'a>> as Ledger>⟧.told l.ledger };
 
-    ghost is_sound = { λ l. ⟦<FileLedger<'a> as Ledger>⟧.is_sound l.ledger };
+    ghost is_sound = { λ l. ⟦<StoreLedger<'a, ServerPlace<'a>> as Ledger>⟧.is_sound l.ledger };
 
-    ghost is_honest = { λ l. ⟦<FileLedger<'a> as Ledger>⟧.is_honest l.ledger };
+    ghost is_honest = { λ l. ⟦<StoreLedger<'a, ServerPlace<'a>> as Ledger>⟧.is_honest l.ledger };
 
-    ghost is_first = { λ l. ⟦<FileLedger<'a> as Ledger>⟧.is_first l.ledger };
+    ghost is_first = { λ l. ⟦<StoreLedger<'a, ServerPlace<'a>> as Ledger>⟧.is_first l.ledger };
 
-    ghost recovers = { λ l. ⟦<FileLedger<'a> as Ledger>⟧.recovers l.ledger };
+    ghost recovers = { λ l. ⟦<StoreLedger<'a, ServerPlace<'a>> as Ledger>⟧.recovers l.ledger };
 
     fn run(&self) -> u64 {
         self.ledger.run()
@@ -133,10 +135,10 @@ fn tell_unopened<R: Eprint>(rt: &R, file: &str, fault: &StartFault) -> Unopened 
 /// Returns how the program ends after a fault of a store, and prints it, unless memory ran out.
 ///
 /// Errors: lack of memory, if that is the fault.
-fn stopped<R: Eprint>(rt: &R, file: &str, fault: &StartFault) -> Result<Status, AllocError> {
+fn stopped<R: Eprint>(rt: &R, file: &str, fault: &StartFault) -> Result<ExitStatus, AllocError> {
     match tell_unopened(rt, file, fault) {
         Unopened::Memory => Err(AllocError),
-        Unopened::Told => Ok(Status::Stopped),
+        Unopened::Told => Ok(ExitStatus::Stopped),
     }
 }
 
@@ -155,7 +157,7 @@ fn open_at<'a, P: StorePlace, R: Clock + Log>(
     ensures settings { manager.new.settings ≡ manager.old.settings }
     ensures kept { IfOk result (λ keeper. IsKept ⟦<StoreLedger<'a, P> as Ledger>⟧ keeper manager.new.history) }
     ensures safe { IfOk result (λ keeper. IsSafe ⟦<StoreLedger<'a, P> as Ledger>⟧ keeper manager.new.history) }
-    ensures resumes { IfOk result (λ keeper. ⟦<StoreLedger<'a, P> as Ledger>⟧.is_sound keeper.ledger → Resumes choices manager.old.settings manager.new.history) }
+    ensures resumes { IfOk result (λ keeper. ⟦<StoreLedger<'a, P> as Ledger>⟧.is_sound keeper.ledger → Resumes (P.finds place) choices manager.old.settings manager.new.history) }
     ensures all { IfOk result (λ keeper. keeper.committed ≡ length manager.new.history) }
 {
     match begin(
@@ -175,7 +177,7 @@ fn open_at<'a, P: StorePlace, R: Clock + Log>(
 }
 
 impl<'a, R: Clock + Log> StoreOpener<'a, ServerLedger<'a>> for Stores<'a, R> {
-    ghost begins = { λ _ _ choices settings history. Resumes choices settings history };
+    ghost begins = { λ _ _ choices settings history. Resumes (ShowsFiles ⟦<AnyContents as Start>⟧) choices settings history };
 
     fn open(
         &self,
@@ -183,7 +185,7 @@ impl<'a, R: Clock + Log> StoreOpener<'a, ServerLedger<'a>> for Stores<'a, R> {
         choices: StartChoices,
         manager: &mut Manager<Global>,
     ) -> Result<(ServerLedger<'a>, usize), Unopened> {
-        let place = FilePlace::new(self.rt, file);
+        let place = ServerPlace::new(self.rt, file);
         let keeper = open_at(self, place, file, choices, manager)?;
         let Keeper { ledger, committed } = keeper;
         Ok((ServerLedger { ledger }, committed))
@@ -226,7 +228,7 @@ fn compacted_at<P: StorePlace, R: Clock + Log>(
     place: &P,
     manager: &mut Manager<Global>,
     fresh: &mut Manager<Global>,
-) -> Result<Status, AllocError>
+) -> Result<ExitStatus, AllocError>
     requires settings { fresh.old.settings ≡ manager.old.settings }
     requires new { fresh.old.history ≡ [] }
 {
@@ -248,7 +250,7 @@ fn compacted_at<P: StorePlace, R: Clock + Log>(
         Ok(compacted) => {
             let (after, before) = (compacted.after, compacted.before);
             let _ = println!(stores.rt; "{file}: {after} requests, {before} before");
-            Ok(Status::Done)
+            Ok(ExitStatus::Done)
         }
         Err(fault) => stopped(stores.rt, file, &fault),
     }
@@ -257,7 +259,7 @@ fn compacted_at<P: StorePlace, R: Clock + Log>(
 /// Returns how a compaction ends for which no manager was made.
 ///
 /// Errors: lack of memory, if that is the fault.
-fn unmade<R: Eprint>(rt: &R, file: &str, fault: ManagerFault) -> Result<Status, AllocError> {
+fn unmade<R: Eprint>(rt: &R, file: &str, fault: ManagerFault) -> Result<ExitStatus, AllocError> {
     match fault {
         ManagerFault::Memory => Err(AllocError),
         _ => stopped(rt, file, &StartFault::UnreadableTerms),
@@ -273,7 +275,7 @@ fn compacted<R: Clock + Log>(
     keep: u32,
     offset: i16,
     peers: &[Peer],
-) -> Result<Status, AllocError>
+) -> Result<ExitStatus, AllocError>
     requires few { length peers.now ≤ peer_limit }
 {
     let alloc = stores.rt.alloc();
@@ -286,7 +288,7 @@ fn compacted<R: Clock + Log>(
         Ok(manager) => manager,
         Err(fault) => return unmade(stores.rt, asked.file, fault),
     };
-    let place = FilePlace::new(stores.rt, asked.file);
+    let place = ServerPlace::new(stores.rt, asked.file);
     compacted_at(
         stores,
         asked,
@@ -304,7 +306,7 @@ fn compacted_under<R: Clock + Log>(
     stores: &Stores<'_, R>,
     asked: Compaction<'_>,
     terms: &Terms<Global>,
-) -> Result<Status, AllocError> {
+) -> Result<ExitStatus, AllocError> {
     if terms.peers.len() > MAX_PEERS {
         return stopped(stores.rt, asked.file, &StartFault::UnreadableTerms);
     }
@@ -317,8 +319,8 @@ fn compacted_under<R: Clock + Log>(
 fn compacted_as_before<R: Clock + Log>(
     stores: &Stores<'_, R>,
     asked: Compaction<'_>,
-) -> Result<Status, AllocError> {
-    let place = FilePlace::new(stores.rt, asked.file);
+) -> Result<ExitStatus, AllocError> {
+    let place = ServerPlace::new(stores.rt, asked.file);
     match last_terms(stores.rt.alloc(), &place) {
         Ok(Some(terms)) => compacted_under(stores, asked, &terms),
         Ok(None) => {
@@ -326,7 +328,7 @@ fn compacted_as_before<R: Clock + Log>(
                 "upsd: the store {}: its last run noted no settings: give --keep, --offset and the peers of the server",
                 asked.file
             );
-            Ok(Status::Stopped)
+            Ok(ExitStatus::Stopped)
         }
         Err(fault) => stopped(stores.rt, asked.file, &fault),
     }
@@ -338,7 +340,7 @@ fn compacted_as_before<R: Clock + Log>(
 fn compacted_as_asked<R: Clock + Log>(
     stores: &Stores<'_, R>,
     arguments: &CompactArguments<'_>,
-) -> Result<Status, AllocError>
+) -> Result<ExitStatus, AllocError>
     requires few { IfSome arguments.now.settings (λ s. length s.peers.items ≤ peer_limit) }
 {
     let asked = Compaction {
@@ -367,10 +369,10 @@ fn compacted_as_asked<R: Clock + Log>(
 pub(crate) fn perform_init<R: Clock + Log>(
     stores: &Stores<'_, R>,
     matches: &ArgMatches<'_>,
-) -> Result<Status, AllocError> {
+) -> Result<ExitStatus, AllocError> {
     let InitArguments { store } = init_arguments(matches);
-    match create(stores.rt, store) {
-        Ok(_) => Ok(Status::Done),
+    match create(stores.rt, store, AnyContents) {
+        Ok(_) => Ok(ExitStatus::Done),
         Err(fault) => stopped(stores.rt, store, &StartFault::Open(fault)),
     }
 }
@@ -381,7 +383,7 @@ pub(crate) fn perform_init<R: Clock + Log>(
 pub(crate) fn perform_compact<R: Clock + Log>(
     stores: &Stores<'_, R>,
     matches: &ArgMatches<'_>,
-) -> Result<Status, AllocError> {
+) -> Result<ExitStatus, AllocError> {
     match compact_arguments(stores.rt.alloc(), matches) {
         Ok(asked) => compacted_as_asked(stores, &asked),
         Err(fault) => refuse(stores.rt, fault),

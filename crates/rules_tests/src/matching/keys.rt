@@ -4,7 +4,7 @@ use std::alloc::{Allocator, Global};
 use std::test::Fail;
 use ups_dataset::dictionary::*;
 use ups_dataset::{DataSet, Tag};
-use ups_match::{KeyFault, Keys, Matcher, Probe};
+use ups_match::{INDEXED, KeyFault, Keys, Matcher, Probe, indexed_keys_are_those_defined};
 
 /// Returns a set with one value, padded to an even length.
 pub(super) fn set_of<A: Allocator + Copy>(
@@ -289,5 +289,21 @@ fn is_copied_or_refused(heap: &Refusing<Global>) -> Result<bool, Fail> {
 fn a_copy_is_made_or_refused(rt: HostRuntime) -> Result<(), Fail> {
     let heap = Refusing::new(rt.alloc());
     assert!(rt; is_copied_or_refused(&heap)?);
+    Ok(())
+}
+
+// The table of docs/rules/matching.md.
+#[test]
+fn steps_are_looked_up_in_this_order(rt: HostRuntime) -> Result<(), Fail> {
+    indexed_keys_are_those_defined();
+    let mut text = String::new(rt.alloc());
+    for indexed in INDEXED {
+        let part = format!(in rt.alloc(); "{:08x} {:?} ", indexed.tag.number(), indexed.kind)?;
+        text.push_str(part.as_str())?;
+    }
+    assert_eq!(rt;
+        text.as_str(),
+        "00080018 Value 00100020 Value 00741202 Value 00404025 Code 00741000 Value 00741200 Value "
+    );
     Ok(())
 }

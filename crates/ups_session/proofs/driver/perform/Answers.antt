@@ -2,7 +2,6 @@ use Rattle.std.proofs.Common.{subst}
 use Rattle.ups_session.specs.Fold.{Happens}
 use Rattle.ups_session.specs.Party.{indication_of, reaction_with}
 use Rattle.ups_session.specs.Settled.{IsSettled}
-use Rattle.ups_session.specs.World.{world}
 use Rattle.ups_session.proofs.Going.{goes_short}
 use Rattle.ups_session.proofs.Settling.{performed_settled}
 use Rattle.ups_session.proofs.driver.perform.Goals as goal
@@ -17,7 +16,5 @@ returns-in-Ok-clause-performed g c =
     let reaction = reaction_with g.P.Party.call_view (g.P.Party.view c.react.new.self) c.in-Ok.effect in
     performed_settled (g.P.Party.side (g.P.Party.setup c.args.party.now)) (g.P.Party.view c.args.party.now) after (indication_of c.args.indication.now) reaction _ _ c.carry_out.result
     c.in-Ok.ensures.reacts
-    (subst (λ (s : g.P.Party.Setup). IsSettled (g.P.Party.side s) reaction after
-    (world c.args.writer.now (g.G.Gate.told c.args.gate.now) (g.S.Service.settings c.args.service.now) (g.S.Service.others c.args.service.now) (g.S.Service.caller c.args.service.now) (g.S.Service.seen c.args.service.now))
-    (world c.carry_out.new.writer (g.G.Gate.told c.carry_out.new.gate) (g.S.Service.settings c.carry_out.new.service) (g.S.Service.others c.carry_out.new.service) (g.S.Service.caller c.carry_out.new.service) (g.S.Service.seen c.carry_out.new.service)) c.carry_out.result)
+    (subst (λ (s : g.P.Party.Setup). IsSettled (g.P.Party.side s) reaction after (g.E.Environment.world c.args.environment.now) (g.E.Environment.world c.carry_out.new.environment) c.carry_out.result)
     c.in-Ok.ensures.setup c.carry_out.ensures.settled)

@@ -17,4 +17,5 @@ returns-in_default g c = record {
       turned (g.P.Party.side (g.P.Party.setup c.args.party.now)) (g.P.Party.view c.args.party.now) (g.P.Party.view c.process_bad.new.party) now input (bad c.args.fault) _ _ c.process_bad.result (decoded_bad g.row.A.Denot input c.args.fault complete c.in_default.not-Memory f) tt c.process_bad.ensures.performed;
   ready = c.process_bad.ensures.ready;
   setup = c.process_bad.ensures.setup;
+  names = c.process_bad.ensures.names;
 }

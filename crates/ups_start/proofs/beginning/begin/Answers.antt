@@ -41,17 +41,6 @@ returns-clause-begins g c =
     let begins = c.in_ok-begun.ensures.begins in
     (begins.0, begins.1, λ honest. begins.2 (c.of.ensures.honest honest))
 
-pub returns-clause-permits : goal.returns-clause-permits
-returns-clause-permits g c =
-    let permits = c.in_ok-begun.ensures.permits in
-    (permits.0, permits.1, λ keeps honest. permits.2 keeps (c.of.ensures.honest honest))
-
-pub returns-clause-resumes : goal.returns-clause-resumes
-returns-clause-resumes g c =
-    let begins = c.in_ok-begun.ensures.begins in
-    let permits = c.in_ok-begun.ensures.permits in
-    (begins.0, begins.1, permits.0, permits.1, λ sound. (begins.2 (c.of.ensures.clean sound), λ keeps. permits.2 keeps (c.of.ensures.clean sound)))
-
 pub invariant_of-result : goal.invariant_of-result
 invariant_of-result g c =
     let history = c.begin_in.new.manager.history in

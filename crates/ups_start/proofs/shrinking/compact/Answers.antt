@@ -1,5 +1,5 @@
-use Rattle.ups_store.specs.Shown.{last_terms_of}
+use Rattle.ups_store.specs.Shown.{shown_by}
 use Rattle.ups_start.proofs.shrinking.compact.Goals as goal
 
 pub returns-clause-permits : goal.returns-clause-permits
-returns-clause-permits g c = (last_terms_of c.in_ok-replay.replay, c.in_ok-replay.ensures.noted, c.in_ok-shrunk.shrunk.store, c.in_ok-shrunk.ensures.permits)
+returns-clause-permits g c = (shown_by c.in_ok-replay.replay, c.in_ok-replay.ensures.found, c.in_ok-shrunk.shrunk.store, c.in_ok-shrunk.ensures.permits)

@@ -1,6 +1,6 @@
 use Rattle.std.proofs.Common.{arith, ◌≡◌, ◌+◌, ◌++◌, ◌∷◌, [], true, sym, ap, ◌∙◌, subst, refl}
 use Rattle.ups_life.specs.declared.event.Event.{Event}
-use Rattle.ups_events.specs.declared.slots.Slot.{Slot}
+use Rattle.ups_events.specs.declared.slots.EventSlot.{EventSlot}
 use Rattle.ups_events.specs.Queue.{QueueView, added}
 use Rattle.ups_events.specs.Telling.{event_of}
 use Rattle.ups_events.specs.Kept.{lives, made_way, KeepsQueue}
@@ -14,7 +14,7 @@ pub invariant_of-self : goal.invariant_of-self
 invariant_of-self g c =
     let inside = c.self.inside in
     let event : Event = event_of (inside.made + 1) c.args.entry c.args.report in
-    let slot : Slot = record { event = event; live = true } in
+    let slot : EventSlot = record { event = event; live = true } in
     let items : c.push_back_reserved.new.self.items ≡ made_way c.args.report.kind c.args.report.step inside.slots.items ++ slot ∷ [] = c.push_back_reserved.ensures.items ∙ ap (λ xs. xs ++ slot ∷ []) c.make_way-superseded.ensures.slots in
     let k = put_keeps inside.made inside.acked inside.index.entries c.make_way-superseded.new.index.entries inside.slots.items slot c.self.invariant.1 refl c.make_way-superseded.ensures.index c.self.invariant.0 in
     let l = c.drop_front.ensures.keeps (inside.made + 1) inside.acked (subst (KeepsQueue (inside.made + 1) inside.acked c.make_way-superseded.new.index.entries) (sym items) k) in
@@ -24,7 +24,7 @@ pub returns : goal.returns
 returns g c =
     let inside = c.self.inside in
     let event : Event = event_of (inside.made + 1) c.args.entry c.args.report in
-    let slot : Slot = record { event = event; live = true } in
+    let slot : EventSlot = record { event = event; live = true } in
     let items : c.push_back_reserved.new.self.items ≡ made_way c.args.report.kind c.args.report.step inside.slots.items ++ slot ∷ [] = c.push_back_reserved.ensures.items ∙ ap (λ xs. xs ++ slot ∷ []) c.make_way-superseded.ensures.slots in
     let k = put_keeps inside.made inside.acked inside.index.entries c.make_way-superseded.new.index.entries inside.slots.items slot c.self.invariant.1 refl c.make_way-superseded.ensures.index c.self.invariant.0 in
     let r : KeepsQueue (inside.made + 1) inside.acked c.make_way-superseded.new.index.entries c.push_back_reserved.new.self.items = subst (KeepsQueue (inside.made + 1) inside.acked c.make_way-superseded.new.index.entries) (sym items) k in

@@ -10,7 +10,7 @@ look_up-requires g c =
 
 pub look_up-requires-in-Start : goal.look_up-requires-in-Start
 look_up-requires-in-Start g c =
-    starts_lead c.self.inside.slots.items c.deref-in-Start.result.now c.self.inside.starts.posts c.in-Start.least c.in-Start.greatest c.low_number-low.result c.high_number-high.result (first_view c.first-first.result) (ap first_view c.in-Start.is) c.deref-in-Start.ensures.value
+    starts_lead c.self.inside.slots.items c.deref-in-Start.result.now c.self.inside.starts.posts c.in-Start.span c.low_number-low.result c.high_number-high.result (first_view c.first-first.result) (ap first_view c.in-Start.is) c.deref-in-Start.ensures.value
     c.low_number-low.ensures c.high_number-high.ensures c.self.invariant.starts_posted
 
 pub returns-in_ok-found-in-Value : goal.returns-in_ok-found-in-Value

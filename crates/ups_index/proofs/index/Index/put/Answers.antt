@@ -1,6 +1,6 @@
 use Rattle.std.proofs.Common.{◌^◌, List, Option, IfSome, IsSome, refl, ◌++◌, ◌∷◌, [], sym, subst, ap, ◌∙◌}
 use Rattle.std.specs.Prelude.{vec_len, vec_capacity, length}
-use Rattle.ups_index.specs.declared.slots.Slot.{Slot}
+use Rattle.ups_index.specs.declared.slots.StepSlot.{StepSlot}
 use Rattle.ups_index.specs.Indexed.{Contents, has_step, put_values}
 use Rattle.ups_index.specs.Kept.{IsSlot, StepsPosted}
 use Rattle.ups_index.specs.Posts.{HasTexts, HasStart}
@@ -12,12 +12,12 @@ use Rattle.ups_index.proofs.Runs.{same_live}
 use Rattle.ups_index.proofs.index.Index.put.Goals as goal
 
 pub place_of-requires : goal.place_of-requires
-place_of-requires g c = subst (λ (r : List (Slot _)). StepsPosted r c.self.inside.steps.posts) (sym c.deref.ensures.value) c.self.invariant.steps_posted
+place_of-requires g c = subst (λ (r : List (StepSlot _)). StepsPosted r c.self.inside.steps.posts) (sym c.deref.ensures.value) c.self.invariant.steps_posted
 
 pub invariant_of-self : goal.invariant_of-self
 invariant_of-self g c =
     let (old, r) = c.in-Some.ensures in
-    let is = subst (λ (slots : List (Slot _)). IsSlot slots c.in-Some.at c.args.step old) c.deref.ensures.value r in
+    let is = subst (λ (slots : List (StepSlot _)). IsSlot slots c.in-Some.at c.args.step old) c.deref.ensures.value r in
     let t = c.exchange_values.new.texts.posts in
     let p = c.exchange_values.new.starts.posts in
     alter_keeps c.self.inside.slots.items c.in-Some.at c.args.step old is c.args.values c.self.inside.steps.posts c.self.inside.texts.posts c.self.inside.starts.posts t p t p c.self.invariant
@@ -25,12 +25,12 @@ invariant_of-self g c =
 
 pub add-requires-clause-absent : goal.add-requires-clause-absent
 add-requires-clause-absent g c =
-    let never = subst (λ (r : List (Slot _)). Absent r c.args.step) c.deref.ensures.value c.in_default.ensures in
+    let never = subst (λ (r : List (StepSlot _)). Absent r c.args.step) c.deref.ensures.value c.in_default.ensures in
     sym (ap (λ (s : Contents). has_step c.args.step s.steps) c.self.view_is) ∙ absent_has c.self.inside.slots.items c.args.step never
 
 pub returns-in_default-clause-steps : goal.returns-in_default-clause-steps
 returns-in_default-clause-steps g c =
-    let never = subst (λ (r : List (Slot _)). Absent r c.args.step) c.deref.ensures.value c.in_default.ensures in
+    let never = subst (λ (r : List (StepSlot _)). Absent r c.args.step) c.deref.ensures.value c.in_default.ensures in
     c.add.ensures.steps ∙ sym (ap (λ (s : Contents). s.steps ++ (c.args.step, c.args.values) ∷ []) c.self.view_is)
     ∙ put_behind c.self.inside.slots.items c.args.step c.args.values never
     ∙ ap (λ (s : Contents). put_values c.args.step c.args.values s.steps) c.self.view_is
@@ -38,7 +38,7 @@ returns-in_default-clause-steps g c =
 pub returns-clause-steps : goal.returns-clause-steps
 returns-clause-steps g c =
     let (old, r) = c.in-Some.ensures in
-    let is = subst (λ (slots : List (Slot _)). IsSlot slots c.in-Some.at c.args.step old) c.deref.ensures.value r in
+    let is = subst (λ (slots : List (StepSlot _)). IsSlot slots c.in-Some.at c.args.step old) c.deref.ensures.value r in
     altered_slots c.self.inside.slots.items c.in-Some.at c.args.step old c.args.values is (λ place u q. c.self.invariant.one_slot place c.in-Some.at c.args.step u old q is)
     ∙ put_there c.self.inside.slots.items c.args.step c.args.values c.in-Some.at old is
     ∙ ap (λ (s : Contents). put_values c.args.step c.args.values s.steps) c.self.view_is
@@ -46,23 +46,23 @@ returns-clause-steps g c =
 pub exchange_values-requires-clause-texts : goal.exchange_values-requires-clause-texts
 exchange_values-requires-clause-texts g c =
     let (old, r) = c.in-Some.ensures in
-    let is = subst (λ (slots : List (Slot _)). IsSlot slots c.in-Some.at c.args.step old) c.deref.ensures.value r in
-    let held = ap (λ (s : Slot _). s.values) (c.index.ensures ∙ is.1 c.index.result.now) in
+    let is = subst (λ (slots : List (StepSlot _)). IsSlot slots c.in-Some.at c.args.step old) c.deref.ensures.value r in
+    let held = ap (λ (s : StepSlot _). s.values) (c.index.ensures ∙ is.1 c.index.result.now) in
     subst (λ (o : Option RowValues). IfSome o (λ v. HasTexts v.texts c.in-Some.at c.self.inside.texts.posts)) (sym held) (c.self.invariant.texts_posted c.in-Some.at c.args.step old is)
 
 pub exchange_values-requires-clause-starts : goal.exchange_values-requires-clause-starts
 exchange_values-requires-clause-starts g c =
     let (old, r) = c.in-Some.ensures in
-    let is = subst (λ (slots : List (Slot _)). IsSlot slots c.in-Some.at c.args.step old) c.deref.ensures.value r in
-    let held = ap (λ (s : Slot _). s.values) (c.index.ensures ∙ is.1 c.index.result.now) in
+    let is = subst (λ (slots : List (StepSlot _)). IsSlot slots c.in-Some.at c.args.step old) c.deref.ensures.value r in
+    let held = ap (λ (s : StepSlot _). s.values) (c.index.ensures ∙ is.1 c.index.result.now) in
     subst (λ (o : Option RowValues). IfSome o (λ v. HasStart v.start c.in-Some.at c.self.inside.starts.posts)) (sym held)
     (has_start old.start c.in-Some.at c.self.inside.starts.posts (c.self.invariant.starts_posted c.in-Some.at c.args.step old is))
 
 pub exchange_values-requires-clause-held : goal.exchange_values-requires-clause-held
 exchange_values-requires-clause-held g c =
     let (old, r) = c.in-Some.ensures in
-    let is = subst (λ (slots : List (Slot _)). IsSlot slots c.in-Some.at c.args.step old) c.deref.ensures.value r in
-    let held = ap (λ (s : Slot _). s.values) (c.index.ensures ∙ is.1 c.index.result.now) in
+    let is = subst (λ (slots : List (StepSlot _)). IsSlot slots c.in-Some.at c.args.step old) c.deref.ensures.value r in
+    let held = ap (λ (s : StepSlot _). s.values) (c.index.ensures ∙ is.1 c.index.result.now) in
     subst (λ (o : Option RowValues). IsSome o) (sym held) refl
 
 pub exchange_values-requires-clause-text_room : goal.exchange_values-requires-clause-text_room

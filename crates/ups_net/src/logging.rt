@@ -1,0 +1,10 @@
+//! The log: the lines that the server writes, what they are about, and the counts behind them.
+
+pub(crate) mod account;
+pub(crate) mod digest;
+pub(crate) mod heading;
+pub(crate) mod journal;
+pub(crate) mod line_queue;
+pub(crate) mod lossy_log;
+pub(crate) mod responses;
+pub(crate) mod tally;

@@ -1,0 +1,111 @@
+//! A service that looks for sequences that were read as bytes in the keys of queries.
+
+ghost use Rattle.std.specs.Prelude.{◌≡◌};
+
+use crate::logging::account::Account;
+use log::Log;
+use std::alloc::Global;
+use ups_dataset::{DataSet, Element, ITEM, Tag, Value, Vr};
+use ups_life::{Ask, Reply};
+use ups_pdu::Ae;
+use ups_service::Service;
+
+/// A service that tells the account of an association about each query with a sequence that was read as bytes. It answers
+/// as the inner one does.
+///
+/// Such a sequence is Unknown (UN) and matches only as a whole value, since it came in Implicit VR Little Endian with a
+/// given length, and the dictionary lacks it (PS3.5 section 6.2.2). The answer does not say so.
+#[derive(Drop)]
+pub(crate) struct Inspected<'a, S: Service<Global>, R: Log> {
+    pub(crate) service: S,
+    rt: &'a R,
+    account: &'a Account<'a>,
+}
+
+impl<'a, S: Service<Global>, R: Log> Inspected<'a, S, R> {
+    /// Wraps the service of an association.
+    pub(crate) fn new(rt: &'a R, account: &'a Account<'a>, service: S) -> Inspected<'a, S, R>
+        ensures { result.service ≡ service }
+    {
+        Inspected {
+            service,
+            rt,
+            account,
+        }
+    }
+
+    // Tells the account about a sequence that was read as bytes, if the ask is a query with one.
+    fn inspect(&self, ask: &Option<Ask<Global>>) {
+        let Some(Ask::Find(keys)) = ask else {
+            return;
+        };
+        let keys = keys.attributes();
+        if let Some(tag) = unread_sequence(keys) {
+            self.account.note_unread(self.rt, keys.allocator(), tag);
+        }
+    }
+}
+
+/// Returns whether bytes begin as the value of a sequence that has an item does (PS3.5 section 7.5).
+fn begins_item(bytes: &[u8]) -> bool {
+    match Tag::at(bytes) {
+        Some((tag, _)) => tag == ITEM,
+        None => false,
+    }
+}
+
+/// Returns whether a key is a sequence that was read as bytes.
+fn is_unread(key: &Element<Global>) -> bool {
+    match &key.value {
+        Value::Bytes(bytes) => key.vr == Vr::Un && begins_item(bytes.as_slice()),
+        Value::Items(_) => false,
+    }
+}
+
+/// Returns the tag of the first of these keys that is a sequence which was read as bytes.
+fn unread_among(keys: &DataSet<Global>) -> Option<Tag> {
+    for key in keys.elements() {
+        if is_unread(key) {
+            return Some(key.tag);
+        }
+    }
+    None
+}
+
+/// Returns the tag of the first sequence that was read as bytes among the keys of a sequence. Readable keys have one item
+/// in a sequence at most.
+fn unread_within(key: &Element<Global>) -> Option<Tag> {
+    match &key.value {
+        Value::Bytes(_) => None,
+        Value::Items(items) => unread_among(items.first()?),
+    }
+}
+
+/// Returns the tag of the first key that is a sequence which was read as bytes: of one of these, or else of one within
+/// their items.
+fn unread_sequence(keys: &DataSet<Global>) -> Option<Tag> {
+    if let Some(tag) = unread_among(keys) {
+        return Some(tag);
+    }
+    for key in keys.elements() {
+        if let Some(tag) = unread_within(key) {
+            return Some(tag);
+        }
+    }
+    None
+}
+
+impl<'a, S: Service<Global>, R: Log> Service<Global> for Inspected<'a, S, R> {
+    ghost settings = { λ i. S.settings i.service };
+
+    ghost others = { λ i. S.others i.service };
+
+    ghost caller = { λ i. S.caller i.service };
+
+    ghost seen = { λ i. S.seen i.service };
+
+    fn answer(&mut self, ae: Ae, moment: u64, ask: &mut Option<Ask<Global>>) -> Reply<Global> {
+        self.inspect(ask);
+        self.service.answer(ae, moment, ask)
+    }
+}
