@@ -11,7 +11,8 @@ takes its reports as it should, and one more step is pushed:
     ends       it ends the connection after its answer to a report
     drops      it ends the connection instead of answering a report
     aborts     it sends an A-ABORT instead of answering a report
-    full       (only with --full) the history is full before it takes its first report: this takes a million requests, or --entries
+    full       (only with --full) the history of a server with a store is full before it takes its first report: this takes a
+               million requests, or --entries
 
 It may be asked for an association at most six times in that time, by tries that are 1, 2, 4 and 8 seconds apart. In the end each
 report must have come to it once, in the order of the pushes. The log must say how the first delivery ended, not `Released`, that
@@ -32,7 +33,9 @@ import concurrent.futures
 import os
 import re
 import socket
+import subprocess
 import sys
+import tempfile
 import time
 from collections.abc import Callable
 from typing import Optional
@@ -201,7 +204,15 @@ def fill_all(port: int, entries: int) -> int:
 def try_full(program: list[str], entries: int, results: Results) -> list[str]:
     """Tries a watcher that takes its first report when the history is already full."""
     watcher = Drops()
-    with Server(program, "--associations", "8", f"W1={watcher.place}") as server:
+    with tempfile.TemporaryDirectory(prefix="faulty-") as folder:
+        file = os.path.join(folder, "upsd.db")
+        subprocess.run([*program, "init", file], check=True, stdout=subprocess.DEVNULL)
+        return try_full_with(program, file, watcher, entries, results)
+
+
+def try_full_with(program: list[str], file: str, watcher: Drops, entries: int, results: Results) -> list[str]:
+    """The same with this store and this watcher."""
+    with Server(program, "--associations", "8", "--store", file, f"W1={watcher.place}") as server:
         asker = Asker(server.port)
         asker.do(create(PUSH_ON, 1, WATCHED, a_step(b"P")))
         asker.do(subscribe(WATCHED, b"W1", b"FALSE"))

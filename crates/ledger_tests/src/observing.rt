@@ -4,6 +4,7 @@ use crate::desk::{asked, claim, creation, empty};
 use std::alloc::Global;
 use std::sync::Wait;
 use std::test::Fail;
+use ups_history::History;
 use ups_life::Entry;
 use ups_service::{Observer, SharedService};
 use ups_turn::{Desk, Pass};
@@ -29,8 +30,8 @@ impl Observer<Global> for Count {
 
     ghost observed = { λ old history new. new.entries ≡ length history };
 
-    fn observe(&mut self, history: &[Entry<Global>]) {
-        self.callers = callers_of(history);
+    fn observe(&mut self, history: &History<Global>) {
+        self.callers = callers_of(history.recent());
         self.entries = history.len();
     }
 }

@@ -178,6 +178,60 @@ fn each_peer_has_a_queue_of_its_own(rt: HostRuntime) -> Result<(), Fail> {
     Ok(())
 }
 
+/// Returns the digits of the entries to which queues may refer, of the first ten of the history.
+fn entries_of<A: Allocator + Copy>(alloc: Global, queues: &Queues<A>) -> Result<String, Fail> {
+    let mut text = String::new(alloc);
+    for entry in 0u64..10 {
+        if queues.refers_to(entry) {
+            write!(text, "{entry}")?;
+        }
+    }
+    Ok(text)
+}
+
+/// Tells one peer of entry 2, and another of the entries 4 and 7, of which it acknowledges the first; returns the
+/// entries to which the queues may refer before and after that.
+fn referred(alloc: Global) -> Result<(String, String), Fail> {
+    let reports = [report_of(alloc, "cancel", "1")?];
+    let mut queues = Queues::new(alloc, 2)?;
+    queues.reserve(0, 1)?;
+    queues.tell(0, 2, &reports);
+    queues.reserve(1, 1)?;
+    queues.tell(1, 4, &reports);
+    queues.reserve(1, 1)?;
+    queues.tell(1, 7, &reports);
+    let before = entries_of(alloc, &queues)?;
+    if queues.ack(1, 1).is_err() {
+        return Err("not acknowledged".into());
+    }
+    Ok((before, entries_of(alloc, &queues)?))
+}
+
+#[test]
+fn queues_refer_to_the_entries_of_pending_events(rt: HostRuntime) -> Result<(), Fail> {
+    let (before, after) = referred(rt.alloc())?;
+    assert_eq!(rt; before.as_str(), "247");
+    assert_eq!(rt; after.as_str(), "27");
+    Ok(())
+}
+
+/// Adds events of the entries 7 and 3, the later one first, and returns whether the queue may refer to each.
+fn referred_against_the_order(alloc: Global) -> Result<(bool, bool), Fail> {
+    let mut queue = Queue::new(alloc);
+    queue.reserve(1)?;
+    queue.put(7, report_of(alloc, "cancel", "1")?);
+    queue.reserve(1)?;
+    queue.put(3, report_of(alloc, "cancel", "2")?);
+    Ok((queue.refers_to(7), queue.refers_to(3)))
+}
+
+#[test]
+fn a_queue_refers_to_entries_in_any_order(rt: HostRuntime) -> Result<(), Fail> {
+    let (later, earlier) = referred_against_the_order(rt.alloc())?;
+    assert!(rt; later && earlier);
+    Ok(())
+}
+
 /// Makes room for events and takes what is pending while the growth with this number is refused; returns whether both
 /// succeed, and what is pending in either case.
 fn pending_in<'a>(

@@ -1,4 +1,5 @@
 mod NewQueues
+mod Orders
 mod SlotLists
 mod Spending
 pub mod Tellings

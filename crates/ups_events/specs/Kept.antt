@@ -1,6 +1,7 @@
 -- How a queue is kept: its events in slots, some of which are spent, and an index of the State Reports by their steps.
 use Rattle.std.specs.Prelude.{◌≡◌, ◌≤◌, ◌<◌, ℕ, Bool, true, false, not, ◌||◌, nat_le, List, [], ◌∷◌, map, length, Some, slice_index_or, if◌then◌else◌}
 use Rattle.std.specs.List.{AllByRecursion}
+use Rattle.std.specs.List.Sorted.{IsNonDecreasingBy}
 use Rattle.std.specs.Map.{lookup}
 use Rattle.std.specs.Str.{bytes_eq}
 use Rattle.ups_life.specs.declared.event.Event.{Event}
@@ -41,6 +42,10 @@ Rises ss = (i j : ℕ) (d : EventSlot) → i < j → j < length ss → (slice_in
 abbrev pub Rising : ℕ → List EventSlot → Type 0
 Rising low [] = Unit {0}
 Rising low (s ∷ ss) = (low < s.event.number) × Rising s.event.number ss
+
+-- the entries do not fall from slot to slot
+abbrev pub InOrder : List EventSlot → Type 0
+InOrder ss = IsNonDecreasingBy (λ (s : EventSlot). s.event.entry) ss
 
 -- no number is above `high`
 abbrev pub UpTo : ℕ → List EventSlot → Type 0

@@ -1,12 +1,15 @@
 //! The queue of a watcher.
 
-ghost use Rattle.std.specs.Prelude.{◌≡◌, ◌<◌, ◌≤◌, ◌+◌, [], take, length, None, Some, IfOk, IsOk, OnOk, OnErr, MatchResult};
+ghost use Rattle.std.specs.Prelude.{◌≡◌, ◌≢◌, ◌<◌, ◌≤◌, ◌+◌, [], false, take, length, None, Some, IfOk, IsOk, OnOk, OnErr, MatchResult};
+ghost use Rattle.std.specs.List.{AllByRecursion};
+ghost use Rattle.ups_life.specs.declared.event.Event.{Event};
 ghost use Rattle.ups_events.specs.Queue.{IsAdded, IsAcked, ack_fault};
 ghost use Rattle.ups_events.specs.Telling.{event_of};
 
 use crate::fault::AckFault;
 use crate::slots::{
-    EventSlot, ReportNumbers, counted, drop_front, first_live, live_count, make_way, tidy,
+    EventSlot, ReportNumbers, counted, drop_front, first_live, is_among, keeps_order, live_count,
+    make_way, tidy,
 };
 use std::alloc::{AllocError, Allocator};
 use std::collections::{HashMap, VecDeque};
@@ -23,6 +26,9 @@ pub struct Queue<A: Allocator + Copy> {
     acked: u64,
     slots: VecDeque<EventSlot, A>,
     index: ReportNumbers<A>,
+    /// Whether the entries are known not to fall from slot to slot. It is always so where events are added in the order
+    /// of the history.
+    in_order: bool,
     /// An upper bound of the number of spent slots.
     spent: usize,
 }
@@ -35,24 +41,25 @@ impl<A: Allocator + Copy> Drop for Queue<A> {
             acked: _,
             slots: _,
             index: _,
+            in_order: _,
             spent: _,
         } = self;
     }
 }
 
 impl<A: Allocator + Copy> Model for Queue<A> {
-    ghost use Rattle.std.specs.Prelude.{◌-◌, ◌^◌, ◌≤◌, min};
+    ghost use Rattle.std.specs.Prelude.{◌≡◌, ◌-◌, ◌^◌, ◌≤◌, true, min};
     ghost use Rattle.std.specs.HashMap.{spare};
     ghost use Rattle.std.specs.VecDeque.{deque_len, deque_capacity};
     ghost use Rattle.ups_events.specs.Queue.{QueueView};
 
     ghost Value = { QueueView };
 
-    ghost use Rattle.ups_events.specs.Kept.{lives, KeepsQueue};
+    ghost use Rattle.ups_events.specs.Kept.{lives, InOrder, KeepsQueue};
 
     ghost view = { λ q. record { made = q.made; acked = q.acked; events = lives q.slots.items; spare = min (deque_capacity q.slots - deque_len q.slots) (min (spare q.index) (2 ^ 64 - 1 - q.made)) } };
 
-    ghost invariant = { λ q. KeepsQueue q.made q.acked q.index.entries q.slots.items × (q.acked ≤ q.made) };
+    ghost invariant = { λ q. KeepsQueue q.made q.acked q.index.entries q.slots.items × (q.acked ≤ q.made) × (q.in_order ≡ true → InOrder q.slots.items) };
 }
 
 impl<A: Allocator + Copy> Queue<A> {
@@ -68,6 +75,7 @@ impl<A: Allocator + Copy> Queue<A> {
             acked: 0,
             slots: VecDeque::new(alloc),
             index: HashMap::new(alloc),
+            in_order: true,
             spent: 0,
         }
     }
@@ -109,11 +117,13 @@ impl<A: Allocator + Copy> Queue<A> {
             acked,
             slots,
             index,
+            in_order,
             spent,
             ..
         } = self;
         let number = *made + 1;
         let superseded = make_way(slots, index, report.kind, report.step, number);
+        *in_order = keeps_order(slots, *in_order, entry);
         slots.push_back_reserved(EventSlot {
             event: Event {
                 number,
@@ -160,6 +170,15 @@ impl<A: Allocator + Copy> Queue<A> {
         ensures { result ≡ length self.now.events }
     {
         live_count(&self.slots)
+    }
+
+    /// Returns whether an event of the entry at an index of the history may be pending. If it returns false, none is. It
+    /// may return true though none is: an event that was superseded counts for a while, and all entries do if events
+    /// were not added in the order of the history. This takes logarithmic time, and no memory.
+    pub fn refers_to(&self, entry: u64) -> bool
+        ensures { result ≡ false → AllByRecursion (λ (x : Event). x.entry ≢ entry) self.now.events }
+    {
+        !self.in_order || is_among(&self.slots, entry)
     }
 
     /// Acknowledges the events up to a number, and removes them. It takes no memory.

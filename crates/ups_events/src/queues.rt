@@ -1,6 +1,8 @@
 //! The queues of all watchers.
 
 ghost use Rattle.std.specs.Prelude.{◌≡◌, ◌≢◌, ◌<◌, ◌≤◌, ◌+◌, ℕ, List, true, false, None, Some, is_some, length, slice_index_or, if◌then◌else◌, IfOk, IsOk, OnOk, OnErr, MatchResult};
+ghost use Rattle.std.specs.List.{AllByRecursion};
+ghost use Rattle.ups_life.specs.declared.event.Event.{Event};
 ghost use Rattle.ups_events.specs.Queue.{QueueView, queue_at, IsAdded, IsAcked, IsReserved, IsNew, ack_fault};
 ghost use Rattle.ups_events.specs.Telling.{event_of, line_at, told};
 
@@ -78,6 +80,19 @@ impl<A: Allocator + Copy> Queues<A> {
         ensures { result.now ≡ queue_at self.now peer }
     {
         &self.queues[peer]
+    }
+
+    /// Returns whether an event of the entry at an index of the history may be pending for a peer. If it returns false,
+    /// none is; it may return true though none is, as `Queue::refers_to` may. For each peer, this takes logarithmic time.
+    pub fn refers_to(&self, entry: u64) -> bool
+        ensures { result ≡ false → (p : ℕ) → AllByRecursion (λ (x : Event). x.entry ≢ entry) (queue_at self.now p).events }
+    {
+        for queue in &self.queues {
+            if queue.refers_to(entry) {
+                return true;
+            }
+        }
+        false
     }
 
     /// Acknowledges the events of a peer up to a number, and removes them. It takes no memory.

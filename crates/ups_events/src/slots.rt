@@ -1,11 +1,12 @@
 //! The slots of a queue, and the index of its State Reports.
 
-ghost use Rattle.std.specs.Prelude.{◌≡◌, ◌<◌, ◌≤◌, ◌+◌, ◌-◌, ◌^◌, ◌&&◌, ◌++◌, ◌∷◌, [], ◌⊎◌, ℕ, List, true, map, filter, take, length, Some, IfOk, OnOk, None, MatchOption, slice_index_or, if◌then◌else◌};
+ghost use Rattle.std.specs.Prelude.{◌≡◌, ◌≢◌, ◌<◌, ◌≤◌, ◌+◌, ◌-◌, ◌^◌, ◌&&◌, ◌++◌, ◌∷◌, [], ◌⊎◌, ℕ, List, true, false, map, filter, take, length, Some, IfOk, OnOk, None, MatchOption, slice_index_or, if◌then◌else◌};
 ghost use Rattle.std.specs.HashMap.{get, spare};
+ghost use Rattle.std.specs.List.{AllByRecursion};
 ghost use Rattle.std.specs.Str.{bytes_eq};
 ghost use Rattle.std.specs.VecDeque.{deque_len, deque_capacity};
 ghost use Rattle.ups_life.specs.Events.{is_state_report, is_report_of};
-ghost use Rattle.ups_events.specs.Kept.{lives, is_live, spent, made_way, goes, dropped, Rises, Indexed, KeepsQueue};
+ghost use Rattle.ups_events.specs.Kept.{lives, is_live, spent, made_way, goes, dropped, Rises, InOrder, Indexed, KeepsQueue};
 
 use std::alloc::{AllocError, Allocator};
 use std::collections::{HashMap, VecDeque};
@@ -108,6 +109,21 @@ pub(crate) fn make_way<A: Allocator + Copy>(
         supersede(slots, index, step, number)
     } else {
         false
+    }
+}
+
+/// Returns whether the slots are known to be in order when an event of an entry is added, from whether they were before.
+pub(crate) fn keeps_order<A: Allocator + Copy>(
+    slots: &VecDeque<EventSlot, A>,
+    in_order: bool,
+    entry: u64,
+) -> bool
+    requires { in_order ≡ true → InOrder slots.now.items }
+    ensures { result ≡ true → (s : EventSlot) → s.event.entry ≡ entry → InOrder (slots.now.items ++ s ∷ []) }
+{
+    match slots.back() {
+        Some(last) => in_order && last.event.entry <= entry,
+        None => true,
     }
 }
 
@@ -222,6 +238,18 @@ pub(crate) fn first_live<A: Allocator + Copy>(
         add_live(&mut found, &slots[place])?;
     }
     Ok(found)
+}
+
+/// Returns whether one of the slots, which are in order, is of an entry.
+pub(crate) fn is_among<A: Allocator + Copy>(slots: &VecDeque<EventSlot, A>, entry: u64) -> bool
+    requires { InOrder slots.now.items }
+    ensures { result ≡ false → AllByRecursion (λ (x : Event). x.entry ≢ entry) (lives slots.now.items) }
+{
+    let place = slots.partition_point(|slot| slot.event.entry < entry);
+    match slots.get(place) {
+        Some(slot) => slot.event.entry == entry,
+        None => false,
+    }
 }
 
 /// Returns a count, and one more if a slot is live.

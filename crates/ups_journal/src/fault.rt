@@ -15,6 +15,9 @@ pub enum RecordingFault {
     /// A data set takes 2^32 bytes or more.
     #[error("its data set takes 4 GiB or more")]
     TooLarge,
+    /// The entry has left memory. This never happens, because entries that are to be recorded stay there.
+    #[error("it is no longer in memory")]
+    Gone,
     /// Memory ran out.
     #[error("out of memory")]
     Memory,

@@ -1,7 +1,7 @@
 -- How many entries are committed at once after a try.
 use Rattle.std.specs.Prelude.{ℕ, ◌/◌, max, Bool, true, false, Result, Ok, Err}
 use Rattle.ups_journal.specs.declared.fault.RecordingFault.{RecordingFault}
-use Rattle.ups_journal.specs.declared.fault.RecordingFault.TheVariants.{BadTitle, TooLarge, Memory}
+use Rattle.ups_journal.specs.declared.fault.RecordingFault.TheVariants.{BadTitle, TooLarge, Gone, Memory}
 use Rattle.ups_ledger.specs.declared.fault.CommitFault.{CommitFault}
 use Rattle.ups_ledger.specs.declared.fault.CommitFault.TheVariants.{Spent, Recording, Ledger}
 use Rattle.ups_ledger.specs.declared.fault.LedgerFault.{LedgerFault}
@@ -28,6 +28,7 @@ doubted group = record { most = group.most; is_doubtful = true }
 abbrev pub after_recording : Group → RecordingFault → Group
 after_recording group BadTitle = group
 after_recording group TooLarge = group
+after_recording group Gone = group
 after_recording group Memory = halved group
 
 abbrev pub after_ledger : Group → LedgerFault → Group

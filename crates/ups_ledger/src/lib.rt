@@ -22,5 +22,5 @@ pub use group::Group;
 pub use keeper::Keeper;
 pub use ledger::Ledger;
 pub use no_ledger::NoLedger;
-pub use recorder::Recorder;
+pub use recorder::{Recorder, group_of};
 pub use withheld::Withheld;

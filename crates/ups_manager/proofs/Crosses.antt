@@ -9,13 +9,14 @@ use Rattle.std.specs.declared.hash.Hasher as hasher
 use Rattle.std.specs.declared.hash.BuildHasher as builder
 use Rattle.std_heap.specs.contracts.Global as Heap
 use Rattle.std_heap.specs.contracts.GlobalAllocator.TheImpl.{ghosts}
-use Rattle.std.proofs.Crossing.{frees, send}
+use Rattle.std.proofs.Crossing.{frees, send, crosses}
 use Rattle.std.proofs.CrossingOver as over
 use Rattle.std.proofs.MapsCrossingOver as maps
 use Rattle.std.proofs.hash.FoldHasher.TheSendSync as fold
 use Rattle.std.proofs.hash.BuildHasherDefault.TheSendSync as build
 use Rattle.std.specs.contracts.option.Option as Option
 use Rattle.std.specs.contracts.vec.Vec as Vec
+use Rattle.http_server.proofs.log.Log.TheSendSync as log
 use Rattle.indexmap.specs.contracts.columns.Columns as Columns
 use Rattle.indexmap.specs.contracts.index_table.IndexTable as IndexTable
 use Rattle.indexmap.specs.contracts.map.IndexMap as IndexMap
@@ -47,6 +48,7 @@ use Rattle.ups_life.specs.contracts.request.Request as Request
 use Rattle.ups_life.specs.contracts.entry.Entry as Entry
 use Rattle.ups_life.specs.contracts.row.Row as Row
 use Rattle.ups_life.specs.contracts.configuration.Configuration as Configuration
+use Rattle.ups_history.specs.contracts.history.History as History
 use Rattle.ups_watch.specs.contracts.cover.Cover as Cover
 use Rattle.ups_watch.specs.contracts.row.WatchRow as Cells
 use Rattle.ups_watch.specs.contracts.watchers.Watchers as Watchers
@@ -113,6 +115,11 @@ module _ (A : RattleType) (g : Allocator.Ghosts A.Denot) where
   Entries-send : IsSend A → Frees g g.dealloc_token → IsSend (Vec.the_field (Entry.the_row A g) A g).row
   Entries-send s f = let r = Entry-send s f in search (sendable, over.crosses) depth 40
 
+  History-send : IsSend A → Frees g g.dealloc_token → IsSend (History.the_field A g).row
+  History-send s f =
+      let e = Entry-send s f in let v = Entries-send s f in
+      search (sendable, over.crosses, crosses, log.the_send, IndexMap-send, leaves) depth 60
+
   Configuration-send : IsSend A → Frees g g.dealloc_token → IsSend (Configuration.the_field A g).row
   Configuration-send s f = search (sendable, over.crosses, leaves) depth 40
 
@@ -176,7 +183,7 @@ module _ (A : RattleType) (g : Allocator.Ghosts A.Denot) where
   Reserve-send s f = search (sendable, over.crosses) depth 20
 
   pub Manager-send : IsSend A → Frees g g.dealloc_token → IsSend (Manager.the_row A g)
-  Manager-send s f = let e = Entries-send A g s f in let t = Tables-send A g s f in let o = Configuration-send A g s f in let i = Index-send A g s f in let r = Reserve-send s f in search sendable depth 20
+  Manager-send s f = let e = History-send A g s f in let t = Tables-send A g s f in let o = Configuration-send A g s f in let i = Index-send A g s f in let r = Reserve-send s f in search sendable depth 20
 
 -- at the heap, in one step
 pub manager_send : IsSend (Manager.the_row Heap.the_row ghosts)

@@ -25,17 +25,15 @@ use Rattle.ups_tables.specs.declared.rows.HeldStep.{HeldStep}
 use Rattle.ups_tables.specs.HeldSteps.{held_steps, step_at, row_in, row_of_step, holder_in, claims_it, put_step}
 use Rattle.ups_tables.proofs.Holding.{row_in-held_steps, row_of_step-held_steps, held_steps-after}
 use Rattle.ups_steps.specs.declared.held.HeldRow.{HeldRow}
-use Rattle.ups_tables.specs.declared.tables.Tables.{Tables}
 use Rattle.ups_tables.specs.Held.{held_at}
 use Rattle.ups_tables.specs.Keyed.{step_with_held, as_steps, row_held, holder_held}
 use Rattle.ups_tables.proofs.Keyed.{row_found, holder_found}
 use Rattle.ups_service.specs.Law.{is_granted, OrLacking, Answers, is_legal, entry}
 use Rattle.ups_service.proofs.Legality.{no_room}
-use Rattle.ups_manager.specs.declared.deciding.Decision.{Decision}
 use Rattle.ups_manager.specs.declared.deciding.Kind.TheVariants.{OfStep}
 use Rattle.ups_manager.specs.declared.submitting.SubmitFault.{SubmitFault}
 use Rattle.ups_manager.specs.declared.submitting.SubmitFault.TheVariants.{Refused, Memory}
-use Rattle.ups_manager.specs.Deciding.{kind_of, repeats_in, IsDecided}
+use Rattle.ups_manager.specs.Deciding.{kind_of, repeats_in}
 use Rattle.ups_manager.specs.Faults.{status_of, RowFails, StepFails}
 use Rattle.ups_manager.specs.Held.{IsSmallStep}
 use Rattle.ups_manager.proofs.Small.{small_after, small_put}
@@ -84,14 +82,6 @@ pub legal_with : {A : Type 0} (s : Settings) (history : List (Entry A)) (call : 
     → legal s (call ∷ past history) ≡ true
 legal_with s history call x so decided ok room =
     ap (λ y. accepts y && legal s (past history)) (succeeds s history call x decided room) ∙ ap (λ b. b && legal s (past history)) ok ∙ so
-
--- the room in a slice is that in what it lends
-pub room_of_slice : {A : Type 0} (limit : ℕ) (slice history : List (Entry A)) → slice ≡ history → length slice < limit → length history < limit
-room_of_slice {A} limit slice history same room = subst (λ (l : List (Entry A)). length l < limit) same room
-
--- what is decided of a slice is decided of what it lends
-pub of_slice : {A : Type 0} (s : Settings) (slice history : List (Entry A)) (t : Tables A) (call : Entry A) (d : Decision A) → slice ≡ history → IsDecided s slice t call d → IsDecided s history t call d
-of_slice {A} s slice history t call d same is = subst (λ (l : List (Entry A)). IsDecided s l t call d) same is
 
 -- A REQUEST THAT CREATES OR CHANGES A STEP
 

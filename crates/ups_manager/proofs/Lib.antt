@@ -11,6 +11,7 @@ mod Matches
 mod Offsets
 mod Outsiders
 mod Reindexed
+mod Remembering
 mod Small
 mod Watchers
 mod Watches

@@ -6,31 +6,32 @@ ghost use Rattle.ups_life.specs.declared.request.Ask.TheVariants.{Do};
 ghost use Rattle.ups_life.specs.Steps.{past};
 ghost use Rattle.ups_manager.specs.Deciding.{IsDecided, IsRefused};
 ghost use Rattle.ups_manager.specs.Indexing.{IsIndexed};
-ghost use Rattle.ups_manager.specs.Kept.{ManagerStands};
+ghost use Rattle.ups_manager.specs.Kept.{ManagerStands, Remembers};
 ghost use Rattle.ups_service.specs.Law.{Answers, SmallReply, entered};
 
 use crate::deciding::{Decision, decide};
 use crate::entry::enter;
 use crate::reserve::Reserve;
-use crate::submitting::is_full;
+use crate::submitting::{is_full, is_memory_full};
 use std::alloc::Allocator;
 use ups_cycle::Status;
+use ups_history::History;
 use ups_index::Index;
 use ups_life::{Configuration, Entry, Reply};
 use ups_tables::Tables;
 
-/// Returns the reply that refuses a call where the history is full.
+/// Returns the reply that refuses a call where the history, or the memory for it, is full.
 #[inline(never)]
 fn refuse_when_full<A: Allocator + Copy>(
     alloc: A,
     configuration: &Configuration<A>,
-    history: &[Entry<A>],
+    history: &History<A>,
     tables: &Tables<A>,
     call: &Entry<A>,
 ) -> Result<Decision<A>, Reply<A>>
     requires moment { IsMoment call.now.moment }
-    requires stands { ManagerStands configuration.now history.now tables.now }
-    ensures { MatchResult result (λ decision. ⊥) (IsRefused configuration.now history.now call.now) }
+    requires stands { ManagerStands configuration.now history.now.entries tables.now }
+    ensures { MatchResult result (λ decision. ⊥) (IsRefused configuration.now history.now.entries call.now) }
 {
     match decide(alloc, configuration, history, tables, call) {
         Ok(_) => Err(Reply::Status(Status::ResourceLimitation)),
@@ -40,21 +41,22 @@ fn refuse_when_full<A: Allocator + Copy>(
 
 /// Returns the decision about a call that is accepted, if the history has room for it.
 ///
-/// Errors: the reply that refuses the call, or that says that the history is full or that memory ran out.
+/// Errors: the reply that refuses the call, or that says that the history or the memory for it is full, or that memory
+/// ran out.
 fn decide_with_room<A: Allocator + Copy>(
     alloc: A,
     configuration: &Configuration<A>,
-    history: &[Entry<A>],
+    history: &History<A>,
     tables: &Tables<A>,
     call: &Entry<A>,
 ) -> Result<Decision<A>, Reply<A>>
     requires moment { IsMoment call.now.moment }
-    requires stands { ManagerStands configuration.now history.now tables.now }
-    ensures decided { IfOk result (IsDecided configuration.now history.now tables.now call.now) }
-    ensures room { OnOk result (length history.now < configuration.now.limit) }
-    ensures refused { IfErr result (IsRefused configuration.now history.now call.now) }
+    requires stands { ManagerStands configuration.now history.now.entries tables.now }
+    ensures decided { IfOk result (IsDecided configuration.now history.now.entries tables.now call.now) }
+    ensures room { OnOk result (length history.now.entries < configuration.now.limit) }
+    ensures refused { IfErr result (IsRefused configuration.now history.now.entries call.now) }
 {
-    if is_full(configuration, history) {
+    if is_full(configuration, history) || is_memory_full(history) {
         return refuse_when_full(alloc, configuration, history, tables, call);
     }
     decide(alloc, configuration, history, tables, call)
@@ -65,21 +67,24 @@ pub(crate) fn answer_call<A: Allocator + Copy>(
     alloc: A,
     configuration: &Configuration<A>,
     reserve: &mut Reserve<A>,
-    history: &mut Vec<Entry<A>, A>,
+    history: &mut History<A>,
     tables: &mut Tables<A>,
     index: &mut Index<A>,
     call: Entry<A>,
 ) -> Reply<A>
     requires moment { IsMoment call.moment }
-    requires stands { ManagerStands configuration.now history.old.items tables.old }
-    requires indexed { IsIndexed configuration.now (past history.old.items) index.old }
-    ensures answer { Answers configuration.now history.old.items call.caller call.ae call.moment (Do call.request) result }
-    ensures history { history.new.items ≡ history.old.items ++ entered call.caller call.ae call.moment (Do call.request) result }
+    requires stands { ManagerStands configuration.now history.old.entries tables.old }
+    requires indexed { IsIndexed configuration.now (past history.old.entries) index.old }
+    requires remembers { Remembers configuration.now history.old }
+    ensures answer { Answers configuration.now history.old.entries call.caller call.ae call.moment (Do call.request) result }
+    ensures history { history.new.entries ≡ history.old.entries ++ entered call.caller call.ae call.moment (Do call.request) result }
     ensures small { SmallReply result }
-    ensures stands { ManagerStands configuration.now history.new.items tables.new }
-    ensures indexed { IsIndexed configuration.now (past history.new.items) index.new }
+    ensures stands { ManagerStands configuration.now history.new.entries tables.new }
+    ensures indexed { IsIndexed configuration.now (past history.new.entries) index.new }
+    ensures remembers { Remembers configuration.now history.new }
+    ensures first { history.new.first ≡ history.old.first }
 {
-    match decide_with_room(alloc, configuration, history.as_slice(), tables, &call) {
+    match decide_with_room(alloc, configuration, history, tables, &call) {
         Ok(decision) => match enter(
             configuration,
             reserve,

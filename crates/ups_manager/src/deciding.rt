@@ -1,8 +1,9 @@
 //! The decision about a call, made from the tables, and its effect on them.
 
-ghost use Rattle.std.specs.Prelude.{◌≡◌, ◌<◌, ◌++◌, ◌∷◌, [], true, false, MatchResult, IfOk, vec_len, vec_capacity};
+ghost use Rattle.std.specs.Prelude.{◌≡◌, ◌<◌, ◌++◌, ◌∷◌, [], true, false, MatchResult, IfOk};
 ghost use Rattle.std.specs.Option.{option_copied};
 ghost use Rattle.ups_cycle.specs.Statuses.{is_done};
+ghost use Rattle.ups_history.specs.View.{KeepsMemory};
 ghost use Rattle.ups_life.specs.Settings.{IsMoment};
 ghost use Rattle.ups_life.specs.Steps.{past};
 ghost use Rattle.ups_life.specs.Verdict.{verdict};
@@ -21,6 +22,7 @@ use crate::rows::known;
 use crate::submitting::step_for;
 use std::alloc::{AllocError, Allocator};
 use ups_cycle::Status;
+use ups_history::History;
 use ups_index::{Index, Values};
 use ups_life::{Configuration, Entry, Peer, Reply, Request, Row, is_peer, may_lock};
 use ups_pdu::Ae;
@@ -66,20 +68,21 @@ impl<A: Allocator + Copy> Decision<A> {
     pub(crate) fn carry_out(
         self,
         configuration: &Configuration<A>,
-        history: &mut Vec<Entry<A>, A>,
+        history: &mut History<A>,
         tables: &mut Tables<A>,
         index: &mut Index<A>,
         call: Entry<A>,
     ) -> Reply<A>
-        requires stands { TablesStand configuration.now history.old.items tables.old }
-        requires legal { legal configuration.now (call ∷ past history.old.items) ≡ true }
-        requires plan { IsPlan configuration.now (past history.old.items) call tables.old self.plan }
+        requires stands { TablesStand configuration.now history.old.entries tables.old }
+        requires legal { legal configuration.now (call ∷ past history.old.entries) ≡ true }
+        requires plan { IsPlan configuration.now (past history.old.entries) call tables.old self.plan }
         requires room { room_for tables.old self.plan }
-        requires history_room { vec_len history.old < vec_capacity history.old }
+        requires history_room { 0 < history.old.spare }
         requires index_room { has_room index.old.spare self.change }
         ensures reply { result ≡ self.reply }
-        ensures history { history.new.items ≡ history.old.items ++ call ∷ [] }
-        ensures stands { TablesStand configuration.now history.new.items tables.new }
+        ensures history { history.new.entries ≡ history.old.entries ++ call ∷ [] }
+        ensures memory { KeepsMemory history.old history.new }
+        ensures stands { TablesStand configuration.now history.new.entries tables.new }
         ensures steps { index.new.steps ≡ after_change self.change (steps_of (removed_by self.plan)) index.old.steps }
         ensures offset { index.new.offset ≡ index.old.offset }
     {
@@ -117,14 +120,14 @@ fn kind_of<A: Allocator + Copy>(request: &Request<A>) -> Kind
 fn decide_step<A: Allocator + Copy>(
     alloc: A,
     configuration: &Configuration<A>,
-    history: &[Entry<A>],
+    history: &History<A>,
     tables: &Tables<A>,
     call: &Entry<A>,
 ) -> Result<Decision<A>, Reply<A>>
     requires moment { IsMoment call.now.moment }
-    requires stands { ManagerStands configuration.now history.now tables.now }
+    requires stands { ManagerStands configuration.now history.now.entries tables.now }
     requires kind { kind_of call.now.request ≡ OfStep }
-    ensures { MatchResult result (IsDecided configuration.now history.now tables.now call.now) (IsRefused configuration.now history.now call.now) }
+    ensures { MatchResult result (IsDecided configuration.now history.now.entries tables.now call.now) (IsRefused configuration.now history.now.entries call.now) }
 {
     let Some(step) = call.request.step() else {
         return Err(Reply::Status(Status::UnknownInstance));
@@ -188,14 +191,14 @@ fn watcher_status<A: Allocator + Copy>(
 fn plan_watcher<A: Allocator + Copy>(
     alloc: A,
     configuration: &Configuration<A>,
-    history: &[Entry<A>],
+    history: &History<A>,
     tables: &Tables<A>,
     call: &Entry<A>,
 ) -> Result<Plan<A>, AllocError>
-    requires stands { TablesStand configuration.now history.now tables.now }
+    requires stands { TablesStand configuration.now history.now.entries tables.now }
     requires kind { kind_of call.now.request ≡ OfWatcher }
-    requires accepted { is_done (status configuration.now (past history.now) call.now) ≡ true }
-    ensures { IfOk result (λ p. IsPlan configuration.now (past history.now) call.now tables.now p) }
+    requires accepted { is_done (status configuration.now (past history.now.entries) call.now) ≡ true }
+    ensures { IfOk result (λ p. IsPlan configuration.now (past history.now.entries) call.now tables.now p) }
 {
     match &call.request {
         Request::Subscribe {
@@ -235,13 +238,13 @@ fn plan_watcher<A: Allocator + Copy>(
 fn decide_watcher<A: Allocator + Copy>(
     alloc: A,
     configuration: &Configuration<A>,
-    history: &[Entry<A>],
+    history: &History<A>,
     tables: &Tables<A>,
     call: &Entry<A>,
 ) -> Result<Decision<A>, Reply<A>>
-    requires stands { ManagerStands configuration.now history.now tables.now }
+    requires stands { ManagerStands configuration.now history.now.entries tables.now }
     requires kind { kind_of call.now.request ≡ OfWatcher }
-    ensures { MatchResult result (IsDecided configuration.now history.now tables.now call.now) (IsRefused configuration.now history.now call.now) }
+    ensures { MatchResult result (IsDecided configuration.now history.now.entries tables.now call.now) (IsRefused configuration.now history.now.entries call.now) }
 {
     let row = known(tables, call.request.named_step());
     let status = watcher_status(configuration.peers(), row, &call.request);
@@ -290,14 +293,14 @@ fn accepts<A: Allocator + Copy>(reply: &Reply<A>) -> bool
 #[inline(never)]
 fn decide_ack<A: Allocator + Copy>(
     configuration: &Configuration<A>,
-    history: &[Entry<A>],
+    history: &History<A>,
     tables: &Tables<A>,
     call: &Entry<A>,
     upto: u64,
 ) -> Result<Decision<A>, Reply<A>>
-    requires stands { ManagerStands configuration.now history.now tables.now }
+    requires stands { ManagerStands configuration.now history.now.entries tables.now }
     requires kind { kind_of call.now.request ≡ OfEvents upto }
-    ensures { MatchResult result (IsDecided configuration.now history.now tables.now call.now) (IsRefused configuration.now history.now call.now) }
+    ensures { MatchResult result (IsDecided configuration.now history.now.entries tables.now call.now) (IsRefused configuration.now history.now.entries call.now) }
 {
     let place = place_of(configuration.peers(), call.ae);
     let made = made_at(tables, place);
@@ -324,13 +327,13 @@ fn decide_ack<A: Allocator + Copy>(
 fn decide_sweep<A: Allocator + Copy>(
     alloc: A,
     configuration: &Configuration<A>,
-    history: &[Entry<A>],
+    history: &History<A>,
     tables: &Tables<A>,
     call: &Entry<A>,
 ) -> Result<Decision<A>, Reply<A>>
-    requires stands { ManagerStands configuration.now history.now tables.now }
+    requires stands { ManagerStands configuration.now history.now.entries tables.now }
     requires kind { kind_of call.now.request ≡ OfTime }
-    ensures { MatchResult result (IsDecided configuration.now history.now tables.now call.now) (IsRefused configuration.now history.now call.now) }
+    ensures { MatchResult result (IsDecided configuration.now history.now.entries tables.now call.now) (IsRefused configuration.now history.now.entries call.now) }
 {
     let Ok(plan) = plan_sweep(alloc, configuration, history, tables, call) else {
         return Err(Reply::Status(Status::ResourceLimitation));
@@ -352,13 +355,13 @@ fn decide_sweep<A: Allocator + Copy>(
 pub(crate) fn decide<A: Allocator + Copy>(
     alloc: A,
     configuration: &Configuration<A>,
-    history: &[Entry<A>],
+    history: &History<A>,
     tables: &Tables<A>,
     call: &Entry<A>,
 ) -> Result<Decision<A>, Reply<A>>
     requires moment { IsMoment call.now.moment }
-    requires stands { ManagerStands configuration.now history.now tables.now }
-    ensures { MatchResult result (IsDecided configuration.now history.now tables.now call.now) (IsRefused configuration.now history.now call.now) }
+    requires stands { ManagerStands configuration.now history.now.entries tables.now }
+    ensures { MatchResult result (IsDecided configuration.now history.now.entries tables.now call.now) (IsRefused configuration.now history.now.entries call.now) }
 {
     match kind_of(&call.request) {
         Kind::OfStep => decide_step(alloc, configuration, history, tables, call),

@@ -1,6 +1,7 @@
 //! Enters an accepted call into the history, the tables and the index: with room for all of it, or not at all.
 
-ghost use Rattle.std.specs.Prelude.{◌≡◌, ◌<◌, ◌++◌, ◌∷◌, [], true, OnOk, OnErr, IfOk, vec_len, vec_capacity};
+ghost use Rattle.std.specs.Prelude.{◌≡◌, ◌<◌, ◌++◌, ◌∷◌, [], true, OnOk, OnErr, IfOk};
+ghost use Rattle.ups_history.specs.View.{KeepsMemory};
 ghost use Rattle.ups_life.specs.Steps.{past};
 ghost use Rattle.ups_life.specs.History.{legal};
 ghost use Rattle.ups_tables.specs.Planned.{IsPlan, room_for};
@@ -12,6 +13,7 @@ use crate::deciding::Decision;
 use crate::indexing::make_index_room;
 use crate::reserve::Reserve;
 use std::alloc::{AllocError, Allocator};
+use ups_history::History;
 use ups_index::Index;
 use ups_life::{Configuration, Entry, Reply};
 use ups_tables::{Tables, make_room};
@@ -23,23 +25,24 @@ use ups_tables::{Tables, make_room};
 fn make_all_room<A: Allocator + Copy>(
     configuration: &Configuration<A>,
     reserve: &mut Reserve<A>,
-    history: &mut Vec<Entry<A>, A>,
+    history: &mut History<A>,
     tables: &mut Tables<A>,
     index: &mut Index<A>,
     call: &Entry<A>,
     decision: &Decision<A>,
 ) -> Result<(), AllocError>
-    requires stands { TablesStand configuration.now history.old.items tables.old }
-    requires indexed { IsIndexed configuration.now (past history.old.items) index.old }
-    requires legal { legal configuration.now (call.now ∷ past history.old.items) ≡ true }
-    requires plan { IsPlan configuration.now (past history.old.items) call.now tables.old decision.now.plan }
-    ensures history { history.new.items ≡ history.old.items }
-    ensures stands { TablesStand configuration.now history.new.items tables.new }
-    ensures indexed { IsIndexed configuration.now (past history.new.items) index.new }
+    requires stands { TablesStand configuration.now history.old.entries tables.old }
+    requires indexed { IsIndexed configuration.now (past history.old.entries) index.old }
+    requires legal { legal configuration.now (call.now ∷ past history.old.entries) ≡ true }
+    requires plan { IsPlan configuration.now (past history.old.entries) call.now tables.old decision.now.plan }
+    ensures history { history.new.entries ≡ history.old.entries }
+    ensures memory { KeepsMemory history.old history.new }
+    ensures stands { TablesStand configuration.now history.new.entries tables.new }
+    ensures indexed { IsIndexed configuration.now (past history.new.entries) index.new }
     ensures steps { index.new.steps ≡ index.old.steps }
-    ensures plan { IsPlan configuration.now (past history.new.items) call.now tables.new decision.now.plan }
+    ensures plan { IsPlan configuration.now (past history.new.entries) call.now tables.new decision.now.plan }
     ensures room { OnOk result (room_for tables.new decision.now.plan) }
-    ensures history_room { OnOk result (vec_len history.new < vec_capacity history.new) }
+    ensures history_room { OnOk result (0 < history.new.spare) }
     ensures index_room { OnOk result (has_room index.new.spare decision.now.change) }
 {
     make_index_room(index, &decision.change)?;
@@ -55,21 +58,22 @@ fn make_all_room<A: Allocator + Copy>(
 pub(crate) fn enter<A: Allocator + Copy>(
     configuration: &Configuration<A>,
     reserve: &mut Reserve<A>,
-    history: &mut Vec<Entry<A>, A>,
+    history: &mut History<A>,
     tables: &mut Tables<A>,
     index: &mut Index<A>,
     call: Entry<A>,
     decision: Decision<A>,
 ) -> Result<Reply<A>, AllocError>
-    requires stands { TablesStand configuration.now history.old.items tables.old }
-    requires indexed { IsIndexed configuration.now (past history.old.items) index.old }
-    requires legal { legal configuration.now (call ∷ past history.old.items) ≡ true }
-    requires decided { IsDecided configuration.now history.old.items tables.old call decision }
-    ensures done { OnOk result (history.new.items ≡ history.old.items ++ call ∷ []) }
-    ensures refused { OnErr result (history.new.items ≡ history.old.items) }
+    requires stands { TablesStand configuration.now history.old.entries tables.old }
+    requires indexed { IsIndexed configuration.now (past history.old.entries) index.old }
+    requires legal { legal configuration.now (call ∷ past history.old.entries) ≡ true }
+    requires decided { IsDecided configuration.now history.old.entries tables.old call decision }
+    ensures done { OnOk result (history.new.entries ≡ history.old.entries ++ call ∷ []) }
+    ensures refused { OnErr result (history.new.entries ≡ history.old.entries) }
+    ensures memory { KeepsMemory history.old history.new }
     ensures reply { IfOk result (λ reply. reply ≡ decision.reply) }
-    ensures stands { TablesStand configuration.now history.new.items tables.new }
-    ensures indexed { IsIndexed configuration.now (past history.new.items) index.new }
+    ensures stands { TablesStand configuration.now history.new.entries tables.new }
+    ensures indexed { IsIndexed configuration.now (past history.new.entries) index.new }
 {
     make_all_room(
         configuration,

@@ -1,8 +1,8 @@
 //! The state of the service: the history of accepted requests, and the steps.
 
-ghost use Rattle.std.specs.Prelude.{[], ◌≡◌, ◌≤◌, ◌<◌, ◌^◌, ◌+◌, ◌++◌, List, None, Some, length, All, IfOk, IfErr, OnOk};
+ghost use Rattle.std.specs.Prelude.{[], ◌≡◌, ◌≤◌, ◌<◌, ◌^◌, ◌+◌, ◌++◌, List, None, Some, length, drop, All, IfOk, IfErr, OnOk};
 ghost use Rattle.std.specs.List.{AllByRecursion};
-ghost use Rattle.std.specs.Option.{unwrap_or};
+ghost use Rattle.std.specs.Option.{IfSome, unwrap_or};
 ghost use Rattle.ups_dataset.specs.Data.{El};
 ghost use Rattle.ups_match.specs.Matching.{is_match};
 ghost use Rattle.ups_life.specs.declared.request.Ask.TheVariants.{Do};
@@ -19,12 +19,14 @@ ghost use Rattle.ups_life.specs.Worklist.{worklist};
 ghost use Rattle.ups_settings.specs.declared.fault.ManagerFault.TheVariants.{Memory};
 ghost use Rattle.ups_manager.specs.Finding.{answers_among};
 ghost use Rattle.ups_manager.specs.Held.{holder_of};
+ghost use Rattle.ups_tables.specs.Seen.{Once};
 ghost use Rattle.ups_service.specs.Asked.{asked_rows, IsAsked, NotesAsked};
 ghost use Rattle.ups_service.specs.Law.{OrLacking, Answers, SmallReply, entered, is_legal};
 ghost use Rattle.ups_settings.specs.Refusal.{refusal};
 ghost use Rattle.ups_service.specs.Reporting.{reports_to};
 
 use crate::answering::answer_call;
+use crate::memory;
 use crate::peers::{first_pending, waiting_at, watched_in};
 use crate::reporting::reports_of;
 use crate::reserve::Reserve;
@@ -34,25 +36,33 @@ use std::alloc::{AllocError, Allocator};
 use std::marker::Model;
 use ups_cycle::Status;
 use ups_dataset::Tag;
+use ups_history::History;
 use ups_index::Index;
-use ups_life::{Ask, Configuration, Entry, Holder, Peer, Reply, StepUid, Watched, shown};
+use ups_life::{
+    Ask, Configuration, Entry, Holder, MAX_HISTORY, Peer, Reply, StepUid, Watched, shown,
+};
 use ups_match::{Keys, Matcher, Probe};
 use ups_pdu::Ae;
 use ups_settings::{ManagerFault, refusal};
 use ups_tables::{Tables, begin, place_of};
 
+/// The most requests in a history that has no end. At a thousand a second it lasts for a hundred million years.
+pub const LASTING_LIMIT: u64 = 1 << 62;
+
 /// The manager: the history of accepted requests, tables of the state that they lead to, and an index of the held
-/// steps. A contract sees it as what was fixed at the start, the history, oldest entry first, and the number of held
-/// steps about which its last query asked a matcher.
+/// steps. A contract sees it as what was fixed at the start, the history, oldest entry first, the number of held steps
+/// about which its last query asked a matcher, and the number of entries before those that are all in memory.
 pub struct Manager<A: Allocator + Copy> {
     alloc: A,
     configuration: Configuration<A>,
-    history: Vec<Entry<A>, A>,
+    history: History<A>,
     tables: Tables<A>,
     index: Index<A>,
     reserve: Reserve<A>,
     /// The number of held steps about which the last query asked a matcher.
     asked: u64,
+    /// The index, among the entries that stayed in memory for an event, of the next one to look at again.
+    again: usize,
 }
 
 impl<A: Allocator + Copy> Drop for Manager<A> {
@@ -65,6 +75,7 @@ impl<A: Allocator + Copy> Drop for Manager<A> {
             index: _,
             reserve: _,
             asked: _,
+            again: _,
         } = self;
     }
 }
@@ -79,7 +90,7 @@ impl<A: Allocator + Copy> Model for Manager<A> {
 
     ghost coded = { Prim.hlevel (set_code, codes) };
 
-    ghost view = { λ m. record { settings = m.configuration; history = m.history.items; asked = m.asked } };
+    ghost view = { λ m. record { settings = m.configuration; history = m.history.entries; asked = m.asked; first = m.history.first } };
 
     ghost use Rattle.ups_manager.specs.Kept.{IsKeptInside};
 
@@ -107,22 +118,72 @@ impl<A: Allocator + Copy> Manager<A> {
         ensures settings { IfOk result (λ m. m.settings ≡ record { peers = peers.now; keep = keep; offset = offset; limit = limit }) }
         ensures history { IfOk result (λ m. m.history ≡ []) }
         ensures asked { IfOk result (λ m. m.asked ≡ 0) }
+        ensures first { IfOk result (λ m. m.first ≡ 0) }
         ensures refused { IfErr result (λ fault. fault ≡ unwrap_or (refusal peers.now offset limit) Memory) }
     {
         if let Some(fault) = refusal(peers, offset, limit) {
             return Err(fault);
         }
+        Ok(Manager::begin(alloc, peers, keep, offset, limit)?)
+    }
+
+    /// Returns a manager with an empty history that has no end, as [`Manager::new`] does: its limit is `LASTING_LIMIT`,
+    /// and of its requests 1,000,000 may be in memory at one time.
+    ///
+    /// # Errors
+    ///
+    /// The first of these: `TwicePeer` if two peers have the same title; `BadOffset` if `offset` is below -720 or above
+    /// 840 (PS3.5 section 6.2, DT); `Memory` if memory runs out.
+    pub fn lasting(
+        alloc: A,
+        peers: &[Peer],
+        keep: u32,
+        offset: i16,
+    ) -> Result<Manager<A>, ManagerFault>
+        requires { length peers.now ≤ peer_limit }
+        ensures allowed { OnOk result (refusal peers.now offset MAX_HISTORY ≡ None) }
+        ensures settings { IfOk result (λ m. m.settings ≡ record { peers = peers.now; keep = keep; offset = offset; limit = LASTING_LIMIT }) }
+        ensures history { IfOk result (λ m. m.history ≡ []) }
+        ensures asked { IfOk result (λ m. m.asked ≡ 0) }
+        ensures first { IfOk result (λ m. m.first ≡ 0) }
+        ensures refused { IfErr result (λ fault. fault ≡ unwrap_or (refusal peers.now offset MAX_HISTORY) Memory) }
+    {
+        if let Some(fault) = refusal(peers, offset, MAX_HISTORY) {
+            return Err(fault);
+        }
+        Ok(Manager::begin(alloc, peers, keep, offset, LASTING_LIMIT)?)
+    }
+
+    /// Returns a manager with an empty history, for settings that are not refused.
+    ///
+    /// Errors: if memory runs out.
+    fn begin(
+        alloc: A,
+        peers: &[Peer],
+        keep: u32,
+        offset: i16,
+        limit: u64,
+    ) -> Result<Manager<A>, AllocError>
+        requires few { length peers.now ≤ peer_limit }
+        requires titles { Once peers.now }
+        requires offset { IsOffset offset }
+        ensures settings { IfOk result (λ m. m.settings ≡ record { peers = peers.now; keep = keep; offset = offset; limit = limit }) }
+        ensures history { IfOk result (λ m. m.history ≡ []) }
+        ensures asked { IfOk result (λ m. m.asked ≡ 0) }
+        ensures first { IfOk result (λ m. m.first ≡ 0) }
+    {
         let named = Vec::from_slice(alloc, peers)?;
         let configuration = Configuration::new(named, keep, offset, limit);
         let tables = begin(alloc, &configuration)?;
         Ok(Manager {
             alloc,
             configuration,
-            history: Vec::new(alloc),
+            history: History::new(alloc),
             tables,
             index: Index::new(alloc, offset),
             reserve: Reserve::new(alloc),
             asked: 0,
+            again: 0,
         })
     }
 
@@ -155,13 +216,59 @@ impl<A: Allocator + Copy> Manager<A> {
         self.configuration.limit()
     }
 
-    /// Returns the accepted requests, oldest first.
+    /// Returns the accepted requests, oldest first, from the first one on behind which all are in memory: all of them, if
+    /// none was let go of.
     pub fn history(&self) -> &[Entry<A>]
-        ensures shown { result.now ≡ self.now.history }
+        ensures shown { result.now ≡ drop self.now.first self.now.history }
         ensures legal { is_legal self.now.settings self.now.history }
         ensures moments { All (λ e. IsMoment e.moment) result.now }
     {
-        self.history.as_slice()
+        self.history.recent()
+    }
+
+    /// Returns all accepted requests, oldest first, or None if some may have left memory.
+    pub fn whole(&self) -> Option<&[Entry<A>]>
+        ensures whole { IfSome result (λ h. h.now ≡ self.now.history) }
+        ensures legal { is_legal self.now.settings self.now.history }
+        ensures moments { IfSome result (λ h. All (λ e. IsMoment e.moment) h.now) }
+    {
+        self.history.since(0)
+    }
+
+    /// Returns the number of accepted requests.
+    pub fn entries(&self) -> usize
+        ensures count { result ≡ length self.now.history }
+        ensures legal { is_legal self.now.settings self.now.history }
+    {
+        self.history.len()
+    }
+
+    /// Returns all accepted requests, oldest first, as far as they are in memory.
+    pub(crate) fn all(&self) -> &History<A>
+        ensures { result.now.entries ≡ self.now.history }
+    {
+        &self.history
+    }
+
+    /// Lets requests before the one at index `upto` of the history leave memory. Those stay that an event is of which is
+    /// pending for a watcher (PS3.4 CC.2.4): no other is needed for what is asked later. A call looks at 320 requests
+    /// at most, so that it takes no long time, and no reply tells whether they have left. Returns whether a further
+    /// call has more to look at.
+    pub fn let_go(&mut self, upto: usize) -> bool
+        ensures settings { self.new.settings ≡ self.old.settings }
+        ensures history { self.new.history ≡ self.old.history }
+        ensures asked { self.new.asked ≡ self.old.asked }
+    {
+        let Manager {
+            configuration,
+            history,
+            tables,
+            again,
+            ..
+        } = self;
+        let (is_more, next) = memory::let_go(configuration, history, tables, upto, *again);
+        *again = next;
+        is_more
     }
 
     /// Returns the UIDs of the held steps, in order of creation.
@@ -240,8 +347,7 @@ impl<A: Allocator + Copy> Manager<A> {
         let Ok(events) = first_pending(self.alloc, &self.tables, place, max) else {
             return Reply::Status(Status::ResourceLimitation);
         };
-        let entries = self.history.as_slice();
-        match reports_of(self.alloc, entries, events.as_slice()) {
+        match reports_of(self.alloc, &self.history, events.as_slice()) {
             Ok(reports) => Reply::Reports(reports),
             Err(_) => Reply::Status(Status::ResourceLimitation),
         }
@@ -276,6 +382,7 @@ impl<A: Allocator + Copy> Manager<A> {
         ensures history { self.new.history ≡ self.old.history ++ entered call.caller call.ae call.moment (Do call.request) result }
         ensures settings { self.new.settings ≡ self.old.settings }
         ensures asked { self.new.asked ≡ self.old.asked }
+        ensures first { self.new.first ≡ self.old.first }
         ensures small { SmallReply result }
         ensures legal { is_legal self.old.settings self.old.history }
         ensures legal_after { is_legal self.new.settings self.new.history }
@@ -298,6 +405,7 @@ impl<A: Allocator + Copy> Manager<A> {
         ensures asked { IsAsked 0 (length (asked_rows self.old.settings (past self.old.history) keys.now)) self.new.asked result }
         ensures history { self.new.history ≡ self.old.history }
         ensures settings { self.new.settings ≡ self.old.settings }
+        ensures first { self.new.first ≡ self.old.first }
         ensures legal { is_legal self.old.settings self.old.history }
     {
         let mut probe = Probe::new();
@@ -324,6 +432,7 @@ impl<A: Allocator + Copy> Manager<A> {
         ensures history { self.new.history ≡ self.old.history ++ entered caller ae moment ask result }
         ensures settings { self.new.settings ≡ self.old.settings }
         ensures asked { NotesAsked self.old.settings self.old.history ask result self.old.asked self.new.asked }
+        ensures first { self.new.first ≡ self.old.first }
         ensures small { SmallReply result }
         ensures legal { is_legal self.old.settings self.old.history }
         ensures legal_after { is_legal self.new.settings self.new.history }

@@ -9,7 +9,8 @@ ghost use Rattle.ups_service.specs.Law.{Answers, Others, nobody, alone, entered,
 
 use crate::manager::Manager;
 use std::alloc::Allocator;
-use ups_life::{Ask, Entry, Reply};
+use ups_history::History;
+use ups_life::{Ask, Reply};
 use ups_pdu::Ae;
 use ups_service::{Service, SharedService};
 
@@ -46,15 +47,19 @@ impl<A: Allocator + Copy> SharedService<A> for Manager<A> {
     }
 
     fn entries(&self) -> usize {
-        Manager::history(self).len()
+        Manager::entries(self)
     }
 
-    fn history(&self) -> &[Entry<A>] {
-        Manager::history(self)
+    fn history(&self) -> &History<A> {
+        self.all()
     }
 
     fn waiting(&self, ae: Ae) -> usize {
         Manager::waiting(self, ae)
+    }
+
+    fn let_go(&mut self, upto: usize) -> bool {
+        Manager::let_go(self, upto)
     }
 
     fn answer_as(&mut self, caller: u32, ae: Ae, moment: u64, ask: &mut Option<Ask<A>>) -> Reply<A>

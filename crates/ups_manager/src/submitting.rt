@@ -19,8 +19,10 @@ ghost use Rattle.ups_manager.specs.Faults.{status_of, RowFails, StepFails};
 use crate::rows::{find, is_used, row_of};
 use std::alloc::Allocator;
 use ups_cycle::{Status, StepState};
+use ups_history::History;
 use ups_life::{
-    ChangeFault, Configuration, Entry, Holder, MAX_ROW_BYTES, Request, Row, StepUid, Transaction,
+    ChangeFault, Configuration, Entry, Holder, MAX_HISTORY, MAX_ROW_BYTES, Request, Row, StepUid,
+    Transaction,
 };
 use ups_rules::{change, verdict};
 use ups_tables::{HeldRow, Tables};
@@ -49,11 +51,16 @@ impl SubmitFault {
 /// Returns whether a history has as many entries as it may have, so that no further request is entered.
 pub(crate) fn is_full<A: Allocator + Copy>(
     configuration: &Configuration<A>,
-    history: &[Entry<A>],
+    history: &History<A>,
 ) -> bool
-    ensures { result ≡ nat_le configuration.now.limit (length history.now) }
+    ensures { result ≡ nat_le configuration.now.limit (length history.now.entries) }
 {
     configuration.limit() <= history.len() as u64
+}
+
+/// Returns whether as many entries of a history are in memory as may be, so that no further request is entered.
+pub(crate) fn is_memory_full<A: Allocator + Copy>(history: &History<A>) -> bool {
+    history.in_memory() as u64 >= MAX_HISTORY
 }
 
 /// Returns whether a request creates a step under a UID that was used.
@@ -72,14 +79,14 @@ fn repeats<A: Allocator + Copy>(request: &Request<A>, tables: &Tables<A>) -> boo
 /// Errors: the status with which it is refused.
 fn decide<A: Allocator + Copy>(
     row: Option<&Row<A>>,
-    history: &[Entry<A>],
+    history: &History<A>,
     request: &Request<A>,
     tables: &Tables<A>,
 ) -> Result<(), SubmitFault>
-    requires { (u : List ℕ) → uses tables.now u ≡ used (past history.now) u }
-    ensures allowed { OnOk result (verdict (option_copied row.entry) (repeats (past history.now) request.now) request.now ≡ Success) }
-    ensures refused { IfErr result (λ fault. fault ≡ Refused (verdict (option_copied row.entry) (repeats (past history.now) request.now) request.now)) }
-    ensures error { IfErr result (λ fault. is_done (verdict (option_copied row.entry) (repeats (past history.now) request.now) request.now) ≡ false) }
+    requires { (u : List ℕ) → uses tables.now u ≡ used (past history.now.entries) u }
+    ensures allowed { OnOk result (verdict (option_copied row.entry) (repeats (past history.now.entries) request.now) request.now ≡ Success) }
+    ensures refused { IfErr result (λ fault. fault ≡ Refused (verdict (option_copied row.entry) (repeats (past history.now.entries) request.now) request.now)) }
+    ensures error { IfErr result (λ fault. is_done (verdict (option_copied row.entry) (repeats (past history.now.entries) request.now) request.now) ≡ false) }
 {
     let status = verdict(row, repeats(request, tables), request);
     if status.is_done() {
@@ -156,19 +163,19 @@ fn holder_after<A: Allocator + Copy>(before: Option<&HeldRow<A>>, call: &Entry<A
 pub(crate) fn step_for<A: Allocator + Copy>(
     alloc: A,
     offset: i16,
-    history: &[Entry<A>],
+    history: &History<A>,
     tables: &Tables<A>,
     call: &Entry<A>,
     step: StepUid,
 ) -> Result<HeldRow<A>, SubmitFault>
     requires moment { IsMoment call.now.moment }
     requires offset { IsOffset offset }
-    requires used { (u : List ℕ) → uses tables.now u ≡ used (past history.now) u }
-    ensures allowed { OnOk result (verdict (row_held (held_at step tables.now.steps.entries)) (repeats (past history.now) call.now.request) call.now.request ≡ Success) }
+    requires used { (u : List ℕ) → uses tables.now u ≡ used (past history.now.entries) u }
+    ensures allowed { OnOk result (verdict (row_held (held_at step tables.now.steps.entries)) (repeats (past history.now.entries) call.now.request) call.now.request ≡ Success) }
     ensures row { IfOk result (λ h. h.row ≡ row_after offset call.now.moment (unwrap_or (row_held (held_at step tables.now.steps.entries)) nothing) call.now.request) }
     ensures holder { IfOk result (λ h. h.holder ≡ option_or (claims_it call.now) (holder_held (held_at step tables.now.steps.entries))) }
     ensures fits { IfOk result (λ h. is_sized call.now.request ≡ true → fits h.row.attributes ≡ true) }
-    ensures fault { IfErr result (StepFails offset call.now.moment (row_held (held_at step tables.now.steps.entries)) (repeats (past history.now) call.now.request) call.now.request) }
+    ensures fault { IfErr result (StepFails offset call.now.moment (row_held (held_at step tables.now.steps.entries)) (repeats (past history.now.entries) call.now.request) call.now.request) }
 {
     let held = find(tables, step);
     let row = row_of(held);

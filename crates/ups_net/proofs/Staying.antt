@@ -29,7 +29,7 @@ module _ {A : Type 0} where
 
   swept : (ae : List ℕ) (keeps : Bool) (n : ℕ) (old new : PassView A) → Sweeps ae keeps n old new → new.table ≡ old.table
   swept ae keeps zero old new is = ap (λ (p : PassView A). p.table) is
-  swept ae keeps (suc n) old new (between, mid, before, looks, once) = called mid new ae once.moment _ once.reply once.call ∙ (looked keeps between mid looks ∙ swept ae keeps n old between before)
+  swept ae keeps (suc n) old new (between, mid, last, before, looks, once, lets) = lets.same.0 ∙ (called mid last ae once.moment _ once.reply once.call ∙ (looked keeps between mid looks ∙ swept ae keeps n old between before))
 
   counted : (ae : List ℕ) (old new : PassView A) (found : Bool) → CountsPending ae old found new → new.table ≡ old.table
   counted ae old new found = at (nat_lt old.calls most_calls)

@@ -1,13 +1,13 @@
 -- A pass that looks at the history and sweeps.
 use Rattle.std.proofs.Common.{◌≡◌, ℕ, suc, Bool, true, false, nat_lt, List, [], ◌∷◌, ◌++◌, refl, sym, ap, ◌∙◌, subst, arith}
-use Rattle.std.specs.Prelude.{All, MatchBool}
+use Rattle.std.specs.Prelude.{All, MatchBool, MatchOption, Option, Some, None}
 use Rattle.std.proofs.lemmas.List.{append_assoc, append-nil}
 use Rattle.std.proofs.lemmas.List.Elements.{All-nil, All-append}
 use Rattle.ups_life.specs.declared.entry.Entry.{Entry}
 use Rattle.ups_life.specs.declared.request.Ask.{Ask}
 use Rattle.ups_life.specs.declared.request.Reply.{Reply}
 use Rattle.ups_service.specs.Law.{entered}
-use Rattle.ups_turn.specs.Pass.{PassView, most_calls, IsServed, IsSpent, IsCall}
+use Rattle.ups_turn.specs.Pass.{PassView, most_calls, HasObserved, IsServed, IsSpent, IsCall}
 use Rattle.ups_ledger.specs.Keeping.{HasWatched}
 use Rattle.ups_net.specs.Sweeping.{LooksIfKept, Sweeps, SweepsOnce}
 use Rattle.ups_net.specs.Working.{seen_last}
@@ -27,6 +27,11 @@ module _ {A : Type 0} where
     seen = y.seen ∙ (ap (λ (l : List (Entry A)). l ++ y.between) x.seen ∙ append_assoc a.seen x.between y.between);
   }
 
+  -- a turn in which requests may leave memory, or none
+  pub let_go_watched : (r : Option Bool) (old new : PassView A) → MatchOption r (new ≡ old) (λ (more : Bool). HasObserved old new) → HasWatched old new
+  let_go_watched None old new is = subst (HasWatched old) (sym is) (watched_same old)
+  let_go_watched (Some more) old new h = record { same = h.same; calls = let next = h.calls in omega (arith, next); between = h.between; others = h.others; seen = h.seen }
+
   pub looked_same : (keeps : Bool) (p : PassView A) → LooksIfKept keeps p p
   looked_same true p = watched_same p
   looked_same false p = refl
@@ -43,8 +48,8 @@ module _ {A : Type 0} where
   swept_on ae old new once = called_on old new ae once.moment _ once.reply once.call
 
   -- one sweep more
-  pub sweeps_more : (ae : List ℕ) (keeps : Bool) (n : ℕ) (old between looked new : PassView A) → Sweeps ae keeps n old between → LooksIfKept keeps between looked → SweepsOnce ae looked new → Sweeps ae keeps (suc n) old new
-  sweeps_more ae keeps n old between looked new before looks once = (between, looked, before, looks, once)
+  pub sweeps_more : (ae : List ℕ) (keeps : Bool) (n : ℕ) (old between looked swept new : PassView A) → Sweeps ae keeps n old between → LooksIfKept keeps between looked → SweepsOnce ae looked swept → HasWatched swept new → Sweeps ae keeps (suc n) old new
+  sweeps_more ae keeps n old between looked swept new before looks once lets = (between, looked, swept, before, looks, once, lets)
 
   -- what the last pass has seen
   pub seen_behind : (front : List (PassView A)) (last : PassView A) → seen_last (front ++ last ∷ []) ≡ last.seen

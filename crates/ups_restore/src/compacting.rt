@@ -16,7 +16,7 @@ use crate::restoring::restore_one;
 use std::alloc::{AllocError, Global};
 use ups_compact::laws::{a_compact_history_is_legal, a_compacted_history_is_legal};
 use ups_compact::{KeptSteps, pays};
-use ups_journal::record_of;
+use ups_journal::{RecordingFault, record_of};
 use ups_ledger::Ledger;
 use ups_life::Entry;
 use ups_manager::Manager;
@@ -105,8 +105,11 @@ fn compact(
     a_compact_history_is_legal::<Global>();
     a_compacted_history_is_legal::<Global>();
     let _history = fresh.history();
+    let Some(history) = manager.whole() else {
+        return Err(CompactFault::Recording(RecordingFault::Gone));
+    };
     let steps = KeptSteps::of(alloc, manager.held()?)?;
-    carry_each(alloc, &steps, fresh, manager.history())?;
+    carry_each(alloc, &steps, fresh, history)?;
     acknowledge(alloc, manager, fresh, &steps, moment)
 }
 
@@ -139,18 +142,23 @@ pub fn compact_into<L: Ledger>(
     ensures legal { is_legal fresh.new.settings fresh.new.history }
 {
     compact(alloc, manager, fresh, moment)?;
-    put_history(alloc, fresh.history(), ledger)
+    match fresh.whole() {
+        Some(history) => put_history(alloc, history, ledger),
+        None => Err(CompactFault::Recording(RecordingFault::Gone)),
+    }
 }
 
 /// Returns whether a compaction of a manager's history pays: fewer of its entries stay than go.
 ///
 /// # Errors
 ///
-/// If memory runs out.
+/// If memory runs out, or if an entry has left memory.
 pub fn compaction_pays(alloc: Global, manager: &Manager<Global>) -> Result<bool, AllocError>
     ensures { IfOk result (λ pays. pays ≡ (let after = length (compact manager.now.settings (past manager.now.history)) in nat_lt after (length manager.now.history - after))) }
 {
     let steps = KeptSteps::of(alloc, manager.held()?)?;
-    let history = manager.history();
+    let Some(history) = manager.whole() else {
+        return Err(AllocError);
+    };
     Ok(pays(steps.count_left(history), history.len()))
 }

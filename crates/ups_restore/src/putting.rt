@@ -6,28 +6,11 @@ ghost use Rattle.ups_restore.specs.Compacting.{HasPut, IsNoRefusal};
 
 use crate::fault::CompactFault;
 use std::alloc::Global;
-use ups_journal::{Record, RecordingFault};
-use ups_ledger::{Ledger, Recorder};
+use ups_ledger::{Ledger, group_of};
 use ups_life::Entry;
-use ups_service::Observer;
 
 /// The greatest number of records that are appended to a ledger as one group.
 const MAX_GROUP: usize = 256;
-
-/// Returns the records of the entries of a history from an index on, up to the size of a group.
-///
-/// Errors: those of an entry that can't be recorded; `Memory`.
-fn group_of(
-    alloc: Global,
-    history: &[Entry<Global>],
-    from: usize,
-) -> Result<Vec<Record<Global>, Global>, RecordingFault>
-    ensures { IfOk result (λ group. group.items ≡ map recorded (take MAX_GROUP (drop from history.now))) }
-{
-    let mut recorder = Recorder::new(alloc, from, MAX_GROUP);
-    recorder.observe(history);
-    recorder.into_records()
-}
 
 /// Appends the records of the entries of a history from an index on to a ledger, as one group. Returns the index after
 /// them.
@@ -46,7 +29,7 @@ fn put_group<L: Ledger>(
     ensures sound { L.is_sound ledger.new → L.is_sound ledger.old }
     ensures only { IfErr result IsNoRefusal }
 {
-    let group = group_of(alloc, history, from)?;
+    let group = group_of(alloc, history, from, MAX_GROUP)?;
     ledger.append(&group)?;
     Ok(from + group.len())
 }

@@ -83,10 +83,10 @@ pub fn replay<A: Allocator + Copy>(
     ensures settings { manager.new.settings ≡ manager.old.settings }
     ensures legal { is_legal manager.new.settings manager.new.history }
 {
-    let before = manager.history().len();
+    let before = manager.entries();
     for entry in entries {
         if let Err(refusal) = replay_one(manager, entry) {
-            let place = manager.history().len() - before;
+            let place = manager.entries() - before;
             return Err(ReplayFault { place, refusal });
         }
     }

@@ -11,6 +11,7 @@ use Rattle.ups_ledger.specs.declared.ledger.Ledger.{Ghosts}
 use Rattle.ups_ledger.specs.Keeping.{IsKept, IsSafe}
 use Rattle.ups_life.specs.declared.entry.Entry.{Entry}
 use Rattle.ups_life.specs.Limits.{history_limit}
+use Rattle.ups_manager.specs.declared.manager.TheConstants.{LASTING_LIMIT}
 use Rattle.ups_life.specs.Settings.{Settings}
 use Rattle.ups_net.specs.Working.{Ran}
 use Rattle.ups_net.specs.declared.threads.options.ServerOptions.{ServerOptions}
@@ -29,9 +30,14 @@ deliverers_of workers watchers = max 1 (min (min watchers 8) (workers_limit + 1 
 abbrev pub seats_of : ℕ → ℕ → ℕ
 seats_of workers watchers = workers + deliverers_of workers watchers + 1
 
+-- the limit of the history: it has no end, unless it is kept in a store
+abbrev pub limit_asked : {X : Type 0} → Option X → ℕ
+limit_asked None = LASTING_LIMIT
+limit_asked (Some store) = history_limit
+
 -- the settings of the manager that the command line asks for
 abbrev pub settings_asked : ServeArguments → Settings
-settings_asked asked = record { peers = asked.peers.items; keep = asked.keep; offset = asked.offset; limit = history_limit }
+settings_asked asked = record { peers = asked.peers.items; keep = asked.keep; offset = asked.offset; limit = limit_asked asked.store }
 
 -- how the threads of the server work: with its title, its local time, its limits and its watchers; each worker has
 -- `to_serve` associations to serve, and the sweeper and each deliverer have `to_make` rounds to make

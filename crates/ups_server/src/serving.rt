@@ -168,7 +168,8 @@ fn deliverers_of(workers: u32, watchers: usize) -> u32
     wanted.min(seats).max(1)
 }
 
-/// Returns a manager without requests, with the settings of the command line.
+/// Returns a manager without requests, with the settings of the command line. Its history has no end, unless it is kept
+/// in a store.
 ///
 /// Errors: lack of memory.
 fn new_manager(alloc: Global, asked: &ServeArguments<'_>) -> Result<Manager<Global>, AllocError>
@@ -177,7 +178,11 @@ fn new_manager(alloc: Global, asked: &ServeArguments<'_>) -> Result<Manager<Glob
     ensures settings { IfOk result (λ manager. manager.settings ≡ settings_asked asked.now) }
     ensures empty { IfOk result (λ manager. manager.history ≡ []) }
 {
-    match Manager::new(alloc, &asked.peers, asked.keep, asked.offset, MAX_HISTORY) {
+    let made = match asked.store {
+        Some(_) => Manager::new(alloc, &asked.peers, asked.keep, asked.offset, MAX_HISTORY),
+        None => Manager::lasting(alloc, &asked.peers, asked.keep, asked.offset),
+    };
+    match made {
         Ok(manager) => Ok(manager),
         Err(_) => Err(AllocError),
     }

@@ -35,7 +35,7 @@ further A made before upto h = at (nat_lt made upto) (nat_le upto before) refl h
     at false true stale g = absurd cc
     at false false stale g = grind (arith, nat_tests, stale)
 
-acked_further : {A : Type 0} (s : Settings) (es : List (Entry A)) (e : Entry A) (w : List ℕ) (r : Request A) → accepts (decided s es e r) ≡ true → acked es w ≤ acked_after w e.ae (acked es w) r
+pub acked_further : {A : Type 0} (s : Settings) (es : List (Entry A)) (e : Entry A) (w : List ℕ) (r : Request A) → accepts (decided s es e r) ≡ true → acked es w ≤ acked_after w e.ae (acked es w) r
 acked_further {A} s es e w (Ack upto) h = at (bytes_eq e.ae w) refl
   where
     at : (b : Bool) → bytes_eq e.ae w ≡ b → acked es w ≤ cond b upto (acked es w)
@@ -72,7 +72,7 @@ module _ {A : Type 0} (s : Settings) (es : List (Entry A)) (w : List ℕ) where
           let far : length (events s (ls ++ es) w) < x.number = numbered_above (length (events s (ls ++ es) w)) (length (ls ++ es)) (reports_of s (ls ++ es) e w e.request) x g in
           absurd (omega (arith, far, more, low))
 
-  is_above : (n m : ℕ) → n < m → nat_lt n m ≡ true
+  pub is_above : (n m : ℕ) → n < m → nat_lt n m ≡ true
   is_above n m h = grind (arith, nat_tests)
 
   was_pending : (ls : List (Entry A)) (x : Event) → legal s (ls ++ es) ≡ true → Contains (pending s (ls ++ es) w) x → x.number ≤ length (events s es w) → Contains (pending s es w) x

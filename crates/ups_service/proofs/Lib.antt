@@ -3,7 +3,8 @@ pub mod Calling
 mod Delivering
 mod Got
 pub mod Legality
-mod Members
+pub mod Members
 mod Numbers
 pub mod OneClaim
+pub mod StillPending
 mod Worked

@@ -1,7 +1,7 @@
 //! The observer of the history that callers share.
 
 use std::alloc::Allocator;
-use ups_life::Entry;
+use ups_history::History;
 
 /// An observer of a history, which takes from it what it needs.
 pub trait Observer<A: Allocator + Copy> {
@@ -12,6 +12,6 @@ pub trait Observer<A: Allocator + Copy> {
     ghost observed: { Self → List (Entry A) → Self → Type 0 };
 
     /// Observes a history.
-    fn observe(&mut self, history: &[Entry<A>])
-        ensures { observed self.old history.now self.new };
+    fn observe(&mut self, history: &History<A>)
+        ensures { observed self.old history.now.entries self.new };
 }

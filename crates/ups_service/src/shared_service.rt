@@ -1,7 +1,8 @@
 //! The service that numbered callers share, one call at a time.
 
 use std::alloc::Allocator;
-use ups_life::{Ask, Entry, Reply};
+use ups_history::History;
+use ups_life::{Ask, Reply};
 use ups_pdu::Ae;
 
 /// A service that callers share, one call at a time. It has the settings, and one history, in which each entry has the
@@ -32,13 +33,20 @@ pub trait SharedService<A: Allocator + Copy>: Drop {
         ensures legal { is_legal (state self.now).settings (state self.now).history };
 
     /// Returns the accepted requests, oldest first.
-    fn history(&self) -> &[Entry<A>]
-        ensures { result.now ≡ (state self.now).history };
+    fn history(&self) -> &History<A>
+        ensures { result.now.entries ≡ (state self.now).history };
 
     /// Returns the number of events that wait for a watcher (PS3.4 CC.2.4); 0 for an application entity that is no
     /// peer. It takes no memory.
     fn waiting(&self, ae: Ae) -> usize
         ensures { result ≡ length (pending (state self.now).settings (past (state self.now).history) ae) };
+
+    /// Lets entries before the one at index `upto` of the history leave memory, if nothing that is asked later can need
+    /// them: some at each call, so that it takes no long time. No answer tells whether they have left. Returns whether
+    /// a further call can let more of them go.
+    fn let_go(&mut self, upto: usize) -> bool
+        ensures state { state self.new ≡ state self.old }
+        ensures asked { asked self.new ≡ asked self.old };
 
     /// Takes the ask out of its option, answers it for an application entity by the history, and enters it there if it
     /// is an accepted request. `caller` is the number of the caller, and `moment` is in seconds since 1970-01-01 UTC.

@@ -325,7 +325,7 @@ pub fn begin<'a, P: StorePlace, R: Clock + Log>(
     ensures all { IfOk result (λ k. k.committed ≡ length manager.new.history) }
 {
     let begun = begin_in(alloc, telling, &place, choices, &about, manager)?;
-    let committed = manager.history().len();
+    let committed = manager.entries();
     Ok(Keeper {
         ledger: StoreLedger::of(place, about, begun, committed as u64),
         committed,

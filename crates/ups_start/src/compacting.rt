@@ -114,7 +114,7 @@ pub(crate) fn compacted<S: Store + Drop, R: Log>(
         Ok(begun) => begun,
         Err(fault) => return Err(fault),
     };
-    tell_compacted(telling, manager.history().len(), fresh.history().len());
+    tell_compacted(telling, manager.entries(), fresh.entries());
     *manager = fresh;
     Ok(begun)
 }

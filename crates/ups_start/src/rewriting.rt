@@ -12,10 +12,10 @@ use crate::beginning::StartedRun;
 use crate::fault::{StartFault, fault_of};
 use sqlite_trees::store::Store;
 use std::alloc::Global;
-use ups_journal::Record;
+use ups_journal::{Record, RecordingFault};
 use ups_ledger::{Ledger, LedgerFault};
 use ups_manager::Manager;
-use ups_restore::put_history;
+use ups_restore::{CompactFault, put_history};
 use ups_store::{Rewrite, Run, StoreFault, digest_after};
 
 /// A rewrite of the requests of a store, as a ledger that begins empty. Nothing is committed before everything is put.
@@ -147,7 +147,10 @@ pub(crate) fn rewritten<S: Store + Drop>(
     ensures clean { IfOk result (λ b. IsClean (requests_shown b.store) → IsClean (requests_shown begun.store)) }
 {
     let mut anew = Anew::begin(begun)?;
-    match put_history(alloc, manager.history(), &mut anew) {
+    let Some(history) = manager.whole() else {
+        return Err(StartFault::Compact(CompactFault::Recording(RecordingFault::Gone)));
+    };
+    match put_history(alloc, history, &mut anew) {
         Ok(()) => anew.commit(about),
         Err(fault) => Err(StartFault::Compact(fault)),
     }

@@ -1,6 +1,7 @@
 //! Carries out a plan for which room was made. This takes no memory, and can't fail.
 
-ghost use Rattle.std.specs.Prelude.{◌≡◌, ◌<◌, ◌++◌, ◌∷◌, [], true, vec_len, vec_capacity};
+ghost use Rattle.std.specs.Prelude.{◌≡◌, ◌<◌, ◌++◌, ◌∷◌, [], true};
+ghost use Rattle.ups_history.specs.View.{KeepsMemory};
 ghost use Rattle.ups_life.specs.Steps.{past};
 ghost use Rattle.ups_life.specs.History.{legal};
 ghost use Rattle.ups_tables.specs.Planned.{IsPlan, room_for};
@@ -13,24 +14,26 @@ use crate::acting::{
 use crate::plan::Plan;
 use crate::tables::Tables;
 use std::alloc::Allocator;
+use ups_history::History;
 use ups_life::{Configuration, Entry};
 
 /// Carries out the plan of an entry: appends the entry to the history, and updates the tables to what the definitions
 /// say of the history with it.
 pub fn carry_out<A: Allocator + Copy>(
     configuration: &Configuration<A>,
-    history: &mut Vec<Entry<A>, A>,
+    history: &mut History<A>,
     tables: &mut Tables<A>,
     entry: Entry<A>,
     plan: Plan<A>,
 )
-    requires stands { Stands configuration.now history.old.items tables.old }
-    requires legal { legal configuration.now (entry ∷ past history.old.items) ≡ true }
-    requires plan { IsPlan configuration.now (past history.old.items) entry tables.old plan }
+    requires stands { Stands configuration.now history.old.entries tables.old }
+    requires legal { legal configuration.now (entry ∷ past history.old.entries) ≡ true }
+    requires plan { IsPlan configuration.now (past history.old.entries) entry tables.old plan }
     requires room { room_for tables.old plan }
-    requires history_room { vec_len history.old < vec_capacity history.old }
-    ensures history { history.new.items ≡ history.old.items ++ entry ∷ [] }
-    ensures stands { Stands configuration.now history.new.items tables.new }
+    requires history_room { 0 < history.old.spare }
+    ensures history { history.new.entries ≡ history.old.entries ++ entry ∷ [] }
+    ensures memory { KeepsMemory history.old history.new }
+    ensures stands { Stands configuration.now history.new.entries tables.new }
 {
     let place = history.len() as u64;
     history.push_reserved(entry);

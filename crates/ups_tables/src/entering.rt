@@ -1,6 +1,7 @@
 //! The tables of an empty history, and room for the effect of a request on the history and the tables.
 
-ghost use Rattle.std.specs.Prelude.{◌≡◌, ◌<◌, ◌∷◌, [], true, vec_len, vec_capacity, IfOk, IsOk, OnOk};
+ghost use Rattle.std.specs.Prelude.{◌≡◌, ◌<◌, ◌∷◌, [], true, IfOk, IsOk, OnOk};
+ghost use Rattle.ups_history.specs.View.{KeepsMemory};
 ghost use Rattle.ups_life.specs.Steps.{past};
 ghost use Rattle.ups_life.specs.History.{legal};
 ghost use Rattle.ups_tables.specs.Seen.{Once};
@@ -15,6 +16,7 @@ use crate::room::{
 };
 use crate::tables::Tables;
 use std::alloc::{AllocError, Allocator};
+use ups_history::History;
 use ups_life::{Configuration, Entry};
 
 /// Returns the tables of an empty history.
@@ -40,14 +42,14 @@ pub fn begin<A: Allocator + Copy>(
 /// Errors: if memory runs out, but never if there is that room already. The contents of the tables stay the same.
 pub(crate) fn room_for_plan<A: Allocator + Copy>(
     configuration: &Configuration<A>,
-    history: &[Entry<A>],
+    history: &History<A>,
     tables: &mut Tables<A>,
     entry: &Entry<A>,
     plan: &Plan<A>,
 ) -> Result<(), AllocError>
-    requires stands { Stands configuration.now history.now tables.old }
-    requires legal { legal configuration.now (entry.now ∷ past history.now) ≡ true }
-    requires plan { IsPlan configuration.now (past history.now) entry.now tables.old plan.now }
+    requires stands { Stands configuration.now history.now.entries tables.old }
+    requires legal { legal configuration.now (entry.now ∷ past history.now.entries) ≡ true }
+    requires plan { IsPlan configuration.now (past history.now.entries) entry.now tables.old plan.now }
     ensures room { OnOk result (room_for tables.new plan.now) }
     ensures succeeds { room_for tables.old plan.now → IsOk result }
     ensures same { Reserved tables.old tables.new }
@@ -87,22 +89,23 @@ pub(crate) fn room_for_plan<A: Allocator + Copy>(
 /// the same.
 pub fn make_room<A: Allocator + Copy>(
     configuration: &Configuration<A>,
-    history: &mut Vec<Entry<A>, A>,
+    history: &mut History<A>,
     tables: &mut Tables<A>,
     entry: &Entry<A>,
     plan: &Plan<A>,
 ) -> Result<(), AllocError>
-    requires stands { Stands configuration.now history.old.items tables.old }
-    requires legal { legal configuration.now (entry.now ∷ past history.old.items) ≡ true }
-    requires plan { IsPlan configuration.now (past history.old.items) entry.now tables.old plan.now }
-    ensures history { history.new.items ≡ history.old.items }
+    requires stands { Stands configuration.now history.old.entries tables.old }
+    requires legal { legal configuration.now (entry.now ∷ past history.old.entries) ≡ true }
+    requires plan { IsPlan configuration.now (past history.old.entries) entry.now tables.old plan.now }
+    ensures history { history.new.entries ≡ history.old.entries }
+    ensures memory { KeepsMemory history.old history.new }
     ensures same { Reserved tables.old tables.new }
-    ensures stands { Stands configuration.now history.new.items tables.new }
-    ensures plan { IsPlan configuration.now (past history.new.items) entry.now tables.new plan.now }
+    ensures stands { Stands configuration.now history.new.entries tables.new }
+    ensures plan { IsPlan configuration.now (past history.new.entries) entry.now tables.new plan.now }
     ensures room { OnOk result (room_for tables.new plan.now) }
-    ensures history_room { OnOk result (vec_len history.new < vec_capacity history.new) }
-    ensures succeeds { room_for tables.old plan.now → vec_len history.old < vec_capacity history.old → IsOk result }
+    ensures history_room { OnOk result (0 < history.new.spare) }
+    ensures succeeds { room_for tables.old plan.now → 0 < history.old.spare → IsOk result }
 {
-    room_for_plan(configuration, history.as_slice(), tables, entry, plan)?;
-    history.reserve(1)
+    room_for_plan(configuration, history, tables, entry, plan)?;
+    history.reserve()
 }

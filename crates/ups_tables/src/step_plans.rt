@@ -19,6 +19,7 @@ use crate::tables::Tables;
 use crate::telling::{alone, news, report_now};
 use std::alloc::{AllocError, Allocator};
 use ups_dataset::DataSet;
+use ups_history::History;
 use ups_life::{Configuration, Entry, Request, Row, StepUid, Subscription};
 use ups_steps::HeldRow;
 
@@ -61,18 +62,18 @@ fn newly_of<A: Allocator + Copy>(
 pub fn plan_step<A: Allocator + Copy>(
     alloc: A,
     configuration: &Configuration<A>,
-    history: &[Entry<A>],
+    history: &History<A>,
     tables: &Tables<A>,
     entry: &Entry<A>,
     step: StepUid,
     held: HeldRow<A>,
 ) -> Result<Plan<A>, AllocError>
-    requires stands { Stands configuration.now history.now tables.now }
+    requires stands { Stands configuration.now history.now.entries tables.now }
     requires step { step_of entry.now.request ≡ Some step }
-    requires allowed { verdict (row_held (held_at step tables.now.steps.entries)) (repeats (past history.now) entry.now.request) entry.now.request ≡ Success }
+    requires allowed { verdict (row_held (held_at step tables.now.steps.entries)) (repeats (past history.now.entries) entry.now.request) entry.now.request ≡ Success }
     requires row { held.row ≡ row_after configuration.now.offset entry.now.moment (unwrap_or (row_held (held_at step tables.now.steps.entries)) nothing) entry.now.request }
     requires holder { held.holder ≡ option_or (claims_it entry.now) (holder_held (held_at step tables.now.steps.entries)) }
-    ensures { IfOk result (λ p. IsPlan configuration.now (past history.now) entry.now tables.now p) }
+    ensures { IfOk result (λ p. IsPlan configuration.now (past history.now.entries) entry.now tables.now p) }
 {
     let found = tables.steps.get(step);
     let before = row_of(found);

@@ -12,6 +12,7 @@ ghost use Rattle.ups_tables.specs.Stands.{Stands};
 use crate::plan::Plan;
 use crate::tables::Tables;
 use std::alloc::{AllocError, Allocator};
+use ups_history::History;
 use ups_life::{Configuration, Entry};
 
 /// Returns the plan of a sweep. The reply to the sweep is the number of steps that the plan removes.
@@ -22,15 +23,15 @@ use ups_life::{Configuration, Entry};
 pub fn plan_sweep<A: Allocator + Copy>(
     alloc: A,
     configuration: &Configuration<A>,
-    history: &[Entry<A>],
+    history: &History<A>,
     tables: &Tables<A>,
     entry: &Entry<A>,
 ) -> Result<Plan<A>, AllocError>
-    requires stands { Stands configuration.now history.now tables.now }
+    requires stands { Stands configuration.now history.now.entries tables.now }
     requires request { entry.now.request ≡ Sweep }
-    ensures plan { IfOk result (λ p. IsPlan configuration.now (past history.now) entry.now tables.now p) }
-    ensures count { IfOk result (λ p. decided configuration.now (past history.now) entry.now Sweep ≡ Swept (swept_by p)) }
-    ensures lacks { OnErr result (accepts (decided configuration.now (past history.now) entry.now Sweep) ≡ true) }
+    ensures plan { IfOk result (λ p. IsPlan configuration.now (past history.now.entries) entry.now tables.now p) }
+    ensures count { IfOk result (λ p. decided configuration.now (past history.now.entries) entry.now Sweep ≡ Swept (swept_by p)) }
+    ensures lacks { OnErr result (accepts (decided configuration.now (past history.now.entries) entry.now Sweep) ≡ true) }
 {
     let keep = u64::from(configuration.keep());
     if entry.moment < keep {

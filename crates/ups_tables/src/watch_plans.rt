@@ -17,6 +17,7 @@ use crate::plan::Plan;
 use crate::tables::Tables;
 use crate::telling::{alone, report_now};
 use std::alloc::{AllocError, Allocator};
+use ups_history::History;
 use ups_life::{Configuration, Entry, Place, StepUid, Target};
 use ups_pdu::Ae;
 
@@ -26,7 +27,7 @@ use ups_pdu::Ae;
 fn plan_single<A: Allocator + Copy>(
     alloc: A,
     configuration: &Configuration<A>,
-    history: &[Entry<A>],
+    history: &History<A>,
     tables: &Tables<A>,
     entry: &Entry<A>,
     peer: usize,
@@ -34,11 +35,11 @@ fn plan_single<A: Allocator + Copy>(
     receiver: Ae,
     lock: bool,
 ) -> Result<Plan<A>, AllocError>
-    requires stands { Stands configuration.now history.now tables.now }
+    requires stands { Stands configuration.now history.now.entries tables.now }
     requires place { place_of_title configuration.now.peers receiver ≡ Some peer }
     requires request { entry.now.request ≡ Subscribe (Single (Some step)) receiver lock }
-    requires accepted { is_done (status configuration.now (past history.now) entry.now) ≡ true }
-    ensures { IfOk result (λ p. IsPlan configuration.now (past history.now) entry.now tables.now p) }
+    requires accepted { is_done (status configuration.now (past history.now.entries) entry.now) ≡ true }
+    ensures { IfOk result (λ p. IsPlan configuration.now (past history.now.entries) entry.now tables.now p) }
 {
     let subscription = granted(configuration.peers(), receiver, lock);
     let Some(held) = tables.steps.get(step) else {
@@ -59,7 +60,7 @@ fn plan_single<A: Allocator + Copy>(
 fn plan_global<A: Allocator + Copy>(
     alloc: A,
     configuration: &Configuration<A>,
-    history: &[Entry<A>],
+    history: &History<A>,
     tables: &Tables<A>,
     entry: &Entry<A>,
     peer: usize,
@@ -67,12 +68,12 @@ fn plan_global<A: Allocator + Copy>(
     receiver: Ae,
     lock: bool,
 ) -> Result<Plan<A>, AllocError>
-    requires stands { Stands configuration.now history.now tables.now }
+    requires stands { Stands configuration.now history.now.entries tables.now }
     requires place { place_of_title configuration.now.peers receiver ≡ Some peer }
     requires request { entry.now.request ≡ Subscribe target.now receiver lock }
     requires global { (step : List ℕ) → target.now ≢ Single (Some step) }
-    requires accepted { is_done (status configuration.now (past history.now) entry.now) ≡ true }
-    ensures { IfOk result (λ p. IsPlan configuration.now (past history.now) entry.now tables.now p) }
+    requires accepted { is_done (status configuration.now (past history.now.entries) entry.now) ≡ true }
+    ensures { IfOk result (λ p. IsPlan configuration.now (past history.now.entries) entry.now tables.now p) }
 {
     let subscription = granted(configuration.peers(), receiver, lock);
     let Some(cover) = cover_to(target, subscription)? else {
@@ -99,17 +100,17 @@ fn plan_global<A: Allocator + Copy>(
 pub fn plan_subscription<A: Allocator + Copy>(
     alloc: A,
     configuration: &Configuration<A>,
-    history: &[Entry<A>],
+    history: &History<A>,
     tables: &Tables<A>,
     entry: &Entry<A>,
     target: &Target<A>,
     receiver: Ae,
     lock: bool,
 ) -> Result<Plan<A>, AllocError>
-    requires stands { Stands configuration.now history.now tables.now }
+    requires stands { Stands configuration.now history.now.entries tables.now }
     requires request { entry.now.request ≡ Subscribe target.now receiver lock }
-    requires accepted { is_done (status configuration.now (past history.now) entry.now) ≡ true }
-    ensures { IfOk result (λ p. IsPlan configuration.now (past history.now) entry.now tables.now p) }
+    requires accepted { is_done (status configuration.now (past history.now.entries) entry.now) ≡ true }
+    ensures { IfOk result (λ p. IsPlan configuration.now (past history.now.entries) entry.now tables.now p) }
 {
     let Some(peer) = place_of(configuration.peers(), receiver) else {
         unreachable!();
@@ -148,16 +149,16 @@ pub fn plan_subscription<A: Allocator + Copy>(
 pub fn plan_end<A: Allocator + Copy>(
     alloc: A,
     configuration: &Configuration<A>,
-    history: &[Entry<A>],
+    history: &History<A>,
     tables: &Tables<A>,
     entry: &Entry<A>,
     place: Place,
     receiver: Ae,
 ) -> Result<Plan<A>, AllocError>
-    requires stands { Stands configuration.now history.now tables.now }
+    requires stands { Stands configuration.now history.now.entries tables.now }
     requires request { entry.now.request ≡ Unsubscribe place receiver }
-    requires accepted { is_done (status configuration.now (past history.now) entry.now) ≡ true }
-    ensures { IfOk result (λ p. IsPlan configuration.now (past history.now) entry.now tables.now p) }
+    requires accepted { is_done (status configuration.now (past history.now.entries) entry.now) ≡ true }
+    ensures { IfOk result (λ p. IsPlan configuration.now (past history.now.entries) entry.now tables.now p) }
 {
     let Some(peer) = place_of(configuration.peers(), receiver) else {
         unreachable!();
@@ -175,14 +176,14 @@ pub fn plan_end<A: Allocator + Copy>(
 /// Returns the plan of an accepted suspension of a global subscription. It takes no memory.
 pub fn plan_suspend<A: Allocator + Copy>(
     configuration: &Configuration<A>,
-    history: &[Entry<A>],
+    history: &History<A>,
     tables: &Tables<A>,
     entry: &Entry<A>,
     receiver: Ae,
 ) -> Plan<A>
     requires request { entry.now.request ≡ Suspend receiver }
-    requires accepted { is_done (status configuration.now (past history.now) entry.now) ≡ true }
-    ensures { IsPlan configuration.now (past history.now) entry.now tables.now result }
+    requires accepted { is_done (status configuration.now (past history.now.entries) entry.now) ≡ true }
+    ensures { IsPlan configuration.now (past history.now.entries) entry.now tables.now result }
 {
     let Some(peer) = place_of(configuration.peers(), receiver) else {
         unreachable!();

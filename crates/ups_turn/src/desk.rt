@@ -16,7 +16,8 @@ use crate::held::Held;
 use crate::pass::Pass;
 use crate::rule::{DeskTable, InTurn, PassSeat};
 use crate::turn::{
-    COUNT, absorb, call_in_turn, deal, low_half, note, observe_in_turn, settle, waiting_in_turn,
+    COUNT, absorb, call_in_turn, deal, let_go_in_turn, low_half, note, observe_in_turn, settle,
+    waiting_in_turn,
 };
 use crate::view::{Opening, View};
 use atomic_table::{Refused, Table};
@@ -324,6 +325,27 @@ impl<M: SharedService<A>, A: Allocator + Copy> Desk<M, A> {
         pass.front = seen;
         pass.calls += 1;
         Some(count)
+    }
+
+    /// Lets requests before the one at index `upto` of the history leave memory in a turn of the pass, if nothing that is
+    /// asked later can need them: some of them at each call, so that no other pass waits for long. No reply tells
+    /// whether they have left. This enters nothing, but counts as a call. Returns whether a further call can let more
+    /// of them go, or None, and does nothing, if the pass has made 2^40 calls.
+    pub fn let_go<R: Wait>(&self, rt: &R, pass: &mut Pass<M, A>, upto: usize) -> Option<bool>
+        requires here { pass.old.table ≡ self.now.table }
+        ensures left { is_some result ≡ nat_lt pass.old.calls most_calls }
+        ensures pass { MatchOption result (pass.new ≡ pass.old) (λ is_more. HasObserved pass.old pass.new) }
+    {
+        let is_done = pass.calls >= MOST_CALLS;
+        if is_done {
+            return None;
+        }
+        let _held = self.ticket_lock.lock(rt);
+        let shelf = &self.table.shared;
+        let (is_more, seen) = let_go_in_turn(rt, shelf, &mut pass.place, pass.number, upto);
+        pass.front = seen;
+        pass.calls += 1;
+        Some(is_more)
     }
 
     /// Waits until the number of entered requests differs from `known`, for at most `limit`, and returns it. This takes

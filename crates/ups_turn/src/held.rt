@@ -9,7 +9,8 @@ ghost use Rattle.ups_service.specs.Law.{Answers, SmallReply, entered, is_legal};
 
 use std::alloc::Allocator;
 use std::marker::Model;
-use ups_life::{Ask, Entry, Reply};
+use ups_history::History;
+use ups_life::{Ask, Reply};
 use ups_pdu::Ae;
 use ups_service::SharedService;
 
@@ -71,8 +72,8 @@ impl<M: SharedService<A>, A: Allocator + Copy> Held<M, A> {
     }
 
     /// Returns the accepted requests, oldest first.
-    pub(crate) fn history(&self) -> &[Entry<A>]
-        ensures { result.now ≡ self.now.history }
+    pub(crate) fn history(&self) -> &History<A>
+        ensures { result.now.entries ≡ self.now.history }
     {
         self.shared.history()
     }
@@ -83,6 +84,14 @@ impl<M: SharedService<A>, A: Allocator + Copy> Held<M, A> {
         ensures { result ≡ length (pending self.now.settings (past self.now.history) ae) }
     {
         self.shared.waiting(ae)
+    }
+
+    /// Lets requests before the one at index `upto` leave memory, if nothing that is asked later can need them. Returns
+    /// whether a further call can let more of them go.
+    pub(crate) fn let_go(&mut self, upto: usize) -> bool
+        ensures { self.new ≡ self.old }
+    {
+        self.shared.let_go(upto)
     }
 
     /// Answers what an application entity asks, and enters it if it is a request that is accepted.

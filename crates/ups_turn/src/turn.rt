@@ -267,6 +267,31 @@ pub(crate) fn waiting_in_turn<M: SharedService<A>, A: Allocator + Copy, R: Wait>
     (waiting, entries)
 }
 
+/// Lets requests leave memory in the turn of a seat that rests: takes the manager, and gives it back with the same
+/// history. Returns whether more can be let go of, and the number of entered requests.
+pub(crate) fn let_go_in_turn<M: SharedService<A>, A: Allocator + Copy, R: Wait>(
+    rt: &R,
+    shelf: &DeskTable<M, A>,
+    place: &mut PassSeat<M, A>,
+    number: u32,
+    upto: usize,
+) -> (bool, u64)
+    requires table { IsShelf place.old.table_id shelf.now.table_id }
+    requires rests { IsAtRest number place.old.me }
+    requires left { place.old.me.0.draws < most_calls }
+    ensures table { place.new.table_id ≡ place.old.table_id }
+    ensures rests { IsAtRest number place.new.me }
+    ensures entries { result.1 ≡ length (seen_in place.new.me.0.parts) }
+    ensures legal { is_legal place.new.me.0.settings (seen_in place.new.me.0.parts) }
+    ensures standing { HasObserved (standing place.old.table_id number place.old.me.0) (standing place.new.table_id number place.new.me.0) }
+{
+    let mut manager = take(rt, shelf, place);
+    let is_more = manager.let_go(upto);
+    let entries = manager.entries();
+    give(shelf, place, manager, 0);
+    (is_more, entries)
+}
+
 /// Splits off a note of what the seat's passes have seen.
 pub(crate) fn note<M: SharedService<A>, A: Allocator + Copy>(
     shelf: &DeskTable<M, A>,

@@ -115,7 +115,7 @@ impl Monitor {
     }
 
     /// Checks a server whose history has `entries` entries, and logs what there is to log: that the history has reached
-    /// a mark or is full, that all workers are taken, what deliveries came to, how many requests were refused beyond
+    /// a mark or is full if it is kept in a ledger (otherwise it has no end), that all workers are taken, what deliveries came to, how many requests were refused beyond
     /// those logged, and its numbers every ten minutes.
     pub(crate) fn look<K: Keeping, R: Wait + Clock + Log + Network>(
         &mut self,
@@ -125,7 +125,9 @@ impl Monitor {
         entries: u64,
     ) {
         let now = moment_of(rt);
-        self.look_at_history(rt, entries, now);
+        if state.commits.kept().is_some() {
+            self.look_at_history(rt, entries, now);
+        }
         state.door.tell_taken(rt, options.limits.workers);
         tell_deliveries(rt, &state.roster, &options.watchers);
         if self.minute.is_due(now) {

@@ -6,7 +6,7 @@
 
 ghost use Rattle.std.specs.Prelude.{◌≡◌, is_some};
 ghost use Rattle.ups_ledger.specs.Backed.{Backs};
-ghost use Rattle.ups_ledger.specs.Keeping.{KeepersGoOn};
+ghost use Rattle.ups_ledger.specs.Keeping.{HasWatched, KeepersGoOn};
 ghost use Rattle.ups_net.specs.Sweeping.{LooksIfKept, Sweeps, SweepsOnce};
 
 use crate::clock::moment_of;
@@ -130,6 +130,44 @@ fn sweep_once<M: SharedService<Global>, R: Wait + Clock>(
         .answer(ae, moment, &mut Some(Ask::Do(Request::Sweep)));
 }
 
+/// The most turns of a round in which requests are let go of.
+const MAX_TURNS: u32 = 1_000;
+
+/// Lets some requests before the one at index `upto` leave memory in a turn, if nothing that is asked later can need
+/// them. Returns whether a further turn can let more of them go.
+fn let_some_go<M: SharedService<Global>, R: Wait>(
+    rt: &R,
+    desk: &Desk<M, Global>,
+    pass: &mut Pass<M, Global>,
+    upto: usize,
+) -> bool
+    requires here { pass.old.table ≡ desk.now.table }
+    ensures watched { HasWatched pass.old pass.new }
+    ensures stays { pass.new.table ≡ pass.old.table }
+{
+    let more = desk.let_go(rt, pass, upto);
+    more.unwrap_or(false)
+}
+
+/// Lets requests before the one at index `upto` leave memory, if nothing that is asked later can need them: some of them
+/// in each of several turns, between which others have theirs.
+fn let_go<M: SharedService<Global>, R: Wait>(
+    rt: &R,
+    desk: &Desk<M, Global>,
+    pass: &mut Pass<M, Global>,
+    upto: usize,
+)
+    requires here { pass.old.table ≡ desk.now.table }
+    ensures watched { HasWatched pass.old pass.new }
+    ensures stays { pass.new.table ≡ pass.old.table }
+{
+    for _ in 0..MAX_TURNS {
+        if !let_some_go(rt, desk, pass, upto) {
+            return;
+        }
+    }
+}
+
 /// Waits for a round as `pause` does, unless it is the first one.
 fn before_round<M: SharedService<Global>, K: Keeping, L: Ledger, R>(
     is_first: bool,
@@ -154,6 +192,15 @@ where
     pause(site, roster, pass, keeper, round)
 }
 
+/// Returns how many entries need not stay in memory to be committed: those that are, or all `entries` if no ledger is
+/// kept.
+fn done_with<L: Ledger>(keeper: &Option<Keeper<L>>, entries: u64) -> usize {
+    match keeper {
+        Some(keeper) => keeper.committed,
+        None => entries as usize,
+    }
+}
+
 /// Returns how many entries are committed, or 0 if no ledger is kept.
 fn count_of<L: Ledger>(keeper: &Option<Keeper<L>>) -> u64 {
     match keeper {
@@ -167,7 +214,8 @@ fn count_of<L: Ledger>(keeper: &Option<Keeper<L>>) -> u64 {
 /// A sweep removes the steps that have been final for as long as they are kept and have no Deletion Lock. In the second
 /// between two sweeps, it rings for the deliverers when requests are entered; if a ledger is kept, it commits these
 /// first, and releases the answers that wait for it. No contract says when. The ledger is returned, and has a beginning
-/// of the history that the pass has seen, if it had before. After each sweep it checks the server, logs what there is to
+/// of the history that the pass has seen, if it had before. After each sweep it lets requests leave memory that nothing
+/// asked later can need, of those that are committed if a ledger is kept, checks the server, logs what there is to
 /// log (`Monitor`), and tells a supervisor that it works.
 pub fn sweep<M: SharedService<Global>, K: Keeping, L: Ledger, R>(
     rt: &R,
@@ -202,6 +250,7 @@ where
         let is_first = round == 0;
         keeper = before_round(is_first, site, &state.roster, pass, keeper, &mut between);
         sweep_once(rt, desk, pass, options.config.ae);
+        let_go(rt, desk, pass, done_with(&keeper, pass.seen()));
         monitor.look(rt, state, options, pass.seen());
         tell_state(rt, state, options, &between.committer, pass.seen());
     }

@@ -20,7 +20,7 @@ use Rattle.ups_manager.proofs.deciding.decide_step.Goals as goal
 pub returns-in_default-of : goal.returns-in_default-of
 returns-in_default-of g c =
     let s = c.args.configuration.now in
-    let history = c.args.history.now in
+    let history = c.args.history.now.entries in
     let entries = c.args.tables.now.steps.entries in
     let call = c.args.call.now in
     let a = accepted s history entries call c.in-Some.step c.in-Ok.held (to_z w16 (of_z w16 c.offset-offset.result)) (to_z-of_z w16 c.offset-offset.result (search rules) ∙ c.offset-offset.ensures)
@@ -37,8 +37,8 @@ returns-in_default g c =
     let call = c.args.call.now in
     let hs = as_steps c.args.tables.now.steps.entries in
     record {
-      answer = answers_fault s c.args.history.now hs call s.offset (Refused UnknownInstance) c.requires.kind (steps_kept s c.args.history.now c.args.tables.now c.requires.stands.tables)
-          (no_step s.offset call.moment hs (repeats (past c.args.history.now) call.request) call.request c.requires.kind (sym c.step.ensures ∙ c.in_default.is));
+      answer = answers_fault s c.args.history.now.entries hs call s.offset (Refused UnknownInstance) c.requires.kind (steps_kept s c.args.history.now.entries c.args.tables.now c.requires.stands.tables)
+          (no_step s.offset call.moment hs (repeats (past c.args.history.now.entries) call.request) call.request c.requires.kind (sym c.step.ensures ∙ c.in_default.is));
       nothing = refl;
       small = tt;
     }
@@ -63,8 +63,8 @@ returns-in-Err g c =
     let call = c.args.call.now in
     let entries = c.args.tables.now.steps.entries in
     record {
-      answer = rw (c.status.ensures) (answers_fault s c.args.history.now (as_steps entries) call _ c.in-Err.fault c.requires.kind (steps_kept s c.args.history.now c.args.tables.now c.requires.stands.tables)
-          (fails _ call.moment entries c.in-Some.step (repeats (past c.args.history.now) call.request) call.request c.in-Err.fault (sym c.step.ensures ∙ c.in-Some.is) c.in-Err.ensures.fault));
+      answer = rw (c.status.ensures) (answers_fault s c.args.history.now.entries (as_steps entries) call _ c.in-Err.fault c.requires.kind (steps_kept s c.args.history.now.entries c.args.tables.now c.requires.stands.tables)
+          (fails _ call.moment entries c.in-Some.step (repeats (past c.args.history.now.entries) call.request) call.request c.in-Err.fault (sym c.step.ensures ∙ c.in-Some.is) c.in-Err.ensures.fault));
       nothing = ap is_done c.status.ensures ∙ step_not_done _ _ _ _ call.request c.in-Err.fault c.in-Err.ensures.fault;
       small = tt;
     }
@@ -72,7 +72,7 @@ returns-in-Err g c =
 pub returns-in-Ok-plan_step : goal.returns-in-Ok-plan_step
 returns-in-Ok-plan_step g c =
     let s = c.args.configuration.now in
-    let history = c.args.history.now in
+    let history = c.args.history.now.entries in
     let entries = c.args.tables.now.steps.entries in
     let call = c.args.call.now in
     let x = step_with_held c.in-Some.step c.in-Ok.held in
@@ -92,7 +92,7 @@ returns-in-Ok-plan_step g c =
 pub returns-in-Err-plan_step : goal.returns-in-Err-plan_step
 returns-in-Err-plan_step g c =
     let s = c.args.configuration.now in
-    let history = c.args.history.now in
+    let history = c.args.history.now.entries in
     let entries = c.args.tables.now.steps.entries in
     let call = c.args.call.now in
     let a = accepted s history entries call c.in-Some.step c.in-Ok.held (to_z w16 (of_z w16 c.offset-offset.result)) (to_z-of_z w16 c.offset-offset.result (search rules) ∙ c.offset-offset.ensures)

@@ -14,11 +14,11 @@ plan_sweep-requires-clause-request g c = of_time c.args.call.now.request c.requi
 pub returns-in_default : goal.returns-in_default
 returns-in_default g c =
     let s = c.args.configuration.now in
-    let es = past c.args.history.now in
+    let es = past c.args.history.now.entries in
     let call = c.args.call.now in
     let some = ap (λ r. accepts (decided s es call r)) (of_time call.request c.requires.kind) ∙ c.in_default.ensures.lacks in
     record {
-      answer = lacks s c.args.history.now call _ refl (done_granted g.row.A.Denot (decided s es call call.request) some);
+      answer = lacks s c.args.history.now.entries call _ refl (done_granted g.row.A.Denot (decided s es call call.request) some);
       nothing = refl;
       small = tt;
     }
@@ -26,11 +26,11 @@ returns-in_default g c =
 pub returns-then-count-eq0 : goal.returns-then-count-eq0
 returns-then-count-eq0 g c =
     let s = c.args.configuration.now in
-    let es = past c.args.history.now in
+    let es = past c.args.history.now.entries in
     let call = c.args.call.now in
     let none = ap (nat_lt 0) c.if-count-eq0.true in
     record {
-      answer = inl (refuses s c.args.history.now call (Swept c.swept-count.result) (sweep_decided s es call _ c.swept-count.result c.requires.kind c.in-Ok.ensures.count c.swept-count.ensures) none);
+      answer = inl (refuses s c.args.history.now.entries call (Swept c.swept-count.result) (sweep_decided s es call _ c.swept-count.result c.requires.kind c.in-Ok.ensures.count c.swept-count.ensures) none);
       nothing = none;
       small = tt;
     }
@@ -38,12 +38,12 @@ returns-then-count-eq0 g c =
 pub returns : goal.returns
 returns g c =
     let s = c.args.configuration.now in
-    let es = past c.args.history.now in
+    let es = past c.args.history.now.entries in
     let call = c.args.call.now in
     record {
       reply = sweep_decided s es call _ c.swept-count.result c.requires.kind c.in-Ok.ensures.count c.swept-count.ensures;
       accepted = is_some_number c.swept-count.result c.if-count-eq0.false;
       plan = c.in-Ok.ensures.plan;
       small = small_left s es call _ c.requires.kind refl c.requires.stands.small;
-      index = sweep_indexed s c.args.history.now c.args.tables.now c.requires.stands.tables call (of_time call.request c.requires.kind) _ c.in-Ok.ensures.plan;
+      index = sweep_indexed s c.args.history.now.entries c.args.tables.now c.requires.stands.tables call (of_time call.request c.requires.kind) _ c.in-Ok.ensures.plan;
     }

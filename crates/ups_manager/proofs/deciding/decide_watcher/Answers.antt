@@ -14,8 +14,8 @@ pub plan_watcher-requires-clause-accepted : goal.plan_watcher-requires-clause-ac
 plan_watcher-requires-clause-accepted g c =
     let s = c.args.configuration.now in
     let call = c.args.call.now in
-    ap is_done (sym (status_is s (past c.args.history.now) (as_steps c.args.tables.now.steps.entries) call.caller call.ae call.moment call.request c.peers.result.now c.named_step.result (option_copied c.known-row.result) c.watcher_status-status.result c.requires.kind
-    (steps_kept s c.args.history.now c.args.tables.now c.requires.stands.tables) c.peers.ensures c.named_step.ensures c.known-row.ensures c.watcher_status-status.ensures)) ∙ sym c.is_done.ensures ∙ c.if-is_done.true
+    ap is_done (sym (status_is s (past c.args.history.now.entries) (as_steps c.args.tables.now.steps.entries) call.caller call.ae call.moment call.request c.peers.result.now c.named_step.result (option_copied c.known-row.result) c.watcher_status-status.result c.requires.kind
+    (steps_kept s c.args.history.now.entries c.args.tables.now c.requires.stands.tables) c.peers.ensures c.named_step.ensures c.known-row.ensures c.watcher_status-status.ensures)) ∙ sym c.is_done.ensures ∙ c.if-is_done.true
 
 pub returns-else-is_done : goal.returns-else-is_done
 returns-else-is_done g c =
@@ -24,9 +24,9 @@ returns-else-is_done g c =
     let no = sym c.is_done.ensures ∙ c.if-is_done.false in
     record {
       answer = inl
-          (refuses s c.args.history.now call (Answered c.watcher_status-status.result)
-          (watcher_decided s (past c.args.history.now) (as_steps c.args.tables.now.steps.entries) call.caller call.ae call.moment call.request c.peers.result.now c.named_step.result (option_copied c.known-row.result) c.watcher_status-status.result c.requires.kind
-          (steps_kept c.args.configuration.now c.args.history.now c.args.tables.now c.requires.stands.tables) c.peers.ensures c.named_step.ensures c.known-row.ensures c.watcher_status-status.ensures)
+          (refuses s c.args.history.now.entries call (Answered c.watcher_status-status.result)
+          (watcher_decided s (past c.args.history.now.entries) (as_steps c.args.tables.now.steps.entries) call.caller call.ae call.moment call.request c.peers.result.now c.named_step.result (option_copied c.known-row.result) c.watcher_status-status.result c.requires.kind
+          (steps_kept c.args.configuration.now c.args.history.now.entries c.args.tables.now c.requires.stands.tables) c.peers.ensures c.named_step.ensures c.known-row.ensures c.watcher_status-status.ensures)
           no);
       nothing = no;
       small = tt;
@@ -35,11 +35,11 @@ returns-else-is_done g c =
 pub returns-in-Ok : goal.returns-in-Ok
 returns-in-Ok g c =
     let s = c.args.configuration.now in
-    let es = past c.args.history.now in
+    let es = past c.args.history.now.entries in
     let call = c.args.call.now in
     record {
       reply = watcher_decided s es (as_steps c.args.tables.now.steps.entries) call.caller call.ae call.moment call.request c.peers.result.now c.named_step.result (option_copied c.known-row.result) c.watcher_status-status.result c.requires.kind
-          (steps_kept c.args.configuration.now c.args.history.now c.args.tables.now c.requires.stands.tables) c.peers.ensures c.named_step.ensures c.known-row.ensures c.watcher_status-status.ensures;
+          (steps_kept c.args.configuration.now c.args.history.now.entries c.args.tables.now c.requires.stands.tables) c.peers.ensures c.named_step.ensures c.known-row.ensures c.watcher_status-status.ensures;
       accepted = sym c.is_done.ensures ∙ c.if-is_done.true;
       plan = c.in-Ok.ensures;
       small = small_same s es call _ (of_watcher_of_no_step call.request c.requires.kind) refl c.requires.stands.small;
@@ -51,9 +51,9 @@ returns-in-Err g c =
     let s = c.args.configuration.now in
     let call = c.args.call.now in
     record {
-      answer = lacks s c.args.history.now call (Answered c.watcher_status-status.result)
-          (watcher_decided s (past c.args.history.now) (as_steps c.args.tables.now.steps.entries) call.caller call.ae call.moment call.request c.peers.result.now c.named_step.result (option_copied c.known-row.result) c.watcher_status-status.result c.requires.kind
-          (steps_kept c.args.configuration.now c.args.history.now c.args.tables.now c.requires.stands.tables) c.peers.ensures c.named_step.ensures c.known-row.ensures c.watcher_status-status.ensures)
+      answer = lacks s c.args.history.now.entries call (Answered c.watcher_status-status.result)
+          (watcher_decided s (past c.args.history.now.entries) (as_steps c.args.tables.now.steps.entries) call.caller call.ae call.moment call.request c.peers.result.now c.named_step.result (option_copied c.known-row.result) c.watcher_status-status.result c.requires.kind
+          (steps_kept c.args.configuration.now c.args.history.now.entries c.args.tables.now c.requires.stands.tables) c.peers.ensures c.named_step.ensures c.known-row.ensures c.watcher_status-status.ensures)
           (sym c.is_done.ensures ∙ c.if-is_done.true);
       nothing = refl;
       small = tt;

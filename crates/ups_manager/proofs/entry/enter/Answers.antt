@@ -18,7 +18,7 @@ pub returns-clause-indexed : goal.returns-clause-indexed
 returns-clause-indexed g c =
     let s = c.args.configuration.now in
     let d = c.args.decision in
-    let before = c.args.history.now.items in
+    let before = c.args.history.now.entries in
     let after = c.carry_out.ensures.history ∙ ap (λ (l : List (Entry g.row.A.Denot)). l ++ c.args.call ∷ []) c.make_all_room.ensures.history in
     record {
       offset = c.carry_out.ensures.offset ∙ c.make_all_room.ensures.indexed.offset;

@@ -18,7 +18,7 @@ pub returns-in_err-decide-clause-fault : goal.returns-in_err-decide-clause-fault
 returns-in_err-decide-clause-fault g c =
     let p = err_from_is_err_and c.from_residual.result c.from_residual.ensures.1 in
     let r = c.args.call.now.request in
-    let again = repeats (past c.args.history.now) r in
+    let again = repeats (past c.args.history.now.entries) r in
     let row : option_copied c.row_of-row.result ≡ row_held (held_at c.args.step c.args.tables.now.steps.entries) = c.row_of-row.ensures ∙ ap row_held c.find-held.ensures in
     rw (p.1, p.2) (inl (
       c.in_err-decide.ensures.refused ∙ ap (λ o. Refused (verdict o again r)) row,
@@ -29,7 +29,7 @@ pub returns-in_err-row-clause-fault : goal.returns-in_err-row-clause-fault
 returns-in_err-row-clause-fault g c =
     let p = err_from_is_err_and c.from_residual-in_err-row.result c.from_residual-in_err-row.ensures.1 in
     let r = c.args.call.now.request in
-    let again = repeats (past c.args.history.now) r in
+    let again = repeats (past c.args.history.now.entries) r in
     let row : option_copied c.row_of-row.result ≡ row_held (held_at c.args.step c.args.tables.now.steps.entries) = c.row_of-row.ensures ∙ ap row_held c.find-held.ensures in
     rw (p.1, p.2) (inr (
       ap (λ o. verdict o again r) (sym row) ∙ c.in_ok-decide.ensures.allowed,
@@ -41,7 +41,7 @@ pub returns-clause-allowed : goal.returns-clause-allowed
 returns-clause-allowed g c =
     let r = c.args.call.now.request in
     let row : option_copied c.row_of-row.result ≡ row_held (held_at c.args.step c.args.tables.now.steps.entries) = c.row_of-row.ensures ∙ ap row_held c.find-held.ensures in
-    ap (λ o. verdict o (repeats (past c.args.history.now) r) r) (sym row) ∙ c.in_ok-decide.ensures.allowed
+    ap (λ o. verdict o (repeats (past c.args.history.now.entries) r) r) (sym row) ∙ c.in_ok-decide.ensures.allowed
 
 pub returns-clause-row : goal.returns-clause-row
 returns-clause-row g c =

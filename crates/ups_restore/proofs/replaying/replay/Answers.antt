@@ -24,7 +24,7 @@ returns-in-Err-clause-stops g c =
       entry = c.in-Some.entry;
       rest = rest;
       parts = items;
-      place = omega (arith, ap length now, length-append before front, ap length c.history.ensures.shown, ap length c.history-before.ensures.shown);
+      place = omega (arith, ap length now, length-append before front, c.entries.ensures.count, c.entries-before.ensures.count);
       entered = now;
       why = refusal_of c.loop-entry.manager.settings c.args.manager.now.settings c.loop-entry.manager.history c.replay_one.new.manager.history c.in-Some.entry c.in-Err.refusal c.loop-entry.invariant.settings (sym stays) c.in-Err.ensures.why;
     }

@@ -15,11 +15,11 @@ of-requires g c = λ up.
     let store = c.in_ok-begun.begun.store in
     let history = c.begin_in.new.manager.history in
     let clean = open_clean (requests_shown store) (g.met.P.Store.Store.shut_if_dirty store.store) up in
-    omega (arith, ap length (c.in_ok-begun.ensures.kept clean), length-map history recorded, ap length c.history-committed.ensures.shown)
+    omega (arith, ap length (c.in_ok-begun.ensures.kept clean), length-map history recorded, c.entries-committed.ensures.count)
 
 pub returns-clause-kept : goal.returns-clause-kept
 returns-clause-kept g c sound =
-    all_first _ c.begin_in.new.manager.history c.history-committed.result.now (c.of.ensures.kept ∙ c.in_ok-begun.ensures.kept (c.of.ensures.clean sound)) c.history-committed.ensures.shown
+    all_first _ c.begin_in.new.manager.history c.entries-committed.result (c.of.ensures.kept ∙ c.in_ok-begun.ensures.kept (c.of.ensures.clean sound)) c.entries-committed.ensures.count
 
 pub returns-clause-sound : goal.returns-clause-sound
 returns-clause-sound g c = λ honest. c.of.ensures.sound (c.in_ok-begun.ensures.is_open (c.of.ensures.honest honest))
@@ -34,7 +34,7 @@ returns-clause-safe g c = λ first rs recovers.
     let left = c.of.ensures.leaves rs recovers in
     let committed = g.met.P.Store.Store.settled store.store left.db (c.in_ok-begun.ensures.is_open left.clean) left.can_leave in
     let is : rs ≡ map recorded history = sym left.are ∙ (ap (λ (db : Trees). said (requests_in db)) committed ∙ c.in_ok-begun.ensures.kept left.clean) in
-    (length c.history-committed.result.now, omega arith, all_first rs history c.history-committed.result.now is c.history-committed.ensures.shown)
+    (c.entries-committed.result, omega arith, all_first rs history c.entries-committed.result is c.entries-committed.ensures.count)
 
 pub returns-clause-begins : goal.returns-clause-begins
 returns-clause-begins g c =
@@ -44,6 +44,6 @@ returns-clause-begins g c =
 pub invariant_of-result : goal.invariant_of-result
 invariant_of-result g c =
     let history = c.begin_in.new.manager.history in
-    let many : IsHonest c.of.result.shelf → length c.history-committed.result.now ≤ length (kept_in c.of.result.shelf) = λ honest.
-    omega (arith, ap length (c.of.ensures.kept ∙ c.in_ok-begun.ensures.kept (c.of.ensures.honest honest)), length-map history recorded, ap length c.history-committed.ensures.shown) in
+    let many : IsHonest c.of.result.shelf → c.entries-committed.result ≤ length (kept_in c.of.result.shelf) = λ honest.
+    omega (arith, ap length (c.of.ensures.kept ∙ c.in_ok-begun.ensures.kept (c.of.ensures.honest honest)), length-map history recorded, c.entries-committed.ensures.count) in
     record { told = c.of.ensures.committed; had = ∣ record { ledger = c.of.result; told = omega (arith, c.of.ensures.committed); many = many } ∣₁ }

@@ -9,10 +9,10 @@ use Rattle.ups_tables.proofs.Roomy.{room_create, room_change, room_set, room_one
 use Rattle.ups_tables.proofs.entering.room_for_plan.Goals as goal
 
 pub make_room_to_subscribe-requires-clause-peer : goal.make_room_to_subscribe-requires-clause-peer
-make_room_to_subscribe-requires-clause-peer g c = let p = subst (λ (x : Plan g.row.A.Denot). IsPlan c.args.configuration.now (past c.args.history.now) c.args.entry.now c.args.tables.now x) c.in-Single.is c.requires.plan in within c.args.configuration.now c.args.history.now c.args.entry.now c.args.tables.now c.requires.stands c.requires.legal c.in-Single.peer p.receiver p.place
+make_room_to_subscribe-requires-clause-peer g c = let p = subst (λ (x : Plan g.row.A.Denot). IsPlan c.args.configuration.now (past c.args.history.now.entries) c.args.entry.now c.args.tables.now x) c.in-Single.is c.requires.plan in within c.args.configuration.now c.args.history.now.entries c.args.entry.now c.args.tables.now c.requires.stands c.requires.legal c.in-Single.peer p.receiver p.place
 
 pub make_room_to_cover-requires-clause-peer : goal.make_room_to_cover-requires-clause-peer
-make_room_to_cover-requires-clause-peer g c = let p = subst (λ (x : Plan g.row.A.Denot). IsPlan c.args.configuration.now (past c.args.history.now) c.args.entry.now c.args.tables.now x) c.in-Global.is c.requires.plan in within c.args.configuration.now c.args.history.now c.args.entry.now c.args.tables.now c.requires.stands c.requires.legal c.in-Global.peer p.receiver p.place
+make_room_to_cover-requires-clause-peer g c = let p = subst (λ (x : Plan g.row.A.Denot). IsPlan c.args.configuration.now (past c.args.history.now.entries) c.args.entry.now c.args.tables.now x) c.in-Global.is c.requires.plan in within c.args.configuration.now c.args.history.now.entries c.args.entry.now c.args.tables.now c.requires.stands c.requires.legal c.in-Global.peer p.receiver p.place
 
 pub returns-in-Create-clause-room : goal.returns-in-Create-clause-room
 returns-in-Create-clause-room g c =

@@ -7,24 +7,24 @@ use Rattle.ups_tables.proofs.step_plans.plan_step.Goals as goal
 
 pub returns-in-Create : goal.returns-in-Create
 returns-in-Create g c =
-    let f : Fresh c.args.configuration.now (past c.args.history.now) c.args.entry.now c.args.tables.now c.args.step c.args.held = record { named = c.requires.step; allowed = c.requires.allowed; row = c.requires.row; holder = c.requires.holder } in
-    plans_create c.args.configuration.now c.args.history.now c.args.entry.now c.args.tables.now c.args.step c.args.held c.requires.stands f _ c.in_ok-told.told.items _ _
+    let f : Fresh c.args.configuration.now (past c.args.history.now.entries) c.args.entry.now c.args.tables.now c.args.step c.args.held = record { named = c.requires.step; allowed = c.requires.allowed; row = c.requires.row; holder = c.requires.holder } in
+    plans_create c.args.configuration.now c.args.history.now.entries c.args.entry.now c.args.tables.now c.args.step c.args.held c.requires.stands f _ c.in_ok-told.told.items _ _
     (c.row_of-before.ensures ∙ ap row_held c.get-found.ensures) c.in_ok-told.ensures c.in-Create.is
 
 pub returns-in_default : goal.returns-in_default
 returns-in_default g c =
-    let f : Fresh c.args.configuration.now (past c.args.history.now) c.args.entry.now c.args.tables.now c.args.step c.args.held = record { named = c.requires.step; allowed = c.requires.allowed; row = c.requires.row; holder = c.requires.holder } in
-    plans_change c.args.configuration.now c.args.history.now c.args.entry.now c.args.tables.now c.args.step c.args.held c.requires.stands f _ c.in_ok-told.told.items
+    let f : Fresh c.args.configuration.now (past c.args.history.now.entries) c.args.entry.now c.args.tables.now c.args.step c.args.held = record { named = c.requires.step; allowed = c.requires.allowed; row = c.requires.row; holder = c.requires.holder } in
+    plans_change c.args.configuration.now c.args.history.now.entries c.args.entry.now c.args.tables.now c.args.step c.args.held c.requires.stands f _ c.in_ok-told.told.items
     (c.row_of-before.ensures ∙ ap row_held c.get-found.ensures) c.in_ok-told.ensures c.in_default.not-Create c.in_default.not-Set
 
 pub returns-in_ok-first-in-Set : goal.returns-in_ok-first-in-Set
 returns-in_ok-first-in-Set g c =
-    let f : Fresh c.args.configuration.now (past c.args.history.now) c.args.entry.now c.args.tables.now c.args.step c.args.held = record { named = c.requires.step; allowed = c.requires.allowed; row = c.requires.row; holder = c.requires.holder } in
-    plans_set c.args.configuration.now c.args.history.now c.args.entry.now c.args.tables.now c.args.step c.args.held c.requires.stands f _ c.in_ok-told.told.items _ _ _ c.in_ok-newly-in-Set.newly.items c.in_ok-first-in-Set.first.items
+    let f : Fresh c.args.configuration.now (past c.args.history.now.entries) c.args.entry.now c.args.tables.now c.args.step c.args.held = record { named = c.requires.step; allowed = c.requires.allowed; row = c.requires.row; holder = c.requires.holder } in
+    plans_set c.args.configuration.now c.args.history.now.entries c.args.entry.now c.args.tables.now c.args.step c.args.held c.requires.stands f _ c.in_ok-told.told.items _ _ _ c.in_ok-newly-in-Set.newly.items c.in_ok-first-in-Set.first.items
     (c.row_of-before.ensures ∙ ap row_held c.get-found.ensures) c.in_ok-told.ensures c.in-Set.is
     c.in_ok-newly-in-Set.ensures.width c.in_ok-newly-in-Set.ensures.newly (c.in_ok-first-in-Set.ensures ∙ ap (λ (r : Report). r ∷ []) c.report_now.ensures)
 
 pub newly_of-requires : goal.newly_of-requires
 newly_of-requires g c =
-    let f : Fresh c.args.configuration.now (past c.args.history.now) c.args.entry.now c.args.tables.now c.args.step c.args.held = record { named = c.requires.step; allowed = c.requires.allowed; row = c.requires.row; holder = c.requires.holder } in
-    set_found c.args.configuration.now c.args.history.now c.args.entry.now c.args.tables.now c.args.step c.args.held c.requires.stands f _ _ _ _ (c.row_of-before.ensures ∙ ap row_held c.get-found.ensures) c.in-Set.is
+    let f : Fresh c.args.configuration.now (past c.args.history.now.entries) c.args.entry.now c.args.tables.now c.args.step c.args.held = record { named = c.requires.step; allowed = c.requires.allowed; row = c.requires.row; holder = c.requires.holder } in
+    set_found c.args.configuration.now c.args.history.now.entries c.args.entry.now c.args.tables.now c.args.step c.args.held c.requires.stands f _ _ _ _ (c.row_of-before.ensures ∙ ap row_held c.get-found.ensures) c.in-Set.is

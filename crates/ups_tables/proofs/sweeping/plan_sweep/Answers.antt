@@ -11,7 +11,7 @@ returns-then-entry-keep-clause-plan g c =
 pub returns-then-entry-keep-clause-count : goal.returns-then-entry-keep-clause-count
 returns-then-entry-keep-clause-count g c =
     let keep_is : c.from-keep.result ≡ c.args.configuration.now.keep = search rules in
-    idle_counts c.args.configuration.now c.args.history.now c.args.tables.now c.requires.stands c.args.entry.now
+    idle_counts c.args.configuration.now c.args.history.now.entries c.args.tables.now c.requires.stands c.args.entry.now
     (no_time c.args.configuration.now c.args.entry.now c.args.tables.now c.requires.request (let l = c.if-entry-keep.true in omega (arith, keep_is, l)))
 
 pub returns-then-not-is_any-clause-plan : goal.returns-then-not-is_any-clause-plan
@@ -24,7 +24,7 @@ pub returns-then-not-is_any-clause-count : goal.returns-then-not-is_any-clause-c
 returns-then-not-is_any-clause-count g c =
     let keep_is : c.from-keep.result ≡ c.args.configuration.now.keep = search rules in
     let not_any : c.is_any.result ≡ false = search rules in
-    idle_counts c.args.configuration.now c.args.history.now c.args.tables.now c.requires.stands c.args.entry.now
+    idle_counts c.args.configuration.now c.args.history.now.entries c.args.tables.now c.requires.stands c.args.entry.now
     (none_yet c.args.configuration.now c.args.entry.now c.args.tables.now (c.args.entry.now.moment - c.from-keep.result) c.requires.request (let l = c.if-entry-keep.false in omega (arith, keep_is, l)) (c.is_any.ensures.none not_any))
 
 pub returns-clause-count : goal.returns-clause-count
@@ -36,7 +36,7 @@ returns-clause-count g c =
       since = (let l = c.if-entry-keep.false in omega (arith, keep_is, l));
       due_are = c.in_ok-due.ensures;
     } in
-    sweep_counts c.args.configuration.now c.args.history.now c.args.tables.now c.requires.stands c.args.entry.now c.in_ok-due.due.items moment plan
+    sweep_counts c.args.configuration.now c.args.history.now.entries c.args.tables.now c.requires.stands c.args.entry.now c.in_ok-due.due.items moment plan
 
 -- what is so anyway is so where memory ran out
 where_err : {X E : Type 0} (P : Type 0) (r : Result X E) → P → OnErr r P
@@ -48,5 +48,5 @@ returns-in_err-due-clause-lacks g c =
     let keep_is : c.from-keep.result ≡ c.args.configuration.now.keep = search rules in
     let some : c.is_any.result ≡ true = search rules in
     where_err _ c.from_residual.result
-    (some_swept c.args.configuration.now c.args.history.now c.args.tables.now c.requires.stands c.args.entry.now (c.args.entry.now.moment - c.from-keep.result) c.requires.request
+    (some_swept c.args.configuration.now c.args.history.now.entries c.args.tables.now c.requires.stands c.args.entry.now (c.args.entry.now.moment - c.from-keep.result) c.requires.request
     (let l = c.if-entry-keep.false in omega (arith, keep_is, l)) (sym c.is_any.ensures.first ∙ some))

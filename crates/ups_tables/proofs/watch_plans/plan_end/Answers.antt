@@ -35,9 +35,9 @@ returns-in_ok-freed-in-Everywhere g c = record {
 }
 
 pub unreachable-requires : goal.unreachable-requires
-unreachable-requires g c = has_place c.args.configuration.now (past c.args.history.now) c.args.entry.now c.requires.accepted c.args.receiver c.peers.result.now c.place_of.result (ap receiver_of c.requires.request) c.peers.ensures c.place_of.ensures c.in_default.is
+unreachable-requires g c = has_place c.args.configuration.now (past c.args.history.now.entries) c.args.entry.now c.requires.accepted c.args.receiver c.peers.result.now c.place_of.result (ap receiver_of c.requires.request) c.peers.ensures c.place_of.ensures c.in_default.is
 
 pub unreachable-requires-in-At-None : goal.unreachable-requires-in-At-None
 unreachable-requires-in-At-None g c =
     let on : c.in-At-None.field-0 ≡ None = search rules in
-    ends_somewhere c.args.configuration.now (past c.args.history.now) c.args.entry.now c.requires.accepted c.args.receiver (c.requires.request ∙ ap (λ p. Unsubscribe p c.args.receiver) c.in-At-None.is ∙ ap (λ o. Unsubscribe (At o) c.args.receiver) on)
+    ends_somewhere c.args.configuration.now (past c.args.history.now.entries) c.args.entry.now c.requires.accepted c.args.receiver (c.requires.request ∙ ap (λ p. Unsubscribe p c.args.receiver) c.in-At-None.is ∙ ap (λ o. Unsubscribe (At o) c.args.receiver) on)

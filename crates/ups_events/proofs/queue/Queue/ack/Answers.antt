@@ -1,6 +1,7 @@
 use Rattle.std.proofs.Common.{rules, arith, sym, ap, ◌∙◌, subst, refl}
 use Rattle.ups_events.specs.Queue.{QueueView, above}
-use Rattle.ups_events.specs.Kept.{lives, Rising}
+use Rattle.ups_events.specs.Kept.{lives, Rising, InOrder}
+use Rattle.ups_events.proofs.Orders.{order_dropped}
 use Rattle.ups_events.proofs.SlotLists.{dropped_rising, lives_dropped}
 use Rattle.ups_events.proofs.queue.Queue.ack.Goals as goal
 
@@ -8,7 +9,7 @@ pub invariant_of-self : goal.invariant_of-self
 invariant_of-self g c =
     let inside = c.self.inside in
     let k = c.drop_front.ensures.keeps inside.made inside.acked c.self.invariant.0 in
-    (record { rising = subst (Rising c.args.upto) (sym c.drop_front.ensures.slots) (dropped_rising c.args.upto inside.acked inside.slots.items c.self.invariant.0.rising); up_to = k.up_to; indexed = k.indexed }, search rules)
+    (record { rising = subst (Rising c.args.upto) (sym c.drop_front.ensures.slots) (dropped_rising c.args.upto inside.acked inside.slots.items c.self.invariant.0.rising); up_to = k.up_to; indexed = k.indexed }, search rules, λ known. subst InOrder (sym c.drop_front.ensures.slots) (order_dropped c.args.upto inside.slots.items (c.self.invariant.2 known)))
 
 pub returns-clause-acked : goal.returns-clause-acked
 returns-clause-acked g c =

@@ -3,12 +3,16 @@ use Rattle.ups_life.specs.declared.event.Event.{Event}
 use Rattle.ups_events.specs.declared.slots.EventSlot.{EventSlot}
 use Rattle.ups_events.specs.Queue.{QueueView, added}
 use Rattle.ups_events.specs.Telling.{event_of}
-use Rattle.ups_events.specs.Kept.{lives, made_way, KeepsQueue}
+use Rattle.ups_events.specs.Kept.{lives, made_way, dropped, InOrder, KeepsQueue}
+use Rattle.ups_events.proofs.Orders.{order_made_way, order_dropped, order_tidy}
 use Rattle.ups_events.proofs.SlotLists.{rises_from, put_keeps, tidy_keeps, lives_dropped, all_above, lives_put, lives_tidy}
 use Rattle.ups_events.proofs.queue.Queue.put.Goals as goal
 
 pub make_way-superseded-requires-clause-rises : goal.make_way-superseded-requires-clause-rises
 make_way-superseded-requires-clause-rises g c = rises_from c.self.inside.acked c.self.inside.slots.items c.self.invariant.0.rising
+
+pub keeps_order-requires : goal.keeps_order-requires
+keeps_order-requires g c known = subst InOrder (sym c.make_way-superseded.ensures.slots) (order_made_way c.args.report.kind c.args.report.step c.self.inside.slots.items (c.self.invariant.2 known))
 
 pub invariant_of-self : goal.invariant_of-self
 invariant_of-self g c =
@@ -17,8 +21,12 @@ invariant_of-self g c =
     let slot : EventSlot = record { event = event; live = true } in
     let items : c.push_back_reserved.new.self.items ≡ made_way c.args.report.kind c.args.report.step inside.slots.items ++ slot ∷ [] = c.push_back_reserved.ensures.items ∙ ap (λ xs. xs ++ slot ∷ []) c.make_way-superseded.ensures.slots in
     let k = put_keeps inside.made inside.acked inside.index.entries c.make_way-superseded.new.index.entries inside.slots.items slot c.self.invariant.1 refl c.make_way-superseded.ensures.index c.self.invariant.0 in
-    let l = c.drop_front.ensures.keeps (inside.made + 1) inside.acked (subst (KeepsQueue (inside.made + 1) inside.acked c.make_way-superseded.new.index.entries) (sym items) k) in
-    (tidy_keeps c.drop_front.new.slots.items c.tidy.new.slots.items c.tidy.ensures.slots (inside.made + 1) inside.acked c.drop_front.new.index.entries l, omega (arith, c.self.invariant.1))
+    let l = c.drop_front.ensures.keeps (inside.made + 1) inside.acked (subst (KeepsQueue (inside.made + 1) inside.acked c.make_way-superseded.new.index.entries) (sym items) k) in (
+      tidy_keeps c.drop_front.new.slots.items c.tidy.new.slots.items c.tidy.ensures.slots (inside.made + 1) inside.acked c.drop_front.new.index.entries l,
+      omega (arith, c.self.invariant.1),
+      λ known. order_tidy c.drop_front.new.slots.items c.tidy.new.slots.items c.tidy.ensures.slots
+          (subst InOrder (sym (c.drop_front.ensures.slots ∙ ap (dropped inside.acked) c.push_back_reserved.ensures.items)) (order_dropped inside.acked (c.make_way-superseded.new.slots.items ++ slot ∷ []) (c.keeps_order.ensures known slot refl))),
+    )
 
 pub returns : goal.returns
 returns g c =

@@ -1,7 +1,5 @@
 use Rattle.std.proofs.Common.{List, length, ap, ◌∙◌}
 use Rattle.ups_life.specs.declared.event.Event.{Event}
-use Rattle.ups_life.specs.Events.{pending}
-use Rattle.ups_life.specs.Steps.{past}
 use Rattle.ups_manager.proofs.Keyed.{queue_fits}
 use Rattle.ups_manager.proofs.Watches.{pending_is}
 use Rattle.ups_manager.proofs.manager.Manager.waiting.Goals as goal
@@ -9,10 +7,10 @@ use Rattle.ups_manager.proofs.manager.Manager.waiting.Goals as goal
 pub waiting_at-requires : goal.waiting_at-requires
 waiting_at-requires g c =
     let m = c.self.inside in
-    queue_fits m.configuration m.history.items m.tables c.peers.result.now c.args.ae c.place_of-place.result c.self.invariant.0.tables c.peers.ensures c.place_of-place.ensures
+    queue_fits m.configuration m.history.entries m.tables c.peers.result.now c.args.ae c.place_of-place.result c.self.invariant.0.tables c.peers.ensures c.place_of-place.ensures
 
 pub returns : goal.returns
 returns g c =
     let m = c.self.inside in
     rw (← c.self.view_is) (c.waiting_at.ensures
-    ∙ ap (λ (xs : List Event). length xs) (pending_is m.configuration m.history.items m.tables c.peers.result.now c.place_of-place.result c.args.ae c.self.invariant.0.tables c.peers.ensures c.place_of-place.ensures))
+    ∙ ap (λ (xs : List Event). length xs) (pending_is m.configuration m.history.entries m.tables c.peers.result.now c.place_of-place.result c.args.ae c.self.invariant.0.tables c.peers.ensures c.place_of-place.ensures))
